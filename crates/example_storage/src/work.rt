@@ -17,32 +17,14 @@ pub enum Work {
 
 // What the work answers stands in specs/Answers.antt. The rest of this block is the same for each such enum that submits nothing itself.
 impl Task for Work {
-    ghost use Rattle.std.specs.Prelude.{◌≡◌, ◌↔◌, ℕ, None};
-    ghost use Rattle.rt_jobs.specs.Same.{same_answers};
-    ghost use Rattle.rt_jobs.specs.Steps.{PostsNothing};
+    ghost use Rattle.rt_jobs.specs.Plain.{answering_meaning, answering_laws};
     ghost use Rattle.example_storage.specs.Answers.{MayAnswer, is_ended};
 
     type Out = u64;
 
-    ghost SameTask = { λ a b. (out : ℕ) → MayAnswer a out ↔ MayAnswer b out };
+    ghost meaning = { answering_meaning is_ended MayAnswer };
 
-    ghost done = { is_ended };
-
-    ghost made = { λ _. 0 };
-
-    ghost says = { λ _. None };
-
-    ghost Polls = { λ job made calls step told. PostsNothing calls told };
-
-    ghost Answers = { MayAnswer };
-
-    ghost same_task = { same_answers MayAnswer };
-
-    ghost answers_same = { λ a b out same here. (same out).0 here };
-
-    ghost polls_same = { λ a b made calls step told same owed. owed };
-
-    ghost can_poll_same = { λ a b same can. can };
+    ghost laws = { answering_laws is_ended MayAnswer };
 
     fn is_done(&self) -> bool {
         matches!(self, Work::Ended)

@@ -7,7 +7,7 @@ use fairexec_report::{audit_text, put_stats};
 use rt_ids::{ActorNo, CoreNo};
 use rt_journal_notes::Assembly;
 use rt_journal_read::{ReadError, read_journal};
-use rt_journal_write::{is_spelled, write_journal};
+use rt_journal_write::write_journal;
 use std::alloc::Global;
 
 /// How often a call is made at most.
@@ -43,7 +43,7 @@ fn read(alloc: Global, text: &str) -> Option<Assembly> {
 fn is_written(alloc: Global, journals: &Assembly, text: &str) -> bool {
     match sink(alloc) {
         Some(mut sink) => {
-            is_spelled(journals)
+            journals.is_spelled()
                 && write_journal(journals, &mut sink).is_ok()
                 && sink.as_slice() == text.as_bytes()
         }

@@ -3,7 +3,7 @@
 use crate::devices::{FaultyReader, reader_of};
 use crate::texts::{FAULTY, TURNS, WHOLE};
 use rt_journal_read::{JournalCause, ReadError, read_journal};
-use rt_journal_write::{is_spelled, write_journal};
+use rt_journal_write::write_journal;
 use std::alloc::Global;
 
 /// Whether the text is refused at this line, for this cause.
@@ -21,7 +21,7 @@ pub(crate) fn is_same(alloc: Global, text: &str) -> bool {
     match read_journal(alloc, &mut source) {
         Ok(journals) => {
             let mut sink = Vec::new(alloc);
-            is_spelled(&journals)
+            journals.is_spelled()
                 && write_journal(&journals, &mut sink).is_ok()
                 && sink.as_slice() == text.as_bytes()
         }

@@ -2,8 +2,7 @@
 
 use crate::journals::two_actors;
 use rt_ids::{ActorNo, Answer, CoreNo, JobId, Mode, Note, Order, OutcomeNote, QueueNo, Reason};
-use rt_journal_write::is_spelled;
-use rt_journal_write::spelled::{Writer, is_spelled_note};
+use rt_journal_notes::spelled::{Writer, is_spelled_note};
 use std::alloc::{AllocError, Global};
 use std::test::Fail;
 
@@ -133,7 +132,7 @@ fn are_both_spelled(
     outside: JobId,
 ) -> Result<bool, AllocError> {
     let journals = two_actors(alloc, cap, Note::Start(inside), Note::Detached(outside))?;
-    Ok(is_spelled(&journals))
+    Ok(journals.is_spelled())
 }
 
 #[test]

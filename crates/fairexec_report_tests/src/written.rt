@@ -3,7 +3,7 @@
 use crate::devices::{FaultyWriter, writer_of};
 use crate::texts::TURNS;
 use rt_journal_read::read_journal;
-use rt_journal_write::{is_spelled, write_journal};
+use rt_journal_write::write_journal;
 use std::alloc::Global;
 
 /// Whether writing the turns to the sink succeeds or not, as is wanted, and leaves the first so many bytes.
@@ -11,7 +11,7 @@ fn leaves(alloc: Global, mut sink: FaultyWriter, wanted: bool, count: usize) -> 
     let mut source = TURNS.as_bytes();
     match read_journal(alloc, &mut source) {
         Ok(journals) => {
-            is_spelled(&journals)
+            journals.is_spelled()
                 && write_journal(&journals, &mut sink).is_ok() == wanted
                 && Some(sink.written.as_slice()) == TURNS.as_bytes().get(..count)
         }

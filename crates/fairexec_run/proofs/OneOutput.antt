@@ -15,7 +15,8 @@ use Rattle.rt_world.specs.Opening.{HasAllLists, IsUnbegun, IsFresh}
 use Rattle.rt_world_laws.specs.Creations.{OrderNoQueues, with_creations}
 use Rattle.rt_world_laws.specs.Alike.{AreAlike}
 use Rattle.rt_world_laws.specs.Determined.{WasRefused}
-use Rattle.rt_world_laws.specs.ScriptRuns.{ScriptSame, script_made, ScriptPolls, ScriptAnswers, IsScriptRun}
+use Rattle.rt_jobs.specs.ScriptMeaning.{script_meaning}
+use Rattle.rt_world_laws.specs.ScriptRuns.{IsScriptRun}
 use Rattle.rt_world_laws.proofs.KeptLists.{happens_keep}
 use Rattle.rt_world_laws.proofs.DeterminedOpenings.{fresh_once}
 use Rattle.rt_world_laws.proofs.DeterminedRefusals.{refused-happens, was_refused}
@@ -33,11 +34,11 @@ use Rattle.fairexec_run.specs.OneOutput.{OutputIsDetermined, OutputOfJobsIsDeter
 
 -- what an event prints is determined, if what it does is
 module _ (event : ScriptEvent) (old new other : ScriptWorld) (text other_text : List ℕ) (first : Prints event old new text) (second : Prints event old other other_text) where
-  same_quiet : AreAlike ScriptSame ScriptAnswers first.answer second.answer → quiet_of first.answer ≡ quiet_of second.answer
+  same_quiet : AreAlike script_meaning first.answer second.answer → quiet_of first.answer ≡ quiet_of second.answer
   same_quiet (inl same) = ap quiet_of same
   same_quiet (inr both) = ap quiet_of both.redeemed ∙ sym (ap quiet_of both.other_redeemed)
 
-  same_text : (new ≡ other) × AreAlike ScriptSame ScriptAnswers first.answer second.answer → text ≡ other_text
+  same_text : (new ≡ other) × AreAlike script_meaning first.answer second.answer → text ≡ other_text
   same_text same =
       first.printed
       ∙ (ap (λ notes. event_text (ends_of event) (reverse notes) (quiet_of first.answer)) same_notes
@@ -51,13 +52,13 @@ module _ (event : ScriptEvent) (old new other : ScriptWorld) (text other_text : 
   prints_once : HasAllLists old → ((new ≡ other) × (text ≡ other_text)) ⊎ (WasRefused new.journals ⊎ WasRefused other.journals)
   prints_once lists =
       ⊎_elim (λ same. inl (same.0, same_text same)) (λ refused. inr (⊎_elim (λ told. inl (was_refused told)) (λ told. inr (was_refused told)) refused))
-      (happens_once ScriptSame script_made ScriptPolls ScriptAnswers scripts_owe_one (event_of event) old new other first.answer second.answer lists first.occurs second.occurs)
+      (happens_once script_meaning scripts_owe_one (event_of event) old new other first.answer second.answer lists first.occurs second.occurs)
 
 refused-prints : (events : List ScriptEvent) (old new : ScriptWorld) (text : List ℕ) → PrintsAll events old new text → WasRefused old.journals → WasRefused new.journals
 refused-prints [] old new text all refused = subst (λ world. WasRefused world.journals) (sym all.0) refused
 refused-prints (event ∷ events) old new text all refused =
     refused-prints events all.0 new all.2 all.4
-    (refused-happens ScriptSame script_made ScriptPolls ScriptAnswers (event_of event) old all.0 all.3.answer all.3.occurs refused)
+    (refused-happens script_meaning (event_of event) old all.0 all.3.answer all.3.occurs refused)
 
 all_once : (events : List ScriptEvent) (old new other : ScriptWorld) (text other_text : List ℕ) → HasAllLists old → PrintsAll events old new text → PrintsAll events old other other_text →
     ((new ≡ other) × (text ≡ other_text)) ⊎ (WasRefused new.journals ⊎ WasRefused other.journals)
@@ -68,7 +69,7 @@ all_once (event ∷ events) old new other text other_text lists all other_all =
     λ same.
     ⊎_elim (λ rest. inl (rest.0, all.5 ∙ (ap (λ first. first ++ all.2) same.1 ∙ (ap (λ rest. other_all.1 ++ rest) rest.1 ∙ sym other_all.5)))) inr
     (
-    all_once events all.0 new other all.2 other_all.2 (happens_keep ScriptSame script_made ScriptPolls ScriptAnswers (event_of event) old all.0 all.3.answer all.3.occurs lists) all.4
+    all_once events all.0 new other all.2 other_all.2 (happens_keep script_meaning (event_of event) old all.0 all.3.answer all.3.occurs lists) all.4
     (subst (λ world. PrintsAll events world other other_all.2) (sym same.0) other_all.4)
     )
     )
@@ -101,7 +102,7 @@ module _ (script : Drafted) (output : List ℕ) (is : IsOutput script output) wh
   not_refused none =
       let start = with_queues script.queues is.empty in
       let run = run_of script.events start is.end output is.all in
-      (run_plain ScriptSame script_made ScriptPolls ScriptAnswers scripts_order_none (map event_of script.events) none start is.end run.0 run.1 (plain_unbegun start (begins script is.cores is.cap is.empty is.fresh))).told
+      (run_plain script_meaning scripts_order_none (map event_of script.events) none start is.end run.0 run.1 (plain_unbegun start (begins script is.cores is.cap is.empty is.fresh))).told
 
 -- and there is one such world
 module _ (script : Drafted) (cores cap other_cores other_cap : ℕ) (size : script.size ≡ Some (cores, cap)) (other_size : script.size ≡ Some (other_cores, other_cap)) (empty other_empty : ScriptWorld) (fresh : IsFresh cores cap (script_room cores cap) empty) (other_fresh : IsFresh other_cores other_cap (script_room other_cores other_cap) other_empty) where
@@ -154,7 +155,7 @@ runs_once script assembly other text other_text first second =
     ⊎_elim (λ same. inl (same, first.told ∙ (ap journal_text same ∙ sym second.told)))
     (λ refused. inr (⊎_elim (λ told. inl (was_refused told)) (λ told. inr (was_refused told)) refused))
     (
-    assembly_once ScriptSame script_made ScriptPolls ScriptAnswers scripts_owe_one (map event_of script.events) (with_queues script.queues first.empty) assembly other
+    assembly_once script_meaning scripts_owe_one (map event_of script.events) (with_queues script.queues first.empty) assembly other
     (begins script first.cores first.cap first.empty first.fresh).lists first.runs
     (
     subst (λ world. RunsOf (map event_of script.events) world other)

@@ -23,7 +23,7 @@ use Rattle.rt_world.specs.declared.event.Reply.{Reply}
 use Rattle.rt_world.specs.declared.event.Reply.TheVariants as reply
 use Rattle.rt_world.specs.State.{journal_at, noted, without_job, with_sent, assembly_of, IsNearlyFull}
 use Rattle.rt_world.specs.Calls.{CallsAt}
-use Rattle.rt_world_laws.specs.ScriptRuns.{ScriptSame, script_made, ScriptPolls, ScriptAnswers}
+use Rattle.rt_jobs.specs.ScriptMeaning.{script_meaning}
 use Rattle.rt_world.specs.Sends.{actor_of, AreThere, Sends, sent_reply}
 use Rattle.rt_world.specs.Deliveries.{IsDelivery, with_effect, Delivers}
 use Rattle.rt_ids.specs.Filters.{accepted_orders}
@@ -93,7 +93,7 @@ collect_grows : (sender core : ℕ) (old new : ScriptWorld) (answer : Reply Scri
 collect_grows sender core old new (reply.Collected count) is = adds_to 6 sender (collected_notes (uncollected sender core old)) old new (collected_light (uncollected sender core old)) is.1
 collect_grows sender core old new other is = absurd is
 
-redeem_grows : (sender : ℕ) (name : JobId) (old new : ScriptWorld) (answer : Reply Script) → Redeems ScriptSame ScriptAnswers sender name old new answer → Grows 1 sender old new
+redeem_grows : (sender : ℕ) (name : JobId) (old new : ScriptWorld) (answer : Reply Script) → Redeems script_meaning sender name old new answer → Grows 1 sender old new
 redeem_grows sender name old new (reply.Redeemed outcome) is =
     let notes = written.Redeemed name (outcome_note outcome) ∷ [] in
     adds_to 1 sender notes old new (light 1 notes (omega arith)) is.3
@@ -108,16 +108,16 @@ detach_grows sender name old new (reply.NoTicket ticket.Gone) is = stays 1 sende
 detach_grows sender name old new other is = absurd is
 
 -- one call of a post
-submit_grows : (core to : ℕ) (what : Order Script) (answer : Result JobId (SendError Script)) (old new : ScriptWorld) → CallsAt ScriptSame ScriptAnswers core old (Submit to what answer) new → Grows 2 core old new
+submit_grows : (core to : ℕ) (what : Order Script) (answer : Result JobId (SendError Script)) (old new : ScriptWorld) → CallsAt script_meaning core old (Submit to what answer) new → Grows 2 core old new
 submit_grows core to what answer old new (inl refused) = stays 2 core old new refused.2
 submit_grows core to what answer old new (inr sent) = send_grows core to what old new (sent_reply answer) sent.1
 
 -- no call, and one that submits the small job and detaches it if it is accepted
-quiet_grows : (core : ℕ) (calls : List (Call Script ℕ)) (old new : ScriptWorld) → calls ≡ [] → Makes (CallsAt ScriptSame ScriptAnswers core) calls old new → Grows 3 core old new
+quiet_grows : (core : ℕ) (calls : List (Call Script ℕ)) (old new : ScriptWorld) → calls ≡ [] → Makes (CallsAt script_meaning core) calls old new → Grows 3 core old new
 quiet_grows core [] old new none makes = stays 3 core old new makes
 quiet_grows core (call ∷ calls) old new none makes = cc
 
-small_grows : (core to : ℕ) (what : Order Script) (answer : Result JobId (SendError Script)) (old new : ScriptWorld) → Makes (CallsAt ScriptSame ScriptAnswers core) (Submit to what answer ∷ detach_calls answer) old new → Grows 3 core old new
+small_grows : (core to : ℕ) (what : Order Script) (answer : Result JobId (SendError Script)) (old new : ScriptWorld) → Makes (CallsAt script_meaning core) (Submit to what answer ∷ detach_calls answer) old new → Grows 3 core old new
 small_grows core to what (Ok name) old new (sent, submits, later) =
     subst (Grows 3 core old) (sym later.2)
     (grows_then 2 1 core old sent later.0 (submit_grows core to what (Ok name) old sent submits) (detach_grows core name sent later.0 reply.Detached later.1))
@@ -125,12 +125,12 @@ small_grows core to what (Err refusal) old new (left, submits, same) =
     subst (Grows 3 core old) (sym same) (grows_within 2 3 core old left (omega arith) (submit_grows core to what (Err refusal) old left submits))
 
 -- the calls of one poll of a script's job
-calls_grow : (core : ℕ) (word : Option Poll) (calls : List (Call Script ℕ)) (step : Step ℕ) (told : Option ℕ) (old new : ScriptWorld) → Does word calls step told → Makes (CallsAt ScriptSame ScriptAnswers core) calls old new → Grows 3 core old new
+calls_grow : (core : ℕ) (word : Option Poll) (calls : List (Call Script ℕ)) (step : Step ℕ) (told : Option ℕ) (old new : ScriptWorld) → Does word calls step told → Makes (CallsAt script_meaning core) calls old new → Grows 3 core old new
 calls_grow core None calls step told old new does makes = absurd does
 calls_grow core (Some (poll.Yield time)) calls step told old new does makes = quiet_grows core calls old new does.0 makes
 calls_grow core (Some (poll.Done time value)) calls step told old new does makes = quiet_grows core calls old new does.0 makes
 calls_grow core (Some (poll.Submit time to queue)) calls step told old new does makes =
-    small_grows core to (order.Job queue small_job) (does.0).answer old new (subst (λ all. Makes (CallsAt ScriptSame ScriptAnswers core) all old new) (does.0).are makes)
+    small_grows core to (order.Job queue small_job) (does.0).answer old new (subst (λ all. Makes (CallsAt script_meaning core) all old new) (does.0).are makes)
 
 -- the notes of a pick, and that of a settled poll
 pick_light : (name : JobId) (queue runtime : ℕ) (started : Bool) → AreLight 2 (poll_note name started ∷ written.Pick queue runtime ∷ [])
@@ -142,7 +142,7 @@ settle_light name time (steps.Done out) = light 1 _ (omega arith)
 settle_light name time steps.Yield = light 1 _ (omega arith)
 
 -- a poll adds the notes of its pick, those of its calls, and its own
-poll_grows : (core spent : ℕ) (old new : ScriptWorld) → IsPoll ScriptSame script_made ScriptPolls ScriptAnswers core spent old new → Grows 6 core old new
+poll_grows : (core spent : ℕ) (old new : ScriptWorld) → IsPoll script_meaning core spent old new → Grows 6 core old new
 poll_grows core spent old new is =
     let picked = noted core (pick_notes is.name is.queue is.runtime (journal_at core old)) old in
     grows_then 5 1 core old is.posted new
@@ -153,7 +153,7 @@ poll_grows core spent old new is =
     )
     (adds_to 1 core (settle_note is.name (unwrap_or is.told spent) is.step ∷ []) is.posted new (settle_light is.name (unwrap_or is.told spent) is.step) is.notes)
 
-turn_grows : (core spent : ℕ) (old new : ScriptWorld) (answer : Reply Script) → Turns ScriptSame script_made ScriptPolls ScriptAnswers core spent old new answer → Grows 6 core old new
+turn_grows : (core spent : ℕ) (old new : ScriptWorld) (answer : Reply Script) → Turns script_meaning core spent old new answer → Grows 6 core old new
 turn_grows core spent old new reply.Noted (inl is) = poll_grows core spent old new is
 turn_grows core spent old new reply.Noted (inr is) =
     let notes = written.Returned is.name is.reason ∷ written.Pick is.queue is.runtime ∷ [] in
@@ -162,7 +162,7 @@ turn_grows core spent old new reply.Idle is = stays 6 core old new is.1
 turn_grows core spent old new reply.Spent is = stays 6 core old new is.2
 turn_grows core spent old new other is = absurd is
 
-step_grows : (event : Event Script) (old new : ScriptWorld) (answer : Reply Script) → Steps ScriptSame script_made ScriptPolls ScriptAnswers event old new answer → Grows 6 (actor_of event) old new
+step_grows : (event : Event Script) (old new : ScriptWorld) (answer : Reply Script) → Steps script_meaning event old new answer → Grows 6 (actor_of event) old new
 step_grows (Send sender core what) old new answer is = grows_within 2 6 sender old new (omega arith) (send_grows sender core what old new answer is)
 step_grows (Deliver core sender) old new answer is = deliver_grows core sender old new answer is
 step_grows (Turn core spent) old new answer is = turn_grows core spent old new answer is

@@ -15,7 +15,7 @@ use Rattle.rt_world.specs.State.{WorldView, journal_at, noted, assembly_of}
 use Rattle.rt_world.specs.Sends.{actor_of}
 use Rattle.rt_world.specs.Opening.{IsFresh, HasAllLists}
 use Rattle.rt_world.specs.Runs.{Happens, IsRun, RunsTo}
-use Rattle.rt_world_laws.specs.ScriptRuns.{ScriptSame, script_made, ScriptPolls, ScriptAnswers}
+use Rattle.rt_jobs.specs.ScriptMeaning.{script_meaning}
 use Rattle.rt_text.specs.declared.reply.Ends.{Ends}
 use Rattle.rt_text.specs.declared.reply.Quiet.{Quiet}
 use Rattle.fairexec_script.specs.Drafts.{Drafted}
@@ -29,15 +29,15 @@ ScriptWorld = WorldView Script ℕ
 
 -- one event of script jobs
 abbrev pub Occurs : Event Script → ScriptWorld → ScriptWorld → Reply Script → Type 0
-Occurs event old new answer = Happens ScriptSame script_made ScriptPolls ScriptAnswers event old new answer
+Occurs event old new answer = Happens script_meaning event old new answer
 
 -- a run of events of script jobs
 abbrev pub RunOf : List (Event Script) → ScriptWorld → ScriptWorld → Type 0
-RunOf = IsRun ScriptSame script_made ScriptPolls ScriptAnswers
+RunOf = IsRun script_meaning
 
 -- these are the journals after such a run
 abbrev pub RunsOf : List (Event Script) → ScriptWorld → Assembly ℕ → Type 0
-RunsOf = RunsTo ScriptSame script_made ScriptPolls ScriptAnswers
+RunsOf = RunsTo script_meaning
 
 -- the event was not handed back: its actors exist, and their journals have room
 abbrev pub IsHeard : Reply Script → Type 0

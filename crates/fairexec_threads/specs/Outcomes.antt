@@ -5,7 +5,8 @@ use Rattle.rt_ids.specs.declared.order.Order.{Order}
 use Rattle.rt_ids.specs.declared.order.Outcome.{Outcome}
 use Rattle.rt_ids.specs.Assembly.{Assembly, outcome_of}
 use Rattle.rt_ids.specs.Outcomes.{outcome_note}
-use Rattle.rt_jobs.specs.Scripts.{Script, IsAnswer}
+use Rattle.rt_jobs.specs.ScriptMeaning.{script_meaning}
+use Rattle.rt_jobs.specs.Scripts.{Script}
 use Rattle.rt_link.specs.Fits.{Fits}
 use Rattle.rt_runtime.specs.State.{RuntimeView}
 use Rattle.fairexec_threads_script.specs.Drafts.{Told}
@@ -13,7 +14,7 @@ use Rattle.fairexec_threads.specs.Offers.{OffersAll}
 
 -- the outcome fits the order: a job is finished with the value of its last poll, or comes back with its polls; a command is answered
 abbrev pub FitsScript : Order Script → Outcome Script ℕ → Type 0
-FitsScript = Fits (λ job other. job.polls ≡ other.polls) (λ job value. IsAnswer job.polls value)
+FitsScript = Fits script_meaning
 
 -- what is told is an outcome that fits this order
 pub record IsAskedBy (order : Order Script) (told : OutcomeNote ℕ) : Type 0 where

@@ -15,7 +15,6 @@ use rt_audit_rules::links::{orders_sent, outcomes_given};
 use rt_ids::{ActorNo, Order, OutcomeNote};
 use rt_journal_facts::{History, NameTable};
 use rt_journal_notes::Assembly;
-use rt_journal_write::is_spelled;
 use std::alloc::{AllocError, Global};
 
 /// What an audit finds.
@@ -55,7 +54,7 @@ pub fn audit(alloc: Global, assembly: &Assembly) -> Result<Verdict, AuditError>
     ensures only { IfOk result (λ verdict. IsSpelled assembly.now → IsSound assembly.now → verdict ≡ Sound) }
     ensures unspelled { (IsSpelled assembly.now → ⊥) → result ≡ Ok (Fault 0 0 1) }
 {
-    if !is_spelled(assembly) {
+    if !assembly.is_spelled() {
         return Ok(Verdict::Fault {
             actor: ActorNo(0),
             line: 0,

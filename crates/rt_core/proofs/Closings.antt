@@ -20,6 +20,7 @@ use Rattle.rt_core.specs.Steps.{ReturnsOut}
 use Rattle.rt_core.specs.Inside.{IsCore, IsListed}
 use Rattle.rt_core.proofs.Listed.{eqb-self}
 use Rattle.rt_core.proofs.Picking.{idle_if_no_key, first_waits}
+use Rattle.rt_jobs.specs.Meanings.{Meaning}
 
 set-again : {X : Type 0} (items : List X) (place : ℕ) (first last : X) → slice_set (slice_set items place first) place last ≡ slice_set items place last
 set-again [] place first last = refl
@@ -119,9 +120,9 @@ module _ {J : Type 0} where
       absurd (true≢false (sym (ap (λ test. test || is_number key.queue (queue_out view.out)) any) ∙ drained.idle key.queue))
 
   -- a mode, or a gate, is nothing that the core keeps its counts by
-  pub IsCore-closed : (done : J → Bool) (can_poll : J → Type 0) (view : CoreView J) (gates : List (Option ℕ)) (mode : Option Mode) (slips : List Bool) (keys : List Key) (inside room places : ℕ) →
-      IsCore done can_poll view slips keys inside room places → IsCore done can_poll (record view { gates = gates; mode = mode }) slips keys inside room places
-  IsCore-closed done can_poll view gates mode slips keys inside room places core = record {
+  pub IsCore-closed : {T : Type 0} (meaning : Meaning J T) (view : CoreView J) (gates : List (Option ℕ)) (mode : Option Mode) (slips : List Bool) (keys : List Key) (inside room places : ℕ) →
+      IsCore meaning view slips keys inside room places → IsCore meaning (record view { gates = gates; mode = mode }) slips keys inside room places
+  IsCore-closed meaning view gates mode slips keys inside room places core = record {
     counted = record {
       limits = core.counted.limits;
       tallies = core.counted.tallies;

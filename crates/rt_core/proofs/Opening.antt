@@ -13,6 +13,7 @@ use Rattle.rt_core.proofs.Entries.{entry_of-none}
 use Rattle.rt_core.proofs.Fits.{no_tally_fits}
 use Rattle.rt_core.proofs.Settling.{may_run-free}
 use Rattle.rt_core.proofs.SlipsKept.{KeepsSlips-opened}
+use Rattle.rt_jobs.specs.Meanings.{Meaning}
 
 module _ {J : Type 0} (core cores room turns : ℕ) (senders : SendersView) where
   abbrev first_view : List Tally → CoreView J
@@ -40,8 +41,8 @@ module _ {J : Type 0} (core cores room turns : ℕ) (senders : SendersView) wher
     out = tt;
   }
 
-  IsPollable-opened : (done : J → Bool) (can_poll : J → Type 0) (tallies : List Tally) → IsPollable done can_poll (first_view tallies)
-  IsPollable-opened done can_poll tallies = record { at = λ queue. rw (no_job tallies queue) (λ k d below. absurd (omega arith)) }
+  IsPollable-opened : {T : Type 0} (meaning : Meaning J T) (tallies : List Tally) → IsPollable meaning (first_view tallies)
+  IsPollable-opened meaning tallies = record { at = λ queue. rw (no_job tallies queue) (λ k d below. absurd (omega arith)) }
 
   IsWithinTurns-opened : IsWithinTurns (first_view (no_tally ∷ []))
   IsWithinTurns-opened = record {
@@ -50,12 +51,12 @@ module _ {J : Type 0} (core cores room turns : ℕ) (senders : SendersView) wher
   }
 
   -- all of it, of values that are equal to those
-  pub IsCore-opened : (done : J → Bool) (can_poll : J → Type 0) (queues : SlippedView J) (tallies : List Tally) (keys : List Key) (places : ℕ) → queues ≡ slipped.first_queue room → tallies ≡ no_tally ∷ [] → keys ≡ [] →
-      length senders.delivered ≡ cores + 1 → 256 ≤ places → IsCore done can_poll (core_view core cores (queues_alone queues) tallies 0 turns None senders None) queues.slips keys 0 room places
-  IsCore-opened done can_poll queues tallies keys places queues_are tallies_are keys_are known reserved = rw (queues_are, tallies_are, keys_are) (record {
+  pub IsCore-opened : {T : Type 0} (meaning : Meaning J T) (queues : SlippedView J) (tallies : List Tally) (keys : List Key) (places : ℕ) → queues ≡ slipped.first_queue room → tallies ≡ no_tally ∷ [] → keys ≡ [] →
+      length senders.delivered ≡ cores + 1 → 256 ≤ places → IsCore meaning (core_view core cores (queues_alone queues) tallies 0 turns None senders None) queues.slips keys 0 room places
+  IsCore-opened meaning queues tallies keys places queues_are tallies_are keys_are known reserved = rw (queues_are, tallies_are, keys_are) (record {
     counted = KeepsCounts-opened places known reserved;
     listed = IsListed-opened (no_tally ∷ []);
     slipped = KeepsSlips-opened;
-    pollable = IsPollable-opened done can_poll (no_tally ∷ []);
+    pollable = IsPollable-opened meaning (no_tally ∷ []);
     turns = IsWithinTurns-opened;
   })

@@ -14,6 +14,7 @@ use Rattle.rt_core.specs.State.{CoreView, JobOut, no_tally, is_any, queue_out, i
 use Rattle.rt_timeline.specs.Rising.{inserted}
 use Rattle.rt_core.specs.Inside.{may_run, unsettled_count, KeepsCounts, IsListed, IsPollable}
 use Rattle.rt_core.proofs.Entries.{is_any-push, entry_of, may_run-same, entry_of-same, entry_of-none, entry_of-some, runtime_of-set_other, runtime_of-set_same, IsListed-kept, IsListed-inserted}
+use Rattle.rt_jobs.specs.Meanings.{Meaning}
 
 both_false : (any out : Bool) → (any || out) ≡ false → (any ≡ false) × (out ≡ false)
 both_false true out e = cc
@@ -27,27 +28,27 @@ and_not_same false more false work is = cc
 
 module _ {J : Type 0} where
   -- one line changes
-  pub IsPollable-changed : (done : J → Bool) (can_poll : J → Type 0) (old new : CoreView J) (queue : ℕ) (line : List (JobId × Bool × J)) → ChangesLine old.queues new.queues queue line →
-      All (λ waiting. IsReady done can_poll waiting.2) line → IsPollable done can_poll old → IsPollable done can_poll new
-  IsPollable-changed done can_poll old new queue line changes each pollable = record { at = λ other. by_queue other (cases_eq other queue) }
+  pub IsPollable-changed : {T : Type 0} (meaning : Meaning J T) (old new : CoreView J) (queue : ℕ) (line : List (JobId × Bool × J)) → ChangesLine old.queues new.queues queue line →
+      All (λ waiting. IsReady meaning waiting.2) line → IsPollable meaning old → IsPollable meaning new
+  IsPollable-changed meaning old new queue line changes each pollable = record { at = λ other. by_queue other (cases_eq other queue) }
     where
-      by_queue : (other : ℕ) → (other ≡ queue) ⊎ (other ≡ queue → ⊥) → All (λ waiting. IsReady done can_poll waiting.2) (waiting_of other new.queues)
+      by_queue : (other : ℕ) → (other ≡ queue) ⊎ (other ≡ queue → ⊥) → All (λ waiting. IsReady meaning waiting.2) (waiting_of other new.queues)
       by_queue other (inl same) =
-          All-same (λ waiting. IsReady done can_poll waiting.2) (waiting_of other new.queues) line (ap (λ number. waiting_of number new.queues) same ∙ changes.changed) each
+          All-same (λ waiting. IsReady meaning waiting.2) (waiting_of other new.queues) line (ap (λ number. waiting_of number new.queues) same ∙ changes.changed) each
       by_queue other (inr apart) =
-          All-same (λ waiting. IsReady done can_poll waiting.2) (waiting_of other new.queues) (waiting_of other old.queues) (changes.others other apart) (pollable.at other)
+          All-same (λ waiting. IsReady meaning waiting.2) (waiting_of other new.queues) (waiting_of other old.queues) (changes.others other apart) (pollable.at other)
 
-  pub IsPollable-pushed : (done : J → Bool) (can_poll : J → Type 0) (old new : CoreView J) (queue : ℕ) (name : JobId) (started : Bool) (job : J) →
+  pub IsPollable-pushed : {T : Type 0} (meaning : Meaning J T) (old new : CoreView J) (queue : ℕ) (name : JobId) (started : Bool) (job : J) →
       ChangesLine old.queues new.queues queue (waiting_of queue old.queues ++ (name, started, job) ∷ []) →
-      IsReady done can_poll job → IsPollable done can_poll old → IsPollable done can_poll new
-  IsPollable-pushed done can_poll old new queue name started job changes ready pollable =
-      IsPollable-changed done can_poll old new queue (waiting_of queue old.queues ++ (name, started, job) ∷ []) changes
-      (All-push (λ waiting. IsReady done can_poll waiting.2) (waiting_of queue old.queues) (name, started, job) (pollable.at queue) ready) pollable
+      IsReady meaning job → IsPollable meaning old → IsPollable meaning new
+  IsPollable-pushed meaning old new queue name started job changes ready pollable =
+      IsPollable-changed meaning old new queue (waiting_of queue old.queues ++ (name, started, job) ∷ []) changes
+      (All-push (λ waiting. IsReady meaning waiting.2) (waiting_of queue old.queues) (name, started, job) (pollable.at queue) ready) pollable
 
-  pub IsPollable-same : (done : J → Bool) (can_poll : J → Type 0) (old new : CoreView J) → ((queue : ℕ) → waiting_of queue new.queues ≡ waiting_of queue old.queues) →
-      IsPollable done can_poll old → IsPollable done can_poll new
-  IsPollable-same done can_poll old new same pollable = record {
-    at = λ queue. All-same (λ waiting. IsReady done can_poll waiting.2) (waiting_of queue new.queues) (waiting_of queue old.queues) (same queue) (pollable.at queue);
+  pub IsPollable-same : {T : Type 0} (meaning : Meaning J T) (old new : CoreView J) → ((queue : ℕ) → waiting_of queue new.queues ≡ waiting_of queue old.queues) →
+      IsPollable meaning old → IsPollable meaning new
+  IsPollable-same meaning old new same pollable = record {
+    at = λ queue. All-same (λ waiting. IsReady meaning waiting.2) (waiting_of queue new.queues) (waiting_of queue old.queues) (same queue) (pollable.at queue);
   }
 
   -- a job enters a queue that has work

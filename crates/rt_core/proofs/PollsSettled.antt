@@ -6,7 +6,8 @@ use Rattle.rt_ids.specs.declared.note.Note.{Note}
 use Rattle.rt_ids.specs.declared.note.Note.TheVariants as notes
 use Rattle.rt_jobs.specs.declared.job.Step.{Step}
 use Rattle.rt_jobs.specs.declared.job.Step.TheVariants as step
-use Rattle.rt_jobs.specs.Steps.{AfterPoll, IsSameTask}
+use Rattle.rt_jobs.specs.Meanings.{Meaning, IsMeaning}
+use Rattle.rt_jobs.specs.Steps.{AfterPoll}
 use Rattle.rt_taskqueue.specs.Queues.{waiting_of, ChangesLine}
 use Rattle.rt_core.specs.declared.turn.Settled.TheVariants.{Yielded, Finished}
 use Rattle.rt_core.specs.State.{CoreView, JobOut}
@@ -35,17 +36,17 @@ module _ {J T : Type 0} (old : CoreView J) (ran : AfterPoll J T) (spent : ℕ) (
       (out, finishes.was_out, subst (λ (one : Step T). Settles old out ran spent one (Finished answer) new written) (sym was) (refl, rest, noted))
 
 -- the answer is one of the job that was out, since that has the task of the polled one
-pub answers_out : {J T : Type 0} (same : J → J → Type 0) (answers : J → T → Type 0) (out : Option (JobOut J)) (before : J) (answer : T) → IsSameTask same →
-    ((a b : J) (one : T) → same a b → answers a one → answers b one) → IsTaskOut same out before → answers before answer → AnswersOut answers out (Finished answer)
-answers_out same answers None before answer laws along task owed = task
-answers_out same answers (Some out) before answer laws along task owed = along before out.job answer (laws.back out.job before task) owed
+pub answers_out : {J T : Type 0} (meaning : Meaning J T) (out : Option (JobOut J)) (before : J) (answer : T) → IsMeaning meaning →
+    IsTaskOut meaning out before → meaning.answers before answer → AnswersOut meaning out (Finished answer)
+answers_out meaning None before answer laws task owed = task
+answers_out meaning (Some out) before answer laws task owed = laws.answers_same before out.job answer (laws.same_task.back out.job before task) owed
 
 -- a job that has the task of the one that is out shows that one is out
-pub out_if_same : {J : Type 0} (same : J → J → Type 0) (out : Option (JobOut J)) (before : J) → IsTaskOut same out before → IsSome out
-out_if_same same None before task = absurd task
-out_if_same same (Some out) before task = refl
+pub out_if_same : {J T : Type 0} (meaning : Meaning J T) (out : Option (JobOut J)) (before : J) → IsTaskOut meaning out before → IsSome out
+out_if_same meaning None before task = absurd task
+out_if_same meaning (Some out) before task = refl
 
 -- a job that wants another poll tells no answer
-pub yields_no_answer : {J T : Type 0} (answers : J → T → Type 0) (out : Option (JobOut J)) → AnswersOut answers out Yielded
-yields_no_answer answers None = tt
-yields_no_answer answers (Some out) = tt
+pub yields_no_answer : {J T : Type 0} (meaning : Meaning J T) (out : Option (JobOut J)) → AnswersOut meaning out Yielded
+yields_no_answer meaning None = tt
+yields_no_answer meaning (Some out) = tt

@@ -7,7 +7,7 @@ use Rattle.rt_ids.specs.Keys.{KeyAtMost}
 use Rattle.rt_jobs.specs.Calls.{Call}
 use Rattle.rt_jobs.specs.declared.job.Step.{Step}
 use Rattle.rt_jobs.specs.declared.job.Step.TheVariants as steps
-use Rattle.rt_jobs.specs.Steps.{Owed}
+use Rattle.rt_jobs.specs.Meanings.{Meaning}
 use Rattle.rt_timeline.specs.Rising.{first_key}
 use Rattle.rt_taskqueue.specs.Queues.{waiting_of}
 use Rattle.rt_core.specs.State.{CoreView, runtime_of}
@@ -47,10 +47,10 @@ module _ {J : Type 0} (T : Type 0) where
   picks_ahead old mid queue vr name false job takes kept stands = (takes, kept, ap (λ at. notes.Pick queue at ∷ notes.Start name ∷ []) stands)
   picks_ahead old mid queue vr name true job takes kept stands = (takes, kept, ap (λ at. notes.Pick queue at ∷ notes.Resume name ∷ []) stands)
 
-module _ {J T : Type 0} (same : J → J → Type 0) (done : J → Bool) (can_poll : J → Type 0) (made : J → ℕ) (polls : Owed J T) (answers : J → T → Type 0) where
+module _ {J T : Type 0} (meaning : Meaning J T) where
   pub TurnsWhole-first : (old new : CoreView J) (spent : ℕ) (calls : List (Call J T)) (step : Step T) (time queue vr : ℕ) (name : JobId) (started : Bool) → IsAhead old queue vr name started →
-      TurnsFirst same done can_poll made polls answers old spent calls step time new →
-      TurnsWhole same done can_poll made polls answers old spent calls name queue started (pick_notes queue vr name started) (settled_of step) (settle_notes name time step) new
+      TurnsFirst meaning old spent calls step time new →
+      TurnsWhole meaning old spent calls name queue started (pick_notes queue vr name started) (settled_of step) (settle_notes name time step) new
   TurnsWhole-first old new spent calls step time queue vr name started is_ahead turns =
       let front = is_ahead.front in
       let there = some_front (waiting_of turns.queue old.queues) (turns.name, turns.started, turns.ran.before) turns.takes.others turns.takes.first in

@@ -27,12 +27,13 @@ use Rattle.rt_core.proofs.Parts.{IsPollable-changed, IsPollable-pushed, IsPollab
 use Rattle.rt_core.proofs.Picking.{exists_if_waiting, first_waits, IsListed-picks, IsWithinTurns-picks}
 use Rattle.rt_core.proofs.Settling.{out_entry, IsListed-again, IsListed-no_more, IsWithinTurns-settles}
 use Rattle.rt_core.proofs.SlipsKept.{KeepsSlips-same, KeepsSlips-taken, KeepsSlips-inserted}
+use Rattle.rt_jobs.specs.Meanings.{Meaning}
 
-module _ {J : Type 0} (done : J → Bool) (can_poll : J → Type 0) where
+module _ {J T : Type 0} (meaning : Meaning J T) where
   -- the next job goes out
   pub IsCore-taken : (old mid : CoreView J) (slips : List Bool) (keys later : List Key) (key : Key) (inside room places : ℕ) (name : JobId) (started : Bool) (job : J) →
-      IsCore done can_poll old slips keys inside room places → keys ≡ key ∷ later → LacksQueue key.queue later → TakesOut old name key.queue started job mid → IsWithinLimits mid.queues →
-      IsCore done can_poll mid (slice_set slips key.queue true) later inside room places
+      IsCore meaning old slips keys inside room places → keys ≡ key ∷ later → LacksQueue key.queue later → TakesOut old name key.queue started job mid → IsWithinLimits mid.queues →
+      IsCore meaning mid (slice_set slips key.queue true) later inside room places
   IsCore-taken old mid slips keys later key inside room places name started job core are absent takes limits =
       let out : JobOut J = record { name = name; queue = key.queue; job = job } in
       let tally : Tally = record (tally_of key.queue old) { selected = (tally_of key.queue old).selected + 1 } in
@@ -44,23 +45,23 @@ module _ {J : Type 0} (done : J → Bool) (can_poll : J → Type 0) where
       let none : unsettled_count old ≡ 0 = ap (λ (held : Option (JobOut J)). number_if (is_some held)) takes.next.free in
       let before : FitsTurns old.turns 0 (tally_of key.queue old) = subst (λ unsettled. FitsTurns old.turns unsettled (tally_of key.queue old)) none (tally_fits old key.queue core.turns) in
       let low : runtime_of key.queue old ≤ old.turns * 2 ^ 50 = let fits = before.runtime in omega arith in
-      let all : All (λ waiting. IsReady done can_poll waiting.2) ((name, started, job) ∷ takes.others) =
-      subst (λ (line : List (JobId × Bool × J)). All (λ waiting. IsReady done can_poll waiting.2) line) takes.first (core.pollable.at key.queue) in
+      let all : All (λ waiting. IsReady meaning waiting.2) ((name, started, job) ∷ takes.others) =
+      subst (λ (line : List (JobId × Bool × J)). All (λ waiting. IsReady meaning waiting.2) line) takes.first (core.pollable.at key.queue) in
       record {
         counted = KeepsCounts-picks old mid inside room places out (name, started, job) takes.others takes.first takes.line limits exists (ap (λ (view : CoreView J). view.cores) takes.rest) takes.next.free is_out
             (ap length tallies ∙ length-set old.tallies key.queue tally) (ap (λ (view : CoreView J). view.delivered) takes.rest) core.counted;
         listed = IsListed-picks old mid keys key later out tally are absent takes.next.free is_out refl takes.line.others tallies core.listed;
         slipped = KeepsSlips-taken (queue_count mid.queues) slips key later (omega (arith, exists, takes.line.same_count)) absent
             (KeepsSlips-same (queue_count old.queues) (queue_count mid.queues) slips slips (key ∷ later) takes.line.same_count refl (subst (KeepsSlips (queue_count old.queues) slips) are core.slipped));
-        pollable = IsPollable-changed done can_poll old mid key.queue takes.others takes.line (All-tail (λ waiting. IsReady done can_poll waiting.2) (name, started, job) takes.others all) core.pollable;
+        pollable = IsPollable-changed meaning old mid key.queue takes.others takes.line (All-tail (λ waiting. IsReady meaning waiting.2) (name, started, job) takes.others all) core.pollable;
         turns = IsWithinTurns-picks old mid out key.queue (runtime_of key.queue old) tally takes.next.free is_out turns floor low tallies (picked_fits old.turns (tally_of key.queue old) before) core.turns;
       }
 
   -- the job that is out goes to the tail of its queue, with what is counted of the queue from then on
   pub IsCore-yielded : (mid new : CoreView J) (slips : List Bool) (keys : List Key) (inside room places : ℕ) (out : JobOut J) (job : J) (tally : Tally) →
-      IsCore done can_poll mid slips keys inside room places → mid.out ≡ Some out → new.out ≡ None → ChangesLine mid.queues new.queues out.queue (waiting_of out.queue mid.queues ++ (out.name, true, job) ∷ []) →
+      IsCore meaning mid slips keys inside room places → mid.out ≡ Some out → new.out ≡ None → ChangesLine mid.queues new.queues out.queue (waiting_of out.queue mid.queues ++ (out.name, true, job) ∷ []) →
       IsWithinLimits new.queues → new.tallies ≡ slice_set mid.tallies out.queue tally → FitsTurns mid.turns 0 tally → new.cores ≡ mid.cores → new.delivered ≡ mid.delivered → new.turns ≡ mid.turns → new.floor ≡ mid.floor →
-      IsReady done can_poll job → IsCore done can_poll new (slice_set slips out.queue false) (inserted (record { vr = tally.runtime; queue = out.queue }) keys) inside room places
+      IsReady meaning job → IsCore meaning new (slice_set slips out.queue false) (inserted (record { vr = tally.runtime; queue = out.queue }) keys) inside room places
   IsCore-yielded mid new slips keys inside room places out job tally core was_out free joins limits tallies fits cores delivered turns floor ready =
       let exists = some_inside mid inside room places out was_out core.counted in
       let within : out.queue < length mid.tallies = omega (arith, core.counted.tallies, exists.1) in
@@ -71,15 +72,15 @@ module _ {J : Type 0} (done : J → Bool) (can_poll : J → Type 0) where
         listed = IsListed-again mid new keys out tally was_out free joins.others tallies core.listed within any;
         slipped = KeepsSlips-inserted (queue_count new.queues) slips keys (record { vr = tally.runtime; queue = out.queue }) (omega (arith, exists.1, joins.same_count)) lacks
             (KeepsSlips-same (queue_count mid.queues) (queue_count new.queues) slips slips keys joins.same_count refl core.slipped);
-        pollable = IsPollable-pushed done can_poll mid new out.queue out.name true job joins ready core.pollable;
+        pollable = IsPollable-pushed meaning mid new out.queue out.name true job joins ready core.pollable;
         turns = IsWithinTurns-settles mid new out out.queue tally was_out free turns floor tallies fits core.turns;
       }
 
   -- the job that is out is done
   pub IsCore-ended : (mid new : CoreView J) (slips : List Bool) (keys : List Key) (inside room places : ℕ) (out : JobOut J) (tally : Tally) (any : Bool) →
-      IsCore done can_poll mid slips keys inside room places → mid.out ≡ Some out → new.out ≡ None → new.queues ≡ mid.queues →
+      IsCore meaning mid slips keys inside room places → mid.out ≡ Some out → new.out ≡ None → new.queues ≡ mid.queues →
       new.tallies ≡ slice_set mid.tallies out.queue tally → FitsTurns mid.turns 0 tally → new.cores ≡ mid.cores → new.delivered ≡ mid.delivered → new.turns ≡ mid.turns → new.floor ≡ mid.floor →
-      is_any (waiting_of out.queue new.queues) ≡ any → IsCore done can_poll new (slips_after any out.queue slips) (keys_after any tally.runtime out.queue keys) (inside - 1) room places
+      is_any (waiting_of out.queue new.queues) ≡ any → IsCore meaning new (slips_after any out.queue slips) (keys_after any tally.runtime out.queue keys) (inside - 1) room places
   IsCore-ended mid new slips keys inside room places out tally any core was_out free queues tallies fits cores delivered turns floor some = by_any any some
     where
       lines : (other : ℕ) → waiting_of other new.queues ≡ waiting_of other mid.queues
@@ -88,7 +89,7 @@ module _ {J : Type 0} (done : J → Bool) (can_poll : J → Type 0) where
       kept : KeepsSlips (queue_count new.queues) slips keys
       kept = KeepsSlips-same (queue_count mid.queues) (queue_count new.queues) slips slips keys (ap queue_count queues) refl core.slipped
 
-      by_any : (any : Bool) → is_any (waiting_of out.queue new.queues) ≡ any → IsCore done can_poll new (slips_after any out.queue slips) (keys_after any tally.runtime out.queue keys) (inside - 1) room places
+      by_any : (any : Bool) → is_any (waiting_of out.queue new.queues) ≡ any → IsCore meaning new (slips_after any out.queue slips) (keys_after any tally.runtime out.queue keys) (inside - 1) room places
       by_any true some =
           let exists = some_inside mid inside room places out was_out core.counted in
           let within : out.queue < length mid.tallies = omega (arith, core.counted.tallies, exists.1) in
@@ -97,26 +98,26 @@ module _ {J : Type 0} (done : J → Bool) (can_poll : J → Type 0) where
             counted = KeepsCounts-finishes mid new inside room places out queues cores was_out free (ap length tallies ∙ length-set mid.tallies out.queue tally) delivered core.counted;
             listed = IsListed-again mid new keys out tally was_out free (λ other apart. lines other) tallies core.listed within some;
             slipped = KeepsSlips-inserted (queue_count new.queues) slips keys (record { vr = tally.runtime; queue = out.queue }) (omega (arith, exists.1, ap queue_count queues)) lacks kept;
-            pollable = IsPollable-same done can_poll mid new lines core.pollable;
+            pollable = IsPollable-same meaning mid new lines core.pollable;
             turns = IsWithinTurns-settles mid new out out.queue tally was_out free turns floor tallies fits core.turns;
           }
       by_any false none = record {
         counted = KeepsCounts-finishes mid new inside room places out queues cores was_out free (ap length tallies ∙ length-set mid.tallies out.queue tally) delivered core.counted;
         listed = IsListed-no_more mid new keys out tally was_out free (λ other apart. lines other) tallies core.listed none;
         slipped = kept;
-        pollable = IsPollable-same done can_poll mid new lines core.pollable;
+        pollable = IsPollable-same meaning mid new lines core.pollable;
         turns = IsWithinTurns-settles mid new out out.queue tally was_out free turns floor tallies fits core.turns;
       }
 
   -- the job that was out was polled where it stands, and its poll is settled
   pub IsCore-settled : {T : Type 0} (mid new : CoreView J) (slips : List Bool) (keys : List Key) (inside room places : ℕ) (out : JobOut J) (job : J) (tally : Tally) (any : Bool) (step : Step T) →
-      IsCore done can_poll mid slips keys inside room places → mid.out ≡ Some out → new.out ≡ None → JoinsAgain step mid.queues out.queue out.name job new.queues → IsWithinLimits new.queues →
+      IsCore meaning mid slips keys inside room places → mid.out ≡ Some out → new.out ≡ None → JoinsAgain step mid.queues out.queue out.name job new.queues → IsWithinLimits new.queues →
       new.tallies ≡ slice_set mid.tallies out.queue tally → FitsTurns mid.turns 0 tally → new.cores ≡ mid.cores → new.delivered ≡ mid.delivered → new.turns ≡ mid.turns → new.floor ≡ mid.floor →
-      done job ≡ is_done_step step → OnYield step (can_poll job) → is_any (waiting_of out.queue new.queues) ≡ any →
-      IsCore done can_poll new (slips_after any out.queue slips) (keys_after any tally.runtime out.queue keys) (inside - number_if (is_done_step step)) room places
+      meaning.done job ≡ is_done_step step → OnYield step (meaning.can_poll job) → is_any (waiting_of out.queue new.queues) ≡ any →
+      IsCore meaning new (slips_after any out.queue slips) (keys_after any tally.runtime out.queue keys) (inside - number_if (is_done_step step)) room places
   IsCore-settled mid new slips keys inside room places out job tally true steps.Yield core was_out free joins limits tallies fits cores delivered turns floor still ready some =
       let all : inside ≡ inside - 0 = omega arith in
-      subst (λ count. IsCore done can_poll new (slice_set slips out.queue false) (inserted (record { vr = tally.runtime; queue = out.queue }) keys) count room places) all
+      subst (λ count. IsCore meaning new (slice_set slips out.queue false) (inserted (record { vr = tally.runtime; queue = out.queue }) keys) count room places) all
       (IsCore-yielded mid new slips keys inside room places out job tally core was_out free joins limits tallies fits cores delivered turns floor (still, ready))
   IsCore-settled mid new slips keys inside room places out job tally false steps.Yield core was_out free joins limits tallies fits cores delivered turns floor still ready none =
       absurd (true≢false (sym (ap is_any joins.changed ∙ is_any-push (waiting_of out.queue mid.queues) (out.name, true, job)) ∙ none))
@@ -124,9 +125,9 @@ module _ {J : Type 0} (done : J → Bool) (can_poll : J → Type 0) where
       IsCore-ended mid new slips keys inside room places out tally any core was_out free joins tallies fits cores delivered turns floor some
 
   -- the head of a line that isn't empty may be polled
-  pub front_ready : (line : List (JobId × Bool × J)) → is_any line ≡ true → All (λ waiting. IsReady done can_poll waiting.2) line → IsFrontReady done can_poll line
+  pub front_ready : (line : List (JobId × Bool × J)) → is_any line ≡ true → All (λ waiting. IsReady meaning waiting.2) line → IsFrontReady meaning line
   front_ready [] some all = absurd (true≢false (sym some))
-  front_ready (waiting ∷ others) some all = All-head (λ one. IsReady done can_poll one.2) waiting others all
+  front_ready (waiting ∷ others) some all = All-head (λ one. IsReady meaning one.2) waiting others all
 
 module _ {J T : Type 0} where
   -- what a turn of a line leaves as it was

@@ -6,7 +6,8 @@ use Rattle.rt_ids.specs.declared.names.Key.{Key}
 use Rattle.rt_ids.specs.Work.{number_if}
 use Rattle.rt_jobs.specs.Calls.{Call}
 use Rattle.rt_jobs.specs.declared.job.Step.{Step}
-use Rattle.rt_jobs.specs.Steps.{Owed, is_done_step}
+use Rattle.rt_jobs.specs.Meanings.{Meaning}
+use Rattle.rt_jobs.specs.Steps.{is_done_step}
 use Rattle.rt_timeline.specs.Rising.{IsRising, LacksQueue}
 use Rattle.rt_taskqueue.specs.Queues.{QueuesView, queue_count, waiting_of, shares_of, IsWithinLimits}
 use Rattle.rt_taskqueue.specs.Fronts.{TurnsFront}
@@ -28,9 +29,9 @@ module _ {J : Type 0} where
   first_exists view keys key later are listed free = exists_if_waiting view.queues key.queue (first_waits view keys key later are listed free)
 
   -- its tally, as no poll of it is out
-  pub first_fits : (done : J → Bool) (can_poll : J → Type 0) (view : CoreView J) (slips : List Bool) (keys : List Key) (inside room places queue : ℕ) → IsCore done can_poll view slips keys inside room places → view.out ≡ None →
+  pub first_fits : {T : Type 0} (meaning : Meaning J T) (view : CoreView J) (slips : List Bool) (keys : List Key) (inside room places queue : ℕ) → IsCore meaning view slips keys inside room places → view.out ≡ None →
       FitsTurns view.turns 0 (tally_of queue view)
-  first_fits done can_poll view slips keys inside room places queue core free =
+  first_fits meaning view slips keys inside room places queue core free =
       let none : unsettled_count view ≡ 0 = ap (λ (held : Option (JobOut J)). number_if (is_some held)) free in
       subst (λ unsettled. FitsTurns view.turns unsettled (tally_of queue view)) none (tally_fits view queue core.turns)
 
@@ -47,16 +48,16 @@ module _ {J : Type 0} where
     turns = view.turns + 1;
   }
 
-module _ {J T : Type 0} (same : J → J → Type 0) (done : J → Bool) (can_poll : J → Type 0) (made : J → ℕ) (polls : Owed J T) (answers : J → T → Type 0) where
+module _ {J T : Type 0} (meaning : Meaning J T) where
   -- what is known inside once the line of the first queue had its turn
   pub record HasTurned (old : CoreView J) (slips : List Bool) (keys : List Key) (inside room places : ℕ) (key : Key) (calls : List (Call J T)) (step : Step T) (told : Option ℕ) (time : ℕ) (tally : Tally) (queues : QueuesView J) : Type 0 where
-    pub core : IsCore done can_poll old slips keys inside room places
+    pub core : IsCore meaning old slips keys inside room places
     pub later : List Key
     pub are : keys ≡ key ∷ later
     pub absent : LacksQueue key.queue later
     pub rising : IsRising keys
     pub free : old.out ≡ None
-    pub turned : TurnsFront same done can_poll made polls answers old.queues key.queue calls step told queues
+    pub turned : TurnsFront meaning old.queues key.queue calls step told queues
     pub limits : IsWithinLimits queues
     pub charged : tally ≡ after_poll (picked_tally old key.queue) time (shares_of key.queue queues) (number_if (is_done_step step))
     pub fits : FitsTurns old.turns 0 (tally_of key.queue old) → FitsTurns (old.turns + 1) 0 tally
@@ -90,33 +91,33 @@ module _ {J T : Type 0} (same : J → J → Type 0) (done : J → Bool) (can_pol
     same_floor = ap (max old.floor) (sym (first_runtime old keys key turn.later turn.are turn.core.listed))
 
     -- what holds inside between them
-    IsCore-between : IsCore done can_poll between (slice_set slips key.queue true) turn.later inside room places
-    IsCore-between = IsCore-taken done can_poll old between slips keys turn.later key inside room places turn.turned.name turn.turned.started turn.turned.was turn.core turn.are turn.absent takes turn.turned.limits
+    IsCore-between : IsCore meaning between (slice_set slips key.queue true) turn.later inside room places
+    IsCore-between = IsCore-taken meaning old between slips keys turn.later key inside room places turn.turned.name turn.turned.started turn.turned.was turn.core turn.are turn.absent takes turn.turned.limits
 
     -- the job that has its turn is inside
     pub one_inside : 1 ≤ inside
     one_inside = (some_inside between inside room places job_between refl IsCore-between.counted).0
 
     -- what holds inside
-    pub IsCore-turned : IsCore done can_poll (after_turn old key tally queues) (slips_after (is_any (waiting_of key.queue queues)) key.queue (slice_set slips key.queue true))
+    pub IsCore-turned : IsCore meaning (after_turn old key tally queues) (slips_after (is_any (waiting_of key.queue queues)) key.queue (slice_set slips key.queue true))
         (keys_after (is_any (waiting_of key.queue queues)) tally.runtime key.queue turn.later) (inside - number_if (is_done_step step)) room places
     IsCore-turned =
-        IsCore-settled done can_poll between (after_turn old key tally queues) (slice_set slips key.queue true) turn.later inside room places job_between turn.turned.job tally (is_any (waiting_of key.queue queues)) step
+        IsCore-settled meaning between (after_turn old key tally queues) (slice_set slips key.queue true) turn.later inside room places job_between turn.turned.job tally (is_any (waiting_of key.queue queues)) step
         IsCore-between refl turn.free turn.turned.joins turn.limits (sym (set-set old.tallies key.queue (picked_tally old key.queue) tally))
-        (turn.fits (first_fits done can_poll old slips keys inside room places key.queue turn.core turn.free)) refl refl refl same_floor turn.turned.polled.ended turn.turned.polled.ready refl
+        (turn.fits (first_fits meaning old slips keys inside room places key.queue turn.core turn.free)) refl refl refl same_floor turn.turned.polled.ended turn.turned.polled.ready refl
 
     -- the same of what is equal to it
     pub IsCore-turned_as : (new : CoreView J) (new_slips : List Bool) (new_keys : List Key) (new_inside : ℕ) → new ≡ after_turn old key tally queues →
         new_slips ≡ slips_after (is_any (waiting_of key.queue queues)) key.queue (slice_set slips key.queue true) →
         new_keys ≡ keys_after (is_any (waiting_of key.queue queues)) tally.runtime key.queue turn.later → new_inside ≡ inside - number_if (is_done_step step) →
-        IsCore done can_poll new new_slips new_keys new_inside room places
+        IsCore meaning new new_slips new_keys new_inside room places
     IsCore-turned_as new new_slips new_keys new_inside view slips_are keys_are count = rw (view, slips_are, keys_are, count) IsCore-turned
 
     pub IsBounded-turned : IsBounded (after_turn old key tally queues)
     IsBounded-turned = IsBounded-from_turns (after_turn old key tally queues) IsCore-turned.turns
 
     -- the turn of the contract
-    pub TurnsFirst-turned : (spent : ℕ) → time ≡ unwrap_or told spent → TurnsFirst same done can_poll made polls answers old spent calls step time (after_turn old key tally queues)
+    pub TurnsFirst-turned : (spent : ℕ) → time ≡ unwrap_or told spent → TurnsFirst meaning old spent calls step time (after_turn old key tally queues)
     TurnsFirst-turned spent counts =
         let turned = turn.turned in
         let ended = number_if (is_done_step step) in

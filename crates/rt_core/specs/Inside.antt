@@ -11,6 +11,7 @@ use Rattle.rt_core.specs.declared.out.Out.{Out}
 use Rattle.rt_core.specs.declared.tally.Tally.{Tally}
 use Rattle.rt_core.specs.Senders.{SendersView}
 use Rattle.rt_core.specs.State.{CoreView, JobOut, is_any, queue_out, runtime_of, inside_count}
+use Rattle.rt_jobs.specs.Meanings.{Meaning}
 
 -- the job that is out, as callers see it
 abbrev pub job_out : {J : Type 0} → Option (Out J) → Option (JobOut J)
@@ -75,17 +76,17 @@ module _ {J : Type 0} where
     pub at : (queue : ℕ) → runtime_listed queue keys ≡ (if may_run queue view then Some (runtime_of queue view) else None)
 
   -- each job that waits may be polled
-  pub record IsPollable (done : J → Bool) (can_poll : J → Type 0) (view : CoreView J) : Type 0 where
-    pub at : (queue : ℕ) → All (λ waiting. IsReady done can_poll waiting.2) (waiting_of queue view.queues)
+  pub record IsPollable {T : Type 0} (meaning : Meaning J T) (view : CoreView J) : Type 0 where
+    pub at : (queue : ℕ) → All (λ waiting. IsReady meaning waiting.2) (waiting_of queue view.queues)
 
   -- no count outgrows the turns
   pub record IsWithinTurns (view : CoreView J) : Type 0 where
     pub tallies : All (FitsTurns view.turns (unsettled_count view)) view.tallies
     pub floor : view.floor + unsettled_count view * 2 ^ 50 ≤ view.turns * 2 ^ 50
 
-  pub record IsCore (done : J → Bool) (can_poll : J → Type 0) (view : CoreView J) (slips : List Bool) (keys : List Key) (inside room tally_places : ℕ) : Type 0 where
+  pub record IsCore {T : Type 0} (meaning : Meaning J T) (view : CoreView J) (slips : List Bool) (keys : List Key) (inside room tally_places : ℕ) : Type 0 where
     pub counted : KeepsCounts view inside room tally_places
     pub listed : IsListed view keys
     pub slipped : KeepsSlips (queue_count view.queues) slips keys
-    pub pollable : IsPollable done can_poll view
+    pub pollable : IsPollable meaning view
     pub turns : IsWithinTurns view

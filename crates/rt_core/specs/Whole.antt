@@ -6,7 +6,8 @@ use Rattle.rt_ids.specs.declared.note.Note.TheVariants as notes
 use Rattle.rt_jobs.specs.Calls.{Call}
 use Rattle.rt_jobs.specs.declared.job.Step.{Step}
 use Rattle.rt_jobs.specs.declared.job.Step.TheVariants as steps
-use Rattle.rt_jobs.specs.Steps.{Owed, AfterPoll}
+use Rattle.rt_jobs.specs.Meanings.{Meaning}
+use Rattle.rt_jobs.specs.Steps.{AfterPoll}
 use Rattle.rt_taskqueue.specs.Queues.{waiting_of}
 use Rattle.rt_taskqueue.specs.Fronts.{IsPolled, HasFront}
 use Rattle.rt_core.specs.declared.turn.Ahead.{Ahead}
@@ -65,13 +66,13 @@ module _ {J T : Type 0} where
   SettlesStep steps.Yield mid name job time new = YieldsOut mid name job time new
   SettlesStep (steps.Done out) mid name job time new = FinishesOut mid name time new
 
-module _ {J T : Type 0} (same : J → J → Type 0) (done : J → Bool) (can_poll : J → Type 0) (made : J → ℕ) (polls : Owed J T) (answers : J → T → Type 0) where
+module _ {J T : Type 0} (meaning : Meaning J T) where
   -- the job is picked, polled once with these calls of its post, and settled; the notes of the pick and of the settling are those of the two calls
   pub record TurnsWhole (old : CoreView J) (spent : ℕ) (calls : List (Call J T)) (name : JobId) (queue : ℕ) (started : Bool) (picked : List (Note T)) (settled : Settled T) (written : List (Note T)) (new : CoreView J) : Type 0 where
     pub mid : CoreView J
     pub ran : AfterPoll J T
     pub picks : Picks old (Ok (goes_out name queue started ran.before)) mid picked
-    pub polled : IsPolled same done can_poll made polls answers calls ran
+    pub polled : IsPolled meaning calls ran
     pub settles : SettlesOut mid ran spent settled new written
 
   -- the state of such a turn: the next job goes out, and its poll is settled, with the time that counts
@@ -82,7 +83,7 @@ module _ {J T : Type 0} (same : J → J → Type 0) (done : J → Bool) (can_pol
     pub mid : CoreView J
     pub ran : AfterPoll J T
     pub takes : TakesOut old name queue started ran.before mid
-    pub polled : IsPolled same done can_poll made polls answers calls ran
+    pub polled : IsPolled meaning calls ran
     pub stepped : ran.step ≡ step
     pub counts : time ≡ unwrap_or ran.told spent
     pub settles : SettlesStep step mid name ran.job time new

@@ -66,7 +66,7 @@ impl<J: Task, A: Allocator + Clone> Model for Core<J, A> {
 
     ghost view = { λ c. core_view c.core c.cores (queues_alone c.queues) c.tallies.items c.floor c.turns (job_out c.out) c.senders c.mode };
 
-    ghost invariant = { λ c. IsCore J.done J.CanPoll (core_view c.core c.cores (queues_alone c.queues) c.tallies.items c.floor c.turns (job_out c.out) c.senders c.mode) c.queues.slips c.ready.keys c.inside c.room c.tallies.cap };
+    ghost invariant = { λ c. IsCore J.meaning (core_view c.core c.cores (queues_alone c.queues) c.tallies.items c.floor c.turns (job_out c.out) c.senders c.mode) c.queues.slips c.ready.keys c.inside c.room c.tallies.cap };
 }
 
 impl<J: Task, A: Allocator + Clone> Core<J, A> {
@@ -151,7 +151,7 @@ impl<J: Task, A: Allocator + Clone> Core<J, A> {
         requires room { inside_count self.old < self.old.queues.room }
         requires sender { envelope.name.from ≤ self.old.cores }
         requires next { envelope.name.number ≡ delivered_of envelope.name.from self.old + 1 }
-        requires ready { HasReadyJob J.done J.CanPoll envelope.order }
+        requires ready { HasReadyJob J.meaning envelope.order }
         ensures delivers { Delivers self.old envelope.name envelope.order result.0 self.new result.1.items }
         ensures bounded { IsBounded self.new }
     {
@@ -171,7 +171,7 @@ impl<J: Task, A: Allocator + Clone> Core<J, A> {
     where
         J::Out: Copy,
         ensures picks { Picks self.old result.0 self.new result.1.items }
-        ensures ready { IsReadyTurn J.done J.CanPoll result.0 }
+        ensures ready { IsReadyTurn J.meaning result.0 }
         ensures bounded { IsBounded self.new }
     {
         if self.out.is_some() {
@@ -191,9 +191,9 @@ impl<J: Task, A: Allocator + Clone> Core<J, A> {
     pub fn settle(&mut self, ran: Ran<J>, spent: u64) -> (Settled<J::Out>, Notes<J::Out>)
     where
         J::Out: Copy,
-        requires { IsTaskOut J.SameTask self.old.out ran.before }
+        requires { IsTaskOut J.meaning self.old.out ran.before }
         ensures settles { SettlesOut self.old ran spent result.0 self.new result.1.items }
-        ensures answers { AnswersOut J.Answers self.old.out result.0 }
+        ensures answers { AnswersOut J.meaning self.old.out result.0 }
         ensures bounded { IsBounded self.new }
     {
         let (job, step, told) = ran.into_parts();

@@ -36,7 +36,7 @@ impl Meter for Watch {
 /// A job waits in queue 0. It yields so many times.
 fn one_waits(heap: &LocalHeap, left: u8) -> Option<Lines<'_>>
     ensures exists { IfSome result (λ queues. 0 < queue_count queues) }
-    ensures ready { IfSome result (λ queues. IsFrontReady ⟦<Steps as Task>⟧.done ⟦<Steps as Task>⟧.CanPoll (waiting_of 0 queues)) }
+    ensures ready { IfSome result (λ queues. IsFrontReady ⟦<Steps as Task>⟧.meaning (waiting_of 0 queues)) }
 {
     let mut queues = Lines::open(heap, 1).ok()?;
     let job = Steps {

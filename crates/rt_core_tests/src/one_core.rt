@@ -38,7 +38,7 @@ pub(crate) fn submit(
     number: u64,
     order: Order<Steps>,
 ) -> Option<(Delivered<Steps>, Notes<u64>)>
-    requires { HasReadyJob ⟦<Steps as Task>⟧.done ⟦<Steps as Task>⟧.CanPoll order }
+    requires { HasReadyJob ⟦<Steps as Task>⟧.meaning order }
 {
     let name = name(number);
     if !core.has_room() || !core.is_next(&name) {

@@ -17,25 +17,22 @@ impl Task for Steps {
 
     type Out = u64;
 
-    ghost SameTask = { λ _ _. Unit {0} };
+    ghost meaning = { record {
+      same = λ _ _. Unit {0};
+      done = λ steps. steps.done;
+      can_poll = λ _. Unit {0};
+      made = λ _. 0;
+      says = λ steps. Some steps.time;
+      polls = λ _ _ _ _ _. Unit {0};
+      answers = λ _ _. Unit {0};
+    } };
 
-    ghost done = { λ steps. steps.done };
-
-    ghost made = { λ _. 0 };
-
-    ghost says = { λ steps. Some steps.time };
-
-    ghost Polls = { λ _ _ _ _ _. Unit {0} };
-
-    ghost Answers = { λ _ _. Unit {0} };
-
-    ghost same_task = { record { itself = λ _. tt; back = λ _ _ _. tt; along = λ _ _ _ _ _. tt } };
-
-    ghost answers_same = { λ _ _ _ _ _. tt };
-
-    ghost polls_same = { λ _ _ _ _ _ _ _ _. tt };
-
-    ghost can_poll_same = { λ _ _ _ can. can };
+    ghost laws = { record {
+      same_task = record { itself = λ _. tt; back = λ _ _ _. tt; along = λ _ _ _ _ _. tt };
+      answers_same = λ _ _ _ _ _. tt;
+      polls_same = λ _ _ _ _ _ _ _ _. tt;
+      can_poll_same = λ a b same can. can;
+    } };
 
     fn is_done(&self) -> bool {
         self.done

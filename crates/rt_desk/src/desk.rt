@@ -56,12 +56,12 @@ impl<J: Task> Desk<J> {
         ends: &mut [O],
         ticket: Ticket,
     ) -> Result<Outcome<J, J::Out>, TicketError>
-        requires { AreEndsOf (Fits J.SameTask J.Answers) O.out O.credited self.old ends.old }
-        ensures ends { AreEndsOf (Fits J.SameTask J.Answers) O.out O.credited self.new ends.new }
+        requires { AreEndsOf (Fits J.meaning) O.out O.credited self.old ends.old }
+        ensures ends { AreEndsOf (Fits J.meaning) O.out O.credited self.new ends.new }
         ensures unknown { (¬ IsFor self.old ticket) → (result ≡ Err Unknown) × (self.new ≡ self.old) × (ends.new ≡ ends.old) }
         ensures redeems { IsFor self.old ticket → AtCore self.old self.new ends.old ends.new ticket.to (λ lane later end now.
             (O.untouched now ≡ O.untouched end) × (O.out now ≡ O.out end) × Redeems lane later ticket.number (O.credited end) (O.credited now) result
-            × IfOk result (IsGot (O.out end) ticket.number) × IfOk result (FitsSent (Fits J.SameTask J.Answers) (O.out end) ticket.number)) }
+            × IfOk result (IsGot (O.out end) ticket.number) × IfOk result (FitsSent (Fits J.meaning) (O.out end) ticket.number)) }
     {
         if !self.is_for(ticket) {
             return Err(TicketError::Unknown);
@@ -76,12 +76,12 @@ impl<J: Task> Desk<J> {
         core: usize,
         number: u64,
     ) -> Result<Outcome<J, J::Out>, TicketError>
-        requires ends { AreEndsOf (Fits J.SameTask J.Answers) O.out O.credited self.old ends.old }
+        requires ends { AreEndsOf (Fits J.meaning) O.out O.credited self.old ends.old }
         requires core { core < length self.old.lanes }
-        ensures ends { AreEndsOf (Fits J.SameTask J.Answers) O.out O.credited self.new ends.new }
+        ensures ends { AreEndsOf (Fits J.meaning) O.out O.credited self.new ends.new }
         ensures redeems { AtCore self.old self.new ends.old ends.new core (λ lane later end now.
             (O.untouched now ≡ O.untouched end) × (O.out now ≡ O.out end) × Redeems lane later number (O.credited end) (O.credited now) result
-            × IfOk result (IsGot (O.out end) number) × IfOk result (FitsSent (Fits J.SameTask J.Answers) (O.out end) number)) }
+            × IfOk result (IsGot (O.out end) number) × IfOk result (FitsSent (Fits J.meaning) (O.out end) number)) }
     {
         let lane = &mut self.lanes[core];
         let end = &mut ends[core];
@@ -98,8 +98,8 @@ impl<J: Task> Desk<J> {
         ends: &mut [O],
         ticket: Ticket,
     ) -> Result<(), TicketError>
-        requires { AreEndsOf (Fits J.SameTask J.Answers) O.out O.credited self.old ends.old }
-        ensures ends { AreEndsOf (Fits J.SameTask J.Answers) O.out O.credited self.new ends.new }
+        requires { AreEndsOf (Fits J.meaning) O.out O.credited self.old ends.old }
+        ensures ends { AreEndsOf (Fits J.meaning) O.out O.credited self.new ends.new }
         ensures unknown { (¬ IsFor self.old ticket) → (result ≡ Err Unknown) × (self.new ≡ self.old) × (ends.new ≡ ends.old) }
         ensures detaches { IsFor self.old ticket → AtCore self.old self.new ends.old ends.new ticket.to (λ lane later end now.
             (O.untouched now ≡ O.untouched end) × (O.out now ≡ O.out end) × Detaches lane later ticket.number (O.credited end) (O.credited now) result) }
@@ -117,9 +117,9 @@ impl<J: Task> Desk<J> {
         core: usize,
         number: u64,
     ) -> Result<(), TicketError>
-        requires ends { AreEndsOf (Fits J.SameTask J.Answers) O.out O.credited self.old ends.old }
+        requires ends { AreEndsOf (Fits J.meaning) O.out O.credited self.old ends.old }
         requires core { core < length self.old.lanes }
-        ensures ends { AreEndsOf (Fits J.SameTask J.Answers) O.out O.credited self.new ends.new }
+        ensures ends { AreEndsOf (Fits J.meaning) O.out O.credited self.new ends.new }
         ensures detaches { AtCore self.old self.new ends.old ends.new core (λ lane later end now.
             (O.untouched now ≡ O.untouched end) × (O.out now ≡ O.out end) × Detaches lane later number (O.credited end) (O.credited now) result) }
     {
@@ -139,9 +139,9 @@ impl<J: Task> Desk<J> {
         to: CoreNo,
         order: Order<J>,
     ) -> Result<Ticket, SendError<J>>
-        requires ends { AreEndsOf (Fits J.SameTask J.Answers) O.out O.credited self.old ends.old }
-        requires ready { HasReadyJob J.done J.CanPoll order }
-        ensures ends { AreEndsOf (Fits J.SameTask J.Answers) O.out O.credited self.new ends.new }
+        requires ends { AreEndsOf (Fits J.meaning) O.out O.credited self.old ends.old }
+        requires ready { HasReadyJob J.meaning order }
+        ensures ends { AreEndsOf (Fits J.meaning) O.out O.credited self.new ends.new }
         ensures no_core { length self.old.lanes ≤ to → (result ≡ Err (NoCore order)) × (self.new ≡ self.old) × (ends.new ≡ ends.old) }
         ensures named { IfOk result (λ name. (name.from ≡ self.old.actor) × (name.to ≡ to)) }
         ensures submits { to < length self.old.lanes → AtCore self.old self.new ends.old ends.new to (λ lane later end now.
@@ -165,10 +165,10 @@ impl<J: Task> Desk<J> {
         core: usize,
         order: Order<J>,
     ) -> Result<u64, SendError<J>>
-        requires ends { AreEndsOf (Fits J.SameTask J.Answers) O.out O.credited self.old ends.old }
+        requires ends { AreEndsOf (Fits J.meaning) O.out O.credited self.old ends.old }
         requires core { core < length self.old.lanes }
-        requires ready { HasReadyJob J.done J.CanPoll order }
-        ensures ends { AreEndsOf (Fits J.SameTask J.Answers) O.out O.credited self.new ends.new }
+        requires ready { HasReadyJob J.meaning order }
+        ensures ends { AreEndsOf (Fits J.meaning) O.out O.credited self.new ends.new }
         ensures submits { AtCore self.old self.new ends.old ends.new core (λ lane later end now.
             (O.untouched now ≡ O.untouched end) × (O.credited now ≡ O.credited end) × Sends (O.out end) (O.credited end) order (O.out now) result
             × IfOk result (λ number. Adds lane.entries later.entries number Pending) × OnErr result (later ≡ lane)) }
@@ -188,9 +188,9 @@ impl<J: Task> Desk<J> {
     ) -> Option<(JobId, OutcomeNote<J::Out>)>
     where
         J::Out: Copy,
-        requires ends { AreEndsOf (Fits J.SameTask J.Answers) O.out O.credited self.old ends.old }
+        requires ends { AreEndsOf (Fits J.meaning) O.out O.credited self.old ends.old }
         requires core { core < length self.old.lanes }
-        ensures ends { AreEndsOf (Fits J.SameTask J.Answers) O.out O.credited self.new ends.new }
+        ensures ends { AreEndsOf (Fits J.meaning) O.out O.credited self.new ends.new }
         ensures spelled { IfSome result (λ told. IsSpelledOutcome told.1) }
         ensures collects { AtCore self.old self.new ends.old ends.new core (λ lane later end now.
             (O.untouched now ≡ O.untouched end) × (found : Option (ℕ × Outcome J J.Out)) × (result ≡ told_of self.old.actor core found)
@@ -209,9 +209,9 @@ impl<J: Task> Desk<J> {
     ) -> Option<(JobId, OutcomeNote<J::Out>)>
     where
         J::Out: Copy,
-        requires ends { AreEndsOf (Fits J.SameTask J.Answers) O.out O.credited self.old ends.old }
+        requires ends { AreEndsOf (Fits J.meaning) O.out O.credited self.old ends.old }
         requires core { core < length self.old.lanes }
-        ensures ends { AreEndsOf (Fits J.SameTask J.Answers) O.out O.credited self.new ends.new }
+        ensures ends { AreEndsOf (Fits J.meaning) O.out O.credited self.new ends.new }
         ensures spelled { IfSome result (λ told. IsSpelledOutcome told.1) }
         ensures collects { AtCore self.old self.new ends.old ends.new core (λ lane later end now.
             (O.untouched now ≡ O.untouched end) × (found : Option (ℕ × Outcome J J.Out)) × (result ≡ told_of from to found)
@@ -224,9 +224,9 @@ impl<J: Task> Desk<J> {
 
     /// Collects all outcomes that the link of a core shows. How many there were.
     pub fn collect_from<O: OutEnd<J>>(&mut self, ends: &mut [O], core: CoreNo) -> usize
-        requires ends { AreEndsOf (Fits J.SameTask J.Answers) O.out O.credited self.old ends.old }
+        requires ends { AreEndsOf (Fits J.meaning) O.out O.credited self.old ends.old }
         requires core { core < length self.old.lanes }
-        ensures ends { AreEndsOf (Fits J.SameTask J.Answers) O.out O.credited self.new ends.new }
+        ensures ends { AreEndsOf (Fits J.meaning) O.out O.credited self.new ends.new }
         ensures collects { AtCore self.old self.new ends.old ends.new core (λ lane later end now.
             (O.untouched now ≡ O.untouched end) × CollectsAll lane later (O.out end) (O.out now) (O.credited end) (O.credited now) result) }
     {
@@ -234,9 +234,9 @@ impl<J: Task> Desk<J> {
     }
 
     fn collect_at<O: OutEnd<J>>(&mut self, ends: &mut [O], core: usize) -> usize
-        requires ends { AreEndsOf (Fits J.SameTask J.Answers) O.out O.credited self.old ends.old }
+        requires ends { AreEndsOf (Fits J.meaning) O.out O.credited self.old ends.old }
         requires core { core < length self.old.lanes }
-        ensures ends { AreEndsOf (Fits J.SameTask J.Answers) O.out O.credited self.new ends.new }
+        ensures ends { AreEndsOf (Fits J.meaning) O.out O.credited self.new ends.new }
         ensures collects { AtCore self.old self.new ends.old ends.new core (λ lane later end now.
             (O.untouched now ≡ O.untouched end) × CollectsAll lane later (O.out end) (O.out now) (O.credited end) (O.credited now) result) }
     {
@@ -247,7 +247,7 @@ impl<J: Task> Desk<J> {
 
     /// How many submissions to a core are outstanding.
     pub fn outstanding<O: OutEnd<J>>(&self, ends: &[O], core: CoreNo) -> u64
-        requires ends { AreEndsOf (Fits J.SameTask J.Answers) O.out O.credited self.now ends.now }
+        requires ends { AreEndsOf (Fits J.meaning) O.out O.credited self.now ends.now }
         requires core { core < length self.now.lanes }
         ensures { IfSome (slice_get self.now.lanes core) (λ lane. result ≡ count_of lane.entries) }
     {
@@ -255,7 +255,7 @@ impl<J: Task> Desk<J> {
     }
 
     fn outstanding_at<O: OutEnd<J>>(&self, ends: &[O], core: usize) -> u64
-        requires ends { AreEndsOf (Fits J.SameTask J.Answers) O.out O.credited self.now ends.now }
+        requires ends { AreEndsOf (Fits J.meaning) O.out O.credited self.now ends.now }
         requires core { core < length self.now.lanes }
         ensures { IfSome (slice_get self.now.lanes core) (λ lane. result ≡ count_of lane.entries) }
     {
@@ -283,6 +283,6 @@ impl<J: Task> Desk<J> {
     pub fn begin<O: OutEnd<J>>(&self, ends: &[O], cores: u8, cap: u16)
         requires fresh { self.now ≡ fresh_desk self.now.actor cores cap }
         requires unused { AreUnused O.out O.credited cores cap ends.now }
-        ensures { AreEndsOf (Fits J.SameTask J.Answers) O.out O.credited self.now ends.now }
+        ensures { AreEndsOf (Fits J.meaning) O.out O.credited self.now ends.now }
     {}
 }

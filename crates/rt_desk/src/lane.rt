@@ -58,9 +58,9 @@ impl<J: Task> Lane<J> {
         end: &mut O,
         order: Order<J>,
     ) -> Result<u64, SendError<J>>
-        requires lane { IsLaneOf (Fits J.SameTask J.Answers) self.old (O.out end.old) (O.credited end.old) }
-        requires ready { HasReadyJob J.done J.CanPoll order }
-        ensures lane { IsLaneOf (Fits J.SameTask J.Answers) self.new (O.out end.new) (O.credited end.new) }
+        requires lane { IsLaneOf (Fits J.meaning) self.old (O.out end.old) (O.credited end.old) }
+        requires ready { HasReadyJob J.meaning order }
+        ensures lane { IsLaneOf (Fits J.meaning) self.new (O.out end.new) (O.credited end.new) }
         ensures untouched { O.untouched end.new ≡ O.untouched end.old }
         ensures credited { O.credited end.new ≡ O.credited end.old }
         ensures sends { Sends (O.out end.old) (O.credited end.old) order (O.out end.new) result }
@@ -76,8 +76,8 @@ impl<J: Task> Lane<J> {
 
     /// Takes in an outcome that was just collected: it is kept, or dropped where nobody will ask for it.
     fn keep<O: OutEnd<J>>(&mut self, end: &mut O, number: u64, outcome: Outcome<J, J::Out>)
-        requires { IsJustGot (Fits J.SameTask J.Answers) self.old (O.out end.old) (O.credited end.old) number outcome }
-        ensures lane { IsLaneOf (Fits J.SameTask J.Answers) self.new (O.out end.new) (O.credited end.new) }
+        requires { IsJustGot (Fits J.meaning) self.old (O.out end.old) (O.credited end.old) number outcome }
+        ensures lane { IsLaneOf (Fits J.meaning) self.new (O.out end.new) (O.credited end.new) }
         ensures untouched { O.untouched end.new ≡ O.untouched end.old }
         ensures out { O.out end.new ≡ O.out end.old }
         ensures rest { self.new ≡ record self.old { entries = self.new.entries } }
@@ -98,8 +98,8 @@ impl<J: Task> Lane<J> {
 
     /// Collects one outcome, if the link shows one. Whether it did.
     pub(crate) fn collect_one<O: OutEnd<J>>(&mut self, end: &mut O) -> bool
-        requires { IsLaneOf (Fits J.SameTask J.Answers) self.old (O.out end.old) (O.credited end.old) }
-        ensures lane { IsLaneOf (Fits J.SameTask J.Answers) self.new (O.out end.new) (O.credited end.new) }
+        requires { IsLaneOf (Fits J.meaning) self.old (O.out end.old) (O.credited end.old) }
+        ensures lane { IsLaneOf (Fits J.meaning) self.new (O.out end.new) (O.credited end.new) }
         ensures untouched { O.untouched end.new ≡ O.untouched end.old }
         ensures collects { (found : Option (ℕ × Outcome J J.Out)) × (result ≡ is_some found)
             × CollectsNext self.old self.new (O.out end.old) (O.out end.new) (O.credited end.old) (O.credited end.new) found }
@@ -120,8 +120,8 @@ impl<J: Task> Lane<J> {
     ) -> Option<(JobId, OutcomeNote<J::Out>)>
     where
         J::Out: Copy,
-        requires { IsLaneOf (Fits J.SameTask J.Answers) self.old (O.out end.old) (O.credited end.old) }
-        ensures lane { IsLaneOf (Fits J.SameTask J.Answers) self.new (O.out end.new) (O.credited end.new) }
+        requires { IsLaneOf (Fits J.meaning) self.old (O.out end.old) (O.credited end.old) }
+        ensures lane { IsLaneOf (Fits J.meaning) self.new (O.out end.new) (O.credited end.new) }
         ensures untouched { O.untouched end.new ≡ O.untouched end.old }
         ensures spelled { IfSome result (λ told. IsSpelledOutcome told.1) }
         ensures collects { (found : Option (ℕ × Outcome J J.Out)) × (result ≡ told_of from to found)
@@ -137,8 +137,8 @@ impl<J: Task> Lane<J> {
 
     /// Collects all outcomes that the link shows. How many there were.
     pub(crate) fn collect<O: OutEnd<J>>(&mut self, end: &mut O) -> usize
-        requires { IsLaneOf (Fits J.SameTask J.Answers) self.old (O.out end.old) (O.credited end.old) }
-        ensures lane { IsLaneOf (Fits J.SameTask J.Answers) self.new (O.out end.new) (O.credited end.new) }
+        requires { IsLaneOf (Fits J.meaning) self.old (O.out end.old) (O.credited end.old) }
+        ensures lane { IsLaneOf (Fits J.meaning) self.new (O.out end.new) (O.credited end.new) }
         ensures untouched { O.untouched end.new ≡ O.untouched end.old }
         ensures collects { CollectsAll self.old self.new (O.out end.old) (O.out end.new) (O.credited end.old) (O.credited end.new) result }
     {
@@ -151,7 +151,7 @@ impl<J: Task> Lane<J> {
 
     /// How many submissions are outstanding.
     pub fn outstanding<O: OutEnd<J>>(&self, end: &O) -> u64
-        requires { IsLaneOf (Fits J.SameTask J.Answers) self.now (O.out end.now) (O.credited end.now) }
+        requires { IsLaneOf (Fits J.meaning) self.now (O.out end.now) (O.credited end.now) }
         ensures { result ≡ count_of self.now.entries }
     {
         end.outstanding()
@@ -180,13 +180,13 @@ impl<J: Task> Lane<J> {
         end: &mut O,
         number: u64,
     ) -> Result<Outcome<J, J::Out>, TicketError>
-        requires { IsLaneOf (Fits J.SameTask J.Answers) self.old (O.out end.old) (O.credited end.old) }
-        ensures lane { IsLaneOf (Fits J.SameTask J.Answers) self.new (O.out end.new) (O.credited end.new) }
+        requires { IsLaneOf (Fits J.meaning) self.old (O.out end.old) (O.credited end.old) }
+        ensures lane { IsLaneOf (Fits J.meaning) self.new (O.out end.new) (O.credited end.new) }
         ensures untouched { O.untouched end.new ≡ O.untouched end.old }
         ensures out { O.out end.new ≡ O.out end.old }
         ensures redeems { Redeems self.old self.new number (O.credited end.old) (O.credited end.new) result }
         ensures given { IfOk result (λ outcome. IsGot (O.out end.old) number outcome) }
-        ensures fits { IfOk result (λ outcome. FitsSent (Fits J.SameTask J.Answers) (O.out end.old) number outcome) }
+        ensures fits { IfOk result (λ outcome. FitsSent (Fits J.meaning) (O.out end.old) number outcome) }
     {
         if !self.is_given(number) {
             return Err(TicketError::Unknown);
@@ -206,8 +206,8 @@ impl<J: Task> Lane<J> {
 
     /// Nobody will ask for the outcome of a number.
     pub fn detach<O: OutEnd<J>>(&mut self, end: &mut O, number: u64) -> Result<(), TicketError>
-        requires { IsLaneOf (Fits J.SameTask J.Answers) self.old (O.out end.old) (O.credited end.old) }
-        ensures lane { IsLaneOf (Fits J.SameTask J.Answers) self.new (O.out end.new) (O.credited end.new) }
+        requires { IsLaneOf (Fits J.meaning) self.old (O.out end.old) (O.credited end.old) }
+        ensures lane { IsLaneOf (Fits J.meaning) self.new (O.out end.new) (O.credited end.new) }
         ensures untouched { O.untouched end.new ≡ O.untouched end.old }
         ensures out { O.out end.new ≡ O.out end.old }
         ensures detaches { Detaches self.old self.new number (O.credited end.old) (O.credited end.new) result }

@@ -47,8 +47,8 @@ impl Polled for Nine {
 
 /// What a job comes to that is submitted at a desk over a ring, served, collected and redeemed.
 fn trip<J: Job<Out = u64>>(alloc: Global, job: J) -> Came
-    requires open { J.done job ≡ false }
-    requires ready { J.CanPoll job }
+    requires open { J.meaning.done job ≡ false }
+    requires ready { J.meaning.can_poll job }
 {
     let Ok((out, mut inward)) = RingLink::open::<J>(alloc, FROM, CoreNo(0), 1) else {
         return Came::Nothing;

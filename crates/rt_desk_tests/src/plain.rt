@@ -21,7 +21,7 @@ use std::marker::Model;
 fn answer(link: &mut PlainLink<ScriptJob>, most: u32) -> Came
     ensures same { link.new ≡ record link.old { taken = link.new.taken; given = link.new.given; shut = link.new.shut } }
     ensures more { IsPrefix link.old.given link.new.given }
-    ensures law { IsLink (Fits ⟦<ScriptJob as Task>⟧.SameTask ⟦<ScriptJob as Task>⟧.Answers) (HasReadyJob ⟦<ScriptJob as Task>⟧.done ⟦<ScriptJob as Task>⟧.CanPoll) link.new }
+    ensures law { IsLink (Fits ⟦<ScriptJob as Task>⟧.meaning) (HasReadyJob ⟦<ScriptJob as Task>⟧.meaning) link.new }
 {
     let Some(Envelope { name, order }) = link.take() else {
         return Came::Nothing;
@@ -41,16 +41,16 @@ fn answer(link: &mut PlainLink<ScriptJob>, most: u32) -> Came
 
 /// What the core does, over the desk's own link.
 fn at_core(desk: &Desk<ScriptJob>, ends: &mut [PlainLink<ScriptJob>; 1], most: u32) -> Came
-    requires { AreEndsOf (Fits ⟦<ScriptJob as Task>⟧.SameTask ⟦<ScriptJob as Task>⟧.Answers) out_of (λ link. link.credited) desk.now ends.old }
-    ensures { AreEndsOf (Fits ⟦<ScriptJob as Task>⟧.SameTask ⟦<ScriptJob as Task>⟧.Answers) out_of (λ link. link.credited) desk.now ends.new }
+    requires { AreEndsOf (Fits ⟦<ScriptJob as Task>⟧.meaning) out_of (λ link. link.credited) desk.now ends.old }
+    ensures { AreEndsOf (Fits ⟦<ScriptJob as Task>⟧.meaning) out_of (λ link. link.credited) desk.now ends.new }
 {
     let link = &mut ends[0];
     answer(link, most)
 }
 
 fn shut(desk: &Desk<ScriptJob>, ends: &mut [PlainLink<ScriptJob>; 1]) -> Came
-    requires { AreEndsOf (Fits ⟦<ScriptJob as Task>⟧.SameTask ⟦<ScriptJob as Task>⟧.Answers) out_of (λ link. link.credited) desk.now ends.old }
-    ensures { AreEndsOf (Fits ⟦<ScriptJob as Task>⟧.SameTask ⟦<ScriptJob as Task>⟧.Answers) out_of (λ link. link.credited) desk.now ends.new }
+    requires { AreEndsOf (Fits ⟦<ScriptJob as Task>⟧.meaning) out_of (λ link. link.credited) desk.now ends.old }
+    ensures { AreEndsOf (Fits ⟦<ScriptJob as Task>⟧.meaning) out_of (λ link. link.credited) desk.now ends.new }
 {
     let link = &mut ends[0];
     Came::Count(link.shut())
@@ -74,7 +74,7 @@ impl Model for PlainOffice {
     ghost use Rattle.rt_link.specs.Whole.{out_of};
     ghost use Rattle.rt_desk.specs.Desks.{AreEndsOf};
 
-    ghost invariant = { λ o. AreEndsOf (Fits ⟦<ScriptJob as Task>⟧.SameTask ⟦<ScriptJob as Task>⟧.Answers) out_of (λ link. link.credited) o.desk o.ends };
+    ghost invariant = { λ o. AreEndsOf (Fits ⟦<ScriptJob as Task>⟧.meaning) out_of (λ link. link.credited) o.desk o.ends };
 }
 
 impl Office for PlainOffice {

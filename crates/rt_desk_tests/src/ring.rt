@@ -32,7 +32,7 @@ impl Model for RingOffice {
     ghost use Rattle.rt_link.specs.Fits.{Fits};
     ghost use Rattle.rt_desk.specs.Desks.{AreEndsOf};
 
-    ghost invariant = { λ o. AreEndsOf (Fits ⟦<ScriptJob as Task>⟧.SameTask ⟦<ScriptJob as Task>⟧.Answers) ⟦<RingOut<ScriptJob> as OutEnd<ScriptJob>>⟧.out ⟦<RingOut<ScriptJob> as OutEnd<ScriptJob>>⟧.credited o.desk o.ends };
+    ghost invariant = { λ o. AreEndsOf (Fits ⟦<ScriptJob as Task>⟧.meaning) ⟦<RingOut<ScriptJob> as OutEnd<ScriptJob>>⟧.out ⟦<RingOut<ScriptJob> as OutEnd<ScriptJob>>⟧.credited o.desk o.ends };
 }
 
 impl Office for RingOffice {

@@ -58,7 +58,7 @@ pub enum Came {
 
 /// The order of a job of this value.
 pub fn job(value: u64) -> Order<ScriptJob>
-    ensures { HasReadyJob ⟦<ScriptJob as Task>⟧.done ⟦<ScriptJob as Task>⟧.CanPoll result }
+    ensures { HasReadyJob ⟦<ScriptJob as Task>⟧.meaning result }
 {
     Order::Job(QueueNo(0), ScriptJob::done(1, value))
 }
@@ -86,9 +86,9 @@ pub fn submit<J: Task<Out = u64>, O: OutEnd<J>>(
     to: u8,
     order: Order<J>,
 ) -> Came
-    requires beside { AreEndsOf (Fits J.SameTask J.Answers) O.out O.credited desk.old ends.old }
-    requires ready { HasReadyJob J.done J.CanPoll order }
-    ensures { AreEndsOf (Fits J.SameTask J.Answers) O.out O.credited desk.new ends.new }
+    requires beside { AreEndsOf (Fits J.meaning) O.out O.credited desk.old ends.old }
+    requires ready { HasReadyJob J.meaning order }
+    ensures { AreEndsOf (Fits J.meaning) O.out O.credited desk.new ends.new }
 {
     match desk.submit(ends, CoreNo(to), order) {
         Ok(ticket) => Came::Sent(ticket.name().number),
@@ -101,8 +101,8 @@ pub fn redeem<J: Task<Out = u64>, O: OutEnd<J>>(
     ends: &mut [O; 1],
     asked: Ticket,
 ) -> Came
-    requires { AreEndsOf (Fits J.SameTask J.Answers) O.out O.credited desk.old ends.old }
-    ensures { AreEndsOf (Fits J.SameTask J.Answers) O.out O.credited desk.new ends.new }
+    requires { AreEndsOf (Fits J.meaning) O.out O.credited desk.old ends.old }
+    ensures { AreEndsOf (Fits J.meaning) O.out O.credited desk.new ends.new }
 {
     let number = asked.name().number;
     match desk.redeem(ends, asked) {
@@ -118,8 +118,8 @@ pub fn detach<J: Task<Out = u64>, O: OutEnd<J>>(
     ends: &mut [O; 1],
     asked: Ticket,
 ) -> Came
-    requires { AreEndsOf (Fits J.SameTask J.Answers) O.out O.credited desk.old ends.old }
-    ensures { AreEndsOf (Fits J.SameTask J.Answers) O.out O.credited desk.new ends.new }
+    requires { AreEndsOf (Fits J.meaning) O.out O.credited desk.old ends.old }
+    ensures { AreEndsOf (Fits J.meaning) O.out O.credited desk.new ends.new }
 {
     match desk.detach(ends, asked) {
         Ok(()) => Came::Detached,
@@ -128,15 +128,15 @@ pub fn detach<J: Task<Out = u64>, O: OutEnd<J>>(
 }
 
 pub fn collect<J: Task<Out = u64>, O: OutEnd<J>>(desk: &mut Desk<J>, ends: &mut [O; 1]) -> Came
-    requires { AreEndsOf (Fits J.SameTask J.Answers) O.out O.credited desk.old ends.old }
-    ensures { AreEndsOf (Fits J.SameTask J.Answers) O.out O.credited desk.new ends.new }
+    requires { AreEndsOf (Fits J.meaning) O.out O.credited desk.old ends.old }
+    ensures { AreEndsOf (Fits J.meaning) O.out O.credited desk.new ends.new }
 {
     Came::Count(desk.collect_from(ends, CoreNo(0)) as u64)
 }
 
 pub fn collect_one<J: Task<Out = u64>, O: OutEnd<J>>(desk: &mut Desk<J>, ends: &mut [O; 1]) -> Came
-    requires { AreEndsOf (Fits J.SameTask J.Answers) O.out O.credited desk.old ends.old }
-    ensures { AreEndsOf (Fits J.SameTask J.Answers) O.out O.credited desk.new ends.new }
+    requires { AreEndsOf (Fits J.meaning) O.out O.credited desk.old ends.old }
+    ensures { AreEndsOf (Fits J.meaning) O.out O.credited desk.new ends.new }
 {
     let Some((name, told)) = desk.collect_one(ends, CoreNo(0)) else {
         return Came::Nothing;
@@ -149,7 +149,7 @@ pub fn collect_one<J: Task<Out = u64>, O: OutEnd<J>>(desk: &mut Desk<J>, ends: &
 }
 
 pub fn outstanding<J: Task<Out = u64>, O: OutEnd<J>>(desk: &Desk<J>, ends: &[O; 1]) -> Came
-    requires { AreEndsOf (Fits J.SameTask J.Answers) O.out O.credited desk.now ends.now }
+    requires { AreEndsOf (Fits J.meaning) O.out O.credited desk.now ends.now }
 {
     Came::Count(desk.outstanding(ends, CoreNo(0)))
 }
@@ -160,8 +160,8 @@ pub fn at_desk<O: OutEnd<ScriptJob>>(
     ends: &mut [O; 1],
     act: Act,
 ) -> Came
-    requires { AreEndsOf (Fits ⟦<ScriptJob as Task>⟧.SameTask ⟦<ScriptJob as Task>⟧.Answers) O.out O.credited desk.old ends.old }
-    ensures { AreEndsOf (Fits ⟦<ScriptJob as Task>⟧.SameTask ⟦<ScriptJob as Task>⟧.Answers) O.out O.credited desk.new ends.new }
+    requires { AreEndsOf (Fits ⟦<ScriptJob as Task>⟧.meaning) O.out O.credited desk.old ends.old }
+    ensures { AreEndsOf (Fits ⟦<ScriptJob as Task>⟧.meaning) O.out O.credited desk.new ends.new }
 {
     match act {
         Act::Submit(to, value) => submit(desk, ends, to, job(value)),

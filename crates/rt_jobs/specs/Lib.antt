@@ -1,9 +1,12 @@
+pub mod Meanings
 pub mod Steps
 pub mod Ready
 pub mod Posts
 pub mod Calls
 pub mod Same
+pub mod Plain
 pub mod Scripts
+pub mod ScriptMeaning
 pub mod Kept
 pub mod Bodies
 pub mod Ranges

@@ -6,7 +6,7 @@ ghost use Rattle.rt_jobs.specs.declared.boxed.Body.TheVariants.{Polled, Once};
 ghost use Rattle.rt_jobs.specs.declared.any.Range.{Range};
 ghost use Rattle.rt_jobs.specs.Ranges.{IsWithin, any_number};
 
-use crate::boxed::{BoxedJob, CalledAs, Meaning, PolledAs};
+use crate::boxed::{BoxedJob, CalledAs, KeyAnswers, PolledAs};
 use crate::job::Step;
 
 /// The numbers from the least to the greatest, both counted in. One number is a range of itself.
@@ -20,7 +20,7 @@ pub struct Range {
 #[derive(Drop)]
 pub struct Within;
 
-impl Meaning for Within {
+impl KeyAnswers for Within {
     type Key = Range;
 
     ghost answers = { IsWithin };

@@ -11,7 +11,7 @@ use crate::job::{Job, Step, Task};
 use crate::post::Post;
 
 /// Which numbers may answer a job that has a key.
-pub trait Meaning {
+pub trait KeyAnswers {
     /// What a job's answers are known by.
     type Key: Drop;
 
@@ -20,14 +20,14 @@ pub trait Meaning {
 }
 
 /// Work in polls, whose answers have the meaning `M` under the key that it is polled with.
-pub trait PolledAs<M: Meaning>: Drop {
+pub trait PolledAs<M: KeyAnswers>: Drop {
     /// One poll. It yields, and does nothing, where that isn't its key or it has answered.
     fn poll_as(&mut self, key: &M::Key) -> Step<u64>
         ensures { IfDone result (M.answers key.now) };
 }
 
 /// A call that is made once, whose answer has the meaning `M` under the key that it is called with.
-pub trait CalledAs<M: Meaning>: Drop {
+pub trait CalledAs<M: KeyAnswers>: Drop {
     /// Whether it is a call for that key.
     ghost IsFor: { Self → M.Key → Type 0 };
 
@@ -48,12 +48,12 @@ pub enum Body<B, C> {
 }
 
 /// A job that holds work in polls or a call, with the key that says what may answer it. It tells no time of its own.
-pub struct BoxedJob<B, C, M: Meaning> {
+pub struct BoxedJob<B, C, M: KeyAnswers> {
     key: M::Key,
     body: Body<B, C>,
 }
 
-impl<B: Drop, C: Drop, M: Meaning> Drop for BoxedJob<B, C, M> {
+impl<B: Drop, C: Drop, M: KeyAnswers> Drop for BoxedJob<B, C, M> {
     fn drop(self) {
         let BoxedJob { key, body } = self;
         drop(key);
@@ -61,7 +61,7 @@ impl<B: Drop, C: Drop, M: Meaning> Drop for BoxedJob<B, C, M> {
     }
 }
 
-impl<B, C, M: Meaning> BoxedJob<B, C, M> {
+impl<B, C, M: KeyAnswers> BoxedJob<B, C, M> {
     /// A job that polls the body. When the key isn't the body's own, it yields for ever.
     pub fn polled(key: M::Key, body: B) -> Self
         ensures key { result.key ≡ key }
@@ -85,7 +85,7 @@ impl<B, C, M: Meaning> BoxedJob<B, C, M> {
     }
 }
 
-impl<B: Drop, C: Drop, M: Meaning> Task for BoxedJob<B, C, M> {
+impl<B: Drop, C: Drop, M: KeyAnswers> Task for BoxedJob<B, C, M> {
     ghost use Rattle.std.specs.Prelude.{◌≡◌, ℕ, None};
     ghost use Rattle.rt_jobs.specs.Bodies.{is_ended};
     ghost use Rattle.rt_jobs.specs.Steps.{PostsNothing};
@@ -94,25 +94,22 @@ impl<B: Drop, C: Drop, M: Meaning> Task for BoxedJob<B, C, M> {
 
     type Out = u64;
 
-    ghost SameTask = { λ a b. a.key ≡ b.key };
+    ghost meaning = { record {
+      same = λ a b. a.key ≡ b.key;
+      done = λ job. is_ended job.body;
+      can_poll = λ _. Unit {0};
+      made = λ _. 0;
+      says = λ _. None;
+      polls = λ job made calls step told. PostsNothing calls told;
+      answers = λ job out. M.answers job.key out;
+    } };
 
-    ghost done = { λ job. is_ended job.body };
-
-    ghost made = { λ _. 0 };
-
-    ghost says = { λ _. None };
-
-    ghost Polls = { λ job made calls step told. PostsNothing calls told };
-
-    ghost Answers = { λ job out. M.answers job.key out };
-
-    ghost same_task = { same_value (λ job. job.key) };
-
-    ghost answers_same = { λ a b out same here. subst (λ key. M.answers key out) same here };
-
-    ghost polls_same = { λ a b made calls step told same owed. owed };
-
-    ghost can_poll_same = { λ a b same can. can };
+    ghost laws = { record {
+      same_task = same_value (λ job. job.key);
+      answers_same = λ a b out same here. subst (λ key. M.answers key out) same here;
+      polls_same = λ a b made calls step told same owed. owed;
+      can_poll_same = λ a b same can. can;
+    } };
 
     fn is_done(&self) -> bool {
         match &self.body {
@@ -126,7 +123,7 @@ impl<B: Drop, C: Drop, M: Meaning> Task for BoxedJob<B, C, M> {
     }
 }
 
-impl<B: PolledAs<M>, C: CalledAs<M>, M: Meaning> Job for BoxedJob<B, C, M> {
+impl<B: PolledAs<M>, C: CalledAs<M>, M: KeyAnswers> Job for BoxedJob<B, C, M> {
     fn poll<P: Post<Self, u64>>(&mut self, _post: &mut P) -> Step<u64> {
         match &mut self.body {
             Body::Polled(job) => {

@@ -43,25 +43,22 @@ impl<C: Called> Task for OnceOf<C> {
 
     type Out = C::Out;
 
-    ghost SameTask = { λ a b. a.call ≡ b.call };
+    ghost meaning = { record {
+      same = λ a b. a.call ≡ b.call;
+      done = λ job. is_none job.call;
+      can_poll = λ _. Unit {0};
+      made = λ _. 0;
+      says = λ _. None;
+      polls = λ job made calls step told. AnswersAtOnce calls step told;
+      answers = λ job out. IfSome job.call (λ call. C.gives call out);
+    } };
 
-    ghost done = { λ job. is_none job.call };
-
-    ghost made = { λ _. 0 };
-
-    ghost says = { λ _. None };
-
-    ghost Polls = { λ job made calls step told. AnswersAtOnce calls step told };
-
-    ghost Answers = { λ job out. IfSome job.call (λ call. C.gives call out) };
-
-    ghost same_task = { same_value (λ job. job.call) };
-
-    ghost answers_same = { λ a b out same here. subst (λ call. IfSome call (λ c. C.gives c out)) same here };
-
-    ghost polls_same = { λ a b made calls step told same owed. owed };
-
-    ghost can_poll_same = { λ a b same can. can };
+    ghost laws = { record {
+      same_task = same_value (λ job. job.call);
+      answers_same = λ a b out same here. subst (λ call. IfSome call (λ c. C.gives c out)) same here;
+      polls_same = λ a b made calls step told same owed. owed;
+      can_poll_same = λ a b same can. can;
+    } };
 
     fn is_done(&self) -> bool {
         self.call.is_none()

@@ -22,32 +22,14 @@ pub enum Work {
 }
 
 impl Task for Work {
-    ghost use Rattle.std.specs.Prelude.{◌≡◌, ◌↔◌, ℕ, None};
     ghost use Rattle.rt_jobs.specs.Example.{MayAnswer, is_ended};
-    ghost use Rattle.rt_jobs.specs.Same.{same_answers};
-    ghost use Rattle.rt_jobs.specs.Steps.{PostsNothing};
+    ghost use Rattle.rt_jobs.specs.Plain.{answering_meaning, answering_laws};
 
     type Out = u64;
 
-    ghost SameTask = { λ a b. (out : ℕ) → MayAnswer a out ↔ MayAnswer b out };
+    ghost meaning = { answering_meaning is_ended MayAnswer };
 
-    ghost done = { is_ended };
-
-    ghost made = { λ _. 0 };
-
-    ghost says = { λ _. None };
-
-    ghost Polls = { λ job made calls step told. PostsNothing calls told };
-
-    ghost Answers = { MayAnswer };
-
-    ghost same_task = { same_answers MayAnswer };
-
-    ghost answers_same = { λ a b out same here. (same out).0 here };
-
-    ghost polls_same = { λ a b made calls step told same owed. owed };
-
-    ghost can_poll_same = { λ a b same can. can };
+    ghost laws = { answering_laws is_ended MayAnswer };
 
     fn is_done(&self) -> bool {
         matches!(self, Work::Ended)
@@ -87,12 +69,12 @@ impl Job for Work {
 
 /// Polls a job until it is done, at most so often, where it can submit nothing. If it isn't done by then, it comes back and can be polled on.
 pub fn drive<J: Job>(job: J, most: u32) -> Result<J::Out, J>
-    requires open { J.done job ≡ false }
-    requires ready { J.CanPoll job }
-    ensures answers { IfOk result (J.Answers job) }
-    ensures same { IfErr result (J.SameTask job) }
-    ensures open { IfErr result (λ back. J.done back ≡ false) }
-    ensures ready { IfErr result J.CanPoll }
+    requires open { J.meaning.done job ≡ false }
+    requires ready { J.meaning.can_poll job }
+    ensures answers { IfOk result (J.meaning.answers job) }
+    ensures same { IfErr result (J.meaning.same job) }
+    ensures open { IfErr result (λ back. J.meaning.done back ≡ false) }
+    ensures ready { IfErr result J.meaning.can_poll }
 {
     let mut job = job;
     for _polled in 0..most {

@@ -12,7 +12,7 @@ pub mod post;
 pub mod script;
 
 pub use any::{AnyJob, OnceBox, Polled, Range, Within, once_job, polled_job};
-pub use boxed::{BoxedJob, CalledAs, Meaning, PolledAs};
+pub use boxed::{BoxedJob, CalledAs, KeyAnswers, PolledAs};
 pub use called::{Called, OnceOf};
 pub use job::{Job, Ran, Step, Task};
 pub use once::Once;

@@ -31,27 +31,22 @@ impl<R: Drop, F: FnOnce() -> R + Drop> Task for Once<F> {
 
     type Out = R;
 
-    ghost SameTask = { λ a b. a.call ≡ b.call };
+    ghost meaning = { record {
+      same = λ a b. a.call ≡ b.call;
+      done = λ job. is_none job.call;
+      can_poll = λ job. ForSome job.call F.IsAlwaysCallable;
+      made = λ _. 0;
+      says = λ _. None;
+      polls = λ job made calls step told. AnswersAtOnce calls step told;
+      answers = λ job out. IfSome job.call (λ f. F.post f out);
+    } };
 
-    ghost done = { λ job. is_none job.call };
-
-    ghost CanPoll = { λ job. ForSome job.call F.IsAlwaysCallable };
-
-    ghost made = { λ _. 0 };
-
-    ghost says = { λ _. None };
-
-    ghost Polls = { λ job made calls step told. AnswersAtOnce calls step told };
-
-    ghost Answers = { λ job out. IfSome job.call (λ f. F.post f out) };
-
-    ghost same_task = { same_value (λ job. job.call) };
-
-    ghost answers_same = { λ a b out same here. subst (λ call. IfSome call (λ f. F.post f out)) same here };
-
-    ghost polls_same = { λ a b made calls step told same owed. owed };
-
-    ghost can_poll_same = { λ a b same can. subst (λ call. ForSome call F.IsAlwaysCallable) same can };
+    ghost laws = { record {
+      same_task = same_value (λ job. job.call);
+      answers_same = λ a b out same here. subst (λ call. IfSome call (λ f. F.post f out)) same here;
+      polls_same = λ a b made calls step told same owed. owed;
+      can_poll_same = λ a b same can. subst (λ call. ForSome call F.IsAlwaysCallable) same can;
+    } };
 
     fn is_done(&self) -> bool {
         self.call.is_none()

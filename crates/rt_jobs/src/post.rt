@@ -32,7 +32,7 @@ pub trait Post<J: Task, T> {
     ///
     /// `NoCore` where there is no such core; otherwise as the link. The order comes back.
     fn submit(&mut self, to: CoreNo, order: Order<J>) -> Result<Ticket, SendError<J>>
-        requires ready { HasReadyJob J.done J.CanPoll order }
+        requires ready { HasReadyJob J.meaning order }
         ensures noted { NotesSubmit (notes self.old) to order result (notes self.new) }
         ensures waits { IfOk result (Waits self.new) }
         ensures does { Does self.old (Submit to order result) self.new };
@@ -72,7 +72,7 @@ impl<J: Task, T> Post<J, T> for NoPost {
     ghost Does = { λ old call new. IsRefused call × (new ≡ old) };
 
     fn submit(&mut self, _to: CoreNo, order: Order<J>) -> Result<Ticket, SendError<J>>
-        requires { HasReadyJob J.done J.CanPoll order }
+        requires { HasReadyJob J.meaning order }
         ensures no_core { result ≡ Err (NoCore order) }
         ensures noted { NotesSubmit {T = T} [] _to order result [] }
     {

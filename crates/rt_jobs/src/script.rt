@@ -114,32 +114,13 @@ impl ScriptJob {
 }
 
 impl Task for ScriptJob {
-    ghost use Rattle.std.specs.Prelude.{◌≡◌, ◌==◌, length, slice_get};
-    ghost use Rattle.rt_jobs.specs.Same.{same_value};
-    ghost use Rattle.rt_jobs.specs.Scripts.{Does, IsAnswer, time_told};
-    ghost use Rattle.std.proofs.Common.{subst};
+    ghost use Rattle.rt_jobs.specs.ScriptMeaning.{script_meaning, script_laws};
 
     type Out = u64;
 
-    ghost SameTask = { λ a b. a.polls ≡ b.polls };
+    ghost meaning = { script_meaning };
 
-    ghost done = { λ job. job.polled == length job.polls };
-
-    ghost made = { λ job. job.polled };
-
-    ghost says = { λ job. time_told job.polls job.polled };
-
-    ghost Polls = { λ job made calls step told. Does (slice_get job.polls made) calls step told };
-
-    ghost Answers = { λ job out. IsAnswer job.polls out };
-
-    ghost same_task = { same_value (λ job. job.polls) };
-
-    ghost answers_same = { λ a b out same here. subst (λ polls. IsAnswer polls out) same here };
-
-    ghost polls_same = { λ a b made calls step told same owed. subst (λ polls. Does (slice_get polls made) calls step told) same owed };
-
-    ghost can_poll_same = { λ a b same can. can };
+    ghost laws = { script_laws };
 
     fn is_done(&self) -> bool {
         self.polled > self.yields.len()

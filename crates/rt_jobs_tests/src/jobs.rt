@@ -13,8 +13,8 @@ use std::test::Fail;
 
 /// Whether a job yields just so often, and then answers this.
 fn answers_after<J: Job<Out = u64>>(yields: u32, job: J, answer: u64) -> bool
-    requires open { J.done job ≡ false }
-    requires ready { J.CanPoll job }
+    requires open { J.meaning.done job ≡ false }
+    requires ready { J.meaning.can_poll job }
 {
     match drive(job, yields) {
         Ok(_) => false,
@@ -24,16 +24,16 @@ fn answers_after<J: Job<Out = u64>>(yields: u32, job: J, answer: u64) -> bool
 
 /// Whether five polls of a job all yield.
 fn only_yields<J: Job>(job: J) -> bool
-    requires open { J.done job ≡ false }
-    requires ready { J.CanPoll job }
+    requires open { J.meaning.done job ≡ false }
+    requires ready { J.meaning.can_poll job }
 {
     drive(job, 5).is_err()
 }
 
 /// Whether a job yields at these times, and then answers this.
 fn tells<J: Job<Out = u64>>(job: J, times: &[u64], answer: u64) -> bool
-    requires open { J.done job ≡ false }
-    requires ready { J.CanPoll job }
+    requires open { J.meaning.done job ≡ false }
+    requires ready { J.meaning.can_poll job }
 {
     let mut job = job;
     for time in times {

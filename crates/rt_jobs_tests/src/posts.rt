@@ -34,7 +34,7 @@ impl Post<ScriptJob, u64> for Notebook {
         to: CoreNo,
         order: Order<ScriptJob>,
     ) -> Result<Ticket, SendError<ScriptJob>>
-        requires { HasReadyJob ⟦<ScriptJob as Task>⟧.done ⟦<ScriptJob as Task>⟧.CanPoll order }
+        requires { HasReadyJob ⟦<ScriptJob as Task>⟧.meaning order }
         ensures noted { NotesSubmit self.old.journal.notes to order result self.new.journal.notes }
         ensures waits { IfOk result (λ name. length self.new.journal.notes < self.new.journal.room) }
     {
@@ -75,7 +75,7 @@ impl Post<ScriptJob, u64> for Notebook {
 
 /// A job that submits to queue 3 of this core, and then is done.
 fn submits_to(core: u8) -> Option<ScriptJob>
-    ensures { IfSome result (λ job. ⟦<ScriptJob as Task>⟧.done job ≡ false) }
+    ensures { IfSome result (λ job. ⟦<ScriptJob as Task>⟧.meaning.done job ≡ false) }
 {
     ScriptJob::try_new(&[Poll::Submit(10, CoreNo(core), QueueNo(3)), Poll::Done(5, 3)])
 }

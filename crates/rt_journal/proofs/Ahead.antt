@@ -1,7 +1,7 @@
 -- What a core tells ahead of a pick is what its journal says; and a core picks: the right pick takes a job out, or hands it back, or the core says why there is none.
 use Rattle.rt_journal.proofs.Names.{◌≡◌, ℕ, ◌-◌, ◌^◌, Bool, true, false, List, [], ◌∷◌, refl, sym, ◌∙◌, ap, subst}
 use Rattle.rt_journal.proofs.Names.{arith, None, Result, Ok, Err, JobId, Note, KeyAtMost, turns, has_work}
-use Rattle.rt_journal.proofs.Names.{no_work, work_of_line, Owed, waiting_of, Turn, Start, Resume, Idle, PickError}
+use Rattle.rt_journal.proofs.Names.{no_work, work_of_line, Meaning, waiting_of, Turn, Start, Resume, Idle, PickError}
 use Rattle.rt_journal.proofs.Names.{Busy, CoreView, runtime_of, TakesOut, TellsAhead, some_front, IsJobOut}
 use Rattle.rt_journal.proofs.Names.{RecordedView, IsRecorded, terms_at, IsBack, ◌+◌, ◌<◌, ◌≤◌, ◌++◌, length, add-zero}
 use Rattle.rt_journal.proofs.Names.{◌==◌, Some, All, is_some, same_Some, All-head, All-tail, most_turns, Pick, Job}
@@ -46,7 +46,7 @@ module _ {J : Type 0} (view core : CoreView J) (told : TellsAhead view (Ok ahead
   is_back (Err Busy) notes picks = absurd (picks.0 told.1.free)
   is_back (Err Spent) notes picks = absurd (omega (arith, picks.1, told.4))
 
-module _ {J T : Type 0} {same : J → J → Type 0} {made : J → ℕ} {polls : Owed J T} (view : RecordedView J T) (recorded : IsRecorded same made polls view) where
+module _ {J T : Type 0} {meaning : Meaning J T} (view : RecordedView J T) (recorded : IsRecorded meaning view) where
   -- no queue has work where none has a line
   pub idle : view.core.out ≡ None → ((queue : ℕ) → waiting_of queue view.core.queues ≡ []) → (queue : ℕ) → has_work queue view.journal.notes ≡ false
   idle free empty queue =
@@ -78,8 +78,8 @@ no_polls : {T : Type 0} (which name : JobId) (queue runtime : ℕ) (was_started 
     polls_made which (poll_note name was_started ∷ Pick queue runtime ∷ journal) ≡ polls_made which journal
 no_polls which name queue runtime was_started journal = grind arith
 
-module _ {J T : Type 0} {same : J → J → Type 0} {made : J → ℕ} {polls : Owed J T}
-    (old : RecordedView J T) (recorded : IsRecorded same made polls old) (left : turns old.journal.notes < most_turns) where
+module _ {J T : Type 0} {meaning : Meaning J T}
+    (old : RecordedView J T) (recorded : IsRecorded meaning old) (left : turns old.journal.notes < most_turns) where
   abbrev notes : Journal T
   notes = old.journal.notes
 
@@ -97,7 +97,7 @@ module _ {J T : Type 0} {same : J → J → Type 0} {made : J → ℕ} {polls : 
     -- and no poll is settled by these notes
     module _ (written : List (Note T)) (unpolled : (which : JobId) → polls_made which (written ++ notes) ≡ polls_made which notes) where
       abbrev Task : ℕ → JobId × Bool × J → Type 0
-      Task other entry = HasTask same made polls old.took (written ++ notes) other entry.0 entry.2
+      Task other entry = HasTask meaning old.took (written ++ notes) other entry.0 entry.2
 
       all_first : All (Task queue) ((name, was_started, job) ∷ front.others)
       all_first = subst (All (Task queue)) front.first (waiting_stays old recorded written unpolled queue)
@@ -111,7 +111,7 @@ module _ {J T : Type 0} {same : J → J → Type 0} {made : J → ℕ} {polls : 
     abbrev written : List (Note T)
     written = poll_note name was_started ∷ Pick queue runtime ∷ []
 
-    picked : core_says.return_reason queue old.core ≡ None → IsQuietStep old (picked_view old.core name queue job queues) written same made polls everyone nobody
+    picked : core_says.return_reason queue old.core ≡ None → IsQuietStep old (picked_view old.core name queue job queues) written meaning everyone nobody
     picked keeps =
         let unpolled = λ (which : JobId). no_polls which name queue runtime was_started notes in
         let task = its_task written unpolled in
@@ -122,7 +122,7 @@ module _ {J T : Type 0} {same : J → J → Type 0} {made : J → ℕ} {polls : 
           kept-picked (terms_at old) old.core name queue was_started job queues notes recorded.kept front keeps left,
           front.line.same_room,
           still_waiting written unpolled,
-          λ (out : JobOut J) (at : Some (record { name = name; queue = queue; job = job }) ≡ Some out). subst (λ out. HasTask same made polls old.took (written ++ notes) out.queue out.name out.job) (same_Some _ out at) task,
+          λ (out : JobOut J) (at : Some (record { name = name; queue = queue; job = job }) ≡ Some out). subst (λ out. HasTask meaning old.took (written ++ notes) out.queue out.name out.job) (same_Some _ out at) task,
         )
 
     pick_is : core_says.return_reason queue old.core ≡ None → IsPick old name queue was_started job (stepped old (picked_view old.core name queue job queues) written)
@@ -151,7 +151,7 @@ module _ {J T : Type 0} {same : J → J → Type 0} {made : J → ℕ} {polls : 
         (ap (among name) (first_in_line (terms_at old) old.core name queue was_started job queues notes recorded.kept front) ∙ rw (same_as_itself name) refl)).going_on
 
     handed : (reason : Reason) → core_says.return_reason queue old.core ≡ Some reason →
-        IsQuietStep old (returned_view old.core queue queues) (back reason) same made polls everyone (λ sender. if_from sender name (name, outcomes.Returned reason))
+        IsQuietStep old (returned_view old.core queue queues) (back reason) meaning everyone (λ sender. if_from sender name (name, outcomes.Returned reason))
     handed reason returns = record {
       kept = kept-returned (terms_at old) old.core name queue was_started job queues notes recorded.kept front reason returns left;
       number = refl;
@@ -171,7 +171,7 @@ module _ {J T : Type 0} {same : J → J → Type 0} {made : J → ℕ} {polls : 
       out = λ out at. absurd (none-some out (sym front.next.free ∙ at));
     }
 
-    handed_is : (reason : Reason) → core_says.return_reason queue old.core ≡ Some reason → IsHandBack same old name reason (Job queue job) (stepped old (returned_view old.core queue queues) (back reason))
+    handed_is : (reason : Reason) → core_says.return_reason queue old.core ≡ Some reason → IsHandBack meaning old name reason (Job queue job) (stepped old (returned_view old.core queue queues) (back reason))
     handed_is reason returns =
         let task = its_task (back reason) (unpolled_back reason) in
         record {
@@ -195,7 +195,7 @@ module _ {J T : Type 0} {same : J → J → Type 0} {made : J → ℕ} {polls : 
 
   module _ (core : CoreView J) where
     abbrev Did : Result (Turn J) PickError → List (Note T) → CoreView J → Type 0
-    Did answer told core = HasDone same made polls old core everyone (owed_back answer) 2 (λ old new. Picks same old answer new) told
+    Did answer told core = HasDone meaning old core everyone (owed_back answer) 2 (λ old new. Picks meaning old answer new) told
 
     taken : {name : JobId} {queue : ℕ} {was_started : Bool} {job : J} → TakesOut old.core name queue was_started job core → LeavesFront old.core name queue was_started job core.queues
     taken takes = record { next = takes.next; others = takes.others; first = takes.first; line = takes.line }

@@ -9,7 +9,7 @@ use Rattle.rt_journal.proofs.Names.{Enters, Creates, Weighs, counted, without_jo
 use Rattle.rt_journal.proofs.Names.{IsKept, DeliversAs, GivesMore, told_under, OutcomeNote, RecordedView, terms_at}
 use Rattle.rt_journal.proofs.Names.{sum_upto, delivered_count, given_count, le-leb, Close, CloseCore, Mode, closes}
 use Rattle.rt_journal.proofs.Names.{queue_mode, core_mode, created_count, mode_of, HasClosed, Agrees, inl, ◌≢◌}
-use Rattle.rt_journal.proofs.Names.{IfSome, reverse, IsSameTask, Fits, option_map, outcome_note, outcome_delivered}
+use Rattle.rt_journal.proofs.Names.{IfSome, reverse, IsMeaning, Fits, option_map, outcome_note, outcome_delivered}
 use Rattle.rt_journal.proofs.Names.{lt-leb, IsSpelledOrder, Delivered, Took}
 use Rattle.rt_ids.specs.declared.note.Note.TheVariants as writes
 use Rattle.rt_ids.specs.declared.order.Answer.TheVariants as answers
@@ -22,6 +22,7 @@ use Rattle.rt_journal.proofs.Sums.{sum_upto-at_most_one}
 use Rattle.rt_core.specs.Deliveries.{Delivers as CarriesOut}
 use Rattle.rt_core.specs.declared.delivery.Delivered.TheVariants.{Back, Answered}
 use Rattle.rt_journal.proofs.Kept.{refusal-agrees}
+use Rattle.rt_jobs.specs.Meanings.{Meaning}
 
 -- a job that came is the one of this order
 abbrev pub IsOf : {J : Type 0} → JobId → Order J → ℕ → JobId × Bool × J → Type 0
@@ -233,6 +234,6 @@ module _ {J T : Type 0} (old : RecordedView J T) (name : JobId)
     carries_out (CloseCore mode) spelled _ written does = absurd does
 
 -- the outcome of a delivery fits its order
-module _ {J T : Type 0} {same : J → J → Type 0} (answers_are : J → T → Type 0) (is_same : IsSameTask same) (old core : CoreView J) (name : JobId) (written : List (Note T)) where
-  pub fits_delivered : (order : Order J) (delivered : Delivered J) → CarriesOut old name order delivered core written → IfSome (outcome_delivered {T = T} delivered) (Fits same answers_are order)
-  fits_delivered order delivered does = grind (arith, is_same.itself)
+module _ {J T : Type 0} (meaning : Meaning J T) (laws : IsMeaning meaning) (old core : CoreView J) (name : JobId) (written : List (Note T)) where
+  pub fits_delivered : (order : Order J) (delivered : Delivered J) → CarriesOut old name order delivered core written → IfSome (outcome_delivered {T = T} delivered) (Fits meaning order)
+  fits_delivered order delivered does = grind (arith, laws.same_task.itself)

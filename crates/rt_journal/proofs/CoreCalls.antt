@@ -1,7 +1,7 @@
 -- A core beside its journal creates a queue before anything else is done, closes by itself, and shuts the gate of a sender, whose end stays beside it.
 use Rattle.rt_journal.proofs.Names.{DeliversAs, EachNote, none-some, ◌≡◌, ℕ, ◌+◌, List, [], ◌∷◌, refl, sym, ◌∙◌, ap}
 use Rattle.rt_journal.proofs.Names.{subst, arith, add-zero, All, is_some, Result, Ok, Err, InRange, JobId, Note}
-use Rattle.rt_journal.proofs.Names.{Journal, IsOpening, number_if, Owed, queue_count, CreateError, TooMany, Memory}
+use Rattle.rt_journal.proofs.Names.{Journal, IsOpening, number_if, Meaning, queue_count, CreateError, TooMany, Memory}
 use Rattle.rt_journal.proofs.Names.{CoreView, inside_count, Creates, polls_made, RecordedView, terms_at, IsRecorded}
 use Rattle.rt_journal.proofs.Names.{HasTask, CreatesQueue, Bool, true, false, cond, Option, Some, None, Mode, Order}
 use Rattle.rt_journal.proofs.Names.{closes, core_mode, effect_awaited, CarriesOut, ClosesCore, ClosesItself, ◌≤◌}
@@ -25,21 +25,21 @@ carries_none under note (writes.Answered name answer ∷ before) none = λ has. 
 carries_none under note (_ ∷ before) none = tt
 
 -- one note by which nothing is sent, delivered or given, and no poll settled, is a quiet step
-module _ {J T : Type 0} {same : J → J → Type 0} {made : J → ℕ} {polls : Owed J T} (old : RecordedView J T) (recorded : IsRecorded same made polls old) (core : CoreView J) (holds : HoldsSame old.core core) (note : Note T) where
+module _ {J T : Type 0} {meaning : Meaning J T} (old : RecordedView J T) (recorded : IsRecorded meaning old) (core : CoreView J) (holds : HoldsSame old.core core) (note : Note T) where
   unmoved_step : {keeps : ℕ → Type 0} → IsKept (terms_at old) core (note ∷ old.journal.notes) → IsQuiet keeps nobody old.journal.notes (note ∷ old.journal.notes) →
-      ((which : JobId) → polls_made which (note ∷ old.journal.notes) ≡ polls_made which old.journal.notes) → IsQuietStep old core (note ∷ []) same made polls keeps nobody
+      ((which : JobId) → polls_made which (note ∷ old.journal.notes) ≡ polls_made which old.journal.notes) → IsQuietStep old core (note ∷ []) meaning keeps nobody
   unmoved_step kept quiet unpolled =
       let inside : inside_count core ≡ inside_count old.core = λ i. holds.same_held i + number_if (is_some (holds.out i)) in
       let given = sum_upto-same (given_count (note ∷ old.journal.notes)) (given_count old.journal.notes) old.core.cores (λ sender. ap length (quiet.given sender)) in
       let fewer : inside_count core + sum_upto (given_count (note ∷ old.journal.notes)) old.core.cores ≤ inside_count old.core + sum_upto (given_count old.journal.notes) old.core.cores = omega (arith, inside, given) in
-      let waiting = λ (queue : ℕ). subst (All (λ entry. HasTask same made polls old.took (note ∷ old.journal.notes) queue entry.0 entry.2)) (sym (holds.same_lines queue)) (waiting_stays old recorded (note ∷ []) unpolled queue) in
-      let out : (job : JobOut J) → core.out ≡ Some job → HasTask same made polls old.took (note ∷ old.journal.notes) job.queue job.name job.job = λ job at. task_stays (λ order at. at) (unpolled job.name) (recorded.out job (sym holds.out ∙ at)) in
+      let waiting = λ (queue : ℕ). subst (All (λ entry. HasTask meaning old.took (note ∷ old.journal.notes) queue entry.0 entry.2)) (sym (holds.same_lines queue)) (waiting_stays old recorded (note ∷ []) unpolled queue) in
+      let out : (job : JobOut J) → core.out ≡ Some job → HasTask meaning old.took (note ∷ old.journal.notes) job.queue job.name job.job = λ job at. task_stays (λ order at. at) (unpolled job.name) (recorded.out job (sym holds.out ∙ at)) in
       assumption
 
-module _ {J T : Type 0} {same : J → J → Type 0} {made : J → ℕ} {polls : Owed J T}
-    (old : RecordedView J T) (recorded : IsRecorded same made polls old) (opening : IsOpening old.journal.notes) (weight : ℕ) (in_range : InRange weight) (core : CoreView J) where
+module _ {J T : Type 0} {meaning : Meaning J T}
+    (old : RecordedView J T) (recorded : IsRecorded meaning old) (opening : IsOpening old.journal.notes) (weight : ℕ) (in_range : InRange weight) (core : CoreView J) where
   module _ (queue : ℕ) (next : queue ≡ queue_count old.core.queues) (creates : Creates old.core weight core) (delivered : core.delivered ≡ old.core.delivered) where
-    created : IsQuietStep old core (writes.Created queue weight ∷ []) same made polls everyone nobody
+    created : IsQuietStep old core (writes.Created queue weight ∷ []) meaning everyone nobody
     created =
         let kept = kept_after (terms_at old) (writes.Created queue weight) recorded.kept (agrees-created old.core core queue weight old.journal.notes recorded.kept.agrees next creates delivered)
         recorded.kept.is_core (record { next = next ∙ recorded.kept.agrees.last; in_range = omega (arith, next, creates.few); shares = in_range }) refl opening refl refl in
@@ -49,19 +49,19 @@ module _ {J T : Type 0} {same : J → J → Type 0} {made : J → ℕ} {polls : 
 
   -- whatever the core answers
   pub created_did : (answer : Result ℕ CreateError) (notes : List (Note T)) → CoreCreates old.core weight answer core notes →
-      HasDone same made polls old core everyone nobody 1 (λ old new. CreatesQueue weight old answer new) notes
+      HasDone meaning old core everyone nobody 1 (λ old new. CreatesQueue weight old answer new) notes
   created_did (Ok queue) notes does =
       done_so does.3 (created queue does.0 does.1 does.2) (omega arith)
       (does.0 ∙ recorded.kept.agrees.last, omega (arith, does.0, does.1.few), refl, ap (λ core. core.out) does.1.rest, refl)
   created_did (Err TooMany) notes does = nothing_did recorded does.1 does.2 (sym recorded.kept.agrees.last ∙ does.0, refl)
   created_did (Err Memory) notes does = nothing_did recorded does.1 does.2 (omega (arith, recorded.kept.agrees.last, does.0), refl)
 
-module _ {J T : Type 0} {same : J → J → Type 0} {made : J → ℕ} {polls : Owed J T} (old : RecordedView J T) (recorded : IsRecorded same made polls old) (mode : Mode) where
+module _ {J T : Type 0} {meaning : Meaning J T} (old : RecordedView J T) (recorded : IsRecorded meaning old) (mode : Mode) where
   closes_told : (test : Bool) → closes old.core.mode mode ≡ test → closes (core_mode old.journal.notes) mode ≡ test
   closes_told test changes = ap (λ was. closes was mode) (sym recorded.kept.agrees.closing.mode) ∙ changes
 
   close_step : (core : CoreView J) → closes old.core.mode mode ≡ true → core ≡ record old.core { mode = Some mode } →
-      IsQuietStep old core (writes.CoreClosed mode ∷ []) same made polls everyone nobody
+      IsQuietStep old core (writes.CoreClosed mode ∷ []) meaning everyone nobody
   close_step core changes is =
       let kept = kept_after (terms_at old) (writes.CoreClosed mode) recorded.kept (agrees-core_closed old.core core old.journal.notes recorded.kept.agrees mode is) recorded.kept.is_core
       (closes_told true changes) refl tt refl refl in
@@ -70,7 +70,7 @@ module _ {J T : Type 0} {same : J → J → Type 0} {made : J → ℕ} {polls : 
 
   -- whether or not that changes anything
   pub closed_did : (closed : Bool) (core : CoreView J) (notes : List (Note T)) → ClosesCore old.core mode closed core notes →
-      HasDone same made polls old core everyone nobody 1 (λ old new. ClosesItself old mode closed new) notes
+      HasDone meaning old core everyone nobody 1 (λ old new. ClosesItself old mode closed new) notes
   closed_did true core notes did = done_so did.2 (close_step core did.0 did.1) (omega arith) (closes_told true did.0, refl, ap (λ core. core.out) did.1, refl)
   closed_did false core notes did = nothing_did recorded did.1 did.2 (closes_told false did.0, refl)
 
@@ -79,8 +79,8 @@ module _ {J T : Type 0} (old : RecordedView J T) (from count : ℕ) (core : Core
   written = writes.Shut from count ∷ []
 
   -- the gate of no other sender is shut
-  pub shut_step : {same : J → J → Type 0} {made : J → ℕ} {polls : Owed J T} → IsRecorded same made polls old → IsNextShut old.core.cores from count old.journal.notes →
-      IsQuietStep old core written same made polls (λ sender. sender ≡ from → ⊥) nobody
+  pub shut_step : {meaning : Meaning J T} → IsRecorded meaning old → IsNextShut old.core.cores from count old.journal.notes →
+      IsQuietStep old core written meaning (λ sender. sender ≡ from → ⊥) nobody
   shut_step recorded next =
       let kept = kept_after (terms_at old) (writes.Shut from count) recorded.kept (agrees-shut old.core core old.journal.notes recorded.kept.agrees from count next.known is) recorded.kept.is_core next
       refl tt refl refl in
@@ -112,15 +112,15 @@ module _ {J T : Type 0} (old now : RecordedView J T) (view_is : old ≡ now) (fr
       subst (λ view. IsNextShut view.core.cores from count view.journal.notes) (sym view_is) next
 
   -- what the core asks
-  pub core_asks : {same : J → J → Type 0} {made : J → ℕ} {polls : Owed J T} → IsRecorded same made polls old → (from ≤ old.core.cores) × ((old.core.mode ≢ None) × (gate_of from old.core ≡ None))
+  pub core_asks : {meaning : Meaning J T} → IsRecorded meaning old → (from ≤ old.core.cores) × ((old.core.mode ≢ None) × (gate_of from old.core ≡ None))
   core_asks recorded = (
     next_now.known,
     (λ none. true≢false (sym next_now.closed ∙ ap is_some (sym recorded.kept.agrees.closing.mode ∙ none)), recorded.kept.agrees.closing.gates from ∙ next_now.not_shut),
   )
 
   module _ (core : CoreView J) (notes : List (Note T)) (gate : ShutsGate old.core from count core notes) where
-    pub shut_did : {same : J → J → Type 0} {made : J → ℕ} {polls : Owed J T} → IsRecorded same made polls old →
-        HasDone same made polls old core (λ sender. sender ≡ from → ⊥) nobody 1 (λ old new. TellsShut old from count new) notes
+    pub shut_did : {meaning : Meaning J T} → IsRecorded meaning old →
+        HasDone meaning old core (λ sender. sender ≡ from → ⊥) nobody 1 (λ old new. TellsShut old from count new) notes
     shut_did recorded = done_so gate.1 (shut_step old from count core gate.0 recorded next_now) (omega arith) (record { journal = refl; took = refl; out = ap (λ core. core.out) gate.0 })
 
     pub beside_shut : IsInOf from (stepped old core (reverse notes)) after

@@ -1,11 +1,11 @@
 -- A core is drained where its journal says so.
-use Rattle.rt_journal.proofs.Names.{ℕ, sym, ◌∙◌, ap, Some, false_from_ne_true, true≢false, has_work, Owed}
+use Rattle.rt_journal.proofs.Names.{ℕ, sym, ◌∙◌, ap, Some, false_from_ne_true, true≢false, has_work, Meaning}
 use Rattle.rt_journal.proofs.Names.{RecordedView, terms_at, IsRecorded}
 use Rattle.rt_ids.specs.Closing as told
 use Rattle.rt_core.specs.Closing as core
 use Rattle.rt_journal.proofs.Kept.{working}
 
-module _ {J T : Type 0} {same : J → J → Type 0} {made : J → ℕ} {polls : Owed J T} (view : RecordedView J T) (recorded : IsRecorded same made polls view) where
+module _ {J T : Type 0} {meaning : Meaning J T} (view : RecordedView J T) (recorded : IsRecorded meaning view) where
   pub drained_told : core.IsDrained view.core → told.IsDrained view.core.cores view.journal.notes
   drained_told drained = record {
     delivered_all = λ sender known. sym (recorded.kept.agrees.closing.gates sender) ∙ (drained.delivered_all sender known ∙ ap Some (recorded.kept.agrees.delivered sender known));

@@ -1,7 +1,7 @@
 -- An outcome that is owed may be given on the end of its sender, and is owed no more then.
 use Rattle.rt_journal.proofs.Names.{◌≡◌, ℕ, [], ◌∷◌, ◌++◌, refl, sym, ◌∙◌, ap, subst, arith, cond, Option, Some, None}
 use Rattle.rt_journal.proofs.Names.{IfSome, option_map, eq-eqb, map-append, JobId, Order, Job, Outcome, Reason}
-use Rattle.rt_journal.proofs.Names.{outcome_note, Owed, Inward, MayGive, Fits, Settled, Yielded, IsSentUnder}
+use Rattle.rt_journal.proofs.Names.{outcome_note, Meaning, Inward, MayGive, Fits, Settled, Yielded, IsSentUnder}
 use Rattle.rt_journal.proofs.Names.{outcome_settled, MayAnswer, RecordedView, IsRecorded, IsTaken, order_taken}
 use Rattle.rt_journal.proofs.Names.{IsInOf, IsInOwing, Gives, told_under, name_of, named_outcomes, Finished}
 use Rattle.rt_ids.specs.declared.order.Outcome.TheVariants as outcome
@@ -44,18 +44,18 @@ gave_rest before number None after gives = subst (λ after. after ≡ record bef
 gave_rest before number (Some outcome) after gives = subst (λ after. after ≡ record before { given = after.given }) (sym gives) refl
 
 -- a job that is handed back may be given back
-pub given_back : {J T : Type 0} {same : J → J → Type 0} {made : J → ℕ} {polls : Owed J T} (answers : J → T → Type 0) (view : RecordedView J T) → IsRecorded same made polls view →
-    (name : JobId) (reason : Reason) (order : Order J) → IsSentUnder same view.took name order → (inward : Inward J T) → IsInOwing name.from (Some (name, note.Returned reason)) view inward →
-    MayGive (Fits same answers) inward name.number (outcome.Returned reason order) × ((after : Inward J T) → Gives inward name.number (Some (outcome.Returned reason order)) after → IsInOf name.from view after)
-given_back {T = T} {same = same} answers view recorded name reason order under inward is =
-    let fit : Fits same answers (Job under.queue under.sent) (outcome.Returned reason order) = subst (λ order. Fits same answers (Job under.queue under.sent) (outcome.Returned reason order)) (sym under.back) (refl, under.same_task) in
-    given view name (Job under.queue under.sent) under.task inward (recorded.taken name _ under.task) (Fits same answers) (Some (outcome.Returned reason order)) fit
+pub given_back : {J T : Type 0} (meaning : Meaning J T) (view : RecordedView J T) → IsRecorded meaning view →
+    (name : JobId) (reason : Reason) (order : Order J) → IsSentUnder meaning view.took name order → (inward : Inward J T) → IsInOwing name.from (Some (name, note.Returned reason)) view inward →
+    MayGive (Fits meaning) inward name.number (outcome.Returned reason order) × ((after : Inward J T) → Gives inward name.number (Some (outcome.Returned reason order)) after → IsInOf name.from view after)
+given_back {T = T} meaning view recorded name reason order under inward is =
+    let fit : Fits meaning (Job under.queue under.sent) (outcome.Returned reason order) = subst (λ order. Fits meaning (Job under.queue under.sent) (outcome.Returned reason order)) (sym under.back) (refl, under.same_task) in
+    given view name (Job under.queue under.sent) under.task inward (recorded.taken name _ under.task) (Fits meaning) (Some (outcome.Returned reason order)) fit
     (subst (λ owed. IsInOwing name.from owed view inward) (sym (its_own view name (Job under.queue under.sent) under.task inward (outcome.Returned reason order))) is)
 
 -- the outcome of a turn may be given, if the job is done
-pub given_done : {J T : Type 0} {same : J → J → Type 0} {made : J → ℕ} {polls : Owed J T} (answers : J → T → Type 0) (view : RecordedView J T) → IsRecorded same made polls view → (name : JobId) (inward : Inward J T)
-    (settled : Settled T) → MayAnswer answers view.took name settled → IsInOwing name.from (told_under name (option_map outcome_note (outcome_settled {J = J} settled)) name.from) view inward →
-    IfSome (outcome_settled settled) (λ outcome. MayGive (Fits same answers) inward name.number outcome) × ((after : Inward J T) → Gives inward name.number (outcome_settled settled) after → IsInOf name.from view after)
-given_done answers view recorded name inward Yielded may is = (tt, λ after gives. subst (IsInOf name.from view) (sym gives) is)
-given_done {same = same} answers view recorded name inward (Finished answer) may is =
-    given view name (Job may.0 may.1) may.2 inward (recorded.taken name _ may.2) (Fits same answers) (Some (outcome.Finished answer)) may.3 is
+pub given_done : {J T : Type 0} (meaning : Meaning J T) (view : RecordedView J T) → IsRecorded meaning view → (name : JobId) (inward : Inward J T)
+    (settled : Settled T) → MayAnswer meaning view.took name settled → IsInOwing name.from (told_under name (option_map outcome_note (outcome_settled {J = J} settled)) name.from) view inward →
+    IfSome (outcome_settled settled) (λ outcome. MayGive (Fits meaning) inward name.number outcome) × ((after : Inward J T) → Gives inward name.number (outcome_settled settled) after → IsInOf name.from view after)
+given_done meaning view recorded name inward Yielded may is = (tt, λ after gives. subst (IsInOf name.from view) (sym gives) is)
+given_done meaning view recorded name inward (Finished answer) may is =
+    given view name (Job may.0 may.1) may.2 inward (recorded.taken name _ may.2) (Fits meaning) (Some (outcome.Finished answer)) may.3 is

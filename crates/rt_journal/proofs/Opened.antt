@@ -1,6 +1,6 @@
 -- A core that was just opened, beside a journal without a note.
 use Rattle.rt_journal.proofs.Names.{◌≡◌, ℕ, zero, suc, ◌+◌, ◌*◌, ◌<◌, [], refl, sym, ap, subst, arith, None, All}
-use Rattle.rt_journal.proofs.Names.{length-replicate, get_or-replicate, All-nil, Owed, waiting_of, mode_of, CoreView}
+use Rattle.rt_journal.proofs.Names.{length-replicate, get_or-replicate, All-nil, Meaning, waiting_of, mode_of, CoreView}
 use Rattle.rt_journal.proofs.Names.{runtime_of, opened, Agrees, AreMarked, no_figures, figures_of, IsRecorded}
 use Rattle.rt_journal.proofs.Names.{HasTask, sum_upto, given_count, opened_beside, none-some, names_of}
 use Rattle.rt_stats.proofs.Tables.{all_alike}
@@ -39,14 +39,14 @@ no_sum T zero = refl
 no_sum T (suc last) = let rest : sum_upto (given_count {T = T} []) last ≡ 0 = no_sum T last in omega (arith, rest)
 
 -- a core that was just opened is recorded in a journal without a note
-pub recorded-opened : {J T : Type 0} (same : J → J → Type 0) (made : J → ℕ) (polls : Owed J T) (core cores cap room : ℕ) → core < cores →
-    IsRecorded same made polls (opened_beside {J = J} {T = T} core cores cap room)
-recorded-opened {J} {T} same made polls core cores cap room there = record {
+pub recorded-opened : {J T : Type 0} (meaning : Meaning J T) (core cores cap room : ℕ) → core < cores →
+    IsRecorded meaning (opened_beside {J = J} {T = T} core cores cap room)
+recorded-opened {J} {T} meaning core cores cap room there = record {
   kept = record { is_core = there; agrees = agrees-opened J core cores cap T; notes = tt; no_pick = refl; no_answer = refl };
   room = refl;
   held = record { each = λ sender known. omega arith; inside = omega (arith, no_sum T cores) };
   taken = λ name order at. absurd (none-some order at);
   as_sent = tt;
-  waiting = λ queue. subst (All (λ entry. HasTask same made polls [] [] queue entry.0 entry.2)) (sym (at_first J core cores cap queue).0) (All-nil _);
+  waiting = λ queue. subst (All (λ entry. HasTask meaning [] [] queue entry.0 entry.2)) (sym (at_first J core cores cap queue).0) (All-nil _);
   out = λ job at. absurd (none-some job at);
 }

@@ -1,10 +1,10 @@
 -- A whole turn with posts, beside its journal: the notes of the pick are written behind the old ones, then what is posted, then the note of the settling.
 use Rattle.rt_journal.proofs.Names.{Ok, slice_get, ◌≡◌, refl, ℕ, ◌+◌, ◌<◌, Bool, true, false, List, length, reverse}
 use Rattle.rt_journal.proofs.Names.{sym, ◌∙◌, ap, subst, arith, most_turns, JobId, Note, Envelope, Order, Outcome}
-use Rattle.rt_journal.proofs.Names.{turns, Step, Owed, Start, Resume, CoreView, IsAhead, goes_out, pick_notes}
+use Rattle.rt_journal.proofs.Names.{turns, Step, Meaning, Start, Resume, CoreView, IsAhead, goes_out, pick_notes}
 use Rattle.rt_journal.proofs.Names.{settle_notes, ahead_picks, Outward, DeskView, IsWritten, terms_of_desk, desk_with}
 use Rattle.rt_journal.proofs.Names.{RecordedView, IsRecorded, desk_of, LeavesOwed, AreOutsOf, IsPick, StaysPut}
-use Rattle.rt_journal.proofs.Names.{option_map, ◌*◌, ◌≤◌, same_Some, outcome_note, Call, Doing, Makes, IsSameTask}
+use Rattle.rt_journal.proofs.Names.{option_map, ◌*◌, ◌≤◌, same_Some, outcome_note, Call, Doing, Makes, IsMeaning}
 use Rattle.rt_journal.proofs.Names.{JobOut, TurnsWhole, settled_of, IsSameSeat, told_under, OwesSettled}
 use Rattle.rt_journal.proofs.Names.{outcome_settled, PostView, HasPosted, lends, Does, IsPolled, Settles, post_of}
 use Rattle.rt_journal.proofs.Names.{IsPostingTurn, MayAnswer, TurnsNoted, CorePicks, posted_rest}
@@ -24,30 +24,30 @@ outs_kept old new stays ends outs = record {
 }
 
 -- the notes of the pick of the job that is told ahead, whatever core the pick comes to
-module _ {J T : Type 0} {same : J → J → Type 0} {made : J → ℕ} {polls : Owed J T}
+module _ {J T : Type 0} {meaning : Meaning J T}
     (core : CoreView J) (took : List (Envelope J)) (said : DeskView J T)
-    (invariant : IsRecorded same made polls (view_of core took said) × (said ≡ desk_of (view_of core took said))) (left : turns said.journal.notes < most_turns)
+    (invariant : IsRecorded meaning (view_of core took said) × (said ≡ desk_of (view_of core took said))) (left : turns said.journal.notes < most_turns)
     (queue vr : ℕ) (name : JobId) (started : Bool) (job : J) (mid : CoreView J) where
   abbrev pick_told : List (Note T)
   pick_told = pick_notes queue vr name started
 
   did : (marked : Bool) (notes : List (Note T)) → CorePicks core (Ok (goes_out name queue marked job)) mid notes →
-      HasDone same made polls (view_of core took said) mid everyone nobody 2 (λ old new. IsPick old name queue marked job new) notes
+      HasDone meaning (view_of core took said) mid everyone nobody 2 (λ old new. IsPick old name queue marked job new) notes
   did false notes picks = picked_did (view_of core took said) invariant.0 left mid (Ok (Start name queue job)) notes picks
   did true notes picks = picked_did (view_of core took said) invariant.0 left mid (Ok (Resume name queue job)) notes picks
 
   module _ (picks : CorePicks core (Ok (goes_out name queue started job)) mid pick_told) (slice : List (Note T)) (slice_is : slice ≡ pick_told) where
     module _ (noted : DeskView J T) (wrote : noted ≡ desk_with (reverse slice) said) where
-      pub is_picked : IsRecorded same made polls (view_of mid took noted) × (noted ≡ desk_of (view_of mid took noted))
+      pub is_picked : IsRecorded meaning (view_of mid took noted) × (noted ≡ desk_of (view_of mid took noted))
       is_picked = quiet_invariant core took said invariant slice_is (did started pick_told picks) wrote
 
-      pub has_picked : HasStepped same made polls everyone nobody (λ old new. IsPick old name queue started job new) (view_of core took said) (view_of mid took noted)
+      pub has_picked : HasStepped meaning everyone nobody (λ old new. IsPick old name queue started job new) (view_of core took said) (view_of mid took noted)
       has_picked = quiet_now core took said invariant slice_is (did started pick_told picks) wrote refl
 
 -- the same, told before the pick
-module _ {J T : Type 0} {same : J → J → Type 0} {made : J → ℕ} {polls : Owed J T}
+module _ {J T : Type 0} {meaning : Meaning J T}
     (core : CoreView J) (took : List (Envelope J)) (said : DeskView J T)
-    (invariant : IsRecorded same made polls (view_of core took said) × (said ≡ desk_of (view_of core took said))) (left : turns said.journal.notes < most_turns)
+    (invariant : IsRecorded meaning (view_of core took said) × (said ≡ desk_of (view_of core took said))) (left : turns said.journal.notes < most_turns)
     (queue vr : ℕ) (name : JobId) (started : Bool) (ahead : IsAhead core queue vr name started) (slice : List (Note T)) (slice_is : slice ≡ pick_notes queue vr name started) where
   pub may_note_pick : {before : RecordedView J T} → view_of core took said ≡ before → length before.journal.notes + 2 ≤ before.journal.room → MayNote said slice
   may_note_pick =
@@ -69,12 +69,11 @@ module _ {J T : Type 0} (said noted : DeskView J T) (slice : List (Note T)) (wro
   pub noted_settled : (name : JobId) (time : ℕ) (step : Step T) → slice ≡ settle_notes name time step → length noted.journal.notes ≡ length said.journal.notes + 1
   noted_settled name time step slice_is = grind arith
 
-module _ {J T E : Type 0} {same : J → J → Type 0} {done : J → Bool} {can_poll : J → Type 0} {made : J → ℕ} {polls : Owed J T} {answers : J → T → Type 0} (is_same : IsSameTask same)
-    (answers_same : (a b : J) (out : T) → same a b → answers a out → answers b out) {out : E → Outward J T} {untouched : E → List ℕ}
+module _ {J T E : Type 0} {meaning : Meaning J T} (laws : IsMeaning meaning) {out : E → Outward J T} {untouched : E → List ℕ}
     (core : CoreView J) (took : List (Envelope J)) (said : DeskView J T)
-    (invariant : IsRecorded same made polls (view_of core took said) × (said ≡ desk_of (view_of core took said))) (few_turns : turns said.journal.notes < most_turns)
+    (invariant : IsRecorded meaning (view_of core took said) × (said ≡ desk_of (view_of core took said))) (few_turns : turns said.journal.notes < most_turns)
     (queue vr : ℕ) (name : JobId) (started : Bool) (spent : ℕ) (calls : List (Call J T)) (step : Step T) (time : ℕ) (core_now : CoreView J)
-    (whole : TurnsWhole same done can_poll made polls answers core spent calls name queue started (pick_notes queue vr name started) (settled_of step) (settle_notes name time step) core_now)
+    (whole : TurnsWhole meaning core spent calls name queue started (pick_notes queue vr name started) (settled_of step) (settle_notes name time step) core_now)
     (slice : List (Note T)) (slice_is : slice ≡ pick_notes queue vr name started) (noted : DeskView J T) (wrote : noted ≡ desk_with (reverse slice) said)
     (left : DeskView J T) (ends later : List E)
     (posted : HasPosted out untouched (record { desk = noted; ends = ends }) (record { desk = left; ends = later })) (written : IsWritten (terms_of_desk left) left.journal.notes) where
@@ -90,22 +89,22 @@ module _ {J T E : Type 0} {same : J → J → Type 0} {done : J → Bool} {can_p
   abbrev told : List (Note T)
   told = settle_notes name time step
 
-  at_pick : IsRecorded same made polls picked × (noted ≡ desk_of picked)
+  at_pick : IsRecorded meaning picked × (noted ≡ desk_of picked)
   at_pick = is_picked core took said invariant few_turns queue vr name started whole.ran.before whole.mid whole.picks slice slice_is noted wrote
 
-  picks_it : HasStepped same made polls everyone nobody (λ old new. IsPick old name queue started whole.ran.before new) old picked
+  picks_it : HasStepped meaning everyone nobody (λ old new. IsPick old name queue started whole.ran.before new) old picked
   picks_it = has_picked core took said invariant few_turns queue vr name started whole.ran.before whole.mid whole.picks slice slice_is noted wrote
 
   rest : left ≡ record noted { journal = record noted.journal { notes = left.journal.notes }; lanes = left.lanes }
   rest = posted_rest noted left ends later posted
 
-  said_left : HasSaid same made polls left picked polled_view
+  said_left : HasSaid meaning left picked polled_view
   said_left = has_said whole.mid took noted at_pick refl rest written (subst (SaysNoMore noted.journal.notes) (sym (ap (λ desk. desk.journal.notes) posted.desk)) (all_posted posted.notes noted.journal.notes posted.posts))
 
-  at_poll : IsRecorded same made polls polled_view × (left ≡ desk_of polled_view)
+  at_poll : IsRecorded meaning polled_view × (left ≡ desk_of polled_view)
   at_poll = (said_left.sound, said_left.is_its)
 
-  polled : IsPolled same made polls answers whole.ran
+  polled : IsPolled meaning whole.ran
   polled = record { answered = whole.polled.answered; same_task = whole.polled.task; later = whole.polled.later }
 
   abbrev its_out : JobOut J
@@ -114,8 +113,8 @@ module _ {J T E : Type 0} {same : J → J → Type 0} {done : J → Bool} {can_p
   it_is : whole.settles.0 ≡ its_out
   it_is = same_Some _ _ (sym whole.settles.1 ∙ picks_it.does_so.out)
 
-  last_step : HasDone same made polls polled_view core_now everyone (given_settled whole.settles.0.name whole.ran.step) 1 (λ old new. Settles made polls answers old whole.ran spent (settled_of step) new) told
-  last_step = settled_did is_same answers_same polled_view at_poll.0 whole.settles.0 whole.settles.1 core_now whole.ran (ap (λ job. job.job) it_is) polled spent (settled_of step) told whole.settles.2
+  last_step : HasDone meaning polled_view core_now everyone (given_settled whole.settles.0.name whole.ran.step) 1 (λ old new. Settles meaning old whole.ran spent (settled_of step) new) told
+  last_step = settled_did laws polled_view at_poll.0 whole.settles.0 whole.settles.1 core_now whole.ran (ap (λ job. job.job) it_is) polled spent (settled_of step) told whole.settles.2
 
   -- the desk and its ends are those of the core between pick and settling
   posts_of : (P : PostView J T E → PostView J T E → Type 0) → P (record { desk = noted; ends = ends }) (record { desk = left; ends = later }) → P (post_of picked ends) (post_of polled_view later)
@@ -131,20 +130,20 @@ module _ {J T E : Type 0} {same : J → J → Type 0} {done : J → Bool} {can_p
       abbrev new : RecordedView J T
       new = view_of core_now took said_now
 
-      pub turned_invariant : IsRecorded same made polls new × (said_now ≡ desk_of new)
+      pub turned_invariant : IsRecorded meaning new × (said_now ≡ desk_of new)
       turned_invariant = quiet_invariant whole.mid took left at_poll last_is last_step wrote_it
 
-      has_settled : HasStepped same made polls everyone (given_settled whole.settles.0.name whole.ran.step) (λ old new. Settles made polls answers old whole.ran spent (settled_of step) new) polled_view new
+      has_settled : HasStepped meaning everyone (given_settled whole.settles.0.name whole.ran.step) (λ old new. Settles meaning old whole.ran spent (settled_of step) new) polled_view new
       has_settled = quiet_now whole.mid took left at_poll last_is last_step wrote_it refl
 
-      settles_it : Settles made polls answers polled_view whole.ran spent (settled_of step) new
+      settles_it : Settles meaning polled_view whole.ran spent (settled_of step) new
       settles_it = has_settled.does_so
 
       owes_it : OwesSettled polled_view (settled_of step) new
       owes_it = owes_settled polled_view _ whole.settles.0 whole.settles.1 whole.ran.step (settled_of step) settles_it.tells (λ sender. has_settled.ins sender tt)
 
       turned : {does : Doing (PostView J T E) J T} {tells : ℕ → Type 0} → tells spent → Makes does calls (record { desk = noted; ends = ends }) (record { desk = left; ends = later }) →
-          IsPostingTurn same made polls answers does out untouched tells old ends name queue started (settled_of step) new later
+          IsPostingTurn meaning does out untouched tells old ends name queue started (settled_of step) new later
       turned {does} told_it makes = record {
         picked = picked;
         left = polled_view;
@@ -165,15 +164,15 @@ module _ {J T E : Type 0} {same : J → J → Type 0} {done : J → Bool} {can_p
         owes = owes_it;
       }
 
-      pub turned_noted : {fits : Order J → Outcome J T → Type 0} {credited : E → ℕ} {tells : ℕ → Type 0} → tells spent → Makes (Does fits out credited untouched) calls (lends noted ends) (lends left later) →
-          AreOutsOf fits out credited left later → length said_now.journal.notes ≤ length said.journal.notes + core.cores * (3 * said.cap) + 3 →
-          TurnsNoted same made polls answers fits out credited untouched tells old ends name queue started (settled_of step) new later
-      turned_noted {fits = fits} {credited = credited} {tells = tells} told_it makes outs few =
+      pub turned_noted : {credited : E → ℕ} {tells : ℕ → Type 0} → tells spent → Makes (Does (Fits meaning) out credited untouched) calls (lends noted ends) (lends left later) →
+          AreOutsOf (Fits meaning) out credited left later → length said_now.journal.notes ≤ length said.journal.notes + core.cores * (3 * said.cap) + 3 →
+          TurnsNoted meaning out credited untouched tells old ends name queue started (settled_of step) new later
+      turned_noted {credited = credited} {tells = tells} told_it makes outs few =
           let owes = λ (sender : ℕ). subst (λ name. LeavesOwed sender (told_under name (option_map outcome_note (outcome_settled {J = J} (settled_of step))) sender) old new) (ap (λ job. job.name) it_is)
           (record { each = λ inward is. (owes_it whole.settles.0 whole.settles.1 sender).each inward ((said_left.ins sender).each inward ((picks_it.ins sender tt).each inward is)) }) in
-          let may_answer = subst (λ name. MayAnswer answers took name (settled_of step)) (ap (λ job. job.name) (same_Some settles_it.out its_out (sym settles_it.was_out ∙ picks_it.does_so.out)))
-          (its_answer answers took settles_it.out.name settles_it.out.queue settles_it.sent settles_it.task whole.ran.step (settled_of step) settles_it.tells settles_it.answered) in
-          let outs_now = outs_kept polled_view new (assumption has_settled) later (subst (λ desk. AreOutsOf fits out credited desk later) at_poll.1 outs) in
+          let may_answer = subst (λ name. MayAnswer meaning took name (settled_of step)) (ap (λ job. job.name) (same_Some settles_it.out its_out (sym settles_it.was_out ∙ picks_it.does_so.out)))
+          (its_answer meaning took settles_it.out.name settles_it.out.queue settles_it.sent settles_it.task whole.ran.step (settled_of step) settles_it.tells settles_it.answered) in
+          let outs_now = outs_kept polled_view new (assumption has_settled) later (subst (λ desk. AreOutsOf (Fits meaning) out credited desk later) at_poll.1 outs) in
           let one = picks_it.seat in
           let other = has_settled.seat in
           let seat : IsSameSeat old new = assumption (other.number ∙ one.number, other.cores ∙ one.cores, other.cap ∙ (ap (λ desk. desk.cap) rest ∙ one.cap), other.room ∙ (ap (λ desk. desk.journal.room) rest ∙ one.room)) in

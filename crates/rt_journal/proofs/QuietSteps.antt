@@ -4,7 +4,7 @@ use Rattle.rt_journal.proofs.Names.{JobId, Order, final_count, Journal, EachNote
 use Rattle.rt_journal.proofs.Names.{given_outcomes, Step, DeliversAs, poll_note, settle_note, RecordedView, IsHeld}
 use Rattle.rt_journal.proofs.Names.{sum_upto, delivered_count, given_count, IsInOf, LeavesOwed, GivesMore, IsUngiven}
 use Rattle.rt_journal.proofs.Names.{KeepsSent, IsSameSeat, grows, OutcomeNote, Inward, ◌*◌, List, [], ◌++◌, sym, ◌∙◌}
-use Rattle.rt_journal.proofs.Names.{subst, Some, All, Note, Owed, waiting_of, CoreView, JobOut, inside_count, IsKept}
+use Rattle.rt_journal.proofs.Names.{subst, Some, All, Note, Meaning, waiting_of, CoreView, JobOut, inside_count, IsKept}
 use Rattle.rt_journal.proofs.Names.{IsWritten, terms_at, desk_of, IsRecorded, HasTask, KeepsOuts, with_notes, reverse}
 use Rattle.rt_journal.proofs.Names.{Envelope, DeskView, terms_of_desk, desk_with, keeps_outs}
 use Rattle.rt_ids.specs.declared.note.Note.TheVariants as writes
@@ -61,7 +61,7 @@ module _ {J T : Type 0} (old : RecordedView J T) (core : CoreView J) (written : 
   abbrev longer : Journal T
   longer = written ++ old.journal.notes
 
-  module _ (same : J → J → Type 0) (made : J → ℕ) (polls : Owed J T) where
+  module _ (meaning : Meaning J T) where
     pub record IsQuietStep (keeps : ℕ → Type 0) (gives : ℕ → Option (JobId × OutcomeNote T)) : Type 0 where
       pub kept : IsKept (terms_at old) core longer
       pub number : core.core ≡ old.core.core
@@ -70,18 +70,18 @@ module _ {J T : Type 0} (old : RecordedView J T) (core : CoreView J) (written : 
       pub quiet : IsQuiet keeps gives old.journal.notes longer
       pub ungiven : (sender : ℕ) (inward : Inward J T) → IsInOf sender old inward → IsUngiven (gives sender) inward.given
       pub fewer : inside_count core + sum_upto (given_count longer) old.core.cores ≤ inside_count old.core + sum_upto (given_count old.journal.notes) old.core.cores
-      pub waiting : (queue : ℕ) → All (λ entry. HasTask same made polls old.took longer queue entry.0 entry.2) (waiting_of queue core.queues)
-      pub out : (job : JobOut J) → core.out ≡ Some job → HasTask same made polls old.took longer job.queue job.name job.job
+      pub waiting : (queue : ℕ) → All (λ entry. HasTask meaning old.took longer queue entry.0 entry.2) (waiting_of queue core.queues)
+      pub out : (job : JobOut J) → core.out ≡ Some job → HasTask meaning old.took longer job.queue job.name job.job
 
-module _ {J T : Type 0} {same : J → J → Type 0} {made : J → ℕ} {polls : Owed J T}
-    (old : RecordedView J T) (recorded : IsRecorded same made polls old) (core : CoreView J) (written : List (Note T)) {keeps : ℕ → Type 0} {gives : ℕ → Option (JobId × OutcomeNote T)} (step : IsQuietStep old core written same made polls keeps gives) where
+module _ {J T : Type 0} {meaning : Meaning J T}
+    (old : RecordedView J T) (recorded : IsRecorded meaning old) (core : CoreView J) (written : List (Note T)) {keeps : ℕ → Type 0} {gives : ℕ → Option (JobId × OutcomeNote T)} (step : IsQuietStep old core written meaning keeps gives) where
   abbrev new : RecordedView J T
   new = stepped old core written
 
   terms_now : terms_at old ≡ terms_at new
   terms_now = λ i. record { actor = sym step.number i; cores = sym step.cores i; cap = old.cap }
 
-  pub recorded_step : IsRecorded same made polls new
+  pub recorded_step : IsRecorded meaning new
   recorded_step = record {
     kept = subst (λ terms. IsKept terms core (written ++ old.journal.notes)) terms_now step.kept;
     room = step.room ∙ (recorded.room ∙ ap (λ cores. (cores + 1) * old.cap) (sym step.cores));
@@ -100,26 +100,26 @@ module _ {J T : Type 0} {same : J → J → Type 0} {made : J → ℕ} {polls : 
   pub ins_step : (sender : ℕ) → keeps sender → LeavesOwed sender (gives sender) old new
   ins_step sender kept = keeps_in old new seat_step sender _ (step.quiet.given sender) (step.quiet.gates sender kept) (step.ungiven sender) (ap length (step.quiet.delivered sender)) (λ name order from at. at)
 
-module _ {J T : Type 0} (same : J → J → Type 0) (made : J → ℕ) (polls : Owed J T) (old : RecordedView J T) (core : CoreView J) where
+module _ {J T : Type 0} (meaning : Meaning J T) (old : RecordedView J T) (core : CoreView J) where
   -- what a call of the core did: a quiet step of few notes, and what its caller is told of it
   pub record HasDone (keeps : ℕ → Type 0) (gives : ℕ → Option (JobId × OutcomeNote T)) (most : ℕ) (does : RecordedView J T → RecordedView J T → Type 0) (notes : List (Note T)) : Type 0 where
-    pub step : IsQuietStep old core (reverse notes) same made polls keeps gives
+    pub step : IsQuietStep old core (reverse notes) meaning keeps gives
     pub few : length notes ≤ most
     pub does_so : does old (stepped old core (reverse notes))
 
-module _ {J T : Type 0} {same : J → J → Type 0} {made : J → ℕ} {polls : Owed J T} {old : RecordedView J T} {core : CoreView J} {most : ℕ} {does : RecordedView J T → RecordedView J T → Type 0} {notes : List (Note T)} where
+module _ {J T : Type 0} {meaning : Meaning J T} {old : RecordedView J T} {core : CoreView J} {most : ℕ} {does : RecordedView J T → RecordedView J T → Type 0} {notes : List (Note T)} where
   -- these notes were made, or none
-  pub done_so : {written : List (Note T)} {keeps : ℕ → Type 0} {gives : ℕ → Option (JobId × OutcomeNote T)} → notes ≡ written → IsQuietStep old core (reverse written) same made polls keeps gives →
-      length written ≤ most → does old (stepped old core (reverse written)) → HasDone same made polls old core keeps gives most does notes
-  done_so {keeps = keeps} {gives = gives} is step few does_so = subst (HasDone same made polls old core keeps gives most does) (sym is) (record { step = step; few = few; does_so = does_so })
+  pub done_so : {written : List (Note T)} {keeps : ℕ → Type 0} {gives : ℕ → Option (JobId × OutcomeNote T)} → notes ≡ written → IsQuietStep old core (reverse written) meaning keeps gives →
+      length written ≤ most → does old (stepped old core (reverse written)) → HasDone meaning old core keeps gives most does notes
+  done_so {keeps = keeps} {gives = gives} is step few does_so = subst (HasDone meaning old core keeps gives most does) (sym is) (record { step = step; few = few; does_so = does_so })
 
   -- where a call did nothing, all is as it was
-  pub nothing_did : IsRecorded same made polls old → core ≡ old.core → notes ≡ [] → does old old → HasDone same made polls old core everyone nobody most does notes
+  pub nothing_did : IsRecorded meaning old → core ≡ old.core → notes ≡ [] → does old old → HasDone meaning old core everyone nobody most does notes
   nothing_did recorded core_is is does_so =
       let fewer : inside_count old.core + sum_upto (given_count old.journal.notes) old.core.cores ≤ inside_count old.core + sum_upto (given_count old.journal.notes) old.core.cores = omega arith in
-      let nothing : IsQuietStep old old.core [] same made polls everyone nobody = assumption in
-      subst (HasDone same made polls old core everyone nobody most does) (sym is)
-      (subst (λ core. HasDone same made polls old core everyone nobody most does []) (sym core_is) (record { step = nothing; few = omega arith; does_so = does_so }))
+      let nothing : IsQuietStep old old.core [] meaning everyone nobody = assumption in
+      subst (HasDone meaning old core everyone nobody most does) (sym is)
+      (subst (λ core. HasDone meaning old core everyone nobody most does []) (sym core_is) (record { step = nothing; few = omega arith; does_so = does_so }))
 
 module _ {J T : Type 0} where
   -- the view of these parts
@@ -146,21 +146,21 @@ may_note core took said desk {notes} slice_is written sent few view_is room = su
   sent = sent;
 })
 
-module _ {J T : Type 0} (same : J → J → Type 0) (made : J → ℕ) (polls : Owed J T) (keeps : ℕ → Type 0) (gives : ℕ → Option (JobId × OutcomeNote T)) (does : RecordedView J T → RecordedView J T → Type 0) where
+module _ {J T : Type 0} (meaning : Meaning J T) (keeps : ℕ → Type 0) (gives : ℕ → Option (JobId × OutcomeNote T)) (does : RecordedView J T → RecordedView J T → Type 0) where
   -- what a quiet step leaves: it did so, the core is recorded, and the seat, the lanes and the ends of all links are as they were, except what it gives and whose gate it shuts
   pub record HasStepped (old new : RecordedView J T) : Type 0 where
     pub does_so : does old new
-    pub sound : IsRecorded same made polls new
+    pub sound : IsRecorded meaning new
     pub seat : IsSameSeat old new
     pub ins : (sender : ℕ) → keeps sender → LeavesOwed sender (gives sender) old new
     pub outs : KeepsOuts (desk_of old) (desk_of new)
     pub lanes : new.lanes ≡ old.lanes
 
-module _ {J T : Type 0} {same : J → J → Type 0} {made : J → ℕ} {polls : Owed J T}
+module _ {J T : Type 0} {meaning : Meaning J T}
     (core : CoreView J) (took : List (Envelope J)) (said : DeskView J T)
-    (invariant : IsRecorded same made polls (view_of core took said) × (said ≡ desk_of (view_of core took said)))
+    (invariant : IsRecorded meaning (view_of core took said) × (said ≡ desk_of (view_of core took said)))
     {after : CoreView J} {notes slice : List (Note T)} (slice_is : slice ≡ notes) {keeps : ℕ → Type 0} {gives : ℕ → Option (JobId × OutcomeNote T)} {most : ℕ} {does : RecordedView J T → RecordedView J T → Type 0}
-    (did : HasDone same made polls (view_of core took said) after keeps gives most does notes) where
+    (did : HasDone meaning (view_of core took said) after keeps gives most does notes) where
   abbrev old : RecordedView J T
   old = view_of core took said
 
@@ -174,9 +174,9 @@ module _ {J T : Type 0} {same : J → J → Type 0} {made : J → ℕ} {polls : 
     now_is : view_of after took said_now ≡ stepped old after (reverse notes)
     now_is = ap (view_of after took) now_written
 
-    pub quiet_invariant : IsRecorded same made polls (view_of after took said_now) × (said_now ≡ desk_of (view_of after took said_now))
+    pub quiet_invariant : IsRecorded meaning (view_of after took said_now) × (said_now ≡ desk_of (view_of after took said_now))
     quiet_invariant = (
-      subst (IsRecorded same made polls) (sym now_is) (recorded_step old invariant.0 after (reverse notes) did.step),
+      subst (IsRecorded meaning) (sym now_is) (recorded_step old invariant.0 after (reverse notes) did.step),
       desk_is said_now after took (ap (λ desk. desk.actor) now_written ∙ (ap (λ desk. desk.actor) invariant.1 ∙ sym did.step.number))
           (ap (λ desk. desk.cores) now_written ∙ (ap (λ desk. desk.cores) invariant.1 ∙ sym did.step.cores)),
     )
@@ -186,8 +186,8 @@ module _ {J T : Type 0} {same : J → J → Type 0} {made : J → ℕ} {polls : 
       pub seen_so : (P : RecordedView J T → RecordedView J T → Type 0) → P old (stepped old after (reverse notes)) → P before (view_of after took said_now)
       seen_so P is = subst (λ before. P before (view_of after took said_now)) view_is (subst (P old) (sym now_is) is)
 
-      pub quiet_now : HasStepped same made polls keeps gives does before (view_of after took said_now)
-      quiet_now = seen_so (HasStepped same made polls keeps gives does) (record {
+      pub quiet_now : HasStepped meaning keeps gives does before (view_of after took said_now)
+      quiet_now = seen_so (HasStepped meaning keeps gives does) (record {
         does_so = did.does_so;
         sound = recorded_step old invariant.0 after (reverse notes) did.step;
         seat = seat_step old invariant.0 after (reverse notes) did.step;

@@ -6,7 +6,7 @@ use Rattle.rt_journal.proofs.Names.{DeliversAs, order_taken, note_taken, ◌+◌
 use Rattle.rt_journal.proofs.Names.{false_from_ne_true, Terms, Yield, Done, is_name, delivered_names, name_delivered}
 use Rattle.rt_journal.proofs.Names.{number_if, name_settled, MayFollow, MayStand, grows, alone_out, IsOld, known_of}
 use Rattle.rt_journal.proofs.Names.{polls_made, ℕ, ◌*◌, ◌<◌, ◌≤◌, length, ⊎_elim, zero-add, All, reverse, eq-eqb}
-use Rattle.rt_journal.proofs.Names.{given_outcomes, Owed, IsSameTask, waiting_of, CoreView, inside_count, Delivered}
+use Rattle.rt_journal.proofs.Names.{given_outcomes, Meaning, IsMeaning, waiting_of, CoreView, inside_count, Delivered}
 use Rattle.rt_journal.proofs.Names.{IsSpelledOrder, IsKept, RecordedView, terms_at, IsRecorded, IsHeld, IsTaken}
 use Rattle.rt_journal.proofs.Names.{HasTask, OwesAfter, sum_upto, delivered_count, given_count, IsSameSeat, GivesMore}
 use Rattle.rt_journal.proofs.Names.{told_under, outcome_delivered, OutcomeNote, outcome_note, IsNextIn, Receives}
@@ -78,26 +78,26 @@ module _ {T : Type 0} (terms : Terms) where
       later : IsOld name before → IsOld name (note ∷ before)
       later old = omega (arith, old, grows (delivered_names name.from before) (name_delivered name.from note))
 
-module _ {J T : Type 0} {same : J → J → Type 0} {made : J → ℕ} {polls : Owed J T} where
+module _ {J T : Type 0} {meaning : Meaning J T} where
   -- a job keeps its task where its order stays under its name and no poll of it is told
   pub task_stays : {old new : List (Envelope J)} {before after : Journal T} {queue : ℕ} {name : JobId} {job : J} →
       ((order : Order J) → order_taken old name ≡ Some order → order_taken new name ≡ Some order) → polls_made name after ≡ polls_made name before →
-      HasTask same made polls old before queue name job → HasTask same made polls new after queue name job
+      HasTask meaning old before queue name job → HasTask meaning new after queue name job
   task_stays {job = job} stays as_before task = record {
     sent = task.sent;
     task = stays (Job _ task.sent) task.task;
     same_task = task.same_task;
-    owes = subst (λ count. OwesAfter same made polls task.sent count job) (sym as_before) task.owes;
+    owes = subst (λ count. OwesAfter meaning task.sent count job) (sym as_before) task.owes;
   }
 
-module _ {J T : Type 0} {same : J → J → Type 0} {made : J → ℕ} {polls : Owed J T} (old : RecordedView J T) (recorded : IsRecorded same made polls old)
+module _ {J T : Type 0} {meaning : Meaning J T} (old : RecordedView J T) (recorded : IsRecorded meaning old)
     (written : List (Note T)) (unpolled : (which : JobId) → polls_made which (written ++ old.journal.notes) ≡ polls_made which old.journal.notes) where
   -- all jobs keep their tasks behind notes by which no poll is settled
-  pub waiting_stays : (queue : ℕ) → All (λ entry. HasTask same made polls old.took (written ++ old.journal.notes) queue entry.0 entry.2) (waiting_of queue old.core.queues)
+  pub waiting_stays : (queue : ℕ) → All (λ entry. HasTask meaning old.took (written ++ old.journal.notes) queue entry.0 entry.2) (waiting_of queue old.core.queues)
   waiting_stays queue place default within = task_stays (λ order at. at) (unpolled _) (recorded.waiting queue place default within)
 
-module _ {J T : Type 0} {same : J → J → Type 0} {made : J → ℕ} {polls : Owed J T} (is_same : IsSameTask same)
-    (old : RecordedView J T) (recorded : IsRecorded same made polls old) (envelope : Envelope J) (told : Option (OutcomeNote T)) (core : CoreView J) (written : List (Note T))
+module _ {J T : Type 0} {meaning : Meaning J T} (laws : IsMeaning meaning)
+    (old : RecordedView J T) (recorded : IsRecorded meaning old) (envelope : Envelope J) (told : Option (OutcomeNote T)) (core : CoreView J) (written : List (Note T))
     (done : IsCarriedOut old envelope.name envelope.order told core written) (next : IsNextIn old envelope.name) where
   abbrev name : JobId
   name = envelope.name
@@ -146,7 +146,7 @@ module _ {J T : Type 0} {same : J → J → Type 0} {made : J → ℕ} {polls : 
       (order_taken-parts envelope old.took which order at)
 
   abbrev Task : ℕ → JobId × Bool × J → Type 0
-  Task queue entry = HasTask same made polls received.took longer queue entry.0 entry.2
+  Task queue entry = HasTask meaning received.took longer queue entry.0 entry.2
 
   waiting_now : (queue : ℕ) → All (Task queue) (waiting_of queue core.queues)
   waiting_now = done.entered Task (λ queue place default within. task_stays (stays _) (done.polls _) (recorded.waiting queue place default within)) came
@@ -157,15 +157,15 @@ module _ {J T : Type 0} {same : J → J → Type 0} {made : J → ℕ} {polls : 
           record {
             sent = entry.2;
             task = ap (order_taken received.took) is.0 ∙ (here ∙ ap Some is.1);
-            same_task = is_same.itself entry.2;
-            owes = subst (λ count. OwesAfter same made polls entry.2 count entry.2) (sym (ap (λ which. polls_made which longer) is.0 ∙ never))
-                (λ more calls step told owed. subst (λ place. polls entry.2 (made entry.2 + place) calls step told) (sym (zero-add more)) owed);
+            same_task = laws.same_task.itself entry.2;
+            owes = subst (λ count. OwesAfter meaning entry.2 count entry.2) (sym (ap (λ which. polls_made which longer) is.0 ∙ never))
+                (λ more calls step told owed. subst (λ place. meaning.polls entry.2 (meaning.made entry.2 + place) calls step told) (sym (zero-add more)) owed);
           }
 
   terms_now : terms_at old ≡ terms_at received
   terms_now = λ i. record { actor = sym done.number i; cores = sym done.cores i; cap = old.cap }
 
-  pub recorded_now : IsRecorded same made polls received
+  pub recorded_now : IsRecorded meaning received
   recorded_now = record {
     kept = subst (λ terms. IsKept terms core longer) terms_now done.kept;
     room = done.room ∙ (recorded.room ∙ ap (λ cores. (cores + 1) * old.cap) (sym done.cores));
@@ -178,24 +178,24 @@ module _ {J T : Type 0} {same : J → J → Type 0} {made : J → ℕ} {polls : 
   }
 
 -- a core has room for what is delivered next
-pub room_in : {J T : Type 0} {same : J → J → Type 0} {made : J → ℕ} {polls : Owed J T} (view : RecordedView J T) (name : JobId) →
-    IsRecorded same made polls view → IsNextIn view name → inside_count view.core < view.core.queues.room
+pub room_in : {J T : Type 0} {meaning : Meaning J T} (view : RecordedView J T) (name : JobId) →
+    IsRecorded meaning view → IsNextIn view name → inside_count view.core < view.core.queues.room
 room_in view name recorded next =
     let left : sum_upto (delivered_count view.journal.notes) view.core.cores < sum_upto (given_count view.journal.notes) view.core.cores + (view.core.cores + 1) * view.cap =
     sum_upto-room (delivered_count view.journal.notes) (given_count view.journal.notes) view.cap name.from view.core.cores next.sender recorded.held.each next.place in
     omega (arith, left, recorded.held.inside, recorded.room)
 
 -- what a call leaves that received an order
-pub record HasReceived {J T : Type 0} (same : J → J → Type 0) (made : J → ℕ) (polls : Owed J T) (envelope : Envelope J) (told : Option (OutcomeNote T)) (old new : RecordedView J T) : Type 0 where
-  pub sound : IsRecorded same made polls new
+pub record HasReceived {J T : Type 0} (meaning : Meaning J T) (envelope : Envelope J) (told : Option (OutcomeNote T)) (old new : RecordedView J T) : Type 0 where
+  pub sound : IsRecorded meaning new
   pub seat : IsSameSeat old new
   pub receives : Receives old envelope new
   pub gives : GivesMore (told_under envelope.name told) old.journal.notes new.journal.notes
   pub stands : order_taken new.took envelope.name ≡ Some envelope.order
 
 -- what a call that received an order knows of its parts
-module _ {J T : Type 0} {same : J → J → Type 0} {made : J → ℕ} {polls : Owed J T} (is_same : IsSameTask same)
-    (old : RecordedView J T) (recorded : IsRecorded same made polls old) (envelope : Envelope J) (next : IsNextIn old envelope.name)
+module _ {J T : Type 0} {meaning : Meaning J T} (laws : IsMeaning meaning)
+    (old : RecordedView J T) (recorded : IsRecorded meaning old) (envelope : Envelope J) (next : IsNextIn old envelope.name)
     (spelled : IsSpelledOrder (without_job envelope.order)) (core : CoreView J) (delivered : Delivered J) (written : List (Note T))
     (does : CoreDelivers old.core envelope.name envelope.order delivered core written) where
   abbrev told : Option (OutcomeNote T)
@@ -205,11 +205,11 @@ module _ {J T : Type 0} {same : J → J → Type 0} {made : J → ℕ} {polls : 
   done = carries_out old envelope.name recorded.kept (assumption next) next.sender core envelope.order spelled delivered written does
 
   module _ (new : RecordedView J T) (is : new ≡ record { cap = old.cap; core = core; journal = record old.journal { notes = reverse written ++ old.journal.notes }; took = old.took ++ envelope ∷ []; lanes = old.lanes }) where
-    pub received_now : HasReceived same made polls envelope told old new
-    received_now = subst (HasReceived same made polls envelope told old) (sym is) (record {
-      sound = recorded_now is_same old recorded envelope told core (reverse written) done next;
+    pub received_now : HasReceived meaning envelope told old new
+    received_now = subst (HasReceived meaning envelope told old) (sym is) (record {
+      sound = recorded_now laws old recorded envelope told core (reverse written) done next;
       seat = record { number = done.number; cores = done.cores; cap = refl; room = refl };
       receives = record { notes = reverse written; delivery = done.delivery; journal = refl; took = refl; out = done.out; lists = done.lists; delivered = done.delivered };
       gives = done.given;
-      stands = here is_same old recorded envelope told core (reverse written) done next;
+      stands = here laws old recorded envelope told core (reverse written) done next;
     })

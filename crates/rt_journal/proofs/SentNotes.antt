@@ -3,7 +3,7 @@ use Rattle.rt_journal.proofs.Names.{inside_count, ◌≡◌, ℕ, List, [], ◌�
 use Rattle.rt_journal.proofs.Names.{arith, add-zero, Result, Ok, Err, None, JobId, TicketError, Unknown, Gone, Note}
 use Rattle.rt_journal.proofs.Names.{OutcomeNote, Order, Outcome, Envelope, SendError, Closed, Full, NoCore}
 use Rattle.rt_journal.proofs.Names.{final_count, created_count, shares, delivered_names, given_outcomes, DeliversAs}
-use Rattle.rt_journal.proofs.Names.{Journal, EachNote, or_else, without_job, outcome_note, Owed, CoreView, Lane}
+use Rattle.rt_journal.proofs.Names.{Journal, EachNote, or_else, without_job, outcome_note, Meaning, CoreView, Lane}
 use Rattle.rt_journal.proofs.Names.{Agrees, polls_made, DeskView, IsWritten, Submits, terms_of_desk, RecordedView}
 use Rattle.rt_journal.proofs.Names.{IsRecorded, desk_of, terms_at, given_count, KeepsIn, ArePosts, AreCollected}
 use Rattle.rt_journal.proofs.Names.{CollectsFrom, RedeemsTicket, DetachesTicket, Pending}
@@ -75,7 +75,7 @@ module _ {J T : Type 0} (old : RecordedView J T) (longer : Journal T) (lanes : L
   new = record old { journal = record old.journal { notes = longer }; lanes = lanes }
 
   module _ (silent : SaysNoMore old.journal.notes longer) where
-    pub recorded_silent : {same : J → J → Type 0} {made : J → ℕ} {polls : Owed J T} → IsRecorded same made polls old → IsWritten (terms_at old) longer → IsRecorded same made polls new
+    pub recorded_silent : {meaning : Meaning J T} → IsRecorded meaning old → IsWritten (terms_at old) longer → IsRecorded meaning new
     recorded_silent recorded written = record {
       kept = record { is_core = recorded.kept.is_core; agrees = silent.agrees old.core recorded.kept.agrees; notes = written.notes; no_pick = written.no_pick; no_answer = written.no_answer };
       room = recorded.room;
@@ -121,22 +121,22 @@ module _ {J T : Type 0} (said now : DeskView J T) where
   detached_silent name (Err Gone) detaches = nothing detaches.1
 
 -- what a call of its desk leaves of a core: it is recorded, the desk is its own, and the ends that it receives from are as they were
-pub record HasSaid {J T : Type 0} (same : J → J → Type 0) (made : J → ℕ) (polls : Owed J T) (desk : DeskView J T) (old new : RecordedView J T) : Type 0 where
-  pub sound : IsRecorded same made polls new
+pub record HasSaid {J T : Type 0} (meaning : Meaning J T) (desk : DeskView J T) (old new : RecordedView J T) : Type 0 where
+  pub sound : IsRecorded meaning new
   pub is_its : desk ≡ desk_of new
   pub ins : (sender : ℕ) → KeepsIn sender old new
 
 -- whatever its desk did
-module _ {J T : Type 0} {same : J → J → Type 0} {made : J → ℕ} {polls : Owed J T}
+module _ {J T : Type 0} {meaning : Meaning J T}
     (inside : CoreView J) (took : List (Envelope J)) (said : DeskView J T)
-    (invariant : IsRecorded same made polls (view_of inside took said) × (said ≡ desk_of (view_of inside took said))) {before : RecordedView J T} (view_is : view_of inside took said ≡ before) where
+    (invariant : IsRecorded meaning (view_of inside took said) × (said ≡ desk_of (view_of inside took said))) {before : RecordedView J T} (view_is : view_of inside took said ≡ before) where
   pub has_said : {now : DeskView J T} → now ≡ record said { journal = record said.journal { notes = now.journal.notes }; lanes = now.lanes } →
-      IsWritten (terms_of_desk now) now.journal.notes → SaysNoMore said.journal.notes now.journal.notes → HasSaid same made polls now before (view_of inside took now)
+      IsWritten (terms_of_desk now) now.journal.notes → SaysNoMore said.journal.notes now.journal.notes → HasSaid meaning now before (view_of inside took now)
   has_said {now} rest written silent =
       let old : RecordedView J T = view_of inside took said in
       let now_is : view_of inside took now ≡ record old { journal = record old.journal { notes = now.journal.notes }; lanes = now.lanes } = ap (view_of inside took) rest in
       record {
-        sound = subst (IsRecorded same made polls) (sym now_is)
+        sound = subst (IsRecorded meaning) (sym now_is)
             (recorded_silent old now.journal.notes now.lanes silent invariant.0 (subst (λ terms. IsWritten terms now.journal.notes) (ap terms_of_desk rest ∙ ap terms_of_desk invariant.1) written));
         is_its = desk_is now inside took (ap (λ desk. desk.actor) rest ∙ ap (λ desk. desk.actor) invariant.1) (ap (λ desk. desk.cores) rest ∙ ap (λ desk. desk.cores) invariant.1);
         ins = λ sender. subst (λ before. KeepsIn sender before (view_of inside took now)) view_is (subst (KeepsIn sender old) (sym now_is) (ins_silent old now.journal.notes now.lanes silent sender));

@@ -3,7 +3,7 @@ use Rattle.rt_journal.proofs.Names.{◌≡◌, ℕ, ◌+◌, ◌<◌, ◌≤◌,
 use Rattle.rt_journal.proofs.Names.{◌∙◌, ap, subst, arith, add-zero, get_or, ◌==◌, Option, Some, None, All, is_some}
 use Rattle.rt_journal.proofs.Names.{unwrap_or, false_from_ne_true, length-append, All-append, All-cons, All-nil}
 use Rattle.rt_journal.proofs.Names.{JobId, Note, same_name, Journal, jobs_out, number_if, alone_out, apart_of, among}
-use Rattle.rt_journal.proofs.Names.{same_as_itself, Step, Call, Owed, AfterPoll, IsSameTask, IfDone, OnYield, OwesOn}
+use Rattle.rt_journal.proofs.Names.{same_as_itself, Step, Call, Meaning, AfterPoll, IsMeaning, IfDone, OnYield, OwesOn}
 use Rattle.rt_journal.proofs.Names.{waiting_of, held_count, ChangesLine, Settled, Yielded, CoreView, JobOut}
 use Rattle.rt_journal.proofs.Names.{inside_count, IsTaskOut, settled_view, IsJobOut, polls_made, settle_note}
 use Rattle.rt_journal.proofs.Names.{RecordedView, terms_at, IsRecorded, HasTask, note_taken, OwesAfter, sum_upto}
@@ -37,14 +37,13 @@ pub given_told : (J : Type 0) {T : Type 0} (name : JobId) (step : Step T) (settl
     given_settled name step sender ≡ told_under name (option_map outcome_note (outcome_settled {J = J} settled)) sender
 given_told J name step settled tells sender = grind arith
 
-pub task_out : {J : Type 0} {same : J → J → Type 0} → IsSameTask same → (who : Option (JobOut J)) (job : J) → IsOut who job → IsTaskOut same who job
-task_out is_same None job is = absurd is
-task_out {same = same} is_same (Some out) job is = subst (same out.job) is (is_same.itself out.job)
+pub task_out : {J T : Type 0} {meaning : Meaning J T} → IsMeaning meaning → (who : Option (JobOut J)) (job : J) → IsOut who job → IsTaskOut meaning who job
+task_out laws None job is = absurd is
+task_out {meaning = meaning} laws (Some out) job is = subst (meaning.same out.job) is (laws.same_task.itself out.job)
 
-module _ {J T : Type 0} {same : J → J → Type 0} {made : J → ℕ} {polls : Owed J T} {answers : J → T → Type 0} (is_same : IsSameTask same)
-    (answers_same : (a b : J) (out : T) → same a b → answers a out → answers b out)
-    (old : RecordedView J T) (recorded : IsRecorded same made polls old) (out : JobOut J) (was_out : old.core.out ≡ Some out)
-    (core : CoreView J) (ran : AfterPoll J T) (its_job : out.job ≡ ran.before) (polled : IsPolled same made polls answers ran) (spent : ℕ) where
+module _ {J T : Type 0} {meaning : Meaning J T} (laws : IsMeaning meaning)
+    (old : RecordedView J T) (recorded : IsRecorded meaning old) (out : JobOut J) (was_out : old.core.out ≡ Some out)
+    (core : CoreView J) (ran : AfterPoll J T) (its_job : out.job ≡ ran.before) (polled : IsPolled meaning ran) (spent : ℕ) where
   abbrev time : ℕ
   time = unwrap_or ran.told spent
 
@@ -57,7 +56,7 @@ module _ {J T : Type 0} {same : J → J → Type 0} {made : J → ℕ} {polls : 
       ap (among out.name) (recorded.kept.agrees.lines queue)
       ∙ false_from_ne_true _ ((apart_of (terms_at old) old.journal.notes recorded.kept.notes).not_waiting queue out.name (alone_out out.name old.journal.notes is_out))
 
-  its_task : HasTask same made polls old.took old.journal.notes out.queue out.name out.job
+  its_task : HasTask meaning old.took old.journal.notes out.queue out.name out.job
   its_task = recorded.out out was_out
 
   inside_old : inside_count old.core ≡ held_count old.core.queues + 1
@@ -68,7 +67,7 @@ module _ {J T : Type 0} {same : J → J → Type 0} {made : J → ℕ} {polls : 
     longer = settle_note out.name time step ∷ old.journal.notes
 
     abbrev Task : ℕ → JobId × Bool × J → Type 0
-    Task queue entry = HasTask same made polls old.took longer queue entry.0 entry.2
+    Task queue entry = HasTask meaning old.took longer queue entry.0 entry.2
 
     polls_now : (which : JobId) → polls_made which longer ≡ polls_made which old.journal.notes + number_if (same_name which out.name)
     polls_now which = grind arith
@@ -82,7 +81,7 @@ module _ {J T : Type 0} {same : J → J → Type 0} {made : J → ℕ} {polls : 
         (recorded.waiting queue place default within)
 
     abbrev SettlesIt : CoreView J → Type 0
-    SettlesIt core = IsQuietStep old core (settle_note out.name time step ∷ []) same made polls everyone (given_settled out.name step)
+    SettlesIt core = IsQuietStep old core (settle_note out.name time step ∷ []) meaning everyone (given_settled out.name step)
 
     -- the core that settled the poll: no job is out, and so many more of this queue are done
     settled_step : (done : ℕ) (queues : QueuesView J) → IsKept (terms_at old) (settled_view old.core out time done queues) longer → queues.room ≡ old.core.queues.room →
@@ -90,7 +89,7 @@ module _ {J T : Type 0} {same : J → J → Type 0} {made : J → ℕ} {polls : 
         ((queue : ℕ) → All (Task queue) (waiting_of queue queues)) → SettlesIt (settled_view old.core out time done queues)
     settled_step done queues kept room fewer waiting =
         let ungiven = λ (sender : ℕ) (inward : Inward J T) (is : IsInOf sender old inward). ungiven_settled sender inward is step in
-        let nobody : (job : JobOut J) → None ≡ Some job → HasTask same made polls old.took longer job.queue job.name job.job = λ job none. absurd (none-some job none) in
+        let nobody : (job : JobOut J) → None ≡ Some job → HasTask meaning old.took longer job.queue job.name job.job = λ job none. absurd (none-some job none) in
         assumption (quiet-settled old.journal.notes out.name time step)
       where
         -- the job that is out was given nothing yet
@@ -102,13 +101,13 @@ module _ {J T : Type 0} {same : J → J → Type 0} {made : J → ℕ} {polls : 
             (not_given (note_taken old.took) out.name out.queue (ap (option_map without_job) its_task.task) sender old.journal.notes recorded.as_sent going_on) (outcomes.Finished value)
 
   -- the job yields: it has its task still, with one more poll, and goes to the end of its line
-  module _ (same_task : same out.job ran.job) (later : OwesOn made polls out.job ran.job) where
+  module _ (same_task : meaning.same out.job ran.job) (later : OwesOn meaning out.job ran.job) where
     task_now : Task steps.Yield out.queue (out.name, true, ran.job)
     task_now = record {
       sent = its_task.sent;
       task = its_task.task;
-      same_task = is_same.along its_task.sent out.job ran.job its_task.same_task same_task;
-      owes = subst (λ count. OwesAfter same made polls its_task.sent count ran.job) (sym one_more) owes_on;
+      same_task = laws.same_task.along its_task.sent out.job ran.job its_task.same_task same_task;
+      owes = subst (λ count. OwesAfter meaning its_task.sent count ran.job) (sym one_more) owes_on;
     }
       where
         one_more : polls_made out.name (longer steps.Yield) ≡ polls_made out.name old.journal.notes + 1
@@ -117,10 +116,10 @@ module _ {J T : Type 0} {same : J → J → Type 0} {made : J → ℕ} {polls : 
         assoc : (a b : ℕ) → a + 1 + b ≡ a + (1 + b)
         assoc a b = omega arith
 
-        owes_on : OwesAfter same made polls its_task.sent (polls_made out.name old.journal.notes + 1) ran.job
+        owes_on : OwesAfter meaning its_task.sent (polls_made out.name old.journal.notes + 1) ran.job
         owes_on more calls step told owed_now =
-            let first : polls out.job (made out.job + (1 + more)) calls step told = subst (λ place. polls out.job place calls step told) (assoc (made out.job) more) (later more calls step told owed_now) in
-            subst (λ place. polls its_task.sent (made its_task.sent + place) calls step told) (sym (assoc (polls_made out.name old.journal.notes) more)) (its_task.owes (1 + more) calls step told first)
+            let first : meaning.polls out.job (meaning.made out.job + (1 + more)) calls step told = subst (λ place. meaning.polls out.job place calls step told) (assoc (meaning.made out.job) more) (later more calls step told owed_now) in
+            subst (λ place. meaning.polls its_task.sent (meaning.made its_task.sent + place) calls step told) (sym (assoc (polls_made out.name old.journal.notes) more)) (its_task.owes (1 + more) calls step told first)
 
     yielded : ChangesLine old.core.queues core.queues out.queue (waiting_of out.queue old.core.queues ++ (out.name, true, ran.job) ∷ []) → SettlesIt steps.Yield (settled_view old.core out time 0 core.queues)
     yielded changes =
@@ -143,18 +142,18 @@ module _ {J T : Type 0} {same : J → J → Type 0} {made : J → ℕ} {polls : 
     its_step : (notes ≡ settle_note out.name time ran.step ∷ []) × (core.out ≡ None) × TellsStep ran.step settled
     its_step = grind arith
 
-    answered : IfDone ran.step (answers its_task.sent)
-    answered = grind (arith, answers_same out.job its_task.sent, is_same.back its_task.sent out.job)
+    answered : IfDone ran.step (meaning.answers its_task.sent)
+    answered = grind (arith, laws.answers_same out.job its_task.sent, laws.same_task.back its_task.sent out.job)
 
-    owed : (calls : List (Call J T)) → polls ran.before (made ran.before) calls ran.step ran.told →
-        polls its_task.sent (made its_task.sent + polls_made out.name old.journal.notes) calls ran.step ran.told
-    owed calls owes = subst (λ place. polls its_task.sent place calls ran.step ran.told) (ap (λ count. made its_task.sent + count) (add-zero (polls_made out.name old.journal.notes)))
-        (its_task.owes 0 calls ran.step ran.told (subst (λ place. polls out.job place calls ran.step ran.told) (sym (add-zero (made out.job)))
-        (subst (λ job. polls job (made job) calls ran.step ran.told) (sym its_job) owes)))
+    owed : (calls : List (Call J T)) → meaning.polls ran.before (meaning.made ran.before) calls ran.step ran.told →
+        meaning.polls its_task.sent (meaning.made its_task.sent + polls_made out.name old.journal.notes) calls ran.step ran.told
+    owed calls owes = subst (λ place. meaning.polls its_task.sent place calls ran.step ran.told) (ap (λ count. meaning.made its_task.sent + count) (add-zero (polls_made out.name old.journal.notes)))
+        (its_task.owes 0 calls ran.step ran.told (subst (λ place. meaning.polls out.job place calls ran.step ran.told) (sym (add-zero (meaning.made out.job)))
+        (subst (λ job. meaning.polls job (meaning.made job) calls ran.step ran.told) (sym its_job) owes)))
 
-    pub settled_did : HasDone same made polls old core everyone (given_settled out.name ran.step) 1 (λ old new. Settles made polls answers old ran spent settled new) notes
+    pub settled_did : HasDone meaning old core everyone (given_settled out.name ran.step) 1 (λ old new. Settles meaning old ran spent settled new) notes
     settled_did = done_so its_step.0
-        (by_step ran.step (subst (λ job. OnYield ran.step (same job ran.job)) (sym its_job) polled.same_task) (subst (λ job. OnYield ran.step (OwesOn made polls job ran.job)) (sym its_job) polled.later) settled settles)
+        (by_step ran.step (subst (λ job. OnYield ran.step (meaning.same job ran.job)) (sym its_job) polled.same_task) (subst (λ job. OnYield ran.step (OwesOn meaning job ran.job)) (sym its_job) polled.later) settled settles)
         (omega arith) (record {
           out = out;
           was_out = was_out;
@@ -168,7 +167,7 @@ module _ {J T : Type 0} {same : J → J → Type 0} {made : J → ℕ} {polls : 
           took = refl;
         })
       where
-        by_step : (step : Step T) → OnYield step (same out.job ran.job) → OnYield step (OwesOn made polls out.job ran.job) → (settled : Settled T) → CoreSettles old.core out ran spent step settled core notes → SettlesIt step core
+        by_step : (step : Step T) → OnYield step (meaning.same out.job ran.job) → OnYield step (OwesOn meaning out.job ran.job) → (settled : Settled T) → CoreSettles old.core out ran spent step settled core notes → SettlesIt step core
         by_step (steps.Done value) task later (Finished answer) settles = subst (SettlesIt (steps.Done value)) (sym settles.1) (ended value)
         by_step (steps.Done value) task later Yielded settles = absurd settles
         by_step steps.Yield task later (Finished answer) settles = absurd settles
@@ -182,13 +181,13 @@ owes_settled {J} old new out was_out step settled tells owes other at sender =
     (subst (λ owed. LeavesOwed sender owed old new) (given_told J out.name step settled tells sender) (owes sender))
 
 -- what the caller is told may be answered by the job that was sent
-pub its_answer : {J T : Type 0} (answers : J → T → Type 0) (took : List (Envelope J)) (name : JobId) (queue : ℕ) (sent : J) → order_taken took name ≡ Some (Job queue sent) →
-    (step : Step T) (settled : Settled T) → TellsStep step settled → IfDone step (answers sent) → MayAnswer answers took name settled
-its_answer answers took name queue sent task steps.Yield settled tells right = subst (MayAnswer answers took name) (sym tells) tt
-its_answer answers took name queue sent task (steps.Done value) settled tells right = subst (MayAnswer answers took name) (sym tells) (queue, sent, task, right)
+pub its_answer : {J T : Type 0} (meaning : Meaning J T) (took : List (Envelope J)) (name : JobId) (queue : ℕ) (sent : J) → order_taken took name ≡ Some (Job queue sent) →
+    (step : Step T) (settled : Settled T) → TellsStep step settled → IfDone step (meaning.answers sent) → MayAnswer meaning took name settled
+its_answer meaning took name queue sent task steps.Yield settled tells right = subst (MayAnswer meaning took name) (sym tells) tt
+its_answer meaning took name queue sent task (steps.Done value) settled tells right = subst (MayAnswer meaning took name) (sym tells) (queue, sent, task, right)
 
-module _ {J T : Type 0} {same : J → J → Type 0} {made : J → ℕ} {polls : Owed J T} {answers : J → T → Type 0} (old new : RecordedView J T) (ran : AfterPoll J T) (spent : ℕ) (settled : Settled T)
-    (settles : Settles made polls answers old ran spent settled new) (owes : OwesSettled old settled new) (recorded : IsRecorded same made polls new) (name : JobId) (named : IsOutUnder old.core.out name) where
+module _ {J T : Type 0} {meaning : Meaning J T} (old new : RecordedView J T) (ran : AfterPoll J T) (spent : ℕ) (settled : Settled T)
+    (settles : Settles meaning old ran spent settled new) (owes : OwesSettled old settled new) (recorded : IsRecorded meaning new) (name : JobId) (named : IsOutUnder old.core.out name) where
   abbrev outcome : Option (Outcome J T)
   outcome = outcome_settled settled
 
@@ -200,9 +199,9 @@ module _ {J T : Type 0} {same : J → J → Type 0} {made : J → ℕ} {polls : 
 
   -- it may be given, and is owed no more then
   pub settled_given : (before : Inward J T) → IsInOf name.from old before →
-      IfSome outcome (λ outcome. MayGive (Fits same answers) before name.number outcome) × ((after : Inward J T) → Gives before name.number outcome after → IsInOf name.from new after)
-  settled_given before beside = given_done answers new recorded name before settled
-      (its_answer answers new.took name settles.out.queue settles.sent ((λ i. order_taken (settles.took i) (sym name_is i)) ∙ settles.task) ran.step settled settles.tells settles.answered)
+      IfSome outcome (λ outcome. MayGive (Fits meaning) before name.number outcome) × ((after : Inward J T) → Gives before name.number outcome after → IsInOf name.from new after)
+  settled_given before beside = given_done meaning new recorded name before settled
+      (its_answer meaning new.took name settles.out.queue settles.sent ((λ i. order_taken (settles.took i) (sym name_is i)) ∙ settles.task) ran.step settled settles.tells settles.answered)
       ((owes_it name.from).each before beside)
 
   pub others_settled : (sender : ℕ) → (sender ≡ name.from → ⊥) → KeepsIn sender old new

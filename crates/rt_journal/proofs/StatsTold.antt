@@ -1,7 +1,7 @@
 -- What a core tells of itself in numbers, its journal tells: the jobs inside, and the numbers of each queue.
 use Rattle.rt_journal.proofs.Words.{◌≡◌, ℕ, zero, suc, ◌+◌, ◌<◌, ◌≤◌, List, [], ◌∷◌, length, refl, sym, ◌∙◌, ap, arith, get_or, ⊎_elim, Option, Some}
 use Rattle.rt_journal.proofs.Words.{None, is_some, ◌==◌, cases_eq, eq-eqb, length-map, Journal, EachNote, MayStand, line, Terms, queue_count}
-use Rattle.rt_journal.proofs.Words.{waiting_of, ◌-◌, ◌^◌, ◌↔◌, slice_get, IsTrue, Note, CoreStats, turns, virtual_runtime, Owed, core_stats}
+use Rattle.rt_journal.proofs.Words.{waiting_of, ◌-◌, ◌^◌, ◌↔◌, slice_get, IsTrue, Note, CoreStats, turns, virtual_runtime, Meaning, core_stats}
 use Rattle.rt_journal.proofs.Words.{queue_stats, RecordedView, IsRecorded, TellsCore, TellsQueues}
 use Rattle.std.specs.Prelude.{sum_by}
 use Rattle.std.proofs.lemmas.Bool.{ne_eqb}
@@ -116,7 +116,7 @@ module _ {T : Type 0} (terms : Terms) where
       let few = turns_within journal notes in
       omega arith
 
-module _ {J T : Type 0} {same : J → J → Type 0} {made : J → ℕ} {polls : Owed J T} (view : RecordedView J T) (recorded : IsRecorded same made polls view) where
+module _ {J T : Type 0} {meaning : Meaning J T} (view : RecordedView J T) (recorded : IsRecorded meaning view) where
   pub core_told : (told : CoreStats) → told ≡ core_stats view.core told.drained → IsTrue told.drained ↔ closing.IsDrained view.core → TellsCore view.core.cores view.journal.notes told
   core_told told is drained = record {
     sums = is

@@ -5,7 +5,7 @@ use Rattle.rt_journal.proofs.Names.{length-append, map-append, Terms, terms_of, 
 use Rattle.rt_journal.proofs.Names.{Outcome, Assembly, IsPrefix, journal_of, first_under, order_of, final_count}
 use Rattle.rt_journal.proofs.Names.{accepted_orders, delivered_names, given_outcomes, collected_outcomes, AreJoined}
 use Rattle.rt_journal.proofs.Names.{LinksAgree, DeliversAs, DeliversAsSent, Journal, EachNote, IsLawful, MayStand}
-use Rattle.rt_journal.proofs.Names.{MayWrite, jobs_out, without_job, Owed, Outward, Inward, Joined, IsJobOut}
+use Rattle.rt_journal.proofs.Names.{MayWrite, jobs_out, without_job, Meaning, Outward, Inward, Joined, IsJobOut}
 use Rattle.rt_journal.proofs.Names.{numbered_orders, DeskView, terms_of_desk, RecordedView, terms_at, note_taken}
 use Rattle.rt_journal.proofs.Names.{order_taken, IsOutOf, IsInOf, name_of, named_outcomes, AreTogether, IsAssemblyOf}
 use Rattle.rt_journal.proofs.Names.{suc, zero, ◌++◌, ◌-◌, if_from, with_last, IsNextDelivered, MayFollow}
@@ -81,9 +81,9 @@ module _ {T : Type 0} (terms : Terms) (outside : terms.cores ≤ terms.actor) wh
 named-prefix : {J T : Type 0} (sender core : ℕ) (front whole : List (ℕ × Outcome J T)) → IsPrefix front whole → IsPrefix (named_outcomes sender core front) (named_outcomes sender core whole)
 named-prefix sender core front whole starts = (named_outcomes sender core starts.0, ap (named_outcomes sender core) starts.1 ∙ map-append _ front starts.0)
 
-module _ {J T : Type 0} {same : J → J → Type 0} {made : J → ℕ} {polls : Owed J T}
+module _ {J T : Type 0} {meaning : Meaning J T}
     (cores cap : ℕ) (desk : ℕ → DeskView J T) (core : ℕ → RecordedView J T) (out : ℕ → ℕ → Outward J T) (credited : ℕ → ℕ → ℕ) (inward : ℕ → ℕ → Inward J T) (assembly : Assembly T)
-    (are : AreTogether same made polls cores cap desk core out credited inward) (is : IsAssemblyOf cores cap desk assembly) where
+    (are : AreTogether meaning cores cap desk core out credited inward) (is : IsAssemblyOf cores cap desk assembly) where
   abbrev notes_at : ℕ → Journal T
   notes_at actor = (desk actor).journal.notes
 

@@ -8,7 +8,7 @@ pub use Rattle.rt_ids.specs.Runtimes.{virtual_runtime}
 pub use Rattle.rt_ids.specs.Terms.{Terms}
 pub use Rattle.rt_ids.specs.declared.note.Note.{Note}
 pub use Rattle.rt_ids.specs.declared.stats.CoreStats.{CoreStats}
-pub use Rattle.rt_jobs.specs.Steps.{Owed}
+pub use Rattle.rt_jobs.specs.Meanings.{Meaning}
 pub use Rattle.rt_journal.specs.Recorded.{IsRecorded, RecordedView}
 pub use Rattle.rt_taskqueue.specs.Queues.{queue_count, waiting_of}
 pub use Rattle.rt_journal.specs.Stats.{TellsCore, TellsQueues}

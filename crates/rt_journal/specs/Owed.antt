@@ -19,16 +19,17 @@ use Rattle.rt_core.specs.declared.turn.Settled.{Settled}
 use Rattle.rt_core.specs.declared.turn.Settled.TheVariants.{Yielded, Finished}
 use Rattle.rt_journal.specs.Recorded.{RecordedView, order_taken}
 use Rattle.rt_journal.specs.Ends.{LeavesOwed, told_under}
+use Rattle.rt_jobs.specs.Meanings.{Meaning}
 
 module _ {J : Type 0} where
   -- the order has the queue and the task that were sent under this name
-  pub record IsSentUnder (same : J → J → Type 0) (took : List (Envelope J)) (name : JobId) (order : Order J) : Type 0 where
+  pub record IsSentUnder {T : Type 0} (meaning : Meaning J T) (took : List (Envelope J)) (name : JobId) (order : Order J) : Type 0 where
     pub queue : ℕ
     pub sent : J
     pub task : order_taken took name ≡ Some (Job queue sent)
     pub job : J
     pub back : order ≡ Job queue job
-    pub same_task : same sent job
+    pub same_task : meaning.same sent job
 
 module _ {J T : Type 0} where
   -- the outcome that a pick leaves owed to a sender

@@ -11,7 +11,7 @@ use Rattle.rt_ids.specs.Journal.{Journal, EachNote}
 use Rattle.rt_ids.specs.Filters.{delivered_names, given_outcomes}
 use Rattle.rt_jobs.specs.declared.job.Step.{Step}
 use Rattle.rt_jobs.specs.Calls.{Call}
-use Rattle.rt_jobs.specs.Steps.{Owed}
+use Rattle.rt_jobs.specs.Meanings.{Meaning}
 use Rattle.rt_taskqueue.specs.Queues.{waiting_of}
 use Rattle.rt_core.specs.State.{CoreView, JobOut, inside_count}
 use Rattle.rt_journal_notes.specs.Journals.{JournalView}
@@ -70,18 +70,18 @@ pub record IsTaken {T : Type 0} (cores : ℕ) (notes : Journal T) (name : JobId)
   pub sender : name.from ≤ cores
   pub old : name.number ≤ delivered_count notes name.from
 
-module _ {J T : Type 0} (same : J → J → Type 0) (made : J → ℕ) (polls : Owed J T) where
+module _ {J T : Type 0} (meaning : Meaning J T) where
   -- after so many polls, a poll of this job owes what the next poll of the job that was sent owes, whatever it calls of its post
   abbrev pub OwesAfter : J → ℕ → J → Type 0
   OwesAfter sent count job =
       (more : ℕ) (calls : List (Call J T)) (step : Step T) (told : Option ℕ) →
-      polls job (made job + more) calls step told → polls sent (made sent + (count + more)) calls step told
+      meaning.polls job (meaning.made job + more) calls step told → meaning.polls sent (meaning.made sent + (count + more)) calls step told
 
   -- the job has the task that was sent under its name to this queue, and was polled as often as the journal says
   pub record HasTask (took : List (Envelope J)) (notes : Journal T) (queue : ℕ) (name : JobId) (job : J) : Type 0 where
     pub sent : J
     pub task : order_taken took name ≡ Some (Job queue sent)
-    pub same_task : same sent job
+    pub same_task : meaning.same sent job
     pub owes : OwesAfter sent (polls_made name notes) job
 
   -- the core agrees with its journal; each delivery is as its order calls for; each job inside has the task that was sent, and its place

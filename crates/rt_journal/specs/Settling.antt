@@ -5,7 +5,8 @@ use Rattle.rt_ids.specs.declared.order.Order.TheVariants.{Job}
 use Rattle.rt_jobs.specs.declared.job.Step.{Step}
 use Rattle.rt_jobs.specs.Calls.{Call}
 use Rattle.rt_jobs.specs.declared.job.Step.TheVariants as step
-use Rattle.rt_jobs.specs.Steps.{AfterPoll, Owed, IfDone, OnYield, OwesOn}
+use Rattle.rt_jobs.specs.Meanings.{Meaning}
+use Rattle.rt_jobs.specs.Steps.{AfterPoll, IfDone, OnYield, OwesOn}
 use Rattle.rt_core.specs.State.{JobOut}
 use Rattle.rt_core.specs.declared.turn.Settled.{Settled}
 use Rattle.rt_core.specs.declared.turn.Settled.TheVariants.{Yielded, Finished}
@@ -24,25 +25,25 @@ IsOutUnder None name = ⊥
 IsOutUnder (Some out) name = out.name ≡ name
 
 -- what may answer a poll, and what it leaves of its job
-pub record IsPolled {J T : Type 0} (same : J → J → Type 0) (made : J → ℕ) (polls : Owed J T) (answers : J → T → Type 0) (ran : AfterPoll J T) : Type 0 where
-  pub answered : IfDone ran.step (answers ran.before)
-  pub same_task : OnYield ran.step (same ran.before ran.job)
-  pub later : OnYield ran.step (OwesOn made polls ran.before ran.job)
+pub record IsPolled {J T : Type 0} (meaning : Meaning J T) (ran : AfterPoll J T) : Type 0 where
+  pub answered : IfDone ran.step (meaning.answers ran.before)
+  pub same_task : OnYield ran.step (meaning.same ran.before ran.job)
+  pub later : OnYield ran.step (OwesOn meaning ran.before ran.job)
 
 -- what the caller of a settled poll is told is the poll's step
 abbrev pub TellsStep : {T : Type 0} → Step T → Settled T → Type 0
 TellsStep step.Yield settled = settled ≡ Yielded
 TellsStep (step.Done out) settled = settled ≡ Finished out
 
-module _ {J T : Type 0} (made : J → ℕ) (polls : Owed J T) (answers : J → T → Type 0) where
+module _ {J T : Type 0} (meaning : Meaning J T) where
   -- the poll of the job that was out is settled: what it owed with the calls of its post, the job that was sent owes, counted from its own polls
   pub record Settles (old : RecordedView J T) (ran : AfterPoll J T) (spent : ℕ) (settled : Settled T) (new : RecordedView J T) : Type 0 where
     pub out : JobOut J
     pub was_out : old.core.out ≡ Some out
     pub sent : J
     pub task : order_taken old.took out.name ≡ Some (Job out.queue sent)
-    pub owed : (calls : List (Call J T)) → polls ran.before (made ran.before) calls ran.step ran.told → polls sent (made sent + polls_made out.name old.journal.notes) calls ran.step ran.told
-    pub answered : IfDone ran.step (answers sent)
+    pub owed : (calls : List (Call J T)) → meaning.polls ran.before (meaning.made ran.before) calls ran.step ran.told → meaning.polls sent (meaning.made sent + polls_made out.name old.journal.notes) calls ran.step ran.told
+    pub answered : IfDone ran.step (meaning.answers sent)
     pub tells : TellsStep ran.step settled
     pub journal : new.journal ≡ with_notes (settle_note out.name (unwrap_or ran.told spent) ran.step ∷ []) old.journal
     pub out_now : new.core.out ≡ None

@@ -2,7 +2,7 @@
 use Rattle.std.specs.Prelude.{◌≡◌, ℕ, ◌+◌, ◌<◌, ◌≤◌, None, length}
 use Rattle.rt_ids.specs.Assembly.{Assembly, journal_of}
 use Rattle.rt_ids.specs.Joining.{AreJoined}
-use Rattle.rt_jobs.specs.Steps.{Owed}
+use Rattle.rt_jobs.specs.Meanings.{Meaning}
 use Rattle.rt_link.specs.declared.ends.Outward.{Outward}
 use Rattle.rt_link.specs.declared.ends.Inward.{Inward}
 use Rattle.rt_link.specs.Ends.{Joined}
@@ -11,12 +11,12 @@ use Rattle.rt_journal.specs.Recorded.{RecordedView, IsRecorded, desk_of}
 use Rattle.rt_journal_desk.specs.Ends.{IsOutOf}
 use Rattle.rt_journal.specs.Ends.{IsInOf}
 
-module _ {J T : Type 0} (same : J → J → Type 0) (made : J → ℕ) (polls : Owed J T) where
+module _ {J T : Type 0} (meaning : Meaning J T) where
   -- the desks are those of the cores, each recorded and with no job out, and of the outside actor; each end belongs to its actor; and the two ends of each link are joined
   pub record AreTogether (cores cap : ℕ) (desk : ℕ → DeskView J T) (core : ℕ → RecordedView J T) (out : ℕ → ℕ → Outward J T) (credited : ℕ → ℕ → ℕ) (inward : ℕ → ℕ → Inward J T) : Type 0 where
     pub actors : (actor : ℕ) → actor ≤ cores → terms_of_desk (desk actor) ≡ record { actor = actor; cores = cores; cap = cap }
     pub desks : (number : ℕ) → number < cores → desk number ≡ desk_of (core number)
-    pub recorded : (number : ℕ) → number < cores → IsRecorded same made polls (core number)
+    pub recorded : (number : ℕ) → number < cores → IsRecorded meaning (core number)
     pub at_rest : (number : ℕ) → number < cores → (core number).core.out ≡ None
     pub outside : IsWritten (terms_of_desk (desk cores)) (desk cores).journal.notes
     pub outs : (sender number : ℕ) → sender ≤ cores → number < cores → IsOutOf number (desk sender) (out sender number) (credited sender number)
@@ -31,9 +31,9 @@ module _ {J T : Type 0} where
     pub count : length assembly.journals ≡ cores + 1
     pub each : (actor : ℕ) → actor ≤ cores → journal_of actor assembly ≡ (desk actor).journal.notes
 
-module _ {J T : Type 0} (same : J → J → Type 0) (made : J → ℕ) (polls : Owed J T) where
+module _ {J T : Type 0} (meaning : Meaning J T) where
   -- actors that are recorded each by itself are joined, where the ends of their links are
   abbrev pub TogetherAreJoined : Type 0
   TogetherAreJoined =
       (cores cap : ℕ) (desk : ℕ → DeskView J T) (core : ℕ → RecordedView J T) (out : ℕ → ℕ → Outward J T) (credited : ℕ → ℕ → ℕ) (inward : ℕ → ℕ → Inward J T) (assembly : Assembly T) →
-      AreTogether same made polls cores cap desk core out credited inward → IsAssemblyOf cores cap desk assembly → AreJoined assembly
+      AreTogether meaning cores cap desk core out credited inward → IsAssemblyOf cores cap desk assembly → AreJoined assembly

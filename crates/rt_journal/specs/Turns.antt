@@ -19,6 +19,7 @@ use Rattle.rt_journal.specs.Polls.{poll_note}
 use Rattle.rt_journal.specs.Recorded.{RecordedView, order_taken}
 use Rattle.rt_journal.specs.Steps.{with_notes}
 pub use Rattle.rt_journal.specs.Settling.{IsOut, IsOutUnder, IsPolled, TellsStep, Settles}
+use Rattle.rt_jobs.specs.Meanings.{Meaning}
 
 module _ {J T : Type 0} where
   -- the right pick takes out the first job of its line
@@ -35,7 +36,7 @@ module _ {J T : Type 0} where
     pub out : new.core.out ≡ Some (record { name = name; queue = queue; job = job })
     pub took : new.took ≡ old.took
 
-  module _ (same : J → J → Type 0) where
+  module _ (meaning : Meaning J T) where
     -- the right pick hands the first job of its line back, for the reason that the journal gives, in an order of its own queue and task
     pub record IsHandBack (old : RecordedView J T) (name : JobId) (reason : Reason) (order : Order J) (new : RecordedView J T) : Type 0 where
       pub nobody_out : old.core.out ≡ None
@@ -50,7 +51,7 @@ module _ {J T : Type 0} where
       pub task : order_taken old.took name ≡ Some (Job queue sent)
       pub job : J
       pub back : order ≡ Job queue job
-      pub same_task : same sent job
+      pub same_task : meaning.same sent job
       pub journal : new.journal ≡ with_notes (writes.Returned name reason ∷ writes.Pick queue runtime ∷ []) old.journal
       pub out : new.core.out ≡ None
       pub took : new.took ≡ old.took

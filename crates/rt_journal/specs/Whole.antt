@@ -7,7 +7,8 @@ use Rattle.rt_ids.specs.declared.order.Order.TheVariants.{Job}
 use Rattle.rt_ids.specs.declared.order.Outcome.{Outcome}
 use Rattle.rt_ids.specs.Outcomes.{outcome_note}
 use Rattle.rt_jobs.specs.Calls.{Doing}
-use Rattle.rt_jobs.specs.Steps.{AfterPoll, Owed, OwesAt}
+use Rattle.rt_jobs.specs.Meanings.{Meaning}
+use Rattle.rt_jobs.specs.Steps.{AfterPoll, OwesAt}
 use Rattle.rt_core.specs.declared.turn.Settled.{Settled}
 use Rattle.rt_core.specs.declared.turn.Settled.TheVariants.{Yielded, Finished}
 use Rattle.rt_link.specs.declared.ends.Outward.{Outward}
@@ -19,6 +20,7 @@ use Rattle.rt_journal.specs.Owed.{OwesSettled, outcome_settled}
 use Rattle.rt_journal_desk.specs.Posts.{PostView, AreOutsOf, HasPosted}
 use Rattle.rt_journal_desk.specs.Calls.{Does}
 use Rattle.rt_journal.specs.Turns.{IsPick, IsPolled, Settles}
+use Rattle.rt_link.specs.Fits.{Fits}
 
 -- the desk of a core, and its ends
 abbrev pub post_of : {J T E : Type 0} → RecordedView J T → List E → PostView J T E
@@ -30,7 +32,7 @@ pub record StaysPut {J T : Type 0} (old new : RecordedView J T) : Type 0 where
   pub outs : KeepsOuts (desk_of old) (desk_of new)
   pub lanes : new.lanes ≡ old.lanes
 
-module _ {J T E : Type 0} (same : J → J → Type 0) (made : J → ℕ) (polls : Owed J T) (answers : J → T → Type 0) (does : Doing (PostView J T E) J T) (out : E → Outward J T) (untouched : E → List ℕ) (tells : ℕ → Type 0) where
+module _ {J T E : Type 0} (meaning : Meaning J T) (does : Doing (PostView J T E) J T) (out : E → Outward J T) (untouched : E → List ℕ) (tells : ℕ → Type 0) where
   -- the job is picked, polled once while the desk and its ends are its post, and settled, with a time that the meter may tell; no value is ever what stands between
   pub record IsPostingTurn (old : RecordedView J T) (ends : List E) (name : JobId) (queue : ℕ) (started : Bool) (settled : Settled T) (new : RecordedView J T) (later : List E) : Type 0 where
     pub picked : RecordedView J T
@@ -39,33 +41,33 @@ module _ {J T E : Type 0} (same : J → J → Type 0) (made : J → ℕ) (polls 
     pub spent : ℕ
     pub told : tells spent
     pub picks : IsPick old name queue started ran.before picked
-    pub sound : IsRecorded same made polls picked
+    pub sound : IsRecorded meaning picked
     pub stays : StaysPut old picked
     pub keeps : (sender : ℕ) → KeepsIn sender old picked
-    pub owed : OwesAt polls does ran.before (made ran.before) (post_of picked ends) (post_of left later) ran.step ran.told
+    pub owed : OwesAt meaning does ran.before (post_of picked ends) (post_of left later) ran.step ran.told
     pub posted : HasPosted out untouched (post_of picked ends) (post_of left later)
     pub rest : left ≡ record picked { journal = left.journal; lanes = left.lanes }
     pub silent : (sender : ℕ) → KeepsIn sender picked left
-    pub polled : IsPolled same made polls answers ran
-    pub settles : Settles made polls answers left ran spent settled new
+    pub polled : IsPolled meaning ran
+    pub settles : Settles meaning left ran spent settled new
     pub stays_settled : StaysPut left new
     pub owes : OwesSettled left settled new
 
-module _ {J T : Type 0} (answers : J → T → Type 0) where
+module _ {J T : Type 0} (meaning : Meaning J T) where
   -- the answer of a job that is done is one that the job sent under its name may have
   abbrev pub MayAnswer : List (Envelope J) → JobId → Settled T → Type 0
   MayAnswer took name Yielded = Unit {0}
-  MayAnswer took name (Finished answer) = (queue : ℕ) × (sent : J) × (order_taken took name ≡ Some (Job queue sent)) × answers sent answer
+  MayAnswer took name (Finished answer) = (queue : ℕ) × (sent : J) × (order_taken took name ≡ Some (Job queue sent)) × meaning.answers sent answer
 
-module _ {J T E : Type 0} (same : J → J → Type 0) (made : J → ℕ) (polls : Owed J T) (answers : J → T → Type 0) (fits : Order J → Outcome J T → Type 0) (out : E → Outward J T) (credited : E → ℕ) (untouched : E → List ℕ) (tells : ℕ → Type 0) where
+module _ {J T E : Type 0} (meaning : Meaning J T) (out : E → Outward J T) (credited : E → ℕ) (untouched : E → List ℕ) (tells : ℕ → Type 0) where
   -- a whole turn with its notes: what it owes to the job's sender, what it leaves beside the desk, how many notes it may take, and that nothing is out behind it
   pub record TurnsNoted (old : RecordedView J T) (ends : List E) (name : JobId) (queue : ℕ) (started : Bool) (settled : Settled T) (new : RecordedView J T) (later : List E) : Type 0 where
-    pub turns : IsPostingTurn same made polls answers (Does fits out credited untouched) out untouched tells old ends name queue started settled new later
+    pub turns : IsPostingTurn meaning (Does (Fits meaning) out credited untouched) out untouched tells old ends name queue started settled new later
     pub owes : (sender : ℕ) → LeavesOwed sender (told_under name (option_map outcome_note (outcome_settled {J = J} settled)) sender) old new
-    pub may_answer : MayAnswer answers new.took name settled
-    pub outs : AreOutsOf fits out credited (desk_of new) later
+    pub may_answer : MayAnswer meaning new.took name settled
+    pub outs : AreOutsOf (Fits meaning) out credited (desk_of new) later
     pub few : length new.journal.notes ≤ length old.journal.notes + old.core.cores * (3 * old.cap) + 3
     pub at_rest : new.core.out ≡ None
     pub took : new.took ≡ old.took
     pub seat : IsSameSeat old new
-    pub sound : IsRecorded same made polls new
+    pub sound : IsRecorded meaning new

@@ -39,7 +39,7 @@ pub(crate) fn give_if<J: Task<Out = u64>, I: InEnd<J>>(
     number: u64,
     outcome: Option<Outcome<J, u64>>,
 )
-    requires { IfSome outcome (λ outcome. MayGive (Fits J.SameTask J.Answers) (I.inward end.old) number outcome) }
+    requires { IfSome outcome (λ outcome. MayGive (Fits J.meaning) (I.inward end.old) number outcome) }
     ensures gives { Gives (I.inward end.old) number outcome (I.inward end.new) }
     ensures untouched { I.untouched end.new ≡ I.untouched end.old }
 {

@@ -8,7 +8,7 @@ use rt_jobs::Task;
 
 /// Actors that are recorded each by itself are joined, and so they are sound together, where the ends of their links are joined.
 pub fn recorded_are_joined<J: Task<Out = u64>>()
-    ensures { TogetherAreJoined {T = ℕ} J.SameTask J.made J.Polls }
+    ensures { TogetherAreJoined {T = ℕ} J.meaning }
 {}
 
 /// A queue works in a core exactly if the journal says that it has work.

@@ -59,7 +59,7 @@ impl<J: Task<Out = u64>, A: Allocator + Clone> Model for Recorded<J, A> {
     ghost view = { λ r. record { cap = r.said.cap; core = r.core; journal = r.said.journal; took = r.took.items; lanes = r.said.lanes } };
 
     ghost invariant = { λ r.
-        IsRecorded J.SameTask J.made J.Polls (record { cap = r.said.cap; core = r.core; journal = r.said.journal; took = r.took.items; lanes = r.said.lanes })
+        IsRecorded J.meaning (record { cap = r.said.cap; core = r.core; journal = r.said.journal; took = r.took.items; lanes = r.said.lanes })
         × (r.said ≡ desk_of (record { cap = r.said.cap; core = r.core; journal = r.said.journal; took = r.took.items; lanes = r.said.lanes })) };
 }
 
@@ -76,7 +76,7 @@ impl<J: Task<Out = u64>, A: Allocator + Clone> Recorded<J, A> {
     ) -> Result<Self, AllocError>
         requires { core < cores }
         ensures opened { IfOk result (λ recorded. recorded ≡ opened_beside core cores cap room) }
-        ensures sound { IfOk result (λ recorded. IsRecorded J.SameTask J.made J.Polls recorded) }
+        ensures sound { IfOk result (λ recorded. IsRecorded J.meaning recorded) }
     {
         let said = RecordedDesk::open(alloc, ActorNo(core.0), cores, cap, room)?;
         let core = Core::open(core_alloc, core, cores, cap)?;
@@ -129,7 +129,7 @@ impl<J: Task<Out = u64>, A: Allocator + Clone> Recorded<J, A> {
         ensures outs { KeepsOuts (desk_of self.old) (desk_of self.new) }
         ensures seat { IsSameSeat self.old self.new }
         ensures lanes { self.new.lanes ≡ self.old.lanes }
-        ensures sound { IsRecorded J.SameTask J.made J.Polls self.new }
+        ensures sound { IsRecorded J.meaning self.new }
     {
         // The shares are within their range, which the law of its journal asks.
         let _in_range = shares.get();
@@ -148,7 +148,7 @@ impl<J: Task<Out = u64>, A: Allocator + Clone> Recorded<J, A> {
         ensures outs { KeepsOuts (desk_of self.old) (desk_of self.new) }
         ensures seat { IsSameSeat self.old self.new }
         ensures lanes { self.new.lanes ≡ self.old.lanes }
-        ensures sound { IsRecorded J.SameTask J.made J.Polls self.new }
+        ensures sound { IsRecorded J.meaning self.new }
         ensures untouched { I.untouched end.new ≡ I.untouched end.old }
     {
         let _said = &self.said;
@@ -166,13 +166,13 @@ impl<J: Task<Out = u64>, A: Allocator + Clone> Recorded<J, A> {
     /// Carries out the next order of its sender. Its outcome, if it has one yet.
     fn receive(&mut self, envelope: Envelope<J>) -> Option<Outcome<J, u64>>
         requires next { IsNextIn self.old envelope.name }
-        requires ready { HasReadyJob J.done J.CanPoll envelope.order }
+        requires ready { HasReadyJob J.meaning envelope.order }
         requires room { length self.old.journal.notes + 2 ≤ self.old.journal.room }
         ensures receives { Receives self.old envelope self.new }
         ensures gives { GivesMore (told_under envelope.name (option_map outcome_note result)) self.old.journal.notes self.new.journal.notes }
-        ensures fits { IfSome result (λ outcome. Fits J.SameTask J.Answers envelope.order outcome) }
+        ensures fits { IfSome result (λ outcome. Fits J.meaning envelope.order outcome) }
         ensures stands { order_taken self.new.took envelope.name ≡ Some envelope.order }
-        ensures sound { IsRecorded J.SameTask J.made J.Polls self.new }
+        ensures sound { IsRecorded J.meaning self.new }
         ensures seat { IsSameSeat self.old self.new }
         ensures lanes { self.new.lanes ≡ self.old.lanes }
     {
@@ -197,7 +197,7 @@ impl<J: Task<Out = u64>, A: Allocator + Clone> Recorded<J, A> {
         ensures outs { KeepsOuts (desk_of self.old) (desk_of self.new) }
         ensures seat { IsSameSeat self.old self.new }
         ensures lanes { self.new.lanes ≡ self.old.lanes }
-        ensures sound { IsRecorded J.SameTask J.made J.Polls self.new }
+        ensures sound { IsRecorded J.meaning self.new }
         ensures untouched { I.untouched end.new ≡ I.untouched end.old }
     {
         let count = end.shut();
@@ -214,7 +214,7 @@ impl<J: Task<Out = u64>, A: Allocator + Clone> Recorded<J, A> {
         ensures outs { KeepsOuts (desk_of self.old) (desk_of self.new) }
         ensures seat { IsSameSeat self.old self.new }
         ensures lanes { self.new.lanes ≡ self.old.lanes }
-        ensures sound { IsRecorded J.SameTask J.made J.Polls self.new }
+        ensures sound { IsRecorded J.meaning self.new }
     {
         let (closed, notes) = self.core.close(mode);
         self.said.write(notes.as_slice());
@@ -225,7 +225,7 @@ impl<J: Task<Out = u64>, A: Allocator + Clone> Recorded<J, A> {
     pub fn cap(&self) -> u16
         ensures cap { result ≡ self.now.cap }
         ensures known { KnowsLanes (desk_of self.now) }
-        ensures sound { IsRecorded J.SameTask J.made J.Polls self.now }
+        ensures sound { IsRecorded J.meaning self.now }
     {
         self.said.see_lanes();
         self.said.cap()
@@ -261,14 +261,14 @@ impl<J: Task<Out = u64>, A: Allocator + Clone> Recorded<J, A> {
     /// `Busy` where a job is out; otherwise `Spent` where all turns are used and a queue has work. Nothing changes.
     pub fn pick(&mut self) -> Result<Turn<J>, PickError>
         requires room { length self.old.journal.notes + 2 ≤ self.old.journal.room }
-        ensures picks { Picks J.SameTask self.old result self.new }
-        ensures ready { IsReadyTurn J.done J.CanPoll result }
+        ensures picks { Picks J.meaning self.old result self.new }
+        ensures ready { IsReadyTurn J.meaning result }
         ensures back { TellsAhead self.old.core (Ok tells.Back) → IsBack result }
         ensures ins { (sender : ℕ) → LeavesOwed sender (owed_back result sender) self.old self.new }
         ensures outs { KeepsOuts (desk_of self.old) (desk_of self.new) }
         ensures seat { IsSameSeat self.old self.new }
         ensures lanes { self.new.lanes ≡ self.old.lanes }
-        ensures sound { IsRecorded J.SameTask J.made J.Polls self.new }
+        ensures sound { IsRecorded J.meaning self.new }
     {
         // There are fewer notes than turns that a core can make.
         let _room = self.said.journal().room();
@@ -280,7 +280,7 @@ impl<J: Task<Out = u64>, A: Allocator + Clone> Recorded<J, A> {
     /// Gives the outcome of a job that a pick handed back, on the end of its sender, before the next pick.
     pub fn give_back<I: InEnd<J>>(&self, end: &mut I, name: JobId, reason: Reason, order: Order<J>)
         requires owed { IsInOwing name.from (Some (name, Returned reason)) self.now (I.inward end.old) }
-        requires sent { IsSentUnder J.SameTask self.now.took name order }
+        requires sent { IsSentUnder J.meaning self.now.took name order }
         ensures gives { Gives (I.inward end.old) name.number (Some (outcome.Returned reason order)) (I.inward end.new) }
         ensures beside { IsInOf name.from self.now (I.inward end.new) }
         ensures untouched { I.untouched end.new ≡ I.untouched end.old }
@@ -301,16 +301,16 @@ impl<J: Task<Out = u64>, A: Allocator + Clone> Recorded<J, A> {
         requires out { IsOut self.old.core.out ran.before }
         requires named { IsOutUnder self.old.core.out name }
         requires beside { IsInOf name.from self.old (I.inward end.old) }
-        requires polled { IsPolled J.SameTask J.made J.Polls J.Answers ran }
+        requires polled { IsPolled J.meaning ran }
         requires room { length self.old.journal.notes < self.old.journal.room }
-        ensures settles { Settles J.made J.Polls J.Answers self.old ran spent result self.new }
+        ensures settles { Settles J.meaning self.old ran spent result self.new }
         ensures gives { Gives (I.inward end.old) name.number (outcome_settled result) (I.inward end.new) }
         ensures beside { IsInOf name.from self.new (I.inward end.new) }
         ensures others { (sender : ℕ) → sender ≢ name.from → KeepsIn sender self.old self.new }
         ensures outs { KeepsOuts (desk_of self.old) (desk_of self.new) }
         ensures seat { IsSameSeat self.old self.new }
         ensures lanes { self.new.lanes ≡ self.old.lanes }
-        ensures sound { IsRecorded J.SameTask J.made J.Polls self.new }
+        ensures sound { IsRecorded J.meaning self.new }
         ensures untouched { I.untouched end.new ≡ I.untouched end.old }
     {
         let settled = self.settle_out(ran, spent);
@@ -321,14 +321,14 @@ impl<J: Task<Out = u64>, A: Allocator + Clone> Recorded<J, A> {
     /// Settles the poll of the job that is out. Its outcome is owed from then on, if it is done.
     fn settle_out(&mut self, ran: Ran<J>, spent: u64) -> Settled<u64>
         requires out { IsOut self.old.core.out ran.before }
-        requires polled { IsPolled J.SameTask J.made J.Polls J.Answers ran }
+        requires polled { IsPolled J.meaning ran }
         requires room { length self.old.journal.notes < self.old.journal.room }
-        ensures settles { Settles J.made J.Polls J.Answers self.old ran spent result self.new }
+        ensures settles { Settles J.meaning self.old ran spent result self.new }
         ensures owes { OwesSettled self.old result self.new }
         ensures outs { KeepsOuts (desk_of self.old) (desk_of self.new) }
         ensures seat { IsSameSeat self.old self.new }
         ensures lanes { self.new.lanes ≡ self.old.lanes }
-        ensures sound { IsRecorded J.SameTask J.made J.Polls self.new }
+        ensures sound { IsRecorded J.meaning self.new }
     {
         let (settled, notes) = self.core.settle(ran, spent);
         self.said.write(notes.as_slice());

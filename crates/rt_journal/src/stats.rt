@@ -14,7 +14,7 @@ use std::alloc::Allocator;
 pub fn told_stats<J: Task<Out = u64>, A: Allocator + Clone>(
     recorded: &Recorded<J, A>,
 ) -> (CoreStats, ArrayVec<QueueStats, 256>)
-    requires sound { IsRecorded J.SameTask J.made J.Polls recorded.now }
+    requires sound { IsRecorded J.meaning recorded.now }
     ensures core { TellsCore recorded.now.core.cores recorded.now.journal.notes result.0 }
     ensures queues { TellsQueues recorded.now.journal.notes (array_vec_len result.1) result.1.items }
 {

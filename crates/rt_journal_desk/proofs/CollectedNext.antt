@@ -19,10 +19,11 @@ use Rattle.rt_journal_desk.proofs.OutEnds.{sees_more_out}
 use Rattle.rt_journal_desk.proofs.LaneNotes.{stays_noted, as_many, one_less, collected_note, neither, detached_only}
 use Rattle.rt_journal_desk.proofs.Redeemed.{accepted_at, awaited}
 use Rattle.rt_journal_desk.proofs.Spending.{due_collected, booked_noted}
+use Rattle.rt_jobs.specs.Meanings.{Meaning}
 
 -- an outcome that fits an order, and can be spelled, fits it as notes tell both
-module _ {J T : Type 0} (same : J → J → Type 0) (answers : J → T → Type 0) where
-  pub fits_noted : (order : Order J) (outcome : Outcome J T) → Fits same answers order outcome → IsSpelledOutcome (outcome_note outcome) → FitsOrder (without_job order) (outcome_note outcome)
+module _ {J T : Type 0} (meaning : Meaning J T) where
+  pub fits_noted : (order : Order J) (outcome : Outcome J T) → Fits meaning order outcome → IsSpelledOutcome (outcome_note outcome) → FitsOrder (without_job order) (outcome_note outcome)
   fits_noted order outcome fits spelled = grind arith
 
 -- what was got of a list that sees more, and the next item
@@ -32,9 +33,9 @@ take-one_more seen front got item longer behind there =
     ∙ (ap (λ last. take got seen ++ last ∷ []) (get_or_from_slice_get seen got item item there)
     ∙ ap (λ taken. taken ++ item ∷ []) (ap (take got) longer.1 ∙ take-append-le got front longer.0 behind))
 
-module _ {J T : Type 0} (same : J → J → Type 0) (answers : J → T → Type 0) (desk : DeskView J T) (written : IsWritten (terms_of_desk desk) desk.journal.notes) (known : KnowsLanes desk) (core : ℕ)
-    (out : Outward J T) (credited : ℕ) (beside : IsOutOf core desk out credited) (lane later : Lane J T) (there : slice_get desk.lanes core ≡ Some lane) (lane_of : IsLaneOf (Fits same answers) lane out credited)
-    (now : Outward J T) (after : ℕ) (later_of : IsLaneOf (Fits same answers) later now after) (number : ℕ) (outcome : Outcome J T) (spelled : IsSpelledOutcome (outcome_note outcome))
+module _ {J T : Type 0} (meaning : Meaning J T) (desk : DeskView J T) (written : IsWritten (terms_of_desk desk) desk.journal.notes) (known : KnowsLanes desk) (core : ℕ)
+    (out : Outward J T) (credited : ℕ) (beside : IsOutOf core desk out credited) (lane later : Lane J T) (there : slice_get desk.lanes core ≡ Some lane) (lane_of : IsLaneOf (Fits meaning) lane out credited)
+    (now : Outward J T) (after : ℕ) (later_of : IsLaneOf (Fits meaning) later now after) (number : ℕ) (outcome : Outcome J T) (spelled : IsSpelledOutcome (outcome_note outcome))
     (collects : CollectsNext lane later out now credited after (Some (number, outcome))) where
   abbrev notes : Journal T
   notes = desk.journal.notes
@@ -77,7 +78,7 @@ module _ {J T : Type 0} (same : J → J → Type 0) (answers : J → T → Type 
       record {
         order = without_job accepted.0;
         accepted = accepted.2;
-        fits = fits_noted same answers accepted.0 outcome (subst (λ order. IfSome order (λ order. Fits same answers order outcome)) order_is named) spelled;
+        fits = fits_noted meaning accepted.0 outcome (subst (λ order. IfSome order (λ order. Fits meaning order outcome)) order_is named) spelled;
         new = unmet;
       }
 
@@ -102,7 +103,7 @@ module _ {J T : Type 0} (same : J → J → Type 0) (answers : J → T → Type 
   waits_for : (redeemed detached : Bool) → is_told name_redeemed name notes ≡ redeemed → is_told name_detached name notes ≡ detached → is_outstanding name (writes.Collected name told ∷ notes) ≡ not (redeemed || detached)
   waits_for redeemed detached r d = grind (arith, same_as_itself name)
 
-  pub collected_stays : StaysBeside (Fits same answers) core desk collected now after
+  pub collected_stays : StaysBeside (Fits meaning) core desk collected now after
   collected_stays = elim collects.2 [
     | inl kept ↦
         let still = neither (is_told name_redeemed name notes) (is_told name_detached name notes) false (was_known.gone number low high ∙ ap is_let_go kept.0.removes.was) in
@@ -123,22 +124,22 @@ module _ {J T : Type 0} (same : J → J → Type 0) (answers : J → T → Type 
   ]
 
 -- what a call that collected knows, by what it was told
-module _ {J T : Type 0} (same : J → J → Type 0) (answers : J → T → Type 0) {desk was : DeskView J T} {core to : ℕ} {lane : Lane J T} {out : Outward J T} {credited : ℕ}
-    (taken : HasTaken (Fits same answers) desk was core to lane out credited) {later : Lane J T} {now : Outward J T} {after : ℕ} (later_of : IsLaneOf (Fits same answers) later now after) where
+module _ {J T : Type 0} (meaning : Meaning J T) {desk was : DeskView J T} {core to : ℕ} {lane : Lane J T} {out : Outward J T} {credited : ℕ}
+    (taken : HasTaken (Fits meaning) desk was core to lane out credited) {later : Lane J T} {now : Outward J T} {after : ℕ} (later_of : IsLaneOf (Fits meaning) later now after) where
   -- an outcome, under this name
   pub gets_some : (found : Option (ℕ × Outcome J T)) → CollectsNext lane later out now credited after found → (name : JobId) (told : OutcomeNote T) → Some (name, told) ≡ told_of desk.actor to found →
       IsSpelledOutcome told → (page : JournalView T) → page ≡ record desk.journal { notes = writes.Collected name told ∷ desk.journal.notes } →
-      StaysBeside (Fits same answers) to was (record desk { journal = page; lanes = set desk.lanes core later }) now after
+      StaysBeside (Fits meaning) to was (record desk { journal = page; lanes = set desk.lanes core later }) now after
       × (booked (record desk { journal = page; lanes = set desk.lanes core later }) ≡ booked was)
   gets_some None next name told is spelled page page_is = absurd cc
   gets_some (Some found) next noted what is spelled page page_is =
       let name_is : noted ≡ name_of desk.actor to found.0 = ap (λ (option : Option (JobId × OutcomeNote T)). (unwrap_or option (noted, what)).0) is in
       let told_is : what ≡ outcome_note found.1 = ap (λ (option : Option (JobId × OutcomeNote T)). (unwrap_or option (noted, what)).1) is in
       let its_name : noted ≡ name_of desk.actor core found.0 = name_is ∙ ap (λ core. name_of desk.actor core found.0) (sym taken.core_is) in (
-        carry taken (λ at before. StaysBeside (Fits same answers) at before (record desk { journal = page; lanes = set desk.lanes core later }) now after)
-            (subst (λ page. StaysBeside (Fits same answers) core desk (record desk { journal = page; lanes = set desk.lanes core later }) now after)
+        carry taken (λ at before. StaysBeside (Fits meaning) at before (record desk { journal = page; lanes = set desk.lanes core later }) now after)
+            (subst (λ page. StaysBeside (Fits meaning) core desk (record desk { journal = page; lanes = set desk.lanes core later }) now after)
             (sym (page_is ∙ (λ i. record desk.journal { notes = writes.Collected (its_name i) (told_is i) ∷ desk.journal.notes })))
-            (collected_stays same answers desk taken.written taken.known core out credited taken.beside lane later taken.there taken.lane_of now after later_of found.0 found.1
+            (collected_stays meaning desk taken.written taken.known core out credited taken.beside lane later taken.there taken.lane_of now after later_of found.0 found.1
             (subst IsSpelledOutcome told_is spelled) next)),
         booked_noted desk core lane later taken.there (due_collected lane later found.0 found.1 credited after next.2) (record desk { journal = page; lanes = set desk.lanes core later })
             (omega (arith, ap (λ (journal : JournalView T). length journal.notes) page_is)) refl
@@ -147,7 +148,7 @@ module _ {J T : Type 0} (same : J → J → Type 0) (answers : J → T → Type 
 
   -- nothing
   pub gets_none : (found : Option (ℕ × Outcome J T)) → CollectsNext lane later out now credited after found → None ≡ told_of desk.actor to found →
-      StaysBeside (Fits same answers) to was (record desk { lanes = set desk.lanes core later }) now after × (booked (record desk { lanes = set desk.lanes core later }) ≡ booked was)
+      StaysBeside (Fits meaning) to was (record desk { lanes = set desk.lanes core later }) now after × (booked (record desk { lanes = set desk.lanes core later }) ≡ booked was)
   gets_none None next is =
       let more : ShowsMore out now = record {
         rest = next.0.0 ∙ ap (λ closed. record out { seen = now.seen; closed = closed }) (sym (ap (λ end. end.closed) next.0.0));

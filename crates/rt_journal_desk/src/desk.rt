@@ -123,13 +123,13 @@ impl<J: Task<Out = u64>> RecordedDesk<J> {
         order: Order<J>,
     ) -> Result<Ticket, SendError<J>>
         requires beside { IsOutOf to self.old (O.out end.old) (O.credited end.old) }
-        requires lane { HasLane (Fits J.SameTask J.Answers) to self.old (O.out end.old) (O.credited end.old) }
+        requires lane { HasLane (Fits J.meaning) to self.old (O.out end.old) (O.credited end.old) }
         requires room { length self.old.journal.notes < self.old.journal.room }
-        requires ready { HasReadyJob J.done J.CanPoll order }
+        requires ready { HasReadyJob J.meaning order }
         ensures submits { Submits to order self.old result self.new }
         ensures sends { Sends (O.out end.old) (O.credited end.old) order (O.out end.new) (numbered result) }
         ensures credited { O.credited end.new ≡ O.credited end.old }
-        ensures stays { StaysBeside (Fits J.SameTask J.Answers) to self.old self.new (O.out end.new) (O.credited end.new) }
+        ensures stays { StaysBeside (Fits J.meaning) to self.old self.new (O.out end.new) (O.credited end.new) }
         ensures spends { IfOk result (λ _. Spends to 3 self.old self.new) }
         ensures untouched { O.untouched end.new ≡ O.untouched end.old }
     {
@@ -149,13 +149,13 @@ impl<J: Task<Out = u64>> RecordedDesk<J> {
     /// Collects all outcomes that the link of a core shows, and notes each. How many there were.
     pub fn collect_from<O: OutEnd<J>>(&mut self, end: &mut O, core: CoreNo) -> usize
         requires beside { IsOutOf core self.old (O.out end.old) (O.credited end.old) }
-        requires lane { HasLane (Fits J.SameTask J.Answers) core self.old (O.out end.old) (O.credited end.old) }
+        requires lane { HasLane (Fits J.meaning) core self.old (O.out end.old) (O.credited end.old) }
         requires room { length self.old.journal.notes + length (O.out end.old).sent ≤ self.old.journal.room + (O.out end.old).got }
         ensures collects { CollectsFrom core self.old result self.new }
         ensures books { booked self.new ≡ booked self.old }
         ensures few { length self.new.journal.notes ≤ length self.old.journal.notes + self.old.cap }
         ensures end { GetsAll (O.out end.old) (O.out end.new) }
-        ensures stays { StaysBeside (Fits J.SameTask J.Answers) core self.old self.new (O.out end.new) (O.credited end.new) }
+        ensures stays { StaysBeside (Fits J.meaning) core self.old self.new (O.out end.new) (O.credited end.new) }
         ensures untouched { O.untouched end.new ≡ O.untouched end.old }
     {
         let _lanes = &self.lanes;
@@ -169,11 +169,11 @@ impl<J: Task<Out = u64>> RecordedDesk<J> {
     /// Collects the next outcome that the link of a core shows, if there is one, and notes it. Whether there was one.
     fn collect_one<O: OutEnd<J>>(&mut self, end: &mut O, core: CoreNo) -> bool
         requires beside { IsOutOf core self.old (O.out end.old) (O.credited end.old) }
-        requires lane { HasLane (Fits J.SameTask J.Answers) core self.old (O.out end.old) (O.credited end.old) }
+        requires lane { HasLane (Fits J.meaning) core self.old (O.out end.old) (O.credited end.old) }
         requires room { length self.old.journal.notes + length (O.out end.old).sent ≤ self.old.journal.room + (O.out end.old).got }
         ensures gets { GetsNext core self.old self.new (O.out end.old) (O.out end.new) result }
         ensures books { booked self.new ≡ booked self.old }
-        ensures stays { StaysBeside (Fits J.SameTask J.Answers) core self.old self.new (O.out end.new) (O.credited end.new) }
+        ensures stays { StaysBeside (Fits J.meaning) core self.old self.new (O.out end.new) (O.credited end.new) }
         ensures untouched { O.untouched end.new ≡ O.untouched end.old }
     {
         let from = self.actor;
@@ -208,13 +208,13 @@ impl<J: Task<Out = u64>> RecordedDesk<J> {
         ticket: Ticket,
     ) -> Result<Outcome<J, u64>, TicketError>
         requires beside { IsOutOf ticket.to self.old (O.out end.old) (O.credited end.old) }
-        requires lane { HasLane (Fits J.SameTask J.Answers) ticket.to self.old (O.out end.old) (O.credited end.old) }
+        requires lane { HasLane (Fits J.meaning) ticket.to self.old (O.out end.old) (O.credited end.old) }
         requires room { HoldsSome ticket self.old → length self.old.journal.notes < self.old.journal.room }
         ensures redeems { RedeemsTicket ticket self.old result self.new }
         ensures given { IfOk result (IsGot (O.out end.old) ticket.number) }
-        ensures fits { IfOk result (FitsSent (Fits J.SameTask J.Answers) (O.out end.old) ticket.number) }
+        ensures fits { IfOk result (FitsSent (Fits J.meaning) (O.out end.old) ticket.number) }
         ensures out { O.out end.new ≡ O.out end.old }
-        ensures stays { StaysBeside (Fits J.SameTask J.Answers) ticket.to self.old self.new (O.out end.new) (O.credited end.new) }
+        ensures stays { StaysBeside (Fits J.meaning) ticket.to self.old self.new (O.out end.new) (O.credited end.new) }
         ensures spends { IfOk result (λ _. Spends ticket.to 0 self.old self.new) }
         ensures untouched { O.untouched end.new ≡ O.untouched end.old }
     {
@@ -239,11 +239,11 @@ impl<J: Task<Out = u64>> RecordedDesk<J> {
     /// `Unknown` and `Gone`, as `redeem`. Nothing changes.
     pub fn detach<O: OutEnd<J>>(&mut self, end: &mut O, ticket: Ticket) -> Result<(), TicketError>
         requires beside { IsOutOf ticket.to self.old (O.out end.old) (O.credited end.old) }
-        requires lane { HasLane (Fits J.SameTask J.Answers) ticket.to self.old (O.out end.old) (O.credited end.old) }
+        requires lane { HasLane (Fits J.meaning) ticket.to self.old (O.out end.old) (O.credited end.old) }
         requires room { HoldsSome ticket self.old → length self.old.journal.notes < self.old.journal.room }
         ensures detaches { DetachesTicket ticket self.old result self.new }
         ensures out { O.out end.new ≡ O.out end.old }
-        ensures stays { StaysBeside (Fits J.SameTask J.Answers) ticket.to self.old self.new (O.out end.new) (O.credited end.new) }
+        ensures stays { StaysBeside (Fits J.meaning) ticket.to self.old self.new (O.out end.new) (O.credited end.new) }
         ensures spends { IfOk result (λ _. Spends ticket.to 0 self.old self.new) }
         ensures untouched { O.untouched end.new ≡ O.untouched end.old }
     {

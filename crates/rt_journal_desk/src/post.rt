@@ -34,13 +34,13 @@ impl<J: Task<Out = u64>, O: OutEnd<J>> Model for RecordedPost<J, O> {
 
     ghost view = { λ p. record { desk = p.said; ends = p.ends.items } };
 
-    ghost invariant = { λ p. IsLent (Fits J.SameTask J.Answers) O.out O.credited (record { desk = p.said; ends = p.ends.items }) };
+    ghost invariant = { λ p. IsLent (Fits J.meaning) O.out O.credited (record { desk = p.said; ends = p.ends.items }) };
 }
 
 impl<J: Task<Out = u64>, O: OutEnd<J>> RecordedPost<J, O> {
     /// Lends a desk and its ends. There is room for three notes for each place of each link, and for one more.
     pub fn lend(said: RecordedDesk<J>, ends: Vec<O, Global>) -> Self
-        requires outs { AreOutsOf (Fits J.SameTask J.Answers) O.out O.credited said ends.items }
+        requires outs { AreOutsOf (Fits J.meaning) O.out O.credited said ends.items }
         requires room { length said.journal.notes + said.cores * (3 * said.cap) < said.journal.room }
         ensures lent { result ≡ record { desk = said; ends = ends.items } }
         ensures few { sum_by left_of said.lanes ≤ said.cores * (3 * said.cap) }
@@ -53,7 +53,7 @@ impl<J: Task<Out = u64>, O: OutEnd<J>> RecordedPost<J, O> {
     pub fn into_parts(self) -> (RecordedDesk<J>, Vec<O, Global>)
         ensures desk { result.0 ≡ self.desk }
         ensures ends { result.1.items ≡ self.ends }
-        ensures lent { IsLent (Fits J.SameTask J.Answers) O.out O.credited self }
+        ensures lent { IsLent (Fits J.meaning) O.out O.credited self }
     {
         let RecordedPost { said, ends } = self;
         (said, ends)
@@ -69,13 +69,13 @@ impl<J: Task<Out = u64>, O: OutEnd<J>> Post<J, u64> for RecordedPost<J, O> {
 
     ghost Waits = { λ post name. IsDetachable name post.desk.journal.notes };
 
-    ghost Does = { Does (Fits J.SameTask J.Answers) O.out O.credited O.untouched };
+    ghost Does = { Does (Fits J.meaning) O.out O.credited O.untouched };
 
     fn submit(&mut self, to: CoreNo, order: Order<J>) -> Result<Ticket, SendError<J>>
-        requires ready { HasReadyJob J.done J.CanPoll order }
+        requires ready { HasReadyJob J.meaning order }
         ensures noted { NotesSubmit self.old.desk.journal.notes to order result self.new.desk.journal.notes }
         ensures waits { IfOk result (λ name. IsDetachable name self.new.desk.journal.notes) }
-        ensures does { Does (Fits J.SameTask J.Answers) O.out O.credited O.untouched self.old (Submit to order result) self.new }
+        ensures does { Does (Fits J.meaning) O.out O.credited O.untouched self.old (Submit to order result) self.new }
     {
         if to.0 as usize >= self.ends.len() {
             return Err(SendError::NoCore(order));
@@ -87,7 +87,7 @@ impl<J: Task<Out = u64>, O: OutEnd<J>> Post<J, u64> for RecordedPost<J, O> {
 
     fn redeem(&mut self, ticket: Ticket) -> Result<Outcome<J, u64>, TicketError>
         ensures noted { NotesRedeem self.old.desk.journal.notes ticket result self.new.desk.journal.notes }
-        ensures does { Does (Fits J.SameTask J.Answers) O.out O.credited O.untouched self.old (Redeem ticket result) self.new }
+        ensures does { Does (Fits J.meaning) O.out O.credited O.untouched self.old (Redeem ticket result) self.new }
     {
         if !self.said.knows(ticket) {
             return Err(TicketError::Unknown);
@@ -99,7 +99,7 @@ impl<J: Task<Out = u64>, O: OutEnd<J>> Post<J, u64> for RecordedPost<J, O> {
     fn detach(&mut self, ticket: Ticket) -> Result<(), TicketError>
         ensures noted { NotesDetach self.old.desk.journal.notes ticket result self.new.desk.journal.notes }
         ensures waits { IsDetachable ticket self.old.desk.journal.notes → IsOk result }
-        ensures does { Does (Fits J.SameTask J.Answers) O.out O.credited O.untouched self.old (Detach ticket result) self.new }
+        ensures does { Does (Fits J.meaning) O.out O.credited O.untouched self.old (Detach ticket result) self.new }
     {
         if !self.said.knows(ticket) {
             return Err(TicketError::Unknown);

@@ -3,6 +3,11 @@
 
 pub mod assembly;
 pub mod journal;
+pub mod names;
+mod outcomes;
+pub mod spelled;
 
 pub use assembly::Assembly;
 pub use journal::Journal;
+pub use names::same_name;
+pub use rt_ids::{Note, OutcomeNote};

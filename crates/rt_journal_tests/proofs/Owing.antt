@@ -16,6 +16,7 @@ use Rattle.rt_journal.specs.Owed.{IsSentUnder}
 use Rattle.rt_journal.specs.Turns.{Picks, IsHandBack}
 use Rattle.rt_journal.specs.Ends.{IsInOf, IsInOwing, LeavesOwed, told_under}
 use Rattle.rt_journal.proofs.DeliveredEnds.{told_elsewhere}
+use Rattle.rt_jobs.specs.Meanings.{Meaning}
 
 module _ {J T : Type 0} (old new : RecordedView J T) (name : JobId) (what : JobId × OutcomeNote T) (end : Inward J T) where
   -- to its sender
@@ -29,9 +30,9 @@ module _ {J T : Type 0} (old new : RecordedView J T) (name : JobId) (what : JobI
   owes_nobody sender apart leaves is = subst (λ test. IsInOwing sender (cond test (Some what) None) new end) (ne_eqb name.from sender apart) (leaves.each end is)
 
 -- an order that is handed back is one that was sent under its name
-pub hands_sent : {J T : Type 0} {same : J → J → Type 0} (old new : RecordedView J T) (turn : Turn J) (name : JobId) (reason : Reason) (order : Order J) → turn ≡ Back name reason order → Picks same old (Ok turn) new → IsSentUnder same new.took name order
-hands_sent {same = same} old new turn name reason order is picks =
-    let hands : IsHandBack same old name reason order new = subst (λ turn. Picks same old (Ok turn) new) is picks in
+pub hands_sent : {J T : Type 0} {meaning : Meaning J T} (old new : RecordedView J T) (turn : Turn J) (name : JobId) (reason : Reason) (order : Order J) → turn ≡ Back name reason order → Picks meaning old (Ok turn) new → IsSentUnder meaning new.took name order
+hands_sent {meaning = meaning} old new turn name reason order is picks =
+    let hands : IsHandBack meaning old name reason order new = subst (λ turn. Picks meaning old (Ok turn) new) is picks in
     record {
       queue = hands.queue;
       sent = hands.sent;

@@ -45,7 +45,7 @@ pub fn tells(journal: &Journal<u64>, notes: &[Note<u64>]) -> bool {
 
 /// Sends an order on a plain link that has a place for it.
 pub fn put(link: &mut PlainLink<ScriptJob>, order: Order<ScriptJob>)
-    requires { HasReadyJob ⟦<ScriptJob as Task>⟧.done ⟦<ScriptJob as Task>⟧.CanPoll order }
+    requires { HasReadyJob ⟦<ScriptJob as Task>⟧.meaning order }
     ensures { link.new ≡ record link.old { sent = link.new.sent } }
 {
     drop(link.send(order));
@@ -194,7 +194,7 @@ impl<O: OutEnd<ScriptJob> + Drop> Model for Sender<O> {
     ghost view = { λ _. 0 };
 
     ghost invariant = { λ s. IsOutOf 0 s.desk (O.out s.end) (O.credited s.end)
-        × HasLane (Fits ⟦<ScriptJob as Task>⟧.SameTask ⟦<ScriptJob as Task>⟧.Answers) 0 s.desk (O.out s.end) (O.credited s.end) };
+        × HasLane (Fits ⟦<ScriptJob as Task>⟧.meaning) 0 s.desk (O.out s.end) (O.credited s.end) };
 }
 
 impl<O: OutEnd<ScriptJob> + Drop> Sender<O> {
@@ -209,7 +209,7 @@ impl<O: OutEnd<ScriptJob> + Drop> Sender<O> {
 
     /// Whether the order was accepted.
     pub fn submit(&mut self, order: Order<ScriptJob>) -> bool
-        requires { HasReadyJob ⟦<ScriptJob as Task>⟧.done ⟦<ScriptJob as Task>⟧.CanPoll order }
+        requires { HasReadyJob ⟦<ScriptJob as Task>⟧.meaning order }
     {
         self.desk.journal().free() >= 1 && self.desk.submit(&mut self.end, CORE, order).is_ok()
     }

@@ -39,7 +39,7 @@ impl<O: OutEnd<ScriptJob> + Drop, I: InEnd<ScriptJob> + Drop> Model for Poster<O
 
     ghost invariant = { λ p.
         (p.core.core.cores ≡ 1)
-        × AreOutsOf (Fits ⟦<ScriptJob as Task>⟧.SameTask ⟦<ScriptJob as Task>⟧.Answers) O.out O.credited (desk_of p.core) p.outs.items
+        × AreOutsOf (Fits ⟦<ScriptJob as Task>⟧.meaning) O.out O.credited (desk_of p.core) p.outs.items
         × IsInOf 0 p.core (I.inward p.own) × IsInOf 1 p.core (I.inward p.outside) };
 }
 
@@ -53,7 +53,7 @@ impl<O: OutEnd<ScriptJob> + Drop, I: InEnd<ScriptJob> + Drop> Poster<O, I> {
     ) -> Result<Self, AllocError>
         requires alone { core.core.cores ≡ 1 }
         requires beside { IsOutOf 0 (desk_of core) (O.out out) (O.credited out) }
-        requires lane { HasLane (Fits ⟦<ScriptJob as Task>⟧.SameTask ⟦<ScriptJob as Task>⟧.Answers) 0 (desk_of core) (O.out out) (O.credited out) }
+        requires lane { HasLane (Fits ⟦<ScriptJob as Task>⟧.meaning) 0 (desk_of core) (O.out out) (O.credited out) }
         requires own { IsInOf 0 core (I.inward own) }
         requires outside { IsInOf 1 core (I.inward outside) }
     {

@@ -46,7 +46,7 @@ const NOTED: [Note<u64>; 19] = [
 
 /// A job that submits to its own core twice and then to a core that there isn't, of 10 ns each, and answers 7 in 1 ns.
 fn job(rt: &impl Abort) -> Order<ScriptJob>
-    ensures { HasReadyJob ⟦<ScriptJob as Task>⟧.done ⟦<ScriptJob as Task>⟧.CanPoll result }
+    ensures { HasReadyJob ⟦<ScriptJob as Task>⟧.meaning result }
 {
     let polls = [
         Poll::Submit(10, CORE, QUEUE),
@@ -61,7 +61,7 @@ fn job(rt: &impl Abort) -> Order<ScriptJob>
 
 /// A link of one place from the outside actor to core 0, on which a job was sent.
 fn link_with(alloc: Global, job: Order<ScriptJob>) -> Result<PlainLink<ScriptJob>, AllocError>
-    requires { HasReadyJob ⟦<ScriptJob as Task>⟧.done ⟦<ScriptJob as Task>⟧.CanPoll job }
+    requires { HasReadyJob ⟦<ScriptJob as Task>⟧.meaning job }
     ensures { IfOk result (λ link. link ≡ record (fresh 1 0 1 0) { sent = link.sent }) }
 {
     let mut link = PlainLink::open(alloc, OUTSIDE, CORE, 1)?;
@@ -86,7 +86,7 @@ fn plain_poster_with(
     alloc: Global,
     job: Order<ScriptJob>,
 ) -> Result<Poster<PlainLink<ScriptJob>, PlainLink<ScriptJob>>, AllocError>
-    requires { HasReadyJob ⟦<ScriptJob as Task>⟧.done ⟦<ScriptJob as Task>⟧.CanPoll job }
+    requires { HasReadyJob ⟦<ScriptJob as Task>⟧.meaning job }
 {
     let outside = link_with(alloc, job)?;
     plain_poster(alloc, outside)

@@ -1,3 +1,2 @@
 pub mod PageLemmas
 pub mod LineLemmas
-pub mod SpelledLemmas

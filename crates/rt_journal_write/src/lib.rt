@@ -1,8 +1,6 @@
-//! Which journals have a text, and that text.
+//! Writes the text of the journals of all actors.
 #![tactic(auto)]
 
-pub mod spelled;
 pub mod write;
 
-pub use spelled::is_spelled;
 pub use write::{WriteError, write_journal};

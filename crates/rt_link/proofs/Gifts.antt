@@ -14,6 +14,7 @@ use Rattle.rt_ids.specs.Assembly.{IsPrefix}
 use Rattle.rt_link.specs.Ends.{AreNamed}
 use Rattle.rt_link.specs.Fits.{Fits}
 use Rattle.rt_link.proofs.Lists.{slice_get-starts, slice_get-with_last}
+use Rattle.rt_jobs.specs.Meanings.{Meaning}
 
 module _ {J T : Type 0} (fits : Order J → Outcome J T → Type 0) where
   -- under the name of an order that was just taken, whatever fits it may be given
@@ -56,12 +57,12 @@ module _ {J T : Type 0} (fits : Order J → Outcome J T → Type 0) where
     λ j given is same. ⊎_elim (λ h. may.3 j given h same) (λ h. differs (ap (λ (p : ℕ × Outcome J T). p.0) h.1 ∙ same)) (slice_get-with_last old.given (other, what) given j is),
   )
 
-module _ {J T : Type 0} (same : J → J → Type 0) (answers : J → T → Type 0) where
+module _ {J T : Type 0} (meaning : Meaning J T) where
   -- what a job answers fits the order that brought it, if it kept its task
-  pub Fits-finished : (queue : ℕ) (sent now : J) (out : T) → ((a b : J) → same a b → same b a) → ((a b : J) (o : T) → same a b → answers a o → answers b o)
-      → same sent now → answers now out → Fits same answers (Job queue sent) (Finished out)
+  pub Fits-finished : (queue : ℕ) (sent now : J) (out : T) → ((a b : J) → meaning.same a b → meaning.same b a) → ((a b : J) (o : T) → meaning.same a b → meaning.answers a o → meaning.answers b o)
+      → meaning.same sent now → meaning.answers now out → Fits meaning (Job queue sent) (Finished out)
   Fits-finished queue sent now out back along kept answered = along now sent out (back sent now kept) answered
 
   -- a job that is handed back fits the order that brought it, if it kept its task
-  pub Fits-returned : (queue : ℕ) (sent now : J) (reason : Reason) → same sent now → Fits same answers (Job queue sent) (Returned reason (Job queue now))
+  pub Fits-returned : (queue : ℕ) (sent now : J) (reason : Reason) → meaning.same sent now → Fits meaning (Job queue sent) (Returned reason (Job queue now))
   Fits-returned queue sent now reason kept = (refl, kept)

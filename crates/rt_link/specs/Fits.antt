@@ -7,6 +7,7 @@ use Rattle.rt_ids.specs.declared.order.Outcome.TheVariants.{Finished, Returned, 
 use Rattle.rt_ids.specs.declared.order.Answer.{Answer}
 use Rattle.rt_ids.specs.declared.order.Answer.TheVariants as answer
 use Rattle.rt_ids.specs.Outcomes.{AnswersClosing, AnswersCoreClosing}
+use Rattle.rt_jobs.specs.Meanings.{Meaning}
 
 -- a creation is answered by the new queue, or by one of its three refusals
 abbrev pub AnswersCreation : Answer → Type 0
@@ -22,15 +23,15 @@ AnswersShares answer.SharesSet = Unit {0}
 AnswersShares answer.NoQueue = Unit {0}
 AnswersShares _ = ⊥
 
-module _ {J T : Type 0} (same : J → J → Type 0) (answers : J → T → Type 0) where
+module _ {J T : Type 0} (meaning : Meaning J T) where
   -- the first order holds a job, and the second a job of the same task for the same queue
   abbrev pub IsSameJob : Order J → Order J → Type 0
-  IsSameJob (Job queue job) (Job other back) = (queue ≡ other) × same job back
+  IsSameJob (Job queue job) (Job other back) = (queue ≡ other) × meaning.same job back
   IsSameJob _ _ = ⊥
 
   -- a job is finished with an answer of its task, or handed back with its task and queue; a command is answered
   abbrev pub Fits : Order J → Outcome J T → Type 0
-  Fits (Job queue job) (Finished out) = answers job out
+  Fits (Job queue job) (Finished out) = meaning.answers job out
   Fits (Job queue job) (Returned reason back) = IsSameJob (Job queue job) back
   Fits (Create shares) (Answered answer) = AnswersCreation answer
   Fits (SetShares queue shares) (Answered answer) = AnswersShares answer

@@ -73,7 +73,7 @@ pub trait OutEnd<J: Task> {
     /// Tried in this order, and the order comes back: `Closed` where the gate is shut, with the last accepted number;
     /// `Full` where as many are outstanding as may be; `Spent` after number 2^63 - 1.
     fn send(&mut self, order: Order<J>) -> Result<u64, SendError<J>>
-        requires ready { HasReadyJob J.done J.CanPoll order }
+        requires ready { HasReadyJob J.meaning order }
         ensures untouched { untouched self.new ≡ untouched self.old }
         ensures credited { credited self.new ≡ credited self.old }
         ensures sends { Sends (out self.old) (credited self.old) order (out self.new) result };
@@ -87,7 +87,7 @@ pub trait OutEnd<J: Task> {
         ensures collects { Collects (out self.old) (out self.new) result }
         ensures earned { OnSome result (credited self.new < (out self.new).got) }
         ensures sound { SoundOut (out self.new) (credited self.new) }
-        ensures named { AreOf (Fits J.SameTask J.Answers) (out self.new).base (out self.new).sent (out self.new).seen };
+        ensures named { AreOf (Fits J.meaning) (out self.new).base (out self.new).sent (out self.new).seen };
 
     /// From now on one submission whose outcome was collected is no longer outstanding.
     fn credit(&mut self)
@@ -122,11 +122,11 @@ pub trait InEnd<J: Task> {
         ensures named { AreNamed (inward self.old).base (inward self.old).taken (inward self.old).given }
         ensures takes { Takes (inward self.old) (inward self.new) result }
         ensures sound { SoundIn (inward self.new) }
-        ensures ready { IfSome result (λ envelope. HasReadyJob J.done J.CanPoll envelope.order) };
+        ensures ready { IfSome result (λ envelope. HasReadyJob J.meaning envelope.order) };
 
     /// Gives the outcome of the order of this number, which was taken and has none yet.
     fn give(&mut self, number: u64, outcome: Outcome<J, J::Out>)
-        requires { MayGive (Fits J.SameTask J.Answers) (inward self.old) number outcome }
+        requires { MayGive (Fits J.meaning) (inward self.old) number outcome }
         ensures untouched { untouched self.new ≡ untouched self.old }
         ensures gives { inward self.new ≡ record (inward self.old) { given = (inward self.old).given ++ (number, outcome) ∷ [] } };
 

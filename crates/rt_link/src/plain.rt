@@ -75,7 +75,7 @@ impl<J: Task> Model for PlainLink<J> {
 
     ghost view = { whole_of };
 
-    ghost invariant = { IsPlain (Fits J.SameTask J.Answers) (HasReadyJob J.done J.CanPoll) };
+    ghost invariant = { IsPlain (Fits J.meaning) (HasReadyJob J.meaning) };
 }
 
 impl<J: Task> PlainLink<J> {
@@ -133,11 +133,11 @@ impl<J: Task> OutEnd<J> for PlainLink<J> {
     ghost credited = { λ link. link.credited };
 
     fn send(&mut self, order: Order<J>) -> Result<u64, SendError<J>>
-        requires ready { HasReadyJob J.done J.CanPoll order }
+        requires ready { HasReadyJob J.meaning order }
         ensures credited { self.new.credited ≡ self.old.credited }
         ensures sends { Sends (out_of self.old) self.old.credited order (out_of self.new) result }
         ensures others { self.new ≡ record self.old { sent = self.new.sent } }
-        ensures law { IsLink (Fits J.SameTask J.Answers) (HasReadyJob J.done J.CanPoll) self.new }
+        ensures law { IsLink (Fits J.meaning) (HasReadyJob J.meaning) self.new }
     {
         let last = self.base + self.count;
         if self.shut {
@@ -161,11 +161,11 @@ impl<J: Task> OutEnd<J> for PlainLink<J> {
         ensures credited { self.new.credited ≡ self.old.credited }
         ensures collects { Collects (out_of self.old) (out_of self.new) result }
         ensures sound_out { SoundOut (out_of self.new) self.new.credited }
-        ensures named { AreOf (Fits J.SameTask J.Answers) self.new.base self.new.sent self.new.given }
+        ensures named { AreOf (Fits J.meaning) self.new.base self.new.sent self.new.given }
         ensures earned { OnSome result (self.new.credited < self.new.got) }
         ensures next { result ≡ slice_get self.old.given self.old.got }
         ensures others { self.new ≡ record self.old { got = self.new.got } }
-        ensures law { IsLink (Fits J.SameTask J.Answers) (HasReadyJob J.done J.CanPoll) self.new }
+        ensures law { IsLink (Fits J.meaning) (HasReadyJob J.meaning) self.new }
     {
         match self.outcomes.pop_front() {
             Some(found) => {
@@ -179,7 +179,7 @@ impl<J: Task> OutEnd<J> for PlainLink<J> {
     fn credit(&mut self)
         requires { self.old.credited < self.old.got }
         ensures credited { self.new ≡ record self.old { credited = self.old.credited + 1 } }
-        ensures law { IsLink (Fits J.SameTask J.Answers) (HasReadyJob J.done J.CanPoll) self.new }
+        ensures law { IsLink (Fits J.meaning) (HasReadyJob J.meaning) self.new }
     {
         self.credited += 1;
     }
@@ -187,7 +187,7 @@ impl<J: Task> OutEnd<J> for PlainLink<J> {
     fn outstanding(&self) -> u64
         ensures value { result ≡ length self.now.sent - self.now.credited }
         ensures sound_out { SoundOut (out_of self.now) self.now.credited }
-        ensures law { IsLink (Fits J.SameTask J.Answers) (HasReadyJob J.done J.CanPoll) self.now }
+        ensures law { IsLink (Fits J.meaning) (HasReadyJob J.meaning) self.now }
     {
         self.count - self.credited
     }
@@ -202,9 +202,9 @@ impl<J: Task> InEnd<J> for PlainLink<J> {
         ensures named { AreNamed self.old.base self.old.taken self.old.given }
         ensures takes { Takes (inward_of self.old) (inward_of self.new) result }
         ensures sound_in { SoundIn (inward_of self.new) }
-        ensures ready { IfSome result (λ envelope. HasReadyJob J.done J.CanPoll envelope.order) }
+        ensures ready { IfSome result (λ envelope. HasReadyJob J.meaning envelope.order) }
         ensures others { self.new ≡ record self.old { taken = self.new.taken } }
-        ensures law { IsLink (Fits J.SameTask J.Answers) (HasReadyJob J.done J.CanPoll) self.new }
+        ensures law { IsLink (Fits J.meaning) (HasReadyJob J.meaning) self.new }
     {
         match self.orders.pop_front() {
             Some(order) => {
@@ -224,9 +224,9 @@ impl<J: Task> InEnd<J> for PlainLink<J> {
     }
 
     fn give(&mut self, number: u64, outcome: Outcome<J, J::Out>)
-        requires { MayGive (Fits J.SameTask J.Answers) (inward_of self.old) number outcome }
+        requires { MayGive (Fits J.meaning) (inward_of self.old) number outcome }
         ensures gives { self.new ≡ record self.old { given = self.old.given ++ (number, outcome) ∷ [] } }
-        ensures law { IsLink (Fits J.SameTask J.Answers) (HasReadyJob J.done J.CanPoll) self.new }
+        ensures law { IsLink (Fits J.meaning) (HasReadyJob J.meaning) self.new }
     {
         let pair = (number, outcome);
         self.given = self.given.with(&pair);
@@ -239,7 +239,7 @@ impl<J: Task> InEnd<J> for PlainLink<J> {
         ensures shuts { Shuts (inward_of self.old) (inward_of self.new) result }
         ensures sound_in { SoundIn (inward_of self.new) }
         ensures others { self.new ≡ record self.old { shut = self.new.shut } }
-        ensures law { IsLink (Fits J.SameTask J.Answers) (HasReadyJob J.done J.CanPoll) self.new }
+        ensures law { IsLink (Fits J.meaning) (HasReadyJob J.meaning) self.new }
     {
         self.shut = true;
         self.base + self.count
@@ -248,7 +248,7 @@ impl<J: Task> InEnd<J> for PlainLink<J> {
     fn final_count(&self) -> Option<u64>
         ensures value { result ≡ final_of (inward_of self.now) self.now.shut }
         ensures sound_in { SoundIn (inward_of self.now) }
-        ensures law { IsLink (Fits J.SameTask J.Answers) (HasReadyJob J.done J.CanPoll) self.now }
+        ensures law { IsLink (Fits J.meaning) (HasReadyJob J.meaning) self.now }
     {
         if self.shut {
             Some(self.base + self.count)

@@ -33,7 +33,7 @@ pub fn reunite<J: Task>(out: RingOut<J>, inward: RingIn<J>) -> Accounts
     ensures sound_out { SoundOut out.out out.credited }
     ensures sound_in { SoundIn inward.inward }
     ensures joined { Joined (⟦<RingOut<J> as OutEnd<J>>⟧.out out) (⟦<RingIn<J> as InEnd<J>>⟧.inward inward) }
-    ensures outcomes { AreOf (Fits J.SameTask J.Answers) (⟦<RingOut<J> as OutEnd<J>>⟧.out out).base (take (⟦<RingIn<J> as InEnd<J>>⟧.inward inward).taken (⟦<RingOut<J> as OutEnd<J>>⟧.out out).sent) (⟦<RingIn<J> as InEnd<J>>⟧.inward inward).given }
+    ensures outcomes { AreOf (Fits J.meaning) (⟦<RingOut<J> as OutEnd<J>>⟧.out out).base (take (⟦<RingIn<J> as InEnd<J>>⟧.inward inward).taken (⟦<RingOut<J> as OutEnd<J>>⟧.out out).sent) (⟦<RingIn<J> as InEnd<J>>⟧.inward inward).given }
     ensures accepted { result.accepted ≡ length (⟦<RingOut<J> as OutEnd<J>>⟧.out out).sent }
     ensures taken { result.taken ≡ (⟦<RingIn<J> as InEnd<J>>⟧.inward inward).taken }
     ensures given { result.given ≡ length (⟦<RingIn<J> as InEnd<J>>⟧.inward inward).given }

@@ -100,7 +100,7 @@ impl<J: Task> TableRule<Slot<J, J::Out>, Known<J, J::Out>, Terms> for Ring<J> {
     ghost use Rattle.rt_ring.specs.Rule.{IsRing};
     ghost use Rattle.rt_ring.specs.Views.{first_view};
 
-    ghost holds = { IsRing (Fits J.SameTask J.Answers) (HasReadyJob J.done J.CanPoll) };
+    ghost holds = { IsRing (Fits J.meaning) (HasReadyJob J.meaning) };
 
     ghost first = { first_view };
 }

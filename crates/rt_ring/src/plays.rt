@@ -28,7 +28,7 @@ impl<J: Task> Play<Slot<J, J::Out>, Known<J, J::Out>> for Look {
     ghost use Rattle.rt_jobs.specs.Ready.{HasReadyJob};
     ghost use Rattle.rt_ring.specs.Told.{Looks};
 
-    ghost then = { λ _. Looks (HasReadyJob J.done J.CanPoll) };
+    ghost then = { λ _. Looks (HasReadyJob J.meaning) };
 }
 
 /// The receiver's setting of the top bit of the accept word.
@@ -38,7 +38,7 @@ impl<J: Task> Play<Slot<J, J::Out>, Known<J, J::Out>> for Shut {
     ghost use Rattle.rt_jobs.specs.Ready.{HasReadyJob};
     ghost use Rattle.rt_ring.specs.Told.{Closes};
 
-    ghost then = { λ _. Closes (HasReadyJob J.done J.CanPoll) };
+    ghost then = { λ _. Closes (HasReadyJob J.meaning) };
 }
 
 /// The receiver's swap of the return word to the next number.
@@ -55,7 +55,7 @@ impl<J: Task> Play<Slot<J, J::Out>, Known<J, J::Out>> for Gather {
     ghost use Rattle.rt_link.specs.Fits.{Fits};
     ghost use Rattle.rt_ring.specs.Told.{Gathers};
 
-    ghost then = { λ _. Gathers (Fits J.SameTask J.Answers) };
+    ghost then = { λ _. Gathers (Fits J.meaning) };
 }
 
 /// The load of the return word at the opening, which takes all order slots.
@@ -72,7 +72,7 @@ impl<J: Task> Play<Slot<J, J::Out>, Known<J, J::Out>> for Compare {
     ghost use Rattle.rt_link.specs.Fits.{Fits};
     ghost use Rattle.rt_ring.specs.Told.{Compares};
 
-    ghost then = { λ _. Compares (Fits J.SameTask J.Answers) };
+    ghost then = { λ _. Compares (Fits J.meaning) };
 }
 
 /// The first seat keeps the sender's part, and the new one gets the receiver's.

@@ -30,7 +30,7 @@ pub(crate) fn look<J: Task>(
     requires owed { length seat.old.me.0.inward.given ≤ seat.old.me.0.inward.taken }
     ensures table { seat.new.table_id ≡ seat.old.table_id }
     ensures receiver { IsReceiver seat.new.me }
-    ensures sees { SeesOrders (HasReadyJob J.done J.CanPoll) seat.old.me.0.inward seat.new.me.0.inward.seen }
+    ensures sees { SeesOrders (HasReadyJob J.meaning) seat.old.me.0.inward seat.new.me.0.inward.seen }
     ensures none { IfNone result ((seat.new.me.0 ≡ with_taken seat.old.me.0 seat.new.me.0.inward.seen seat.old.me.0.inward.taken) × (length seat.new.me.0.inward.seen ≡ seat.old.me.0.inward.taken)) }
     ensures some { IfSome result (λ order. (seat.new.me.0 ≡ with_taken seat.old.me.0 seat.new.me.0.inward.seen (seat.old.me.0.inward.taken + 1))
         × (slice_get seat.new.me.0.inward.seen seat.old.me.0.inward.taken ≡ Some order)) }
@@ -53,7 +53,7 @@ pub(crate) fn close<J: Task>(board: &Board<J>, seat: &mut Place<J>) -> u64
     requires receiver { IsReceiver seat.old.me }
     ensures table { seat.new.table_id ≡ seat.old.table_id }
     ensures receiver { IsReceiver seat.new.me }
-    ensures sees { SeesOrders (HasReadyJob J.done J.CanPoll) seat.old.me.0.inward seat.new.me.0.inward.seen }
+    ensures sees { SeesOrders (HasReadyJob J.meaning) seat.old.me.0.inward seat.new.me.0.inward.seen }
     ensures shut { seat.new.me.0 ≡ with_shut seat.old.me.0 seat.new.me.0.inward.seen }
     ensures value { result ≡ seat.old.me.0.inward.base + length seat.new.me.0.inward.seen + gate_bit seat.old.me.0.inward.shut }
 {
@@ -75,7 +75,7 @@ pub(crate) fn give<J: Task>(
     requires slot { slot ≡ outcome_slot seat.old.me.0.inward.capacity (length seat.old.me.0.inward.given) }
     requires given { given ≡ seat.old.me.0.inward.base + length seat.old.me.0.inward.given + 1 }
     requires owed { length seat.old.me.0.inward.given < seat.old.me.0.inward.taken }
-    requires may { MayGive (Fits J.SameTask J.Answers) seat.old.me.0.inward number outcome }
+    requires may { MayGive (Fits J.meaning) seat.old.me.0.inward number outcome }
     ensures table { seat.new.table_id ≡ seat.old.table_id }
     ensures receiver { IsReceiver seat.new.me }
     ensures gave { seat.new.me.0 ≡ with_given seat.old.me.0 number outcome }

@@ -90,7 +90,7 @@ impl<J: Task> InEnd<J> for RingIn<J> {
     }
 
     fn give(&mut self, number: u64, outcome: Outcome<J, J::Out>)
-        requires { MayGive (Fits J.SameTask J.Answers) self.old.inward number outcome }
+        requires { MayGive (Fits J.meaning) self.old.inward number outcome }
         ensures link { self.new.link ≡ self.old.link }
         ensures gives { self.new.inward ≡ record self.old.inward { given = self.old.inward.given ++ (number, outcome) ∷ [] } }
     {

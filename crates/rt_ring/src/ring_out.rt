@@ -73,7 +73,7 @@ impl<J: Task> OutEnd<J> for RingOut<J> {
     ghost credited = { λ s. s.credited };
 
     fn send(&mut self, order: Order<J>) -> Result<u64, SendError<J>>
-        requires ready { HasReadyJob J.done J.CanPoll order }
+        requires ready { HasReadyJob J.meaning order }
         ensures link { self.new.link ≡ self.old.link }
         ensures credited { self.new.credited ≡ self.old.credited }
         ensures sends { Sends self.old.out self.old.credited order self.new.out result }

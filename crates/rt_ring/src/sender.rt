@@ -27,7 +27,7 @@ pub(crate) fn offer<J: Task>(
     requires slot { slot ≡ order_slot seat.old.me.0.out.capacity (length seat.old.me.0.out.sent) }
     requires number { (last ≡ seat.old.me.0.out.base + length seat.old.me.0.out.sent) × (last + 1 < 2 ^ 63) }
     requires room { length seat.old.me.0.out.sent < seat.old.me.0.out.got + seat.old.me.0.out.capacity }
-    requires ready { HasReadyJob J.done J.CanPoll order }
+    requires ready { HasReadyJob J.meaning order }
     ensures table { seat.new.table_id ≡ seat.old.table_id }
     ensures sender { IsSender seat.new.me }
     ensures ok { IfOk result (λ _. (seat.old.me.0.out.closed ≡ false) × (seat.new.me.0 ≡ with_sent seat.old.me.0 order)) }
@@ -73,7 +73,7 @@ pub(crate) fn gather<J: Task>(
     requires room { length seat.old.me.0.out.sent ≤ seat.old.me.0.out.got + seat.old.me.0.out.capacity }
     ensures table { seat.new.table_id ≡ seat.old.table_id }
     ensures sender { IsSender seat.new.me }
-    ensures sees { SeesOutcomes (Fits J.SameTask J.Answers) seat.old.me.0.out seat.new.me.0.out.seen }
+    ensures sees { SeesOutcomes (Fits J.meaning) seat.old.me.0.out seat.new.me.0.out.seen }
     ensures none { IfNone result ((seat.new.me.0 ≡ with_got seat.old.me.0 seat.new.me.0.out.seen seat.old.me.0.out.got) × (length seat.new.me.0.out.seen ≡ seat.old.me.0.out.got)) }
     ensures some { IfSome result (λ found. (seat.new.me.0 ≡ with_got seat.old.me.0 seat.new.me.0.out.seen (seat.old.me.0.out.got + 1))
         × (slice_get seat.new.me.0.out.seen seat.old.me.0.out.got ≡ Some found)) }

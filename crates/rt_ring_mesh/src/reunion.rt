@@ -13,7 +13,7 @@ fn reunite_last<J: Task>(all: &mut Vec<Ends<J>>, cores: u8, sender: usize, core:
     requires sender { sender ≤ cores }
     requires core { core < cores }
     requires closing { IsClosing cores sender (core + 1) all.old.items }
-    ensures { EndsLink (Fits J.SameTask J.Answers) cores sender core all.old.items all.new.items }
+    ensures { EndsLink (Fits J.meaning) cores sender core all.old.items all.new.items }
 {
     let Some(out) = all[sender].pop_out() else {
         unreachable!()
@@ -28,7 +28,7 @@ fn reunite_last<J: Task>(all: &mut Vec<Ends<J>>, cores: u8, sender: usize, core:
 fn reunite_row<J: Task>(all: &mut Vec<Ends<J>>, cores: u8, sender: usize)
     requires sender { sender ≤ cores }
     requires closing { IsClosing cores (sender + 1) 0 all.old.items }
-    ensures { EndsRow (Fits J.SameTask J.Answers) cores sender all.old.items all.new.items }
+    ensures { EndsRow (Fits J.meaning) cores sender all.old.items all.new.items }
 {
     for step in 0..cores as usize {
         reunite_last(all, cores, sender, cores as usize - 1 - step);
@@ -41,7 +41,7 @@ fn reunite_row<J: Task>(all: &mut Vec<Ends<J>>, cores: u8, sender: usize)
 /// sent, and what was got is the beginning of what was given. The body asks for no memory; no clause says so.
 pub fn reunite_all<J: Task>(all: Vec<Ends<J>>, cores: u8)
     requires { IsGrid cores all.items }
-    ensures { AreReunited (Fits J.SameTask J.Answers) cores all.items }
+    ensures { AreReunited (Fits J.meaning) cores all.items }
 {
     let mut all = all;
     for step in 0..cores as usize + 1 {

@@ -12,7 +12,7 @@ use rt_shares::Shares;
 
 /// The outcome of an order here: a job is handed back, a command refused.
 fn refuse<J: Task>(order: Order<J>) -> Outcome<J, J::Out>
-    ensures { Fits J.SameTask J.Answers order result }
+    ensures { Fits J.meaning order result }
 {
     match order {
         Order::Job(queue, job) => Outcome::Returned(Reason::CoreClosing, Order::Job(queue, job)),

@@ -19,30 +19,28 @@ pub struct Number {
 }
 
 impl Task for Number {
-    ghost use Rattle.std.specs.Prelude.{◌≡◌, false, None, refl};
-    ghost use Rattle.std.proofs.Common.{◌∙◌, sym};
+    ghost use Rattle.std.specs.Prelude.{◌≡◌, false, None};
+    ghost use Rattle.std.proofs.Common.{◌∙◌};
+    ghost use Rattle.rt_jobs.specs.Same.{same_value};
 
     type Out = u64;
 
-    ghost SameTask = { λ a b. a.value ≡ b.value };
+    ghost meaning = { record {
+      same = λ a b. a.value ≡ b.value;
+      done = λ _. false;
+      can_poll = λ _. Unit {0};
+      made = λ _. 0;
+      says = λ _. None;
+      polls = λ job made calls step told. told ≡ None;
+      answers = λ job out. out ≡ job.value;
+    } };
 
-    ghost done = { λ _. false };
-
-    ghost made = { λ _. 0 };
-
-    ghost says = { λ _. None };
-
-    ghost Polls = { λ job made calls step told. told ≡ None };
-
-    ghost Answers = { λ job out. out ≡ job.value };
-
-    ghost same_task = { record { itself = λ a. refl; back = λ a b same. sym same; along = λ a b c one two. one ∙ two } };
-
-    ghost answers_same = { λ a b out same here. here ∙ same };
-
-    ghost polls_same = { λ a b made calls step told same owed. owed };
-
-    ghost can_poll_same = { λ a b same can. can };
+    ghost laws = { record {
+      same_task = same_value (λ job. job.value);
+      answers_same = λ a b out same here. here ∙ same;
+      polls_same = λ a b made calls step told same owed. owed;
+      can_poll_same = λ a b same can. can;
+    } };
 
     fn is_done(&self) -> bool {
         false
@@ -168,7 +166,7 @@ pub fn redeem_late<O: OutEnd<Number>>(out: &mut O) -> Told
 }
 
 fn answer(order: Order<Number>) -> Outcome<Number, u64>
-    ensures { Fits ⟦<Number as Task>⟧.SameTask ⟦<Number as Task>⟧.Answers order result }
+    ensures { Fits ⟦<Number as Task>⟧.meaning order result }
 {
     match order {
         Order::Job(_, number) => Outcome::Finished(number.value),

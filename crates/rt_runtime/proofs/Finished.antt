@@ -8,7 +8,7 @@ use Rattle.rt_ids.specs.declared.order.Outcome.{Outcome}
 use Rattle.rt_ids.specs.Assembly.{Assembly, journal_of}
 use Rattle.rt_ids.specs.Journal.{Journal, EachNote}
 use Rattle.rt_ids.specs.Joining.{JoiningIsSound, JoinedAreSpelled}
-use Rattle.rt_jobs.specs.Steps.{Owed}
+use Rattle.rt_jobs.specs.Meanings.{Meaning}
 use Rattle.rt_journal_notes.specs.Journals.{JournalView}
 use Rattle.rt_journal.specs.Recorded.{terms_at, desk_of}
 use Rattle.rt_journal.specs.Together.{IsAssemblyOf}
@@ -28,6 +28,7 @@ use Rattle.rt_runtime.specs.State.{RuntimeView, IsRuntime, outside_of, closing_a
 use Rattle.rt_runtime.specs.Calls.{HasFinished, IsFirstOpen}
 use Rattle.rt_runtime.specs.Finishing.{IsFirstOpenOf, Parts}
 use Rattle.rt_runtime.proofs.Fitting.{all_fit}
+use Rattle.rt_link.specs.Fits.{Fits}
 
 -- two lists that belong together, at each place
 pub together_at : {A B : Type 0} (related : A → B → Type 0) (xs : List A) (ys : List B) (x : A) (y : B) (i : ℕ) → Together related xs ys → i < length xs → related (get_or xs i x) (get_or ys i y)
@@ -49,7 +50,7 @@ module _ {J T : Type 0} (outside : JournalView T) where
   read_last [] = refl
   read_last (worker ∷ ended) = read_last ended
 
-module _ {J : Type 0} {fits : Order J → Outcome J ℕ → Type 0} (view : RuntimeView J ℕ) (is : IsRuntime fits view) (ended : List (LinkedView J ℕ))
+module _ {J : Type 0} {meaning : Meaning J ℕ} (view : RuntimeView J ℕ) (is : IsRuntime (Fits meaning) view) (ended : List (LinkedView J ℕ))
     (kept : Together StaysLinked view.workers ended) where
   pub count : length ended ≡ view.desk.cores
   count = sym (together_length StaysLinked view.workers ended kept) ∙ is.count
@@ -115,7 +116,7 @@ module _ {J : Type 0} {fits : Order J → Outcome J ℕ → Type 0} (view : Runt
   pub finished_grid : GridIsKept J ℕ → IsGrid view.desk.cores (all_ends ended (outside_of view))
   finished_grid law = law view.desk.cores (all_ends view.workers (outside_of view)) (all_ends ended (outside_of view)) same_ends is.grid
 
-  module _ {same : J → J → Type 0} {made : J → ℕ} {polls : Owed J ℕ} (each : All (HasEnded same made polls fits) ended) where
+  module _ (each : All (HasEnded meaning) ended) where
     acts_here : (core : ℕ) → core < view.desk.cores → EachNote (MayAct (least_free view.desk.cores view.desk.cap) view.room) (journal_of core assembly)
     acts_here core low =
         let end = each core no_linked (omega (arith, low, count)) in
@@ -127,7 +128,7 @@ module _ {J : Type 0} {fits : Order J → Outcome J ℕ → Type 0} (view : Runt
         (subst (λ least. EachNote (MayAct least (worker_at core ended).recorded.journal.room) (worker_at core ended).recorded.journal.notes)
         (ap (λ cores. least_free cores (worker_at core ended).recorded.cap) cores ∙ ap (λ cap. least_free view.desk.cores cap) cap) end.acts))
 
-    have_ended : AreReunited fits view.desk.cores (all_ends ended (outside_of view)) → HaveEnded same made polls fits view.desk.cores view.desk.cap ended (outside_of view)
+    have_ended : AreReunited (Fits meaning) view.desk.cores (all_ends ended (outside_of view)) → HaveEnded meaning view.desk.cores view.desk.cap ended (outside_of view)
     have_ended reunited = record {
       count = count;
       seats = terms_now;
@@ -137,7 +138,7 @@ module _ {J : Type 0} {fits : Order J → Outcome J ℕ → Type 0} (view : Runt
       reunited = reunited;
     }
 
-    pub finished : AreReunited fits view.desk.cores (all_ends ended (outside_of view)) → EndedAreJoined same made polls fits → JoiningIsSound → JoinedAreSpelled → ((core : ℕ) → core < length view.closing → closing_at core view ≡ true) → HasFinished fits view assembly
+    pub finished : AreReunited (Fits meaning) view.desk.cores (all_ends ended (outside_of view)) → EndedAreJoined meaning → JoiningIsSound → JoinedAreSpelled → ((core : ℕ) → core < length view.closing → closing_at core view ≡ true) → HasFinished (Fits meaning) view assembly
     finished reunited joined_law sound_law spelled_law closed =
         let have = have_ended reunited in
         let law = joined_law view.desk.cores view.desk.cap ended (outside_of view) assembly have is_assembly in
@@ -157,18 +158,18 @@ module _ {J : Type 0} {fits : Order J → Outcome J ℕ → Type 0} (view : Runt
 
     -- the same of the assembly as the code has it
     pub finished_as : (cores cap : ℕ) (ends : List (EndsView J ℕ)) (journals : List (JournalView ℕ)) → cores ≡ view.desk.cores → cap ≡ view.desk.cap →
-        ends ≡ all_ends ended (outside_of view) → journals ≡ map (λ worker. worker.recorded.journal) ended ++ view.desk.journal ∷ [] → AreReunited fits cores ends → EndedAreJoined same made polls fits →
+        ends ≡ all_ends ended (outside_of view) → journals ≡ map (λ worker. worker.recorded.journal) ended ++ view.desk.journal ∷ [] → AreReunited (Fits meaning) cores ends → EndedAreJoined meaning →
         JoiningIsSound → JoinedAreSpelled → ((core : ℕ) → core < length view.closing → closing_at core view ≡ true) →
-        HasFinished fits view (record { cores = cores; cap = cap; journals = map (λ journal. journal.notes) journals })
+        HasFinished (Fits meaning) view (record { cores = cores; cap = cap; journals = map (λ journal. journal.notes) journals })
     finished_as cores cap ends journals same_cores same_cap ends_are journals_are reunited joined_law sound_law spelled_law closed =
-        subst (λ cores. HasFinished fits view (record { cores = cores; cap = cap; journals = map (λ (journal : JournalView ℕ). journal.notes) journals })) (sym same_cores)
-        (subst (λ cap. HasFinished fits view (record { cores = view.desk.cores; cap = cap; journals = map (λ (journal : JournalView ℕ). journal.notes) journals })) (sym same_cap)
-        (subst (λ journals. HasFinished fits view (record { cores = view.desk.cores; cap = view.desk.cap; journals = map (λ (journal : JournalView ℕ). journal.notes) journals })) (sym journals_are)
-        (finished (subst (λ cores. AreReunited fits cores (all_ends ended (outside_of view))) same_cores (subst (AreReunited fits cores) ends_are reunited)) joined_law sound_law spelled_law closed)))
+        subst (λ cores. HasFinished (Fits meaning) view (record { cores = cores; cap = cap; journals = map (λ (journal : JournalView ℕ). journal.notes) journals })) (sym same_cores)
+        (subst (λ cap. HasFinished (Fits meaning) view (record { cores = view.desk.cores; cap = cap; journals = map (λ (journal : JournalView ℕ). journal.notes) journals })) (sym same_cap)
+        (subst (λ journals. HasFinished (Fits meaning) view (record { cores = view.desk.cores; cap = view.desk.cap; journals = map (λ (journal : JournalView ℕ). journal.notes) journals })) (sym journals_are)
+        (finished (subst (λ cores. AreReunited (Fits meaning) cores (all_ends ended (outside_of view))) same_cores (subst (AreReunited (Fits meaning) cores) ends_are reunited)) joined_law sound_law spelled_law closed)))
 
 -- how many ends and journals there are
-pub part_counts : {J T : Type 0} {same : J → J → Type 0} {made : J → ℕ} {polls : Owed J T} {fits : Order J → Outcome J T → Type 0} (all : List (LinkedView J T)) (ends : List (EndsView J T)) (journals : List (JournalView T)) →
-    Parts same made polls fits all ends journals → (length ends ≡ length all) × (length journals ≡ length all)
+pub part_counts : {J T : Type 0} {meaning : Meaning J T} (all : List (LinkedView J T)) (ends : List (EndsView J T)) (journals : List (JournalView T)) →
+    Parts meaning all ends journals → (length ends ≡ length all) × (length journals ≡ length all)
 part_counts {J} {T} all ends journals parts = (
   ap length parts.ends_are ∙ length-map all (λ (worker : LinkedView J T). worker.ends),
   ap length parts.journals_are ∙ length-map all (λ (worker : LinkedView J T). worker.recorded.journal),

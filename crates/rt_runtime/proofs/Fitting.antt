@@ -10,7 +10,7 @@ use Rattle.rt_ids.specs.Filters.{accepted_orders, given_outcomes}
 use Rattle.rt_ids.specs.Names.{same_name}
 use Rattle.rt_ids.specs.Outcomes.{outcome_note}
 use Rattle.rt_ids.proofs.NameLemmas.{one_name}
-use Rattle.rt_jobs.specs.Steps.{Owed}
+use Rattle.rt_jobs.specs.Meanings.{Meaning}
 use Rattle.rt_link.specs.Ends.{AreOf}
 use Rattle.rt_ring.proofs.Fronts.{slice_get-there}
 use Rattle.rt_journal_desk.specs.Ends.{name_of, named_outcomes}
@@ -28,6 +28,7 @@ use Rattle.rt_runtime_worker.specs.Together.{HaveEnded, all_ends, desk_among, no
 use Rattle.rt_runtime_worker.proofs.Ending.{at_last, ended_together}
 use Rattle.rt_runtime.specs.Outcomes.{AllFitTheirOrders, FitsItsOrder}
 use Rattle.rt_runtime.specs.State.{RuntimeView, outside_of}
+use Rattle.rt_link.specs.Fits.{Fits}
 
 -- the outcome that stands first under a name, among outcomes of one link
 record IsFirst {J T : Type 0} (sender core : ℕ) (name : JobId) (given : List (ℕ × Outcome J T)) (told : OutcomeNote T) : Type 0 where
@@ -68,8 +69,8 @@ has_order {fits = fits} base taken sent given none are place outcome at =
       above = omega (arith, of.0, none);
     }
 
-module _ {J : Type 0} {same : J → J → Type 0} {made : J → ℕ} {polls : Owed J ℕ} {fits : Order J → Outcome J ℕ → Type 0} (view : RuntimeView J ℕ) (ended : List (LinkedView J ℕ))
-    (have : HaveEnded same made polls fits view.desk.cores view.desk.cap ended (outside_of view)) (assembly : Assembly ℕ)
+module _ {J : Type 0} {meaning : Meaning J ℕ} (view : RuntimeView J ℕ) (ended : List (LinkedView J ℕ))
+    (have : HaveEnded meaning view.desk.cores view.desk.cap ended (outside_of view)) (assembly : Assembly ℕ)
     (is : IsAssemblyOf view.desk.cores view.desk.cap (desk_among ended (outside_of view)) assembly) where
   module _ (name : JobId) (from : name.from ≤ view.desk.cores) (to : name.to < view.desk.cores) where
     abbrev out : Sending J ℕ
@@ -95,7 +96,7 @@ module _ {J : Type 0} {same : J → J → Type 0} {made : J → ℕ} {polls : Ow
         ap (λ actor. ends_at actor (all_ends ended (outside_of view))) is_outside
         ∙ at_last (λ (worker : LinkedView J ℕ). worker.ends) ended view.ends no_ends no_linked view.desk.cores have.count
 
-    fits_its_order : (told : OutcomeNote ℕ) → outcome_of name assembly ≡ Some told → FitsItsOrder fits view assembly name told
+    fits_its_order : (told : OutcomeNote ℕ) → outcome_of name assembly ≡ Some told → FitsItsOrder (Fits meaning) view assembly name told
     fits_its_order told found =
         let first = first_named name.from name.to name inward.inward.given told (ap (first_under name) (sym given_are) ∙ found) in
         let has = has_order out.out.base inward.inward.taken out.out.sent inward.inward.given ((ended_together have).outs name.from name.to from to).base
@@ -115,9 +116,9 @@ module _ {J : Type 0} {same : J → J → Type 0} {made : J → ℕ} {polls : Ow
           fit = has.fit;
         }
 
-    by_told : (found : Option (OutcomeNote ℕ)) → outcome_of name assembly ≡ found → IfSome found (FitsItsOrder fits view assembly name)
+    by_told : (found : Option (OutcomeNote ℕ)) → outcome_of name assembly ≡ found → IfSome found (FitsItsOrder (Fits meaning) view assembly name)
     by_told None at = tt
     by_told (Some told) at = fits_its_order told at
 
-  pub all_fit : AllFitTheirOrders fits view assembly
+  pub all_fit : AllFitTheirOrders (Fits meaning) view assembly
   all_fit name from to = by_told name from to (outcome_of name assembly) refl

@@ -14,24 +14,25 @@ use Rattle.rt_runtime.specs.Calls.{HasFinished}
 use Rattle.rt_runtime.specs.Laws.{TellsAnswer, WrongAnswersAreRefused}
 use Rattle.rt_runtime.specs.Outcomes.{FitsItsOrder}
 use Rattle.rt_runtime.specs.State.{RuntimeView}
+use Rattle.rt_jobs.specs.Meanings.{Meaning}
 
 one_order : {J : Type 0} (a b : Order J) → Some a ≡ Some b → a ≡ b
 one_order a b same = cc
 
-module _ {J : Type 0} (same : J → J → Type 0) (answers : J → ℕ → Type 0) where
+module _ {J : Type 0} (meaning : Meaning J ℕ) where
   -- the only outcome that is told as finished with this answer is that
-  answer_of : (queue : ℕ) (job : J) (outcome : Outcome J ℕ) (answer : ℕ) → outcome_note outcome ≡ notes.Finished answer → Fits same answers (Job queue job) outcome → answers job answer
-  answer_of queue job (outcomes.Finished value) answer told fit = let is : value ≡ answer = cc in subst (answers job) is fit
+  answer_of : (queue : ℕ) (job : J) (outcome : Outcome J ℕ) (answer : ℕ) → outcome_note outcome ≡ notes.Finished answer → Fits meaning (Job queue job) outcome → meaning.answers job answer
+  answer_of queue job (outcomes.Finished value) answer told fit = let is : value ≡ answer = cc in subst (meaning.answers job) is fit
   answer_of queue job (outcomes.Returned reason order) answer told fit = absurd cc
   answer_of queue job (outcomes.Answered what) answer told fit = absurd cc
 
   -- what a finish tells of a job that was submitted is an answer of its task
-  pub right_answer : (view : RuntimeView J ℕ) (assembly : Assembly ℕ) (name : JobId) (job : J) (answer : ℕ) → TellsAnswer view assembly name job answer → HasFinished (Fits same answers) view assembly → answers job answer
+  pub right_answer : (view : RuntimeView J ℕ) (assembly : Assembly ℕ) (name : JobId) (job : J) (answer : ℕ) → TellsAnswer view assembly name job answer → HasFinished (Fits meaning) view assembly → meaning.answers job answer
   right_answer view assembly name job answer tells finished =
       let known : name.from ≤ view.desk.cores = omega (arith, tells.caller) in
-      let fits = subst (λ found. IfSome found (FitsItsOrder (Fits same answers) view assembly name)) tells.told (finished.fitting name known tells.there) in
+      let fits = subst (λ found. IfSome found (FitsItsOrder (Fits meaning) view assembly name)) tells.told (finished.fitting name known tells.there) in
       let is : fits.order ≡ Job tells.queue job = one_order fits.order (Job tells.queue job) (sym (fits.by_caller tells.caller) ∙ tells.submitted) in
-      answer_of tells.queue job fits.outcome answer fits.as_told (subst (λ order. Fits same answers order fits.outcome) is fits.fit)
+      answer_of tells.queue job fits.outcome answer fits.as_told (subst (λ order. Fits meaning order fits.outcome) is fits.fit)
 
-  pub wrong_answers_refused : WrongAnswersAreRefused same answers
+  pub wrong_answers_refused : WrongAnswersAreRefused meaning
   wrong_answers_refused view assembly name job answer tells wrong finished = wrong (right_answer view assembly name job answer tells finished)

@@ -4,6 +4,7 @@ use Rattle.rt_ids.specs.declared.names.JobId.{JobId}
 use Rattle.rt_ids.specs.declared.note.OutcomeNote.TheVariants.{Finished}
 use Rattle.rt_ids.specs.declared.order.Order.TheVariants.{Job}
 use Rattle.rt_ids.specs.Assembly.{Assembly, outcome_of}
+use Rattle.rt_jobs.specs.Meanings.{Meaning}
 use Rattle.rt_link.specs.Fits.{Fits}
 use Rattle.rt_runtime.specs.Calls.{HasFinished}
 use Rattle.rt_runtime.specs.State.{RuntimeView, submitted_under}
@@ -18,7 +19,7 @@ module _ {J : Type 0} where
     pub told : outcome_of name assembly ≡ Some (Finished answer)
 
   -- a finish tells no answer of a job that isn't one of its task
-  abbrev pub WrongAnswersAreRefused : (J → J → Type 0) → (J → ℕ → Type 0) → Type 0
-  WrongAnswersAreRefused same answers =
+  abbrev pub WrongAnswersAreRefused : Meaning J ℕ → Type 0
+  WrongAnswersAreRefused meaning =
       (view : RuntimeView J ℕ) (assembly : Assembly ℕ) (name : JobId) (job : J) (answer : ℕ) →
-      TellsAnswer view assembly name job answer → (answers job answer → ⊥) → HasFinished (Fits same answers) view assembly → ⊥
+      TellsAnswer view assembly name job answer → (meaning.answers job answer → ⊥) → HasFinished (Fits meaning) view assembly → ⊥

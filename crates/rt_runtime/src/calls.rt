@@ -61,14 +61,14 @@ fn send_on<J: Task<Out = u64>>(
 ) -> Result<Ticket, SendError<J>>
     requires there { to < length ends.old.outs }
     requires beside { IsOutOf to desk.old (out_at to ends.old).out (out_at to ends.old).credited }
-    requires lane { HasLane (Fits J.SameTask J.Answers) to desk.old (out_at to ends.old).out (out_at to ends.old).credited }
+    requires lane { HasLane (Fits J.meaning) to desk.old (out_at to ends.old).out (out_at to ends.old).credited }
     requires room { length desk.old.journal.notes < desk.old.journal.room }
-    requires ready { HasReadyJob J.done J.CanPoll order }
+    requires ready { HasReadyJob J.meaning order }
     ensures submits { Submits to order desk.old result desk.new }
     ensures orders { (out_at to ends.new).out.sent ≡ (out_at to ends.old).out.sent ++ accepted order result }
     ensures named { IfOk result (λ name. slice_get (out_at to ends.new).out.sent (name.number - 1) ≡ Some order) }
     ensures spends { IfOk result (λ _. Spends to 3 desk.old desk.new) }
-    ensures stays { StaysBeside (Fits J.SameTask J.Answers) to desk.old desk.new (out_at to ends.new).out (out_at to ends.new).credited }
+    ensures stays { StaysBeside (Fits J.meaning) to desk.old desk.new (out_at to ends.new).out (out_at to ends.new).credited }
     ensures ends { ends.new ≡ record ends.old { outs = slice_set ends.old.outs to (out_at to ends.new) } }
     ensures link { (out_at to ends.new).link ≡ (out_at to ends.old).link }
 {
@@ -109,7 +109,7 @@ impl<J: Task<Out = u64>, C: Drop, G: Drop> Runtime<J, C, G> {
 
     /// Sends an order to a core.
     fn send(&mut self, to: CoreNo, order: Order<J>) -> Result<Ticket, SendError<J>>
-        requires ready { HasReadyJob J.done J.CanPoll order }
+        requires ready { HasReadyJob J.meaning order }
         requires room { booked self.old.desk + 3 ≤ self.old.desk.journal.room }
         ensures { Sends to order self.old result self.new }
     {
@@ -131,7 +131,7 @@ impl<J: Task<Out = u64>, C: Drop, G: Drop> Runtime<J, C, G> {
     /// Tried in this order, and the order comes back: `JournalFull` where the outside journal has too few notes free; `Send` where there is
     /// no such core, and where its link refuses.
     pub fn submit(&mut self, to: CoreNo, order: Order<J>) -> Result<Ticket, SubmitError<J>>
-        requires ready { HasReadyJob J.done J.CanPoll order }
+        requires ready { HasReadyJob J.meaning order }
         ensures { SubmitsTo 3 to order self.old result self.new }
     {
         if self.is_full(3) {

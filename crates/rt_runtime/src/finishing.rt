@@ -26,7 +26,7 @@ use std::thread::Threads;
 fn part<J: Task<Out = u64>>(ended: Ended<J>) -> (Ends<J>, Journal<u64>)
     ensures ends { result.0 ≡ ended.ends }
     ensures journal { result.1 ≡ ended.recorded.journal }
-    ensures ended { HasEnded J.SameTask J.made J.Polls (Fits J.SameTask J.Answers) ended }
+    ensures ended { HasEnded J.meaning ended }
 {
     let (recorded, ends) = ended.into_linked().into_parts();
     (ends, recorded.into_journal())
@@ -42,7 +42,7 @@ fn part_all<J: Task<Out = u64>>(
     requires no_journals { journals.items ≡ [] }
     requires room_ends { length all.items ≤ vec_capacity ends }
     requires room_journals { length all.items ≤ vec_capacity journals }
-    ensures parts { Parts J.SameTask J.made J.Polls (Fits J.SameTask J.Answers) all.items result.0.items result.1.items }
+    ensures parts { Parts J.meaning all.items result.0.items result.1.items }
     ensures room_ends { vec_capacity result.0 ≡ vec_capacity ends }
     ensures room_journals { vec_capacity result.1 ≡ vec_capacity journals }
 {
@@ -79,7 +79,7 @@ fn assemble<J: Task<Out = u64>>(
     requires grid { IsGrid cores ends.items }
     requires count { length journals.items ≡ cores + 1 }
     ensures assembly { result ≡ record { cores = cores; cap = cap; journals = map (λ journal. journal.notes) journals.items } }
-    ensures reunited { AreReunited (Fits J.SameTask J.Answers) cores ends.items }
+    ensures reunited { AreReunited (Fits J.meaning) cores ends.items }
 {
     reunite_all(ends, cores);
     Assembly::of(cores, cap, journals)
@@ -89,7 +89,7 @@ impl<J: Job + Task<Out = u64>, C: Clock + Drop, G: Gate + Drop> Runtime<J, C, G>
     /// Waits until all workers have ended.
     fn end<R: Threads + Wait>(self, rt: &R) -> Assembly
         requires { (core : ℕ) → core < length self.closing → closing_at core self ≡ true }
-        ensures { HasFinished (Fits J.SameTask J.Answers) self result }
+        ensures { HasFinished (Fits J.meaning) self result }
     {
         let Runtime {
             cores,
@@ -118,7 +118,7 @@ impl<J: Job + Task<Out = u64>, C: Clock + Drop, G: Gate + Drop> Runtime<J, C, G>
     ///
     /// `NotClosed` for the first core that the caller didn't close: its worker would not end. The runtime comes back.
     pub fn finish<R: Threads + Wait>(self, rt: &R) -> Result<Assembly, FinishError<Self>>
-        ensures { Finishes (Fits J.SameTask J.Answers) self result }
+        ensures { Finishes (Fits J.meaning) self result }
     {
         match first_open(self.cores, &self.closing) {
             Some(core) => Err(FinishError::NotClosed(CoreNo(core), self)),

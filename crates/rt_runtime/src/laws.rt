@@ -6,5 +6,5 @@ use rt_jobs::Task;
 
 /// No finish tells of a submitted job an answer that isn't one of its task, also if nobody redeems it.
 pub fn wrong_answers_are_refused<J: Task<Out = u64>>()
-    ensures { WrongAnswersAreRefused J.SameTask J.Answers }
+    ensures { WrongAnswersAreRefused J.meaning }
 {}

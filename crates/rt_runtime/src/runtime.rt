@@ -41,7 +41,7 @@ impl<J: Task<Out = u64>, C: Drop, G: Drop> Model for Runtime<J, C, G> {
     ghost view = { λ r. record { desk = r.desk; ends = r.ends; closing = r.closing.items; workers = r.team; room = r.room } };
 
     ghost invariant = { λ r.
-        IsRuntime (Fits J.SameTask J.Answers) (record { desk = r.desk; ends = r.ends; closing = r.closing.items; workers = r.team; room = r.room })
+        IsRuntime (Fits J.meaning) (record { desk = r.desk; ends = r.ends; closing = r.closing.items; workers = r.team; room = r.room })
         × IsStored (record { desk = r.desk; ends = r.ends; closing = r.closing.items; workers = r.team; room = r.room })
         r.cores r.cap (length r.bells.items) (vec_capacity r.spare_ends) (vec_capacity r.spare_journals)
         × (r.spare_ends.items ≡ []) × (r.spare_journals.items ≡ []) };

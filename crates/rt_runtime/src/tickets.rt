@@ -23,12 +23,12 @@ fn collect_on<J: Task<Out = u64>>(
 ) -> usize
     requires there { core < length ends.old.outs }
     requires beside { IsOutOf core desk.old (out_at core ends.old).out (out_at core ends.old).credited }
-    requires lane { HasLane (Fits J.SameTask J.Answers) core desk.old (out_at core ends.old).out (out_at core ends.old).credited }
+    requires lane { HasLane (Fits J.meaning) core desk.old (out_at core ends.old).out (out_at core ends.old).credited }
     requires room { length desk.old.journal.notes + length (out_at core ends.old).out.sent ≤ desk.old.journal.room + (out_at core ends.old).out.got }
     ensures collects { CollectsFrom core desk.old result desk.new }
     ensures shown { GetsAll (out_at core ends.old).out (out_at core ends.new).out }
     ensures books { booked desk.new ≡ booked desk.old }
-    ensures stays { StaysBeside (Fits J.SameTask J.Answers) core desk.old desk.new (out_at core ends.new).out (out_at core ends.new).credited }
+    ensures stays { StaysBeside (Fits J.meaning) core desk.old desk.new (out_at core ends.new).out (out_at core ends.new).credited }
     ensures ends { ends.new ≡ record ends.old { outs = slice_set ends.old.outs core (out_at core ends.new) } }
     ensures link { (out_at core ends.new).link ≡ (out_at core ends.old).link }
 {
@@ -43,14 +43,14 @@ fn redeem_on<J: Task<Out = u64>>(
 ) -> Result<Outcome<J, u64>, TicketError>
     requires there { ticket.to < length ends.old.outs }
     requires beside { IsOutOf ticket.to desk.old (out_at ticket.to ends.old).out (out_at ticket.to ends.old).credited }
-    requires lane { HasLane (Fits J.SameTask J.Answers) ticket.to desk.old (out_at ticket.to ends.old).out (out_at ticket.to ends.old).credited }
+    requires lane { HasLane (Fits J.meaning) ticket.to desk.old (out_at ticket.to ends.old).out (out_at ticket.to ends.old).credited }
     requires room { HoldsSome ticket desk.old → length desk.old.journal.notes < desk.old.journal.room }
     ensures redeems { RedeemsTicket ticket desk.old result desk.new }
     ensures given { IfOk result (IsGot (out_at ticket.to ends.old).out ticket.number) }
-    ensures fits { IfOk result (FitsSent (Fits J.SameTask J.Answers) (out_at ticket.to ends.old).out ticket.number) }
+    ensures fits { IfOk result (FitsSent (Fits J.meaning) (out_at ticket.to ends.old).out ticket.number) }
     ensures out { (out_at ticket.to ends.new).out ≡ (out_at ticket.to ends.old).out }
     ensures spends { IfOk result (λ _. Spends ticket.to 0 desk.old desk.new) }
-    ensures stays { StaysBeside (Fits J.SameTask J.Answers) ticket.to desk.old desk.new (out_at ticket.to ends.new).out (out_at ticket.to ends.new).credited }
+    ensures stays { StaysBeside (Fits J.meaning) ticket.to desk.old desk.new (out_at ticket.to ends.new).out (out_at ticket.to ends.new).credited }
     ensures ends { ends.new ≡ record ends.old { outs = slice_set ends.old.outs ticket.to (out_at ticket.to ends.new) } }
     ensures link { (out_at ticket.to ends.new).link ≡ (out_at ticket.to ends.old).link }
 {
@@ -66,12 +66,12 @@ fn detach_on<J: Task<Out = u64>>(
 ) -> Result<(), TicketError>
     requires there { ticket.to < length ends.old.outs }
     requires beside { IsOutOf ticket.to desk.old (out_at ticket.to ends.old).out (out_at ticket.to ends.old).credited }
-    requires lane { HasLane (Fits J.SameTask J.Answers) ticket.to desk.old (out_at ticket.to ends.old).out (out_at ticket.to ends.old).credited }
+    requires lane { HasLane (Fits J.meaning) ticket.to desk.old (out_at ticket.to ends.old).out (out_at ticket.to ends.old).credited }
     requires room { HoldsSome ticket desk.old → length desk.old.journal.notes < desk.old.journal.room }
     ensures detaches { DetachesTicket ticket desk.old result desk.new }
     ensures out { (out_at ticket.to ends.new).out ≡ (out_at ticket.to ends.old).out }
     ensures spends { IfOk result (λ _. Spends ticket.to 0 desk.old desk.new) }
-    ensures stays { StaysBeside (Fits J.SameTask J.Answers) ticket.to desk.old desk.new (out_at ticket.to ends.new).out (out_at ticket.to ends.new).credited }
+    ensures stays { StaysBeside (Fits J.meaning) ticket.to desk.old desk.new (out_at ticket.to ends.new).out (out_at ticket.to ends.new).credited }
     ensures ends { ends.new ≡ record ends.old { outs = slice_set ends.old.outs ticket.to (out_at ticket.to ends.new) } }
     ensures link { (out_at ticket.to ends.new).link ≡ (out_at ticket.to ends.old).link }
 {
@@ -97,7 +97,7 @@ impl<J: Task<Out = u64>, C: Drop, G: Drop> Runtime<J, C, G> {
     /// `Unknown` where this caller submitted nothing under the name; `Gone` where it was redeemed or detached before; `Pending` where its
     /// outcome isn't collected yet. Nothing changes.
     pub fn redeem(&mut self, ticket: Ticket) -> Result<Outcome<J, u64>, TicketError>
-        ensures { RedeemsHere (Fits J.SameTask J.Answers) ticket self.old result self.new }
+        ensures { RedeemsHere (Fits J.meaning) ticket self.old result self.new }
     {
         if !self.desk.knows(ticket) {
             return Err(TicketError::Unknown);

@@ -21,29 +21,13 @@ struct Closer {
 }
 
 impl Task for Closer {
-    ghost use Rattle.std.specs.Prelude.{ℕ, None};
+    ghost use Rattle.rt_jobs.specs.Plain.{plain_meaning, plain_laws};
 
     type Out = u64;
 
-    ghost SameTask = { λ a b. Unit {0} };
+    ghost meaning = { plain_meaning (λ job. job.ended) };
 
-    ghost done = { λ job. job.ended };
-
-    ghost made = { λ _. 0 };
-
-    ghost says = { λ _. None };
-
-    ghost Polls = { λ job made calls step told. Unit {0} };
-
-    ghost Answers = { λ job out. Unit {0} };
-
-    ghost same_task = { record { itself = λ a. tt; back = λ a b one. tt; along = λ a b c one two. tt } };
-
-    ghost answers_same = { λ a b out same here. tt };
-
-    ghost polls_same = { λ a b made calls step told same owed. owed };
-
-    ghost can_poll_same = { λ a b same can. can };
+    ghost laws = { plain_laws (λ job. job.ended) };
 
     fn is_done(&self) -> bool {
         self.ended

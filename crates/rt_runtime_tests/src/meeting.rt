@@ -24,30 +24,27 @@ struct Meeter {
 }
 
 impl Task for Meeter {
-    ghost use Rattle.std.specs.Prelude.{◌≡◌, ℕ, None};
+    ghost use Rattle.std.specs.Prelude.{None};
     ghost use Rattle.rt_jobs.specs.Steps.{PostsNothing};
 
     type Out = u64;
 
-    ghost SameTask = { λ a b. Unit {0} };
+    ghost meaning = { record {
+      same = λ _ _. Unit {0};
+      done = λ job. job.ended;
+      can_poll = λ _. Unit {0};
+      made = λ _. 0;
+      says = λ _. None;
+      polls = λ job made calls step told. PostsNothing calls told;
+      answers = λ _ _. Unit {0};
+    } };
 
-    ghost done = { λ job. job.ended };
-
-    ghost made = { λ _. 0 };
-
-    ghost says = { λ _. None };
-
-    ghost Polls = { λ job made calls step told. PostsNothing calls told };
-
-    ghost Answers = { λ job out. Unit {0} };
-
-    ghost same_task = { record { itself = λ a. tt; back = λ a b one. tt; along = λ a b c one two. tt } };
-
-    ghost answers_same = { λ a b out same here. tt };
-
-    ghost polls_same = { λ a b made calls step told same owed. owed };
-
-    ghost can_poll_same = { λ a b same can. can };
+    ghost laws = { record {
+      same_task = record { itself = λ _. tt; back = λ _ _ _. tt; along = λ _ _ _ _ _. tt };
+      answers_same = λ _ _ _ _ _. tt;
+      polls_same = λ a b made calls step told same owed. owed;
+      can_poll_same = λ a b same can. can;
+    } };
 
     fn is_done(&self) -> bool {
         self.ended

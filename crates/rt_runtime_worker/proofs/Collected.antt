@@ -7,7 +7,7 @@ use Rattle.std.proofs.lemmas.Option.{slice_get-get_or}
 use Rattle.rt_ids.specs.declared.order.Order.{Order}
 use Rattle.rt_ids.specs.declared.order.Outcome.{Outcome}
 use Rattle.rt_desk.proofs.Cores.{changed, unchanged}
-use Rattle.rt_jobs.specs.Steps.{Owed}
+use Rattle.rt_jobs.specs.Meanings.{Meaning}
 use Rattle.rt_ring.specs.declared.ring_out.Sending.{Sending}
 use Rattle.rt_journal.specs.Recorded.{RecordedView, IsRecorded, desk_of}
 use Rattle.rt_journal_desk.specs.Ends.{IsOutOf}
@@ -23,9 +23,10 @@ use Rattle.rt_runtime_worker.specs.Queues.{opening_of}
 use Rattle.rt_runtime_worker.proofs.Openings.{opening_collected}
 use Rattle.rt_runtime_worker.proofs.Stepping.{Opens}
 use Rattle.rt_runtime_worker.proofs.Posted.{resent_beside}
+use Rattle.rt_link.specs.Fits.{Fits}
 
-module _ {J T : Type 0} {fits : Order J → Outcome J T → Type 0} (core : ℕ) (recorded : RecordedView J T) (ends : EndsView J T) (known : core < recorded.core.cores) (at : ℕ) (inside : EndsView J T)
-    (opens : Opens core ends at inside) (before : Sending J T) (is : before ≡ get_or inside.outs at before) (beside : AreBeside fits recorded ends) where
+module _ {J T : Type 0} {meaning : Meaning J T} (core : ℕ) (recorded : RecordedView J T) (ends : EndsView J T) (known : core < recorded.core.cores) (at : ℕ) (inside : EndsView J T)
+    (opens : Opens core ends at inside) (before : Sending J T) (is : before ≡ get_or inside.outs at before) (beside : AreBeside (Fits meaning) recorded ends) where
   out_in_place : core < length ends.outs
   out_in_place = omega (arith, known, beside.outs.count)
 
@@ -40,7 +41,7 @@ module _ {J T : Type 0} {fits : Order J → Outcome J T → Type 0} (core : ℕ)
   pub out_beside : IsOutOf core (desk_of recorded) before.out before.credited
   out_beside = beside.outs.beside core before out_there
 
-  pub out_lane : HasLane fits core (desk_of recorded) before.out before.credited
+  pub out_lane : HasLane (Fits meaning) core (desk_of recorded) before.out before.credited
   out_lane = beside.outs.lanes core before out_there
 
   module _ (now : RecordedView J T) (after : Sending J T) where
@@ -48,8 +49,8 @@ module _ {J T : Type 0} {fits : Order J → Outcome J T → Type 0} (core : ℕ)
     put_seen : record ends { outs = set ends.outs core after } ≡ record inside { outs = set inside.outs at after }
     put_seen = ap (λ number. record ends { outs = set ends.outs number after }) (sym opens.number) ∙ ap (λ (ends : EndsView J T). record ends { outs = set ends.outs at after }) (sym opens.seen)
 
-    module _ (stays : StaysBeside fits core (desk_of recorded) (desk_of now) after.out after.credited) where
-      outs_now : AreOutsOf fits (λ (end : Sending J T). end.out) (λ (end : Sending J T). end.credited) (desk_of now) (set ends.outs core after)
+    module _ (stays : StaysBeside (Fits meaning) core (desk_of recorded) (desk_of now) after.out after.credited) where
+      outs_now : AreOutsOf (Fits meaning) (λ (end : Sending J T). end.out) (λ (end : Sending J T). end.credited) (desk_of now) (set ends.outs core after)
       outs_now = record {
         count = length-set ends.outs core after ∙ (beside.outs.count ∙ ap (λ desk. desk.cores) (sym stays.rest));
         beside = λ other its at. elim (eqb_tells other core) [
@@ -57,20 +58,20 @@ module _ {J T : Type 0} {fits : Order J → Outcome J T → Type 0} (core : ℕ)
           | inr away ↦ (stays.others other away.1).each its.out its.credited (beside.outs.beside other its (unchanged ends.outs core other after its at away.1))
         ];
         lanes = λ other its at. elim (eqb_tells other core) [
-          | inl one ↦ subst (λ (end : Sending J T). HasLane fits other (desk_of now) end.out end.credited) (sym (changed ends.outs core other after its at one.1)) (subst (λ core. HasLane fits core (desk_of now) after.out after.credited) (sym one.1) stays.lane)
+          | inl one ↦ subst (λ (end : Sending J T). HasLane (Fits meaning) other (desk_of now) end.out end.credited) (sym (changed ends.outs core other after its at one.1)) (subst (λ core. HasLane (Fits meaning) core (desk_of now) after.out after.credited) (sym one.1) stays.lane)
           | inr away ↦
               let had = beside.outs.lanes other its (unchanged ends.outs core other after its at away.1) in
               record { lane = had.lane; is = stays.lanes other away.1 ∙ had.is; lane_of = had.lane_of }
         ];
       }
 
-      collected_beside : ((sender : ℕ) → KeepsIn sender recorded now) → IsSameSeat recorded now → AreBeside fits now (record inside { outs = set inside.outs at after })
+      collected_beside : ((sender : ℕ) → KeepsIn sender recorded now) → IsSameSeat recorded now → AreBeside (Fits meaning) now (record inside { outs = set inside.outs at after })
       collected_beside ins seat =
-          subst (AreBeside fits now) put_seen (resent_beside recorded now ends ends refl (set ends.outs core after) beside ins seat outs_now)
+          subst (AreBeside (Fits meaning) now) put_seen (resent_beside recorded now ends ends refl (set ends.outs core after) beside ins seat outs_now)
 
-      module _ {same : J → J → Type 0} {made : J → ℕ} {polls : Owed J T} (linked : IsLinked same made polls fits (record { recorded = recorded; ends = ends }))
+      module _ (linked : IsLinked meaning (record { recorded = recorded; ends = ends }))
           (rest : now ≡ record recorded { journal = now.journal; lanes = now.lanes }) (ins : (sender : ℕ) → KeepsIn sender recorded now) (seat : IsSameSeat recorded now) where
-        pub collected_linked : IsRecorded same made polls now → IsLinked same made polls fits (record { recorded = now; ends = record inside { outs = set inside.outs at after } })
+        pub collected_linked : IsRecorded meaning now → IsLinked meaning (record { recorded = now; ends = record inside { outs = set inside.outs at after } })
         collected_linked sound = record {
           recorded = sound;
           at_rest = ap (λ view. view.core.out) rest ∙ linked.at_rest;

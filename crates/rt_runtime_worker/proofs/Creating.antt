@@ -6,7 +6,7 @@ use Rattle.std.proofs.lemmas.List.{drop_all}
 use Rattle.rt_ids.specs.declared.note.Note.TheVariants.{Created}
 use Rattle.rt_ids.specs.Journal.{Journal}
 use Rattle.rt_ids.specs.Commands.{IsOpening, created_count}
-use Rattle.rt_jobs.specs.Steps.{Owed}
+use Rattle.rt_jobs.specs.Meanings.{Meaning}
 use Rattle.rt_runtime_config.specs.Configs.{Entry, queues_of}
 use Rattle.rt_runtime_config.proofs.Counts.{queues_here, queues_away, queues_none}
 use Rattle.rt_journal.specs.Recorded.{RecordedView, IsRecorded}
@@ -30,25 +30,25 @@ module _ {T : Type 0} (queues : List Entry) (index : ℕ) (none : Entry) (low : 
       next_entry before
       ∙ ap (λ (test : Bool). behind_entries core (drop (suc index) queues) (if test then Created (created_count before + 1) (get_or queues index none).1 ∷ before else before)) (ne_eqb (get_or queues index none).0 core other)
 
-module _ {J T : Type 0} (same : J → J → Type 0) (made : J → ℕ) (polls : Owed J T) where
+module _ {J T : Type 0} (meaning : Meaning J T) where
   -- the queues of this core among the first ones were created, and noted
   pub record IsCreating (core : ℕ) (queues : List Entry) (index : ℕ) (old now : RecordedView J T) : Type 0 where
     pub count : ℕ
     pub left : count + queues_of core (drop index queues) ≡ queues_of core queues
-    pub created : CreatesSince same made polls count old now
+    pub created : CreatesSince meaning count old now
     pub noted : behind_entries core (drop index queues) now.journal.notes ≡ behind_entries core queues old.journal.notes
 
-module _ {J T : Type 0} {same : J → J → Type 0} {made : J → ℕ} {polls : Owed J T} (core : ℕ) (queues : List Entry) where
-  pub creating_first : (old : RecordedView J T) → IsOpening old.journal.notes → IsRecorded same made polls old → IsCreating same made polls core queues 0 old old
+module _ {J T : Type 0} {meaning : Meaning J T} (core : ℕ) (queues : List Entry) where
+  pub creating_first : (old : RecordedView J T) → IsOpening old.journal.notes → IsRecorded meaning old → IsCreating meaning core queues 0 old old
   creating_first old opening sound = record { count = 0; left = omega arith; created = created_none old 0 opening sound; noted = refl }
 
-  module _ (index next : ℕ) (is_next : next ≡ suc index) (low : index < length queues) (none : Entry) (old now : RecordedView J T) (was : IsCreating same made polls core queues index old now) where
+  module _ (index next : ℕ) (is_next : next ≡ suc index) (low : index < length queues) (none : Entry) (old now : RecordedView J T) (was : IsCreating meaning core queues index old now) where
     -- there is one more to create
     pub creating_left : (get_or queues index none).0 ≡ core → was.count < queues_of core queues
     creating_left here = omega (arith, was.left, queues_here queues index none low core here)
 
-    pub creating_more : (get_or queues index none).0 ≡ core → (new : RecordedView J T) → CreatesSince same made polls 1 now new →
-        new.journal.notes ≡ Created (created_count now.journal.notes + 1) (get_or queues index none).1 ∷ now.journal.notes → IsCreating same made polls core queues next old new
+    pub creating_more : (get_or queues index none).0 ≡ core → (new : RecordedView J T) → CreatesSince meaning 1 now new →
+        new.journal.notes ≡ Created (created_count now.journal.notes + 1) (get_or queues index none).1 ∷ now.journal.notes → IsCreating meaning core queues next old new
     creating_more here new one noted = record {
       count = was.count + 1;
       left = subst (λ place. was.count + 1 + queues_of core (drop place queues) ≡ queues_of core queues) (sym is_next) (omega (arith, was.left, queues_here queues index none low core here));
@@ -58,7 +58,7 @@ module _ {J T : Type 0} {same : J → J → Type 0} {made : J → ℕ} {polls : 
           (ap (behind_entries core (drop (suc index) queues)) noted ∙ (sym (entry_here queues index none low core here now.journal.notes) ∙ was.noted));
     }
 
-    pub creating_on : (get_or queues index none).0 ≢ core → IsCreating same made polls core queues next old now
+    pub creating_on : (get_or queues index none).0 ≢ core → IsCreating meaning core queues next old now
     creating_on away = record {
       count = was.count;
       left = subst (λ place. was.count + queues_of core (drop place queues) ≡ queues_of core queues) (sym is_next) (omega (arith, was.left, queues_away queues index none low core away));
@@ -68,9 +68,9 @@ module _ {J T : Type 0} {same : J → J → Type 0} {made : J → ℕ} {polls : 
           (sym (entry_away queues index none low core away now.journal.notes) ∙ was.noted);
     }
 
-  pub creating_done : (index : ℕ) (old now : RecordedView J T) → length queues ≤ index → IsCreating same made polls core queues index old now → CreatesSince same made polls (queues_of core queues) old now
+  pub creating_done : (index : ℕ) (old now : RecordedView J T) → length queues ≤ index → IsCreating meaning core queues index old now → CreatesSince meaning (queues_of core queues) old now
   creating_done index old now behind was =
-      subst (λ count. CreatesSince same made polls count old now) (omega (arith, was.left, queues_none core queues index behind)) was.created
+      subst (λ count. CreatesSince meaning count old now) (omega (arith, was.left, queues_none core queues index behind)) was.created
 
-  pub creating_noted : (index : ℕ) (old now : RecordedView J T) → length queues ≤ index → IsCreating same made polls core queues index old now → now.journal.notes ≡ behind_entries core queues old.journal.notes
+  pub creating_noted : (index : ℕ) (old now : RecordedView J T) → length queues ≤ index → IsCreating meaning core queues index old now → now.journal.notes ≡ behind_entries core queues old.journal.notes
   creating_noted index old now behind was = sym (ap (λ rest. behind_entries core rest now.journal.notes) (drop_all index queues behind)) ∙ was.noted

@@ -3,7 +3,7 @@ use Rattle.std.proofs.Common.{◌≡◌, ◌≢◌, ℕ, ◌≤◌, None, sym, s
 use Rattle.std.specs.Prelude.{Bool, true, false}
 use Rattle.rt_ids.specs.declared.order.Outcome.{Outcome}
 use Rattle.rt_ids.specs.declared.order.Order.{Order}
-use Rattle.rt_jobs.specs.Steps.{Owed}
+use Rattle.rt_jobs.specs.Meanings.{Meaning}
 use Rattle.rt_link.specs.Calls.{Shuts}
 use Rattle.rt_ring.specs.declared.ring_in.Receiving.{Receiving}
 use Rattle.rt_journal.specs.Recorded.{RecordedView, IsRecorded, desk_of}
@@ -16,10 +16,11 @@ use Rattle.rt_runtime_worker.specs.Steps.{ShutsGate, DeliversFrom}
 use Rattle.rt_runtime_worker.specs.Queues.{opening_of}
 use Rattle.rt_runtime_worker.proofs.Openings.{opening_delivers, opening_shut}
 use Rattle.rt_runtime_worker.proofs.Stepping.{StepsOn, Opens, lent, lent_beside, lent_here, put_back, same_ends, put_beside, end_put}
+use Rattle.rt_link.specs.Fits.{Fits}
 
-module _ {J T : Type 0} {same : J → J → Type 0} {made : J → ℕ} {polls : Owed J T} {fits : Order J → Outcome J T → Type 0} where
+module _ {J T : Type 0} {meaning : Meaning J T} where
   module _ (sender : ℕ) (recorded now : RecordedView J T) (ends : EndsView J T) (at : ℕ) (inside : EndsView J T) (before after : Receiving J T) (opens : Opens sender ends at inside)
-      (linked : IsLinked same made polls fits (record { recorded = recorded; ends = ends })) (known : sender ≤ recorded.core.cores) (is : lent at inside before) where
+      (linked : IsLinked meaning (record { recorded = recorded; ends = ends })) (known : sender ≤ recorded.core.cores) (is : lent at inside before) where
     before_is : before ≡ in_at sender ends
     before_is = lent_here sender recorded ends at inside before opens linked.beside known is
 
@@ -27,7 +28,7 @@ module _ {J T : Type 0} {same : J → J → Type 0} {made : J → ℕ} {polls : 
     from_is = (lent_beside sender recorded ends at inside before opens linked.beside known is).from
 
     stepped : IsInOf sender now after.inward → ((other : ℕ) → other ≢ sender → KeepsIn other recorded now) → KeepsOuts (desk_of recorded) (desk_of now) → now.lanes ≡ recorded.lanes → IsSameSeat recorded now →
-        after.link ≡ before.link → opening_of now.journal.notes ≡ opening_of recorded.journal.notes → StepsOn fits sender recorded now ends after
+        after.link ≡ before.link → opening_of now.journal.notes ≡ opening_of recorded.journal.notes → StepsOn (Fits meaning) sender recorded now ends after
     stepped its_own others outs lanes seat link opening = record {
       beside = linked.beside;
       known = known;
@@ -40,8 +41,8 @@ module _ {J T : Type 0} {same : J → J → Type 0} {made : J → ℕ} {polls : 
       opening = opening;
     }
 
-    module _ (step : StepsOn fits sender recorded now ends after) where
-      pub linked_here : now.core.out ≡ None → IsRecorded same made polls now → IsLinked same made polls fits (record { recorded = now; ends = put_back at inside after })
+    module _ (step : StepsOn (Fits meaning) sender recorded now ends after) where
+      pub linked_here : now.core.out ≡ None → IsRecorded meaning now → IsLinked meaning (record { recorded = now; ends = put_back at inside after })
       linked_here at_rest sound = record { recorded = sound; at_rest = at_rest; beside = put_beside sender recorded now ends at inside after opens step }
 
       pub stays_here : StaysLinked (record { recorded = recorded; ends = ends }) (record { recorded = now; ends = put_back at inside after })
@@ -53,12 +54,12 @@ module _ {J T : Type 0} {same : J → J → Type 0} {made : J → ℕ} {polls : 
 
     module _ (found : Bool) (does : Delivers recorded before.inward now after.inward found) (its_own : IsInOf before.inward.from now after.inward)
         (others : (other : ℕ) → other ≢ before.inward.from → KeepsIn other recorded now) (outs : KeepsOuts (desk_of recorded) (desk_of now)) (lanes : now.lanes ≡ recorded.lanes) (seat : IsSameSeat recorded now) (link : after.link ≡ before.link) where
-      delivered_step : StepsOn fits sender recorded now ends after
+      delivered_step : StepsOn (Fits meaning) sender recorded now ends after
       delivered_step =
           stepped (subst (λ from. IsInOf from now after.inward) from_is its_own) (λ other away. others other (λ one. away (one ∙ from_is))) outs lanes seat link
           (opening_delivers recorded now before.inward after.inward found does)
 
-      pub delivers_linked : IsRecorded same made polls now → IsLinked same made polls fits (record { recorded = now; ends = put_back at inside after })
+      pub delivers_linked : IsRecorded meaning now → IsLinked meaning (record { recorded = now; ends = put_back at inside after })
       delivers_linked sound = linked_here delivered_step (at_rest_after found does) sound
 
       pub delivers_does : DeliversFrom sender (record { recorded = recorded; ends = ends }) found (record { recorded = now; ends = put_back at inside after })
@@ -71,10 +72,10 @@ module _ {J T : Type 0} {same : J → J → Type 0} {made : J → ℕ} {polls : 
 
     module _ (count : ℕ) (shuts : Shuts before.inward after.inward count) (tells : TellsShut recorded sender count now) (its_own : IsInOf sender now after.inward)
         (others : (other : ℕ) → other ≢ sender → KeepsIn other recorded now) (outs : KeepsOuts (desk_of recorded) (desk_of now)) (lanes : now.lanes ≡ recorded.lanes) (seat : IsSameSeat recorded now) (link : after.link ≡ before.link) where
-      shut_step : StepsOn fits sender recorded now ends after
+      shut_step : StepsOn (Fits meaning) sender recorded now ends after
       shut_step = stepped its_own others outs lanes seat link (opening_shut recorded now sender count tells)
 
-      pub shuts_linked : IsRecorded same made polls now → IsLinked same made polls fits (record { recorded = now; ends = put_back at inside after })
+      pub shuts_linked : IsRecorded meaning now → IsLinked meaning (record { recorded = now; ends = put_back at inside after })
       shuts_linked sound = linked_here shut_step (tells.out ∙ linked.at_rest) sound
 
       pub shuts_does : ShutsGate sender (record { recorded = recorded; ends = ends }) (record { recorded = now; ends = put_back at inside after })

@@ -8,7 +8,7 @@ use Rattle.rt_ids.specs.declared.order.Order.{Order}
 use Rattle.rt_ids.specs.declared.order.Outcome.{Outcome}
 use Rattle.rt_ids.specs.Assembly.{Assembly, journal_of}
 use Rattle.rt_ids.specs.Closing.{IsDrained}
-use Rattle.rt_jobs.specs.Steps.{Owed}
+use Rattle.rt_jobs.specs.Meanings.{Meaning}
 use Rattle.rt_journal_desk.specs.Submissions.{IsWritten, terms_of_desk}
 use Rattle.rt_journal.specs.Recorded.{desk_of}
 use Rattle.rt_journal_desk.specs.Ends.{IsOutOf}
@@ -26,8 +26,8 @@ module _ {A B : Type 0} (f : A → B) (xs : List A) (x none : B) (d : A) where
   pub at_last : (n : ℕ) → length xs ≡ n → get_or (map f xs ++ x ∷ []) n none ≡ x
   at_last n is = rw (← is) (rw (← length-map xs f) (get_or-append_seam (map f xs) x [] none))
 
-module _ {J T : Type 0} {same : J → J → Type 0} {made : J → ℕ} {polls : Owed J T} {fits : Order J → Outcome J T → Type 0}
-    {cores cap : ℕ} {workers : List (LinkedView J T)} {outside : OutsideView J T} (have : HaveEnded same made polls fits cores cap workers outside) where
+module _ {J T : Type 0} {meaning : Meaning J T}
+    {cores cap : ℕ} {workers : List (LinkedView J T)} {outside : OutsideView J T} (have : HaveEnded meaning cores cap workers outside) where
   desk_here : (core : ℕ) → core < cores → desk_among workers outside core ≡ desk_of (worker_at core workers).recorded
   desk_here core low = before_last (λ (worker : LinkedView J T). desk_of worker.recorded) workers outside.desk outside.desk no_linked core (omega (arith, low, have.count))
 
@@ -71,7 +71,7 @@ module _ {J T : Type 0} {same : J → J → Type 0} {made : J → ℕ} {polls : 
       (cases_eq actor cores)
 
   pub ended_together :
-      AreTogether same made polls cores cap (desk_among workers outside) (λ core. (worker_at core workers).recorded)
+      AreTogether meaning cores cap (desk_among workers outside) (λ core. (worker_at core workers).recorded)
       (λ sender core. (out_at core (ends_at sender (all_ends workers outside))).out)
       (λ sender core. (out_at core (ends_at sender (all_ends workers outside))).credited)
       (λ sender core. (in_at sender (ends_at core (all_ends workers outside))).inward)

@@ -9,7 +9,7 @@ use Rattle.rt_ids.specs.declared.order.Mode.{Mode}
 use Rattle.rt_ids.specs.declared.order.Mode.TheVariants.{Finish, Return}
 use Rattle.rt_ids.specs.Journal.{Journal, EachNote, or_else}
 use Rattle.rt_ids.specs.Closing.{closes, core_mode, final_count}
-use Rattle.rt_jobs.specs.Steps.{Owed}
+use Rattle.rt_jobs.specs.Meanings.{Meaning}
 use Rattle.rt_link.specs.declared.ends.Inward.{Inward}
 use Rattle.rt_link.specs.Ends.{SoundIn}
 use Rattle.rt_link.specs.Calls.{final_of}
@@ -111,7 +111,7 @@ module _ {J T : Type 0} where
     stays = stays_along old middle new first.stays next.stays;
   }
 
-  module _ {same : J → J → Type 0} {made : J → ℕ} {polls : Owed J T} {fits : Order J → Outcome J T → Type 0} (old middle new : LinkedView J T) (linked : IsLinked same made polls fits old) (spare : HasSpare old.recorded)
+  module _ {meaning : Meaning J T} (old middle new : LinkedView J T) (linked : IsLinked meaning old) (spare : HasSpare old.recorded)
       (returns : LeavesReturning old middle) (shuts : ShutsFirst (middle.recorded.core.cores + 1) middle new) where
     returns_longer : (old new : JournalView T) → WritesReturn old new → length new.notes ≤ length old.notes + 1
     returns_longer old new (inl same) = let now : length new.notes ≡ length old.notes = ap (λ journal. length journal.notes) same in omega (arith, now)
@@ -159,9 +159,9 @@ module _ {J T : Type 0} where
             subst (λ journal. EachNote (MayAct (least_free old.recorded.core.cores old.recorded.cap) old.recorded.journal.room) journal.notes) (sym wrote) (inr (refl, short), each)
 
   -- a core that closed by itself is linked as before
-  pub returned_linked : {same : J → J → Type 0} {made : J → ℕ} {polls : Owed J T} {fits : Order J → Outcome J T → Type 0} (old new : RecordedView J T) (ends : EndsView J T) → IsLinked same made polls fits (record { recorded = old; ends = ends }) →
-      (did : Bool) → ClosesItself old Return did new → ((sender : ℕ) → KeepsIn sender old new) → KeepsOuts (desk_of old) (desk_of new) → new.lanes ≡ old.lanes → IsSameSeat old new → IsRecorded same made polls new →
-      IsLinked same made polls fits (record { recorded = new; ends = ends })
+  pub returned_linked : {meaning : Meaning J T} (old new : RecordedView J T) (ends : EndsView J T) → IsLinked meaning (record { recorded = old; ends = ends }) →
+      (did : Bool) → ClosesItself old Return did new → ((sender : ℕ) → KeepsIn sender old new) → KeepsOuts (desk_of old) (desk_of new) → new.lanes ≡ old.lanes → IsSameSeat old new → IsRecorded meaning new →
+      IsLinked meaning (record { recorded = new; ends = ends })
   returned_linked old new ends linked did closes ins outs lanes seat sound = record {
     recorded = sound;
     at_rest = still did closes;
@@ -199,19 +199,19 @@ module _ {J T : Type 0} where
   )
 
   -- the gate is shut, whether it was so before or not
-  pub leaves_shut : {same : J → J → Type 0} {made : J → ℕ} {polls : Owed J T} {fits : Order J → Outcome J T → Type 0} (sender : ℕ) (old new : LinkedView J T) → WritesShut sender old.recorded.journal new.recorded.journal → StaysLinked old new →
-      IsSome (final_count sender new.recorded.journal.notes) → sender ≤ old.recorded.core.cores → IsLinked same made polls fits new → SoundIn (in_at sender new.ends).inward → LeavesShut sender old new
+  pub leaves_shut : {meaning : Meaning J T} (sender : ℕ) (old new : LinkedView J T) → WritesShut sender old.recorded.journal new.recorded.journal → StaysLinked old new →
+      IsSome (final_count sender new.recorded.journal.notes) → sender ≤ old.recorded.core.cores → IsLinked meaning new → SoundIn (in_at sender new.ends).inward → LeavesShut sender old new
   leaves_shut sender old new wrote stays some known linked sound = record {
     wrote = wrote;
     shut = shut_within sender new.recorded (in_at sender new.ends).inward (linked.beside.ins sender (omega (arith, known, stays.seat.cores))) sound some;
     stays = stays;
   }
 
-  module _ {same : J → J → Type 0} {made : J → ℕ} {polls : Owed J T} {fits : Order J → Outcome J T → Type 0} (sender : ℕ) (old new inside : LinkedView J T) (seen : inside ≡ new) (known : sender ≤ old.recorded.core.cores)
-      (linked : IsLinked same made polls fits inside) (sound : SoundIn (in_at sender inside.ends).inward) where
+  module _ {meaning : Meaning J T} (sender : ℕ) (old new inside : LinkedView J T) (seen : inside ≡ new) (known : sender ≤ old.recorded.core.cores)
+      (linked : IsLinked meaning inside) (sound : SoundIn (in_at sender inside.ends).inward) where
     leaves_here : WritesShut sender old.recorded.journal new.recorded.journal → StaysLinked old new → IsSome (final_count sender new.recorded.journal.notes) → LeavesShut sender old new
     leaves_here wrote stays some =
-        leaves_shut sender old new wrote stays some known (subst (IsLinked same made polls fits) seen linked) (subst (λ (view : LinkedView J T). SoundIn (in_at sender view.ends).inward) seen sound)
+        leaves_shut sender old new wrote stays some known (subst (IsLinked meaning) seen linked) (subst (λ (view : LinkedView J T). SoundIn (in_at sender view.ends).inward) seen sound)
 
     -- it was shut just now
     pub leaves_then : (did : LinkedView J T) → new ≡ did → ShutsGate sender old did → LeavesShut sender old new

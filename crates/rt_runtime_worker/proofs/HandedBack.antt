@@ -19,10 +19,11 @@ use Rattle.rt_journal.specs.Owed.{owed_back, IsSentUnder}
 use Rattle.rt_journal.specs.Turns.{Picks, IsHandBack}
 use Rattle.rt_runtime_worker.specs.Linked.{AreBeside, AreOwing}
 use Rattle.rt_runtime_worker.proofs.Stepping.{sends_kept}
+use Rattle.rt_jobs.specs.Meanings.{Meaning}
 
 module _ {J T : Type 0} (old new : RecordedView J T) (picked : Result (Turn J) PickError) (name : JobId) (reason : Reason) (order : Order J) (is : picked ≡ Ok (Back name reason order)) where
-  pub handed_back : (same : J → J → Type 0) → Picks same old picked new → IsHandBack same old name reason order new
-  handed_back same picks = subst (λ one. Picks same old one new) is picks
+  pub handed_back : (meaning : Meaning J T) → Picks meaning old picked new → IsHandBack meaning old name reason order new
+  handed_back meaning picks = subst (λ one. Picks meaning old one new) is picks
 
   -- its outcome is owed to its sender
   pub stay_owing : {fits : Order J → Outcome J T → Type 0} (ends : EndsView J T) → AreBeside fits old ends → name.from ≤ old.core.cores → IsSameSeat old new → KeepsOuts (desk_of old) (desk_of new) → new.lanes ≡ old.lanes →
@@ -42,8 +43,8 @@ module _ {J T : Type 0} (old new : RecordedView J T) (picked : Result (Turn J) P
       }
 
   -- the order that is given back is of the task that was sent
-  pub sent_under : (same : J → J → Type 0) → IsHandBack same old name reason order new → IsSentUnder same new.took name order
-  sent_under same did = record {
+  pub sent_under : (meaning : Meaning J T) → IsHandBack meaning old name reason order new → IsSentUnder meaning new.took name order
+  sent_under meaning did = record {
     queue = did.queue;
     sent = did.sent;
     task = ap (λ took. order_taken took name) did.took ∙ did.task;

@@ -13,7 +13,7 @@ use Rattle.rt_ids.specs.Closing.{core_mode}
 use Rattle.rt_ids.specs.Commands.{reason_if_returning}
 use Rattle.rt_ids.specs.Journal.{or_else}
 use Rattle.rt_ids.proofs.Returning.{has_reason}
-use Rattle.rt_jobs.specs.Steps.{Owed}
+use Rattle.rt_jobs.specs.Meanings.{Meaning}
 use Rattle.rt_core.specs.declared.turn.Settled.{Settled}
 use Rattle.rt_core.specs.Whole.{IsAhead}
 use Rattle.rt_ring.specs.declared.ring_out.Sending.{Sending}
@@ -26,16 +26,17 @@ use Rattle.rt_ring_mesh.specs.Ends.{EndsView, in_at}
 use Rattle.rt_runtime_worker.specs.Linked.{AreBeside, AreOwing}
 use Rattle.rt_runtime_worker.specs.Rooms.{HasPollRoom, HasTurnRoom}
 use Rattle.rt_runtime_worker.specs.Steps.{PollsOne}
+use Rattle.rt_link.specs.Fits.{Fits}
 
-module _ {J T : Type 0} {same : J → J → Type 0} {made : J → ℕ} {polls : Owed J T} (old : RecordedView J T) (recorded : IsRecorded same made polls old)
+module _ {J T : Type 0} {meaning : Meaning J T} (old : RecordedView J T) (recorded : IsRecorded meaning old)
     (queue vr : ℕ) (name : JobId) (started : Bool) (is : IsAhead old.core queue vr name started) where
   -- its sender is there
   pub ahead_known : name.from ≤ old.core.cores
   ahead_known =
       let front = is.front in
-      let all : All (λ (entry : JobId × Bool × J). HasTask same made polls old.took old.journal.notes queue entry.0 entry.2) ((name, started, front.0) ∷ front.1) =
-      subst (λ (line : List (JobId × Bool × J)). All (λ entry. HasTask same made polls old.took old.journal.notes queue entry.0 entry.2) line) front.2 (recorded.waiting queue) in
-      let task = All-head (λ (entry : JobId × Bool × J). HasTask same made polls old.took old.journal.notes queue entry.0 entry.2) (name, started, front.0) front.1 all in
+      let all : All (λ (entry : JobId × Bool × J). HasTask meaning old.took old.journal.notes queue entry.0 entry.2) ((name, started, front.0) ∷ front.1) =
+      subst (λ (line : List (JobId × Bool × J)). All (λ entry. HasTask meaning old.took old.journal.notes queue entry.0 entry.2) line) front.2 (recorded.waiting queue) in
+      let task = All-head (λ (entry : JobId × Bool × J). HasTask meaning old.took old.journal.notes queue entry.0 entry.2) (name, started, front.0) front.1 all in
       (recorded.taken name _ task.task).sender
 
   -- the core doesn't hand back
@@ -72,14 +73,14 @@ module _ {J T : Type 0} where
       })
 
   -- the turn in place polls one job
-  pub turn_polls : {same : J → J → Type 0} {made : J → ℕ} {polls : Owed J T} {answers : J → T → Type 0} {fits : Order J → Outcome J T → Type 0} {tells : ℕ → Type 0}
+  pub turn_polls : {meaning : Meaning J T} {tells : ℕ → Type 0}
       (old new : RecordedView J T) (ends inside : EndsView J T) → inside ≡ ends → (later : List (Sending J T)) (name : JobId) (queue : ℕ) (started : Bool) (settled : Settled T) →
-      IsPostingTurn same made polls answers (Does fits (λ (end : Sending J T). end.out) (λ (end : Sending J T). end.credited) (λ (end : Sending J T). end.link)) (λ (end : Sending J T). end.out) (λ (end : Sending J T). end.link) tells
+      IsPostingTurn meaning (Does (Fits meaning) (λ (end : Sending J T). end.out) (λ (end : Sending J T). end.credited) (λ (end : Sending J T). end.link)) (λ (end : Sending J T). end.out) (λ (end : Sending J T). end.link) tells
       old inside.outs name queue started settled new later →
       length new.journal.notes ≤ length old.journal.notes + old.core.cores * (3 * old.cap) + 3 →
-      PollsOne made polls answers fits tells (record { recorded = old; ends = ends }) (record { recorded = new; ends = record inside { outs = later } })
-  turn_polls {made = made} {polls = polls} {answers = answers} {fits = fits} {tells = tells} old new ends inside seen later name queue started settled turn few =
-      subst (λ ends. PollsOne made polls answers fits tells (record { recorded = old; ends = ends }) (record { recorded = new; ends = record inside { outs = later } })) seen
+      PollsOne meaning tells (record { recorded = old; ends = ends }) (record { recorded = new; ends = record inside { outs = later } })
+  turn_polls {meaning = meaning} {tells = tells} old new ends inside seen later name queue started settled turn few =
+      subst (λ ends. PollsOne meaning tells (record { recorded = old; ends = ends }) (record { recorded = new; ends = record inside { outs = later } })) seen
       (record {
         name = name;
         queue = queue;

@@ -7,7 +7,7 @@ use Rattle.rt_ids.specs.declared.order.Order.{Order}
 use Rattle.rt_ids.specs.declared.note.Note.TheVariants.{Created}
 use Rattle.rt_ids.specs.Commands.{IsOpening}
 use Rattle.rt_ids.specs.Journal.{Journal, EachNote}
-use Rattle.rt_jobs.specs.Steps.{Owed}
+use Rattle.rt_jobs.specs.Meanings.{Meaning}
 use Rattle.rt_desk.specs.Lanes.{IsLaneOf, IsUnused}
 use Rattle.rt_desk.proofs.Cores.{IsUnused-fresh}
 use Rattle.rt_ring.specs.declared.ring_out.Sending.{Sending}
@@ -63,10 +63,10 @@ module _ {J T : Type 0} where
     orders = λ name order from took. cc;
   }
 
-  module _ {same : J → J → Type 0} {made : J → ℕ} {polls : Owed J T} where
+  module _ {meaning : Meaning J T} where
     -- one creation
     pub created_one : (weight : ℕ) (old new : RecordedView J T) (queue : ℕ) → IsOpening old.journal.notes → CreatesQueue weight old (Ok queue) new → ((sender : ℕ) → KeepsIn sender old new) →
-        KeepsOuts (desk_of old) (desk_of new) → new.lanes ≡ old.lanes → IsSameSeat old new → IsRecorded same made polls new → CreatesSince same made polls 1 old new
+        KeepsOuts (desk_of old) (desk_of new) → new.lanes ≡ old.lanes → IsSameSeat old new → IsRecorded meaning new → CreatesSince meaning 1 old new
     created_one weight old new queue opening creates ins outs lanes seat sound = record {
       opening = subst (λ journal. IsOpening journal.notes) (sym creates.2) opening;
       few = omega (arith, ap (λ journal. length journal.notes) creates.2);
@@ -78,7 +78,7 @@ module _ {J T : Type 0} where
       sound = sound;
     }
 
-    pub created_none : (view : RecordedView J T) (count : ℕ) → IsOpening view.journal.notes → IsRecorded same made polls view → CreatesSince same made polls count view view
+    pub created_none : (view : RecordedView J T) (count : ℕ) → IsOpening view.journal.notes → IsRecorded meaning view → CreatesSince meaning count view view
     created_none view count opening sound = record {
       opening = opening;
       few = omega arith;
@@ -90,8 +90,8 @@ module _ {J T : Type 0} where
       sound = sound;
     }
 
-    pub created_more : (one two count : ℕ) (old middle new : RecordedView J T) → one + two ≤ count → CreatesSince same made polls one old middle → CreatesSince same made polls two middle new →
-        CreatesSince same made polls count old new
+    pub created_more : (one two count : ℕ) (old middle new : RecordedView J T) → one + two ≤ count → CreatesSince meaning one old middle → CreatesSince meaning two middle new →
+        CreatesSince meaning count old new
     created_more one two count old middle new within first next = record {
       opening = next.opening;
       few = omega (arith, first.few, next.few, within);
@@ -103,7 +103,7 @@ module _ {J T : Type 0} where
       sound = next.sound;
     }
 
-    module _ (core cores cap room count : ℕ) (recorded : RecordedView J T) (ends : EndsView J T) (created : CreatesSince same made polls count (opened_beside core cores cap room) recorded)
+    module _ (core cores cap room count : ℕ) (recorded : RecordedView J T) (ends : EndsView J T) (created : CreatesSince meaning count (opened_beside core cores cap room) recorded)
         (are : AreEndsOf cores cap ends) (number : ends.number ≡ core) where
       opened_end : (to : ℕ) (end : Sending J T) → slice_get ends.outs to ≡ Some end → IsFreshOut ends.number to cap end × (to < cores)
       opened_end to end there =
@@ -131,14 +131,14 @@ module _ {J T : Type 0} where
           (created.ins sender).each _
           (subst (IsInOf sender (opened_beside core cores cap room)) (sym (is.inward ∙ ap (λ number. inward_of (fresh sender number cap 0)) number)) (fresh_in sender core cores cap room there))
 
-      pub opened_linked : {fits : Order J → Outcome J T → Type 0} → IsLinked same made polls fits (record { recorded = recorded; ends = ends })
-      opened_linked {fits} = record {
+      pub opened_linked : IsLinked meaning (record { recorded = recorded; ends = ends })
+      opened_linked = record {
         recorded = created.sound;
         at_rest = created.out;
         beside = record {
           number = number ∙ sym created.seat.number;
           ins_are = are.ins ∙ ap (λ cores. cores + 1) (sym created.seat.cores);
-          outs = record { count = are.outs ∙ sym created.seat.cores; beside = opened_out; lanes = opened_lane fits };
+          outs = record { count = are.outs ∙ sym created.seat.cores; beside = opened_out; lanes = opened_lane (Fits meaning) };
           ins = opened_in;
         };
       }

@@ -14,7 +14,8 @@ use Rattle.rt_ids.specs.Journal.{Journal}
 use Rattle.rt_ids.specs.Commands.{created_count, refusal, effect_note}
 use Rattle.rt_jobs.specs.declared.job.Step.{Step}
 use Rattle.rt_jobs.specs.declared.job.Step.TheVariants as step
-use Rattle.rt_jobs.specs.Steps.{AfterPoll, Owed}
+use Rattle.rt_jobs.specs.Meanings.{Meaning}
+use Rattle.rt_jobs.specs.Steps.{AfterPoll}
 use Rattle.rt_core.specs.declared.turn.Settled.{Settled}
 use Rattle.rt_link.specs.declared.ends.Inward.{Inward}
 use Rattle.rt_journal_notes.specs.Journals.{JournalView}
@@ -107,18 +108,18 @@ module _ {J T : Type 0} where
       by_start true = refl
       by_start false = refl
 
-  pub opening_returned : (same : J → J → Type 0) (old new : RecordedView J T) (name : JobId) (reason : Reason) (order : Order J) → IsHandBack same old name reason order new →
+  pub opening_returned : (meaning : Meaning J T) (old new : RecordedView J T) (name : JobId) (reason : Reason) (order : Order J) → IsHandBack meaning old name reason order new →
       opening_of new.journal.notes ≡ opening_of old.journal.notes
-  opening_returned same old new name reason order did = ap (λ (journal : JournalView T). opening_of journal.notes) did.journal
+  opening_returned meaning old new name reason order did = ap (λ (journal : JournalView T). opening_of journal.notes) did.journal
 
   -- a poll with its post
   pub opening_posts : (old new : RecordedView J T) (ends later : List (Sending J T)) → HasPosted (λ (end : Sending J T). end.out) (λ (end : Sending J T). end.link) (post_of old ends) (post_of new later) →
       opening_of new.journal.notes ≡ opening_of old.journal.notes
   opening_posts old new ends later posted = ap (λ (desk : DeskView J T). opening_of desk.journal.notes) posted.desk ∙ opening_posted posted.notes old.journal.notes posted.posts
 
-  module _ {made : J → ℕ} {polls : Owed J T} {answers : J → T → Type 0} where
+  module _ {meaning : Meaning J T} where
     -- a poll that is settled
-    pub opening_settled : (old new : RecordedView J T) (ran : AfterPoll J T) (spent : ℕ) (settled : Settled T) → Settles made polls answers old ran spent settled new →
+    pub opening_settled : (old new : RecordedView J T) (ran : AfterPoll J T) (spent : ℕ) (settled : Settled T) → Settles meaning old ran spent settled new →
         opening_of new.journal.notes ≡ opening_of old.journal.notes
     opening_settled old new ran spent settled did = ap (λ (journal : JournalView T). opening_of journal.notes) did.journal ∙ by_step ran.step
       where
@@ -126,7 +127,7 @@ module _ {J T : Type 0} where
         by_step step.Yield = refl
         by_step (step.Done out) = refl
 
-    pub opening_polled : {fits : Order J → Outcome J T → Type 0} {tells : ℕ → Type 0} (old new : LinkedView J T) → PollsOne made polls answers fits tells old new →
+    pub opening_polled : {tells : ℕ → Type 0} (old new : LinkedView J T) → PollsOne meaning tells old new →
         opening_of new.recorded.journal.notes ≡ opening_of old.recorded.journal.notes
     opening_polled old new did =
         opening_settled did.left new.recorded did.ran did.spent did.settled did.settles

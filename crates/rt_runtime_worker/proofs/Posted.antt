@@ -3,7 +3,8 @@ use Rattle.std.proofs.Common.{◌≡◌, ℕ, suc, ◌+◌, List, [], ◌∷◌,
 use Rattle.std.specs.Prelude.{slice_get}
 use Rattle.rt_ids.specs.declared.order.Order.{Order}
 use Rattle.rt_ids.specs.declared.order.Outcome.{Outcome}
-use Rattle.rt_jobs.specs.Steps.{Owed, OwesAt}
+use Rattle.rt_jobs.specs.Meanings.{Meaning}
+use Rattle.rt_jobs.specs.Steps.{OwesAt}
 use Rattle.rt_ring.specs.declared.ring_out.Sending.{Sending}
 use Rattle.rt_journal_desk.specs.Calls.{Does}
 use Rattle.rt_journal.specs.Recorded.{RecordedView, desk_of}
@@ -13,6 +14,7 @@ use Rattle.rt_journal.specs.Whole.{post_of}
 use Rattle.rt_ring_mesh.specs.Ends.{EndsView, SameEnds}
 use Rattle.rt_runtime_worker.specs.Linked.{LinkedView, AreBeside}
 use Rattle.rt_runtime_worker.specs.Steps.{PollsOne}
+use Rattle.rt_link.specs.Fits.{Fits}
 
 module _ {J T : Type 0} where
   -- ends of the same links, place by place
@@ -49,9 +51,9 @@ module _ {J T : Type 0} where
         ins = λ sender known. (ins sender).each _ (beside.ins sender (omega (arith, known, seat.cores)));
       })
 
-  module _ {made : J → ℕ} {polls : Owed J T} {answers : J → T → Type 0} {fits : Order J → Outcome J T → Type 0} {tells : ℕ → Type 0} where
-    pub polls_again : (old : LinkedView J T) (new : RecordedView J T) (ends later : EndsView J T) → later.outs ≡ ends.outs → PollsOne made polls answers fits tells old (record { recorded = new; ends = ends }) →
-        PollsOne made polls answers fits tells old (record { recorded = new; ends = later })
+  module _ {meaning : Meaning J T} {tells : ℕ → Type 0} where
+    pub polls_again : (old : LinkedView J T) (new : RecordedView J T) (ends later : EndsView J T) → later.outs ≡ ends.outs → PollsOne meaning tells old (record { recorded = new; ends = ends }) →
+        PollsOne meaning tells old (record { recorded = new; ends = later })
     polls_again old new ends later same one = record {
       name = one.name;
       queue = one.queue;
@@ -62,7 +64,7 @@ module _ {J T : Type 0} where
       spent = one.spent;
       settled = one.settled;
       picks = one.picks;
-      owed = subst (λ outs. OwesAt polls (Does fits (λ (end : Sending J T). end.out) (λ (end : Sending J T). end.credited) (λ (end : Sending J T). end.link)) one.ran.before (made one.ran.before) (post_of one.picked old.ends.outs) (post_of one.left outs) one.ran.step one.ran.told) (sym same) one.owed;
+      owed = subst (λ outs. OwesAt meaning (Does (Fits meaning) (λ (end : Sending J T). end.out) (λ (end : Sending J T). end.credited) (λ (end : Sending J T). end.link)) one.ran.before (post_of one.picked old.ends.outs) (post_of one.left outs) one.ran.step one.ran.told) (sym same) one.owed;
       posted = subst (λ outs. HasPosted (λ (end : Sending J T). end.out) (λ (end : Sending J T). end.link) (post_of one.picked old.ends.outs) (post_of one.left outs)) (sym same) one.posted;
       told = one.told;
       settles = one.settles;

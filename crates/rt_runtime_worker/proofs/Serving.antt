@@ -12,7 +12,7 @@ use Rattle.rt_ids.specs.Journal.{EachNote}
 use Rattle.rt_ids.specs.Closing.{core_mode, final_count}
 use Rattle.rt_ids.specs.Lawful.{MayStand}
 use Rattle.rt_ids.proofs.Returning.{has_reason}
-use Rattle.rt_jobs.specs.Steps.{Owed}
+use Rattle.rt_jobs.specs.Meanings.{Meaning}
 use Rattle.rt_journal.specs.Polls.{poll_note, settle_note}
 use Rattle.rt_journal.specs.Recorded.{RecordedView, terms_at, sum_upto, given_count}
 use Rattle.rt_journal.specs.Ends.{IsSameSeat}
@@ -74,17 +74,17 @@ module _ {J T : Type 0} where
         omega (arith, given, through, given_here, through_here, did.longer, did.seat.room, ending.room);
   }
 
-  module _ {same : J → J → Type 0} {made : J → ℕ} {polls : Owed J T} {fits : Order J → Outcome J T → Type 0} where
+  module _ {meaning : Meaning J T} where
     -- the same core is as well served as before
-    pub unmoved : (ending : Bool) (old new : LinkedView J T) → IsLinked same made polls fits new → IsReady ending old.recorded → new.recorded ≡ old.recorded →
-        ActsAsItMay old.recorded.core.cores old.recorded.cap old.recorded.journal → IsServed same made polls fits (record { linked = new; ending = ending })
+    pub unmoved : (ending : Bool) (old new : LinkedView J T) → IsLinked meaning new → IsReady ending old.recorded → new.recorded ≡ old.recorded →
+        ActsAsItMay old.recorded.core.cores old.recorded.cap old.recorded.journal → IsServed meaning (record { linked = new; ending = ending })
     unmoved ending old new linked ready is acts = record {
       linked = linked;
       provided = subst (IsProvided ending) (sym is) (ready_provided ending old.recorded ready);
       acts = subst (λ (view : RecordedView J T). ActsAsItMay view.core.cores view.cap view.journal) (sym is) acts;
     }
 
-    module _ (sender : ℕ) (old new : LinkedView J T) (was : IsLinked same made polls fits old) (now : IsLinked same made polls fits new) (known : sender ≤ old.recorded.core.cores) (seat : IsSameSeat old.recorded new.recorded)
+    module _ (sender : ℕ) (old new : LinkedView J T) (was : IsLinked meaning old) (now : IsLinked meaning new) (known : sender ≤ old.recorded.core.cores) (seat : IsSameSeat old.recorded new.recorded)
         (does : Delivers old.recorded (in_at sender old.ends).inward new.recorded (in_at sender new.ends).inward true) where
       abbrev received : Receives old.recorded does.0 new.recorded
       received = does.2
@@ -118,7 +118,7 @@ module _ {J T : Type 0} where
       delivered_provided true ready = ending_after old.recorded new.recorded (delivered_one ready.returning) ready
 
       pub delivered_served : (ending : Bool) → IsReady ending old.recorded → ActsAsItMay old.recorded.core.cores old.recorded.cap old.recorded.journal →
-          IsServed same made polls fits (record { linked = new; ending = ending })
+          IsServed meaning (record { linked = new; ending = ending })
       delivered_served ending ready acts = record {
         linked = now;
         provided = delivered_provided ending ready;
@@ -128,15 +128,15 @@ module _ {J T : Type 0} where
       }
 
     -- whether an order was delivered or not
-    pub delivers_served : (sender : ℕ) (found ending : Bool) (old new : LinkedView J T) → IsLinked same made polls fits old → IsLinked same made polls fits new → sender ≤ old.recorded.core.cores →
+    pub delivers_served : (sender : ℕ) (found ending : Bool) (old new : LinkedView J T) → IsLinked meaning old → IsLinked meaning new → sender ≤ old.recorded.core.cores →
         DeliversFrom sender old found new → IsReady ending old.recorded → ActsAsItMay old.recorded.core.cores old.recorded.cap old.recorded.journal →
-        IsServed same made polls fits (record { linked = new; ending = ending })
+        IsServed meaning (record { linked = new; ending = ending })
     delivers_served sender true ending old new was now known does ready acts = delivered_served sender old new was now known does.stays.seat does.delivers ending ready acts
     delivers_served sender false ending old new was now known does ready acts = unmoved ending old new now ready does.delivers.1 acts
 
     -- gates that are shut in a core that was closed by an order
-    pub shuts_served : (old new : LinkedView J T) → IsLinked same made polls fits new → ShutsFirst (old.recorded.core.cores + 1) old new → IsReady false old.recorded →
-        ActsAsItMay old.recorded.core.cores old.recorded.cap old.recorded.journal → IsServed same made polls fits (record { linked = new; ending = false })
+    pub shuts_served : (old new : LinkedView J T) → IsLinked meaning new → ShutsFirst (old.recorded.core.cores + 1) old new → IsReady false old.recorded →
+        ActsAsItMay old.recorded.core.cores old.recorded.cap old.recorded.journal → IsServed meaning (record { linked = new; ending = false })
     shuts_served old new now shuts ready acts = record {
       linked = now;
       provided = spare_after old.recorded new.recorded (old.recorded.core.cores + 1) shuts.stays.seat ready shuts.longer (omega (arith, places_more old.recorded.core.cores old.recorded.cap));
@@ -144,8 +144,8 @@ module _ {J T : Type 0} where
     }
 
     -- outcomes that were collected
-    pub collects_served : (core count : ℕ) (old new : LinkedView J T) → IsLinked same made polls fits new → CollectsOf core old count new → IsReady false old.recorded →
-        ActsAsItMay old.recorded.core.cores old.recorded.cap old.recorded.journal → IsServed same made polls fits (record { linked = new; ending = false })
+    pub collects_served : (core count : ℕ) (old new : LinkedView J T) → IsLinked meaning new → CollectsOf core old count new → IsReady false old.recorded →
+        ActsAsItMay old.recorded.core.cores old.recorded.cap old.recorded.journal → IsServed meaning (record { linked = new; ending = false })
     collects_served core count old new now did ready acts =
         let notes_now : new.recorded.journal.notes ≡ did.collects.0 ++ old.recorded.journal.notes = ap (λ journal. journal.notes) did.collects.3 in
         let longer : length new.recorded.journal.notes ≡ length did.collects.0 + length old.recorded.journal.notes = ap length notes_now ∙ length-append did.collects.0 old.recorded.journal.notes in
@@ -157,9 +157,9 @@ module _ {J T : Type 0} where
               (collects_act _ _ core did.collects.0 old.recorded.journal.notes did.collects.1 acts));
         }
 
-    module _ (old new : LinkedView J T) (was : IsLinked same made polls fits old) (now : IsLinked same made polls fits new) (seat : IsSameSeat old.recorded new.recorded) where
+    module _ (old new : LinkedView J T) (was : IsLinked meaning old) (now : IsLinked meaning new) (seat : IsSameSeat old.recorded new.recorded) where
       -- a poll
-      module _ {answers : J → T → Type 0} {tells : ℕ → Type 0} (did : PollsOne made polls answers fits tells old new) where
+      module _ {tells : ℕ → Type 0} (did : PollsOne meaning tells old new) where
         picked_notes : did.picked.journal.notes ≡ poll_note did.name did.was_started ∷ writes.Pick did.queue did.picks.runtime ∷ old.recorded.journal.notes
         picked_notes = ap (λ journal. journal.notes) did.picks.journal
 
@@ -183,7 +183,7 @@ module _ {J T : Type 0} where
         polled_provided false ready = spare_after old.recorded new.recorded (old.recorded.core.cores * (3 * old.recorded.cap) + 3) seat ready (omega (arith, did.few)) (posts_few old.recorded.core.cores old.recorded.cap)
         polled_provided true ready = absurd (has_reason did.queue old.recorded.journal.notes (inr ready.returning) did.picks.kept)
 
-        polled_served : (ending : Bool) → IsReady ending old.recorded → ActsAsItMay old.recorded.core.cores old.recorded.cap old.recorded.journal → IsServed same made polls fits (record { linked = new; ending = ending })
+        polled_served : (ending : Bool) → IsReady ending old.recorded → ActsAsItMay old.recorded.core.cores old.recorded.cap old.recorded.journal → IsServed meaning (record { linked = new; ending = ending })
         polled_served ending ready acts = record {
           linked = now;
           provided = polled_provided ending ready;
@@ -191,7 +191,7 @@ module _ {J T : Type 0} where
         }
 
       -- a job that is handed back
-      module _ (did : HandsBack same old.recorded new.recorded) where
+      module _ (did : HandsBack meaning old.recorded new.recorded) where
         returned_notes : new.recorded.journal.notes ≡ writes.Returned did.name did.reason ∷ writes.Pick did.did.queue did.did.runtime ∷ old.recorded.journal.notes
         returned_notes = ap (λ journal. journal.notes) did.did.journal
 
@@ -213,7 +213,7 @@ module _ {J T : Type 0} where
             })
             ready
 
-        returned_served : (ending : Bool) → IsReady ending old.recorded → ActsAsItMay old.recorded.core.cores old.recorded.cap old.recorded.journal → IsServed same made polls fits (record { linked = new; ending = ending })
+        returned_served : (ending : Bool) → IsReady ending old.recorded → ActsAsItMay old.recorded.core.cores old.recorded.cap old.recorded.journal → IsServed meaning (record { linked = new; ending = ending })
         returned_served ending ready acts = record {
           linked = now;
           provided = returned_provided ending ready;
@@ -222,9 +222,9 @@ module _ {J T : Type 0} where
         }
 
       -- whatever a turn came to
-      pub turned_served : (answers : J → T → Type 0) (tells : ℕ → Type 0) (came_to : Made) (ending : Bool) → MakesTurn same made polls answers fits tells old came_to new → IsReady ending old.recorded →
-          ActsAsItMay old.recorded.core.cores old.recorded.cap old.recorded.journal → IsServed same made polls fits (record { linked = new; ending = ending })
-      turned_served answers tells came.Polled ending did ready acts = polled_served did ending ready acts
-      turned_served answers tells came.Returned ending did ready acts = returned_served did ending ready acts
-      turned_served answers tells came.Idle ending did ready acts = unmoved ending old new now ready did.1 acts
-      turned_served answers tells came.Spent ending did ready acts = unmoved ending old new now ready did.2 acts
+      pub turned_served : (tells : ℕ → Type 0) (came_to : Made) (ending : Bool) → MakesTurn meaning tells old came_to new → IsReady ending old.recorded →
+          ActsAsItMay old.recorded.core.cores old.recorded.cap old.recorded.journal → IsServed meaning (record { linked = new; ending = ending })
+      turned_served tells came.Polled ending did ready acts = polled_served did ending ready acts
+      turned_served tells came.Returned ending did ready acts = returned_served did ending ready acts
+      turned_served tells came.Idle ending did ready acts = unmoved ending old new now ready did.1 acts
+      turned_served tells came.Spent ending did ready acts = unmoved ending old new now ready did.2 acts

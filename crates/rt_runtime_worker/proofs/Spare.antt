@@ -12,7 +12,7 @@ use Rattle.rt_ids.specs.Lawful.{MayStand}
 use Rattle.rt_ids.proofs.Returning.{core_stays_returning}
 use Rattle.rt_link.specs.declared.ends.Inward.{Inward}
 use Rattle.rt_link.specs.Calls.{final_of}
-use Rattle.rt_jobs.specs.Steps.{Owed}
+use Rattle.rt_jobs.specs.Meanings.{Meaning}
 use Rattle.rt_journal.specs.Recorded.{sum_upto, given_count, delivered_count}
 use Rattle.rt_journal.specs.Ends.{IsInOf}
 use Rattle.rt_ring_mesh.specs.Ends.{in_at}
@@ -57,7 +57,7 @@ module _ {T : Type 0} (terms : Terms) where
   stays_returning [] before each was = was
   stays_returning (note ∷ notes) before each was = core_stays_returning terms note (notes ++ before) each.0.may_follow (stays_returning notes before each.1 was)
 
-module _ {J T : Type 0} {same : J → J → Type 0} {made : J → ℕ} {polls : Owed J T} {fits : Order J → Outcome J T → Type 0} (view : LinkedView J T) (linked : IsLinked same made polls fits view) where
+module _ {J T : Type 0} {meaning : Meaning J T} (view : LinkedView J T) (linked : IsLinked meaning view) where
   -- what was delivered of a sender came through its gate
   delivered_through : (sender : ℕ) → sender ≤ view.recorded.core.cores → IsSome (final_count sender view.recorded.journal.notes) →
       delivered_count view.recorded.journal.notes sender ≤ last_through view.recorded.journal.notes sender

@@ -3,7 +3,7 @@ use Rattle.std.specs.Prelude.{ℕ, Bool}
 use Rattle.rt_ids.specs.Closing.{IsDrained}
 use Rattle.rt_ids.specs.declared.order.Order.{Order}
 use Rattle.rt_ids.specs.declared.order.Outcome.{Outcome}
-use Rattle.rt_jobs.specs.Steps.{Owed}
+use Rattle.rt_jobs.specs.Meanings.{Meaning}
 use Rattle.rt_runtime_worker.specs.Linked.{LinkedView, IsLinked}
 use Rattle.rt_runtime_worker.specs.Rooms.{ActsAsItMay, IsProvided}
 
@@ -12,16 +12,16 @@ pub record ServedView (J T : Type 0) : Type 0 where
   pub linked : LinkedView J T
   pub ending : Bool
 
-module _ {J T : Type 0} (same : J → J → Type 0) (made : J → ℕ) (polls : Owed J T) (fits : Order J → Outcome J T → Type 0) where
+module _ {J T : Type 0} (meaning : Meaning J T) where
   -- Core, journal and ends agree, and there is room for what is left. The core closed by itself only where the journal was short, and posted only
   -- while it polled.
   pub record IsServed (view : ServedView J T) : Type 0 where
-    pub linked : IsLinked same made polls fits view.linked
+    pub linked : IsLinked meaning view.linked
     pub provided : IsProvided view.ending view.linked.recorded
     pub acts : ActsAsItMay view.linked.recorded.core.cores view.linked.recorded.cap view.linked.recorded.journal
 
   -- The core is drained, and core, journal and ends agree. It closed by itself only where the journal was short, and posted only while it polled.
   pub record HasEnded (view : LinkedView J T) : Type 0 where
-    pub linked : IsLinked same made polls fits view
+    pub linked : IsLinked meaning view
     pub drained : IsDrained view.recorded.core.cores view.recorded.journal.notes
     pub acts : ActsAsItMay view.recorded.core.cores view.recorded.cap view.recorded.journal

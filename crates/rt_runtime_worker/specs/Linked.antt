@@ -4,12 +4,13 @@ use Rattle.rt_ids.specs.declared.names.JobId.{JobId}
 use Rattle.rt_ids.specs.declared.order.Order.{Order}
 use Rattle.rt_ids.specs.declared.order.Outcome.{Outcome}
 use Rattle.rt_ids.specs.declared.note.OutcomeNote.{OutcomeNote}
-use Rattle.rt_jobs.specs.Steps.{Owed}
+use Rattle.rt_jobs.specs.Meanings.{Meaning}
 use Rattle.rt_journal.specs.Recorded.{RecordedView, IsRecorded, desk_of}
 use Rattle.rt_journal.specs.Ends.{IsInOf, IsInOwing, IsSameSeat}
 use Rattle.rt_journal_desk.specs.Posts.{AreOutsOf}
 use Rattle.rt_ring_mesh.specs.Ends.{EndsView, in_at, SameEnds}
 use Rattle.rt_runtime_worker.specs.Queues.{opening_of}
+use Rattle.rt_link.specs.Fits.{Fits}
 
 -- the core and its journal, and the ends
 pub record LinkedView (J T : Type 0) : Type 0 where
@@ -43,9 +44,9 @@ module _ {J T : Type 0} where
     pub ends : SameEnds old.ends new.ends
     pub opening : opening_of new.recorded.journal.notes ≡ opening_of old.recorded.journal.notes
 
-module _ {J T : Type 0} (same : J → J → Type 0) (made : J → ℕ) (polls : Owed J T) (fits : Order J → Outcome J T → Type 0) where
+module _ {J T : Type 0} (meaning : Meaning J T) where
   -- the core is recorded and no job is out, and the ends are beside it
   pub record IsLinked (view : LinkedView J T) : Type 0 where
-    pub recorded : IsRecorded same made polls view.recorded
+    pub recorded : IsRecorded meaning view.recorded
     pub at_rest : view.recorded.core.out ≡ None
-    pub beside : AreBeside fits view.recorded view.ends
+    pub beside : AreBeside (Fits meaning) view.recorded view.ends

@@ -1,7 +1,7 @@
 -- How a worker is opened over the ends of its actor.
 use Rattle.std.specs.Prelude.{◌≡◌, ℕ, ◌+◌, ◌<◌, ◌≤◌, length}
 use Rattle.rt_ids.specs.Commands.{IsOpening}
-use Rattle.rt_jobs.specs.Steps.{Owed}
+use Rattle.rt_jobs.specs.Meanings.{Meaning}
 use Rattle.rt_journal.specs.Recorded.{RecordedView, IsRecorded, desk_of, terms_at}
 use Rattle.rt_journal.specs.Ends.{IsSameSeat, KeepsIn}
 use Rattle.rt_journal_desk.specs.Ends.{KeepsOuts}
@@ -26,7 +26,7 @@ module _ {J T : Type 0} where
     pub of : IsWorkerOf ends.number cores cap room worker
     pub ends_are : worker.ends ≡ ends
 
-module _ {J T : Type 0} (same : J → J → Type 0) (made : J → ℕ) (polls : Owed J T) where
+module _ {J T : Type 0} (meaning : Meaning J T) where
   -- nothing but creations at the opening was noted since the core was as it was, at most so many
   pub record CreatesSince (count : ℕ) (old new : RecordedView J T) : Type 0 where
     pub opening : IsOpening new.journal.notes
@@ -36,4 +36,4 @@ module _ {J T : Type 0} (same : J → J → Type 0) (made : J → ℕ) (polls : 
     pub outs : KeepsOuts (desk_of old) (desk_of new)
     pub lanes : new.lanes ≡ old.lanes
     pub out : new.core.out ≡ old.core.out
-    pub sound : IsRecorded same made polls new
+    pub sound : IsRecorded meaning new

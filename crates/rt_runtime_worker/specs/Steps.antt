@@ -6,7 +6,8 @@ use Rattle.rt_ids.specs.declared.order.Outcome.{Outcome}
 use Rattle.rt_ids.specs.declared.order.Reason.{Reason}
 use Rattle.rt_ids.specs.Picks.{turns}
 use Rattle.rt_ids.specs.Work.{has_work}
-use Rattle.rt_jobs.specs.Steps.{AfterPoll, Owed, OwesAt}
+use Rattle.rt_jobs.specs.Meanings.{Meaning}
+use Rattle.rt_jobs.specs.Steps.{AfterPoll, OwesAt}
 use Rattle.rt_core.specs.declared.turn.Settled.{Settled}
 use Rattle.rt_link.specs.Calls.{Shuts}
 use Rattle.rt_journal.specs.Recorded.{RecordedView, desk_of}
@@ -20,6 +21,7 @@ use Rattle.rt_ring_mesh.specs.Ends.{in_at, out_at}
 use Rattle.rt_runtime_worker.specs.Linked.{LinkedView, StaysLinked}
 use Rattle.rt_runtime_worker.specs.declared.turn.Made.{Made}
 use Rattle.rt_runtime_worker.specs.declared.turn.Made.TheVariants.{Polled, Returned, Idle, Spent}
+use Rattle.rt_link.specs.Fits.{Fits}
 
 module _ {J T : Type 0} where
   -- the gate of this sender is shut, and its count is told
@@ -42,15 +44,15 @@ module _ {J T : Type 0} where
     pub rest : new.recorded ≡ record old.recorded { journal = new.recorded.journal; lanes = new.recorded.lanes }
     pub stays : StaysLinked old new
 
-module _ {J T : Type 0} (same : J → J → Type 0) where
+module _ {J T : Type 0} (meaning : Meaning J T) where
   -- the first job of the right pick is handed back
   pub record HandsBack (old new : RecordedView J T) : Type 0 where
     pub name : JobId
     pub reason : Reason
     pub order : Order J
-    pub did : IsHandBack same old name reason order new
+    pub did : IsHandBack meaning old name reason order new
 
-module _ {J T : Type 0} (made : J → ℕ) (polls : Owed J T) (answers : J → T → Type 0) (fits : Order J → Outcome J T → Type 0) (tells : ℕ → Type 0) where
+module _ {J T : Type 0} (meaning : Meaning J T) (tells : ℕ → Type 0) where
   -- the first job of the right pick is polled once, its post is this actor's desk over its own ends, and its poll is settled, with a time that may be told
   pub record PollsOne (old new : LinkedView J T) : Type 0 where
     pub name : JobId
@@ -62,16 +64,16 @@ module _ {J T : Type 0} (made : J → ℕ) (polls : Owed J T) (answers : J → T
     pub spent : ℕ
     pub settled : Settled T
     pub picks : IsPick old.recorded name queue was_started ran.before picked
-    pub owed : OwesAt polls (Does fits (λ end. end.out) (λ end. end.credited) (λ end. end.link)) ran.before (made ran.before) (post_of picked old.ends.outs) (post_of left new.ends.outs) ran.step ran.told
+    pub owed : OwesAt meaning (Does (Fits meaning) (λ end. end.out) (λ end. end.credited) (λ end. end.link)) ran.before (post_of picked old.ends.outs) (post_of left new.ends.outs) ran.step ran.told
     pub posted : HasPosted (λ end. end.out) (λ end. end.link) (post_of picked old.ends.outs) (post_of left new.ends.outs)
     pub told : tells spent
-    pub settles : Settles made polls answers left ran spent settled new.recorded
+    pub settles : Settles meaning left ran spent settled new.recorded
     pub few : length new.recorded.journal.notes ≤ length old.recorded.journal.notes + old.recorded.core.cores * (3 * old.recorded.cap) + 3
 
-module _ {J T : Type 0} (same : J → J → Type 0) (made : J → ℕ) (polls : Owed J T) (answers : J → T → Type 0) (fits : Order J → Outcome J T → Type 0) (tells : ℕ → Type 0) where
+module _ {J T : Type 0} (meaning : Meaning J T) (tells : ℕ → Type 0) where
   -- what a turn came to: a poll, a job that is handed back, no work, or no turn that is left
   abbrev pub MakesTurn : LinkedView J T → Made → LinkedView J T → Type 0
-  MakesTurn old Polled new = PollsOne made polls answers fits tells old new
-  MakesTurn old Returned new = HandsBack same old.recorded new.recorded
+  MakesTurn old Polled new = PollsOne meaning tells old new
+  MakesTurn old Returned new = HandsBack meaning old.recorded new.recorded
   MakesTurn old Idle new = ((queue : ℕ) → has_work queue old.recorded.journal.notes ≡ false) × (new.recorded ≡ old.recorded)
   MakesTurn old Spent new = (turns old.recorded.journal.notes ≡ 2 ^ 64 - 1) × ((queue : ℕ) × (has_work queue old.recorded.journal.notes ≡ true)) × (new.recorded ≡ old.recorded)

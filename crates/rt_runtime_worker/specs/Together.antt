@@ -5,7 +5,7 @@ use Rattle.rt_ids.specs.declared.order.Outcome.{Outcome}
 use Rattle.rt_ids.specs.Assembly.{Assembly, journal_of}
 use Rattle.rt_ids.specs.Closing.{IsDrained}
 use Rattle.rt_ids.specs.Joining.{AreJoined}
-use Rattle.rt_jobs.specs.Steps.{Owed}
+use Rattle.rt_jobs.specs.Meanings.{Meaning}
 use Rattle.rt_journal_desk.specs.Submissions.{DeskView, IsWritten, terms_of_desk}
 use Rattle.rt_journal.specs.Recorded.{desk_of, terms_at}
 use Rattle.rt_journal_desk.specs.Ends.{IsOutOf}
@@ -15,6 +15,7 @@ use Rattle.rt_ring_mesh.specs.Ends.{EndsView, out_at}
 use Rattle.rt_ring_mesh.specs.Grid.{AreReunited, no_ends}
 use Rattle.rt_runtime_worker.specs.Linked.{LinkedView}
 use Rattle.rt_runtime_worker.specs.Ended.{HasEnded}
+use Rattle.rt_link.specs.Fits.{Fits}
 
 -- the outside actor: its journal and its ends
 pub record OutsideView (J T : Type 0) : Type 0 where
@@ -43,15 +44,15 @@ module _ {J T : Type 0} where
     pub written : IsWritten (terms_of_desk view.desk) view.desk.journal.notes
     pub outs : (core : ℕ) → core < view.desk.cores → IsOutOf core view.desk (out_at core view.ends).out (out_at core view.ends).credited
 
-module _ {J T : Type 0} (same : J → J → Type 0) (made : J → ℕ) (polls : Owed J T) (fits : Order J → Outcome J T → Type 0) where
+module _ {J T : Type 0} (meaning : Meaning J T) where
   -- each worker of the house has ended, the outside actor is there, and the links are reunited
   pub record HaveEnded (cores cap : ℕ) (workers : List (LinkedView J T)) (outside : OutsideView J T) : Type 0 where
     pub count : length workers ≡ cores
     pub seats : (core : ℕ) → core < cores → terms_at (worker_at core workers).recorded ≡ record { actor = core; cores = cores; cap = cap }
-    pub ended : (core : ℕ) → core < cores → HasEnded same made polls fits (worker_at core workers)
+    pub ended : (core : ℕ) → core < cores → HasEnded meaning (worker_at core workers)
     pub outside_terms : terms_of_desk outside.desk ≡ record { actor = cores; cores = cores; cap = cap }
     pub outside_is : IsOutside outside
-    pub reunited : AreReunited fits cores (all_ends workers outside)
+    pub reunited : AreReunited (Fits meaning) cores (all_ends workers outside)
 
   -- their journals are joined, so they are sound; each core is drained
   abbrev pub EndedAreJoined : Type 0

@@ -1,7 +1,6 @@
 //! What a worker gives back.
 
 ghost use Rattle.std.specs.Prelude.{◌≡◌};
-ghost use Rattle.rt_link.specs.Fits.{Fits};
 ghost use Rattle.rt_runtime_worker.specs.Ended.{HasEnded};
 
 use crate::linked::Linked;
@@ -20,18 +19,17 @@ impl<J: Task<Out = u64>> Model for Ended<J> {
 
     ghost Value = { LinkedView J ℕ };
 
-    ghost use Rattle.rt_link.specs.Fits.{Fits};
     ghost use Rattle.rt_runtime_worker.specs.Ended.{HasEnded};
 
     ghost view = { λ e. e.linked };
 
-    ghost invariant = { λ e. HasEnded J.SameTask J.made J.Polls (Fits J.SameTask J.Answers) e.linked };
+    ghost invariant = { λ e. HasEnded J.meaning e.linked };
 }
 
 impl<J: Task<Out = u64>> Ended<J> {
     /// What a worker gives back at its end.
     pub fn of(linked: Linked<J>) -> Self
-        requires { HasEnded J.SameTask J.made J.Polls (Fits J.SameTask J.Answers) linked }
+        requires { HasEnded J.meaning linked }
         ensures { result ≡ linked }
     {
         Ended { linked }
@@ -40,7 +38,7 @@ impl<J: Task<Out = u64>> Ended<J> {
     /// The core with its journal and ends.
     pub fn into_linked(self) -> Linked<J>
         ensures same { result ≡ self }
-        ensures ended { HasEnded J.SameTask J.made J.Polls (Fits J.SameTask J.Answers) self }
+        ensures ended { HasEnded J.meaning self }
     {
         let Ended { linked } = self;
         linked

@@ -2,7 +2,6 @@
 
 ghost use Rattle.std.specs.Prelude.{◌≡◌, ◌+◌, ◌<◌, ◌≤◌, IsSome, length};
 ghost use Rattle.rt_ids.specs.Closing.{core_mode};
-ghost use Rattle.rt_link.specs.Fits.{Fits};
 ghost use Rattle.rt_runtime_worker.specs.Linked.{IsLinked, StaysLinked};
 ghost use Rattle.rt_runtime_worker.specs.Gates.{LeavesShut, LeavesReturning, ShutsFirst};
 ghost use Rattle.rt_runtime_worker.specs.Rooms.{ActsAsItMay, HasSpare, IsEnding, IsShort};
@@ -19,7 +18,7 @@ impl<J: Task<Out = u64>> Linked<J> {
         requires closed { IsSome (core_mode self.old.recorded.journal.notes) }
         requires room { length self.old.recorded.journal.notes < self.old.recorded.journal.room }
         ensures leaves { LeavesShut sender self.old self.new }
-        ensures linked { IsLinked J.SameTask J.made J.Polls (Fits J.SameTask J.Answers) self.new }
+        ensures linked { IsLinked J.meaning self.new }
     {
         let shut = self.is_shut(sender);
         if !shut {
@@ -35,7 +34,7 @@ impl<J: Task<Out = u64>> Linked<J> {
         requires closed { IsSome (core_mode self.old.recorded.journal.notes) }
         requires room { length self.old.recorded.journal.notes + self.old.recorded.core.cores + 1 ≤ self.old.recorded.journal.room }
         ensures shuts { ShutsFirst (self.old.recorded.core.cores + 1) self.old self.new }
-        ensures linked { IsLinked J.SameTask J.made J.Polls (Fits J.SameTask J.Answers) self.new }
+        ensures linked { IsLinked J.meaning self.new }
     {
         let mut some = false;
         for sender in 0..self.cores as usize + 1 {
@@ -65,7 +64,7 @@ impl<J: Task<Out = u64>> Linked<J> {
         ensures ending { IsEnding self.new.recorded }
         ensures acts { ActsAsItMay self.new.recorded.core.cores self.new.recorded.cap self.new.recorded.journal }
         ensures stays { StaysLinked self.old self.new }
-        ensures linked { IsLinked J.SameTask J.made J.Polls (Fits J.SameTask J.Answers) self.new }
+        ensures linked { IsLinked J.meaning self.new }
     {
         let _cores = self.cores;
         self.close_returning();

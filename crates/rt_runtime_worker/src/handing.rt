@@ -40,10 +40,10 @@ fn give_on<J: Task<Out = u64>>(
 )
     requires known { name.from ≤ recorded.now.core.cores }
     requires rest { recorded.now.core.out ≡ None }
-    requires sound { IsRecorded J.SameTask J.made J.Polls recorded.now }
-    requires sent { IsSentUnder J.SameTask recorded.now.took name order }
-    requires owing { AreOwing (Fits J.SameTask J.Answers) name.from (Some (name, Returned reason)) recorded.now ends.old }
-    ensures linked { IsLinked J.SameTask J.made J.Polls (Fits J.SameTask J.Answers) (record { recorded = recorded.now; ends = ends.new }) }
+    requires sound { IsRecorded J.meaning recorded.now }
+    requires sent { IsSentUnder J.meaning recorded.now.took name order }
+    requires owing { AreOwing (Fits J.meaning) name.from (Some (name, Returned reason)) recorded.now ends.old }
+    ensures linked { IsLinked J.meaning (record { recorded = recorded.now; ends = ends.new }) }
     ensures ends { SameEnds ends.old ends.new }
 {
     recorded.give_back(&mut ends.ins[name.from.0 as usize], name, reason, order);
@@ -52,10 +52,10 @@ fn give_on<J: Task<Out = u64>>(
 /// Hands back the job that the next pick hands back, and gives its outcome.
 pub(crate) fn hand_back<J: Task<Out = u64>>(recorded: &mut Recorded<J>, ends: &mut Ends<J>)
     requires ahead { TellsAhead recorded.old.core (Ok ahead.Back) }
-    requires linked { IsLinked J.SameTask J.made J.Polls (Fits J.SameTask J.Answers) (record { recorded = recorded.old; ends = ends.old }) }
+    requires linked { IsLinked J.meaning (record { recorded = recorded.old; ends = ends.old }) }
     requires room { length recorded.old.journal.notes + 2 ≤ recorded.old.journal.room }
-    ensures hands { HandsBack J.SameTask recorded.old recorded.new }
-    ensures linked { IsLinked J.SameTask J.made J.Polls (Fits J.SameTask J.Answers) (record { recorded = recorded.new; ends = ends.new }) }
+    ensures hands { HandsBack J.meaning recorded.old recorded.new }
+    ensures linked { IsLinked J.meaning (record { recorded = recorded.new; ends = ends.new }) }
     ensures stays { StaysLinked (record { recorded = recorded.old; ends = ends.old }) (record { recorded = recorded.new; ends = ends.new }) }
 {
     let (name, reason, order) = back_of(recorded.pick());

@@ -1,7 +1,6 @@
 //! Laws over the definitions alone. Their bodies are empty or call those of the crates below: each contract is the law.
 
 ghost use Rattle.std.specs.Prelude.{ℕ};
-ghost use Rattle.rt_link.specs.Fits.{Fits};
 ghost use Rattle.rt_runtime_worker.specs.Together.{EndedAreJoined};
 
 use rt_jobs::Task;
@@ -9,7 +8,7 @@ use rt_journal::laws::recorded_are_joined;
 
 /// Workers that have ended, the outside actor and their links together have journals that are joined, and so they are sound.
 pub fn ended_are_joined<J: Task<Out = u64>>()
-    ensures { EndedAreJoined {T = ℕ} J.SameTask J.made J.Polls (Fits J.SameTask J.Answers) }
+    ensures { EndedAreJoined {T = ℕ} J.meaning }
 {
     recorded_are_joined::<J>();
 }

@@ -4,7 +4,6 @@ ghost use Rattle.std.specs.Prelude.{◌≡◌, ◌+◌, ◌<◌, ◌≤◌, IsSo
 ghost use Rattle.rt_ids.specs.Closing.{core_mode, final_count};
 ghost use Rattle.rt_ring_mesh.specs.Ends.{in_at};
 ghost use Rattle.rt_link.specs.Ends.{SoundIn};
-ghost use Rattle.rt_link.specs.Fits.{Fits};
 ghost use Rattle.rt_runtime_worker.specs.Linked.{IsLinked};
 ghost use Rattle.rt_runtime_worker.specs.Steps.{ShutsGate, DeliversFrom, CollectsOf};
 
@@ -20,12 +19,12 @@ pub(crate) fn shut_on<J: Task<Out = u64>>(
     ends: &mut Ends<J>,
     sender: ActorNo,
 )
-    requires linked { IsLinked J.SameTask J.made J.Polls (Fits J.SameTask J.Answers) (record { recorded = recorded.old; ends = ends.old }) }
+    requires linked { IsLinked J.meaning (record { recorded = recorded.old; ends = ends.old }) }
     requires known { sender ≤ recorded.old.core.cores }
     requires closed { IsSome (core_mode recorded.old.journal.notes) }
     requires untold { final_count sender recorded.old.journal.notes ≡ None }
     requires room { length recorded.old.journal.notes < recorded.old.journal.room }
-    ensures linked { IsLinked J.SameTask J.made J.Polls (Fits J.SameTask J.Answers) (record { recorded = recorded.new; ends = ends.new }) }
+    ensures linked { IsLinked J.meaning (record { recorded = recorded.new; ends = ends.new }) }
     ensures does { ShutsGate sender (record { recorded = recorded.old; ends = ends.old }) (record { recorded = recorded.new; ends = ends.new }) }
 {
     recorded.shut(&mut ends.ins[sender.0 as usize], sender);
@@ -37,10 +36,10 @@ pub(crate) fn deliver_on<J: Task<Out = u64>>(
     ends: &mut Ends<J>,
     sender: ActorNo,
 ) -> bool
-    requires linked { IsLinked J.SameTask J.made J.Polls (Fits J.SameTask J.Answers) (record { recorded = recorded.old; ends = ends.old }) }
+    requires linked { IsLinked J.meaning (record { recorded = recorded.old; ends = ends.old }) }
     requires known { sender ≤ recorded.old.core.cores }
     requires room { length recorded.old.journal.notes + 2 ≤ recorded.old.journal.room }
-    ensures linked { IsLinked J.SameTask J.made J.Polls (Fits J.SameTask J.Answers) (record { recorded = recorded.new; ends = ends.new }) }
+    ensures linked { IsLinked J.meaning (record { recorded = recorded.new; ends = ends.new }) }
     ensures does { DeliversFrom sender (record { recorded = recorded.old; ends = ends.old }) result (record { recorded = recorded.new; ends = ends.new }) }
 {
     recorded.deliver(&mut ends.ins[sender.0 as usize])
@@ -52,10 +51,10 @@ pub(crate) fn collect_on<J: Task<Out = u64>>(
     ends: &mut Ends<J>,
     core: CoreNo,
 ) -> usize
-    requires linked { IsLinked J.SameTask J.made J.Polls (Fits J.SameTask J.Answers) (record { recorded = recorded.old; ends = ends.old }) }
+    requires linked { IsLinked J.meaning (record { recorded = recorded.old; ends = ends.old }) }
     requires known { core < recorded.old.core.cores }
     requires room { length recorded.old.journal.notes + recorded.old.cap ≤ recorded.old.journal.room }
-    ensures linked { IsLinked J.SameTask J.made J.Polls (Fits J.SameTask J.Answers) (record { recorded = recorded.new; ends = ends.new }) }
+    ensures linked { IsLinked J.meaning (record { recorded = recorded.new; ends = ends.new }) }
     ensures does { CollectsOf core (record { recorded = recorded.old; ends = ends.old }) result (record { recorded = recorded.new; ends = ends.new }) }
 {
     recorded.collect_from(&mut ends.outs[core.0 as usize], core)

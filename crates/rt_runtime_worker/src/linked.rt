@@ -2,7 +2,6 @@
 
 ghost use Rattle.std.specs.Prelude.{◌≡◌, ◌+◌, ◌<◌, ◌≤◌, ◌↔◌, IsSome, IsTrue, None, length, is_some};
 ghost use Rattle.rt_ids.specs.Closing.{IsDrained, core_mode, final_count};
-ghost use Rattle.rt_link.specs.Fits.{Fits};
 ghost use Rattle.rt_runtime_worker.specs.Linked.{IsLinked};
 ghost use Rattle.rt_runtime_worker.specs.Rooms.{IsShort};
 ghost use Rattle.rt_runtime_worker.specs.Steps.{ShutsGate, DeliversFrom, CollectsOf};
@@ -29,18 +28,17 @@ impl<J: Task<Out = u64>> Model for Linked<J> {
     ghost Value = { LinkedView J ℕ };
 
     ghost use Rattle.std.specs.Prelude.{◌≡◌};
-    ghost use Rattle.rt_link.specs.Fits.{Fits};
     ghost use Rattle.rt_runtime_worker.specs.Linked.{IsLinked};
 
     ghost view = { λ l. record { recorded = l.recorded; ends = l.ends } };
 
-    ghost invariant = { λ l. IsLinked J.SameTask J.made J.Polls (Fits J.SameTask J.Answers) (record { recorded = l.recorded; ends = l.ends }) × (l.cores ≡ l.recorded.core.cores) };
+    ghost invariant = { λ l. IsLinked J.meaning (record { recorded = l.recorded; ends = l.ends }) × (l.cores ≡ l.recorded.core.cores) };
 }
 
 impl<J: Task<Out = u64>> Linked<J> {
     /// A core beside its ends. There are so many cores in its house.
     pub fn of(cores: u8, recorded: Recorded<J>, ends: Ends<J>) -> Self
-        requires linked { IsLinked J.SameTask J.made J.Polls (Fits J.SameTask J.Answers) (record { recorded = recorded; ends = ends }) }
+        requires linked { IsLinked J.meaning (record { recorded = recorded; ends = ends }) }
         requires cores { cores ≡ recorded.core.cores }
         ensures { result ≡ record { recorded = recorded; ends = ends } }
     {
@@ -55,7 +53,7 @@ impl<J: Task<Out = u64>> Linked<J> {
     pub fn into_parts(self) -> (Recorded<J>, Ends<J>)
         ensures recorded { result.0 ≡ self.recorded }
         ensures ends { result.1 ≡ self.ends }
-        ensures linked { IsLinked J.SameTask J.made J.Polls (Fits J.SameTask J.Answers) self }
+        ensures linked { IsLinked J.meaning self }
     {
         let Linked { recorded, ends, .. } = self;
         (recorded, ends)
@@ -119,7 +117,7 @@ impl<J: Task<Out = u64>> Linked<J> {
         requires known { sender ≤ self.old.recorded.core.cores }
         requires room { length self.old.recorded.journal.notes + 2 ≤ self.old.recorded.journal.room }
         ensures delivers { DeliversFrom sender self.old result self.new }
-        ensures linked { IsLinked J.SameTask J.made J.Polls (Fits J.SameTask J.Answers) self.new }
+        ensures linked { IsLinked J.meaning self.new }
     {
         deliver_on(&mut self.recorded, &mut self.ends, sender)
     }
@@ -129,7 +127,7 @@ impl<J: Task<Out = u64>> Linked<J> {
         requires known { core < self.old.recorded.core.cores }
         requires room { length self.old.recorded.journal.notes + self.old.recorded.cap ≤ self.old.recorded.journal.room }
         ensures collects { CollectsOf core self.old result self.new }
-        ensures linked { IsLinked J.SameTask J.made J.Polls (Fits J.SameTask J.Answers) self.new }
+        ensures linked { IsLinked J.meaning self.new }
     {
         collect_on(&mut self.recorded, &mut self.ends, core)
     }

@@ -28,7 +28,7 @@ fn create_one<J: Task<Out = u64>>(
 ) -> Result<(), AllocError>
     requires opening { IsOpening recorded.old.journal.notes }
     requires room { length recorded.old.journal.notes < recorded.old.journal.room }
-    ensures since { OnOk result (CreatesSince J.SameTask J.made J.Polls 1 recorded.old recorded.new) }
+    ensures since { OnOk result (CreatesSince J.meaning 1 recorded.old recorded.new) }
     ensures noted { OnOk result (recorded.new.journal.notes ≡ Created (created_count recorded.old.journal.notes + 1) shares ∷ recorded.old.journal.notes) }
 {
     match recorded.create(shares) {
@@ -44,9 +44,9 @@ fn create_all<J: Task<Out = u64>>(
     queues: &[(CoreNo, Shares)],
 ) -> Result<(), AllocError>
     requires opening { IsOpening recorded.old.journal.notes }
-    requires sound { IsRecorded J.SameTask J.made J.Polls recorded.old }
+    requires sound { IsRecorded J.meaning recorded.old }
     requires room { length recorded.old.journal.notes + queues_of core queues.now ≤ recorded.old.journal.room }
-    ensures since { OnOk result (CreatesSince J.SameTask J.made J.Polls (queues_of core queues.now) recorded.old recorded.new) }
+    ensures since { OnOk result (CreatesSince J.meaning (queues_of core queues.now) recorded.old recorded.new) }
     ensures noted { OnOk result (recorded.new.journal.notes ≡ behind_entries core queues.now recorded.old.journal.notes) }
 {
     for index in 0..queues.len() {
@@ -69,7 +69,7 @@ fn open_core<J: Task<Out = u64>>(
 ) -> Result<Recorded<J>, AllocError>
     requires known { core < cores }
     requires room { queues_of core queues.now ≤ room }
-    ensures since { IfOk result (λ recorded. CreatesSince J.SameTask J.made J.Polls (queues_of core queues.now) (opened_beside core cores cap room) recorded) }
+    ensures since { IfOk result (λ recorded. CreatesSince J.meaning (queues_of core queues.now) (opened_beside core cores cap room) recorded) }
     ensures noted { IfOk result (λ recorded. recorded.journal.notes ≡ creations core queues.now) }
 {
     let mut recorded = Recorded::open(alloc, alloc, CoreNo(core), cores, cap, room)?;

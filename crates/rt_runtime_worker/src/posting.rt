@@ -32,15 +32,15 @@ fn post_turn<J: Job + Task<Out = u64>, M: Meter>(
 ) -> Settled<u64>
     requires ahead { IsAhead recorded.old.core next.now.queue next.now.vr next.now.name next.now.started }
     requires known { next.now.name.from ≤ recorded.old.core.cores }
-    requires beside { AreBeside (Fits J.SameTask J.Answers) recorded.old ends.old }
+    requires beside { AreBeside (Fits J.meaning) recorded.old ends.old }
     requires room { HasPollRoom recorded.old }
-    ensures polls { PollsOne J.made J.Polls J.Answers (Fits J.SameTask J.Answers) (M.Tells meter.old) (record { recorded = recorded.old; ends = ends.old }) (record { recorded = recorded.new; ends = ends.new }) }
-    ensures owing { AreOwing (Fits J.SameTask J.Answers) next.now.name.from (told_under next.now.name (option_map outcome_note (outcome_settled {J = J} result)) next.now.name.from) recorded.new ends.new }
-    ensures may_answer { MayAnswer J.Answers recorded.new.took next.now.name result }
+    ensures polls { PollsOne J.meaning (M.Tells meter.old) (record { recorded = recorded.old; ends = ends.old }) (record { recorded = recorded.new; ends = ends.new }) }
+    ensures owing { AreOwing (Fits J.meaning) next.now.name.from (told_under next.now.name (option_map outcome_note (outcome_settled {J = J} result)) next.now.name.from) recorded.new ends.new }
+    ensures may_answer { MayAnswer J.meaning recorded.new.took next.now.name result }
     ensures rest { recorded.new.core.out ≡ None }
     ensures seat { IsSameSeat recorded.old recorded.new }
     ensures ends { SameEnds ends.old ends.new }
-    ensures sound { IsRecorded J.SameTask J.made J.Polls recorded.new }
+    ensures sound { IsRecorded J.meaning recorded.new }
 {
     recorded.turn_posting(alloc, &mut ends.outs, next, meter)
 }
@@ -54,10 +54,10 @@ fn done_on<J: Job + Task<Out = u64>>(
 )
     requires known { name.from ≤ recorded.now.core.cores }
     requires rest { recorded.now.core.out ≡ None }
-    requires sound { IsRecorded J.SameTask J.made J.Polls recorded.now }
-    requires may_answer { MayAnswer J.Answers recorded.now.took name settled.now }
-    requires owing { AreOwing (Fits J.SameTask J.Answers) name.from (told_under name (option_map outcome_note (outcome_settled {J = J} settled.now)) name.from) recorded.now ends.old }
-    ensures linked { IsLinked J.SameTask J.made J.Polls (Fits J.SameTask J.Answers) (record { recorded = recorded.now; ends = ends.new }) }
+    requires sound { IsRecorded J.meaning recorded.now }
+    requires may_answer { MayAnswer J.meaning recorded.now.took name settled.now }
+    requires owing { AreOwing (Fits J.meaning) name.from (told_under name (option_map outcome_note (outcome_settled {J = J} settled.now)) name.from) recorded.now ends.old }
+    ensures linked { IsLinked J.meaning (record { recorded = recorded.now; ends = ends.new }) }
     ensures outs { ends.new.outs ≡ ends.old.outs }
     ensures ends { SameEnds ends.old ends.new }
 {
@@ -74,10 +74,10 @@ pub(crate) fn turn_on<J: Job + Task<Out = u64>, M: Meter>(
 )
     requires ahead { IsAhead recorded.old.core next.now.queue next.now.vr next.now.name next.now.started }
     requires known { next.now.name.from ≤ recorded.old.core.cores }
-    requires beside { AreBeside (Fits J.SameTask J.Answers) recorded.old ends.old }
+    requires beside { AreBeside (Fits J.meaning) recorded.old ends.old }
     requires room { HasPollRoom recorded.old }
-    ensures polls { PollsOne J.made J.Polls J.Answers (Fits J.SameTask J.Answers) (M.Tells meter.old) (record { recorded = recorded.old; ends = ends.old }) (record { recorded = recorded.new; ends = ends.new }) }
-    ensures linked { IsLinked J.SameTask J.made J.Polls (Fits J.SameTask J.Answers) (record { recorded = recorded.new; ends = ends.new }) }
+    ensures polls { PollsOne J.meaning (M.Tells meter.old) (record { recorded = recorded.old; ends = ends.old }) (record { recorded = recorded.new; ends = ends.new }) }
+    ensures linked { IsLinked J.meaning (record { recorded = recorded.new; ends = ends.new }) }
     ensures stays { StaysLinked (record { recorded = recorded.old; ends = ends.old }) (record { recorded = recorded.new; ends = ends.new }) }
 {
     let settled = post_turn(alloc, recorded, ends, next, meter);

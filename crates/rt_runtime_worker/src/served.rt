@@ -2,7 +2,6 @@
 
 ghost use Rattle.std.specs.Prelude.{◌≡◌, ◌<◌, ◌≤◌, ◌↔◌, IsTrue, false};
 ghost use Rattle.rt_ids.specs.Closing.{IsDrained};
-ghost use Rattle.rt_link.specs.Fits.{Fits};
 ghost use Rattle.rt_runtime_worker.specs.Ended.{HasEnded};
 ghost use Rattle.rt_runtime_worker.specs.Linked.{StaysLinked};
 ghost use Rattle.rt_runtime_worker.specs.Rooms.{ActsAsItMay, HasSpare, IsReady};
@@ -31,12 +30,11 @@ impl<J: Task<Out = u64>> Model for Served<J> {
 
     ghost Value = { ServedView J ℕ };
 
-    ghost use Rattle.rt_link.specs.Fits.{Fits};
     ghost use Rattle.rt_runtime_worker.specs.Ended.{IsServed};
 
     ghost view = { λ s. record { linked = s.linked; ending = s.ending } };
 
-    ghost invariant = { λ s. IsServed J.SameTask J.made J.Polls (Fits J.SameTask J.Answers) (record { linked = s.linked; ending = s.ending }) };
+    ghost invariant = { λ s. IsServed J.meaning (record { linked = s.linked; ending = s.ending }) };
 }
 
 impl<J: Task<Out = u64>> Served<J> {

@@ -1,6 +1,5 @@
 //! One turn of a core: a poll of its next job, or a job that is handed back.
 
-ghost use Rattle.rt_link.specs.Fits.{Fits};
 ghost use Rattle.rt_runtime_worker.specs.Linked.{IsLinked, StaysLinked};
 ghost use Rattle.rt_runtime_worker.specs.Rooms.{HasTurnRoom};
 ghost use Rattle.rt_runtime_worker.specs.Steps.{MakesTurn};
@@ -40,9 +39,9 @@ impl<J: Job + Task<Out = u64>> Linked<J> {
     /// the poll begins, and asked how long it took. `alloc` gives no memory: what is lent leaves an empty list of it behind.
     pub fn turn<M: Meter, G: Gate>(&mut self, alloc: Global, meter: &mut M, gate: &mut G) -> Made
         requires room { HasTurnRoom self.old.recorded }
-        ensures makes { MakesTurn J.SameTask J.made J.Polls J.Answers (Fits J.SameTask J.Answers) (M.Tells meter.old) self.old result self.new }
+        ensures makes { MakesTurn J.meaning (M.Tells meter.old) self.old result self.new }
         ensures stays { StaysLinked self.old self.new }
-        ensures linked { IsLinked J.SameTask J.made J.Polls (Fits J.SameTask J.Answers) self.new }
+        ensures linked { IsLinked J.meaning self.new }
     {
         match self.recorded.ahead() {
             Ok(Ahead::Job(next)) => {

@@ -113,7 +113,7 @@ fn name(from: ActorNo, number: u64) -> JobId {
 
 /// A job for queue 0 that is ready.
 fn order(rt: &impl Abort, job: ScriptJob) -> Order<ScriptJob>
-    ensures { HasReadyJob ⟦<ScriptJob as Task>⟧.done ⟦<ScriptJob as Task>⟧.CanPoll result }
+    ensures { HasReadyJob ⟦<ScriptJob as Task>⟧.meaning result }
 {
     assert!(rt; !job.is_done());
     Order::Job(QUEUE, job)
@@ -152,7 +152,7 @@ fn ends(alloc: Global) -> Result<(Ends<ScriptJob>, Ends<ScriptJob>), OpenError>
 
 /// Whether the order was sent to the core.
 fn send(outside: &mut Ends<ScriptJob>, order: Order<ScriptJob>) -> bool
-    requires { HasReadyJob ⟦<ScriptJob as Task>⟧.done ⟦<ScriptJob as Task>⟧.CanPoll order }
+    requires { HasReadyJob ⟦<ScriptJob as Task>⟧.meaning order }
 {
     match outside.outs.get_mut(0) {
         Some(end) => end.send(order).is_ok(),

@@ -19,6 +19,7 @@ use Rattle.rt_taskqueue.proofs.Changes.{ChangesOne-set}
 use Rattle.rt_taskqueue.proofs.Leaves.{Leaves, IsKept-left, waiting_of-left, ChangesLine-left}
 use Rattle.rt_taskqueue.proofs.Joins.{IsKept-joined, ChangesLine-joined}
 use Rattle.rt_taskqueue.proofs.Views.{alone, head_filled, length-waiting_of, IsWithinLimits-view}
+use Rattle.rt_jobs.specs.Meanings.{Meaning}
 
 module _ {J : Type 0} where
   -- two that lose their head to the same queues differ in that line alone
@@ -153,8 +154,8 @@ module _ {J : Type 0} where
   some_shown (one ∷ shown) none = omega arith
 
   -- a line whose head is ready has one
-  pub some_ready : (done : J → Bool) (can_poll : J → Type 0) (shown : List (JobId × Bool × J)) → IsFrontReady done can_poll shown → shown ≡ [] → ⊥
-  some_ready done can_poll shown ready none = subst (IsFrontReady done can_poll) none ready
+  pub some_ready : {T : Type 0} (meaning : Meaning J T) (shown : List (JobId × Bool × J)) → IsFrontReady meaning shown → shown ≡ [] → ⊥
+  some_ready meaning shown ready none = subst (IsFrontReady meaning) none ready
 
   -- the head goes behind the tail of the line that it left
   joins_again : (old new : Slab (Waiting J)) (lines : List Line) (queue : ℕ) (turned : Line) (requeues : Requeues old (line_at lines queue) new turned) → queue < length lines → 0 < (line_at lines queue).count →
@@ -180,13 +181,13 @@ module _ {J : Type 0} {room line_places : ℕ} {jobs : Slab (Waiting J)} {lines 
       (waiting_of queue (alone room (removed jobs line.head) (set lines queue rest)), waiting_of-left queue front rest kept (Leaves-removed jobs line front some at) within)
 
   -- the job at the head may be polled
-  pub head_ready : (done : J → Bool) (can_poll : J → Type 0) → IsKept room line_places jobs lines → (queue : ℕ) → queue < length lines → IsFrontReady done can_poll (waiting_of queue (alone room jobs lines)) →
-      IfSome (get jobs (line_at lines queue).head) (λ waiting. IsReady done can_poll waiting.job)
-  head_ready done can_poll kept queue within ready =
-      let some = some_waiting kept queue (some_ready done can_poll (waiting_of queue (alone room jobs lines)) ready) in
+  pub head_ready : {T : Type 0} (meaning : Meaning J T) → IsKept room line_places jobs lines → (queue : ℕ) → queue < length lines → IsFrontReady meaning (waiting_of queue (alone room jobs lines)) →
+      IfSome (get jobs (line_at lines queue).head) (λ waiting. IsReady meaning waiting.job)
+  head_ready meaning kept queue within ready =
+      let some = some_waiting kept queue (some_ready meaning (waiting_of queue (alone room jobs lines)) ready) in
       let found = some_of (get jobs (line_at lines queue).head) (head_filled kept queue (line_at lines queue) refl some) in
       let shown = head_shown kept queue found.0 found.1 within some in
-      subst (λ (entry : Option (Waiting J)). IfSome entry (λ waiting. IsReady done can_poll waiting.job)) (sym found.1) (subst (IsFrontReady done can_poll) shown.1 ready)
+      subst (λ (entry : Option (Waiting J)). IfSome entry (λ waiting. IsReady meaning waiting.job)) (sym found.1) (subst (IsFrontReady meaning) shown.1 ready)
 
 module _ {J : Type 0} {room line_places : ℕ} {old new : Slab (Waiting J)} {lines : List Line} where
   -- the head is polled where it stands

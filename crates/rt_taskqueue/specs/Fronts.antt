@@ -6,7 +6,8 @@ use Rattle.rt_jobs.specs.Calls.{Call, Doing, Makes}
 use Rattle.rt_jobs.specs.declared.job.Step.{Step}
 use Rattle.rt_jobs.specs.declared.job.Step.TheVariants as steps
 use Rattle.rt_jobs.specs.Ready.{IsReady}
-use Rattle.rt_jobs.specs.Steps.{Owed, AfterPoll, IfDone, OnYield, OwesOn, is_done_step}
+use Rattle.rt_jobs.specs.Meanings.{Meaning}
+use Rattle.rt_jobs.specs.Steps.{AfterPoll, IfDone, OnYield, OwesOn, is_done_step}
 use Rattle.rt_taskqueue.specs.declared.waiting.Waiting.{Waiting}
 use Rattle.rt_taskqueue.specs.Entries.{Renews}
 use Rattle.rt_taskqueue.specs.Queues.{QueuesView, waiting_of, ChangesLine, IsWithinLimits}
@@ -16,13 +17,13 @@ abbrev pub MakesCalls : {P J T : Type 0} → Doing P J T → P → P → (List (
 MakesCalls {P} {J} {T} does old new fact = (calls : List (Call J T)) × Makes does calls old new × fact calls
 
 -- one poll of a job, with the calls that it made of its post: what it owes, and what the job is from then on
-pub record IsPolled {J T : Type 0} (same : J → J → Type 0) (done : J → Bool) (can_poll : J → Type 0) (made : J → ℕ) (polls : Owed J T) (answers : J → T → Type 0) (calls : List (Call J T)) (ran : AfterPoll J T) : Type 0 where
-  pub owed : polls ran.before (made ran.before) calls ran.step ran.told
-  pub answered : IfDone ran.step (answers ran.before)
-  pub task : OnYield ran.step (same ran.before ran.job)
-  pub later : OnYield ran.step (OwesOn made polls ran.before ran.job)
-  pub ready : OnYield ran.step (can_poll ran.job)
-  pub ended : done ran.job ≡ is_done_step ran.step
+pub record IsPolled {J T : Type 0} (meaning : Meaning J T) (calls : List (Call J T)) (ran : AfterPoll J T) : Type 0 where
+  pub owed : meaning.polls ran.before (meaning.made ran.before) calls ran.step ran.told
+  pub answered : IfDone ran.step (meaning.answers ran.before)
+  pub task : OnYield ran.step (meaning.same ran.before ran.job)
+  pub later : OnYield ran.step (OwesOn meaning ran.before ran.job)
+  pub ready : OnYield ran.step (meaning.can_poll ran.job)
+  pub ended : meaning.done ran.job ≡ is_done_step ran.step
 
 module _ {J : Type 0} where
   -- this job stands at the head of the line
@@ -30,9 +31,9 @@ module _ {J : Type 0} where
   HasFront view queue name started = (job : J) × (others : List (JobId × Bool × J)) × (waiting_of queue view ≡ (name, started, job) ∷ others)
 
   -- a line has a head, and its job may be polled
-  abbrev pub IsFrontReady : (J → Bool) → (J → Type 0) → List (JobId × Bool × J) → Type 0
-  IsFrontReady done can_poll [] = ⊥
-  IsFrontReady done can_poll (waiting ∷ others) = IsReady done can_poll waiting.2
+  abbrev pub IsFrontReady : {T : Type 0} → Meaning J T → List (JobId × Bool × J) → Type 0
+  IsFrontReady meaning [] = ⊥
+  IsFrontReady meaning (waiting ∷ others) = IsReady meaning waiting.2
 
   -- the head of a line leaves it, and joins it again at the tail, as started
   pub record TurnsLine (old new : QueuesView J) (queue : ℕ) : Type 0 where
@@ -50,13 +51,13 @@ module _ {J : Type 0} where
   JoinsAgain steps.Yield between queue name job new = ChangesLine between new queue (waiting_of queue between ++ (name, true, job) ∷ [])
   JoinsAgain (steps.Done out) between queue name job new = new ≡ between
 
-module _ {J T : Type 0} (same : J → J → Type 0) (done : J → Bool) (can_poll : J → Type 0) (made : J → ℕ) (polls : Owed J T) (answers : J → T → Type 0) where
+module _ {J T : Type 0} (meaning : Meaning J T) where
   -- the job of an entry is polled where it stands
   pub record PollsAt (old : Slab (Waiting J)) (key : ℕ) (calls : List (Call J T)) (step : Step T) (told : Option ℕ) (new : Slab (Waiting J)) : Type 0 where
     pub front : Waiting J
     pub job : J
     pub renews : Renews old key front job new
-    pub polled : IsPolled same done can_poll made polls answers calls (record { job = job; step = step; told = told; before = front.job })
+    pub polled : IsPolled meaning calls (record { job = job; step = step; told = told; before = front.job })
 
   -- the job at the head of a line is polled where it stands, and nothing else changes
   pub record PollsFront (old : QueuesView J) (queue : ℕ) (calls : List (Call J T)) (step : Step T) (told : Option ℕ) (new : QueuesView J) : Type 0 where
@@ -67,7 +68,7 @@ module _ {J T : Type 0} (same : J → J → Type 0) (done : J → Bool) (can_pol
     pub others : List (JobId × Bool × J)
     pub first : waiting_of queue old ≡ (name, started, was) ∷ others
     pub line : ChangesLine old new queue ((name, started, job) ∷ others)
-    pub polled : IsPolled same done can_poll made polls answers calls (record { job = job; step = step; told = told; before = was })
+    pub polled : IsPolled meaning calls (record { job = job; step = step; told = told; before = was })
 
   -- a whole turn of a line: its head leaves it and is polled once, and joins it again if it wants another poll
   pub record TurnsFront (old : QueuesView J) (queue : ℕ) (calls : List (Call J T)) (step : Step T) (told : Option ℕ) (new : QueuesView J) : Type 0 where
@@ -79,5 +80,5 @@ module _ {J T : Type 0} (same : J → J → Type 0) (done : J → Bool) (can_pol
     pub first : waiting_of queue old ≡ (name, started, was) ∷ waiting_of queue between
     pub leaves : ChangesLine old between queue (waiting_of queue between)
     pub limits : IsWithinLimits between
-    pub polled : IsPolled same done can_poll made polls answers calls (record { job = job; step = step; told = told; before = was })
+    pub polled : IsPolled meaning calls (record { job = job; step = step; told = told; before = was })
     pub joins : JoinsAgain step between queue name job new

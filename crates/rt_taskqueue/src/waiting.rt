@@ -92,8 +92,8 @@ pub fn poll_at<J: Job, A: Allocator, P: Post<J, J::Out>, M: Meter>(
     meter: &mut M,
 ) -> (Step<J::Out>, Option<u64>, u64)
     requires there { ContainsKey jobs.old key }
-    requires ready { IfSome (get jobs.old key) (λ waiting. IsReady J.done J.CanPoll waiting.job) }
-    ensures polls { MakesCalls P.Does post.old post.new (λ calls. PollsAt J.SameTask J.done J.CanPoll J.made J.Polls J.Answers jobs.old key calls result.0 result.1 jobs.new) }
+    requires ready { IfSome (get jobs.old key) (λ waiting. IsReady J.meaning waiting.job) }
+    ensures polls { MakesCalls P.Does post.old post.new (λ calls. PollsAt J.meaning jobs.old key calls result.0 result.1 jobs.new) }
     ensures tells { M.Tells meter.old result.2 }
 {
     let front = &mut jobs[key];

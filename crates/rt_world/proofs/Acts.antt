@@ -1,5 +1,5 @@
 -- What an actor did on its link, as its world sees it: whatever it was, the link's sender did it, it is the step of its event, and the world stays one.
-use Rattle.rt_world.proofs.Words.{◌≡◌, ℕ, ◌+◌, ◌<◌, ◌≤◌, List, length, sym, ◌∙◌, ap, subst, arith, set, map, Journal, Owed, Whole, Fits, Parts, Reply}
+use Rattle.rt_world.proofs.Words.{◌≡◌, ℕ, ◌+◌, ◌<◌, ◌≤◌, List, length, sym, ◌∙◌, ap, subst, arith, set, map, Journal, Meaning, Whole, Fits, Parts, Reply}
 use Rattle.rt_world.proofs.Words.{WorldView, journal_at, desks, world_of, IsWorld, DeskView, Act, IsActOf, IsActAt, Acts, HasActed, Collects, Redeems}
 use Rattle.rt_world.proofs.Words.{Detaches, Sends, RecordedView, desk_of, core_at, link_at, IsAtRest}
 use Rattle.rt_world.specs.declared.model.acts.Act.TheVariants.{Send, Collect, Redeem, Detach}
@@ -15,31 +15,31 @@ use Rattle.rt_world.proofs.SentLinks.{sends_now}
 use Rattle.rt_world.proofs.Ticketing.{collects_now, redeems_now, detaches_now}
 
 -- notes that have room in the world have room there
-pub its_notes_fit : {J : Type 0} {same : J → J → Type 0} {made : J → ℕ} {polls : Owed J ℕ} {answers : J → ℕ → Type 0} {old : Parts J ℕ} {sender core : ℕ} {desk : DeskView J ℕ} {link : Whole J ℕ}
-    {seen : WorldView J ℕ} (world : IsWorld same made polls answers old) → IsActing old sender core desk link → world_of old ≡ seen → (act : Act J) →
+pub its_notes_fit : {J : Type 0} {meaning : Meaning J ℕ} {old : Parts J ℕ} {sender core : ℕ} {desk : DeskView J ℕ} {link : Whole J ℕ}
+    {seen : WorldView J ℕ} (world : IsWorld meaning old) → IsActing old sender core desk link → world_of old ≡ seen → (act : Act J) →
     length (journal_at sender seen) + notes_for seen.cap act ≤ seen.room → length desk.journal.notes + notes_for desk.cap act ≤ desk.journal.room
 its_notes_fit {desk = desk} {seen = seen} world acting world_is act room =
     subst (λ cap. length desk.journal.notes + notes_for cap act ≤ desk.journal.room) (sym (its_cap world acting ∙ ap (λ world. world.cap) world_is))
     (its_room world acting world_is (notes_for seen.cap act) room)
 
-module _ {J : Type 0} {same : J → J → Type 0} {answers : J → ℕ → Type 0} {core : ℕ} {desk now : DeskView J ℕ} {link after : Whole J ℕ} {answer : Reply J} where
+module _ {J : Type 0} {meaning : Meaning J ℕ} {core : ℕ} {desk now : DeskView J ℕ} {link after : Whole J ℕ} {answer : Reply J} where
   -- what an order's sending says
-  submitted : {order : _} (acted : HasActed same answers core (Send order) desk link answer now after) → IsSubmitted core order desk link acted.acts.0 now after
+  submitted : {order : _} (acted : HasActed meaning core (Send order) desk link answer now after) → IsSubmitted core order desk link acted.acts.0 now after
   submitted acted = record { submits = acted.acts.2; sends = acted.acts.3; credited = acted.acts.4; untouched = acted.untouched }
 
-  pub acted_on : (act : Act J) → HasActed same answers core act desk link answer now after → IsDoneOn (Fits same answers) core desk link now after
+  pub acted_on : (act : Act J) → HasActed meaning core act desk link answer now after → IsDoneOn (Fits meaning) core desk link now after
   acted_on act acted = record { only_sent = by_act act acted; stays = acted.stays }
     where
-      by_act : (act : Act J) → HasActed same answers core act desk link answer now after → OnlySent link after
+      by_act : (act : Act J) → HasActed meaning core act desk link answer now after → OnlySent link after
       by_act (Send order) acted = only_sent core order desk link acted.acts.0 now after (submitted acted)
       by_act Collect acted = got_more link after acted.untouched acted.acts.3.1 acted.acts.3.0
       by_act (Redeem name) acted = got_same link after acted.untouched acted.acts.5
       by_act (Detach name) acted = got_same link after acted.untouched acted.acts.3
 
-  module _ {made : J → ℕ} {polls : Owed J ℕ} {old : Parts J ℕ} {sender : ℕ} {journals : List (Journal ℕ)} (world : IsWorld same made polls answers old)
+  module _ {old : Parts J ℕ} {sender : ℕ} {journals : List (Journal ℕ)} (world : IsWorld meaning old)
       (acting : IsActing old sender core desk link) (journals_are : journals ≡ map (λ desk. desk.journal.notes) (set (desks old) sender now)) where
-    pub acts_now : (act : Act J) → IsActOf sender act → IsActAt core act → HasActed same answers core act desk link answer now after →
-        Acts same answers sender core act (world_of old) (later world acting now after journals_are) answer
+    pub acts_now : (act : Act J) → IsActOf sender act → IsActAt core act → HasActed meaning core act desk link answer now after →
+        Acts meaning sender core act (world_of old) (later world acting now after journals_are) answer
     acts_now (Send order) own at acted =
         subst (Sends sender core order (world_of old) (later world acting now after journals_are)) (sym acted.acts.1) (sends_now world acting (submitted acted) journals_are)
     acts_now Collect own at acted =
@@ -47,8 +47,8 @@ module _ {J : Type 0} {same : J → J → Type 0} {answers : J → ℕ → Type 
         (collects_now world acting (acted_on Collect acted) journals_are (ap (λ out. out.sent) acted.acts.3.0) acted.acts.0 acted.acts.2 acted.acts.3
         (same_given link after acted.untouched acted.acts.3.1 acted.acts.3.0))
     acts_now (Redeem name) own at acted =
-        subst (λ to. (acting : IsActing old sender to desk link) → Redeems same answers sender name (world_of old) (later world acting now after journals_are) answer) at
-        (λ acting. subst (Redeems same answers sender name (world_of old) (later world acting now after journals_are)) (sym acted.acts.1)
+        subst (λ to. (acting : IsActing old sender to desk link) → Redeems meaning sender name (world_of old) (later world acting now after journals_are) answer) at
+        (λ acting. subst (Redeems meaning sender name (world_of old) (later world acting now after journals_are)) (sym acted.acts.1)
         (redeems_now world name acting now after journals_are (ap (λ out. out.sent) acted.acts.5) own acted.acts.0 acted.acts.2 acted.acts.3 acted.acts.4)) acting
     acts_now (Detach name) own at acted =
         subst (λ to. (acting : IsActing old sender to desk link) → Detaches sender name (world_of old) (later world acting now after journals_are) answer) at
@@ -62,19 +62,19 @@ pub record IsCoreActing {J T : Type 0} (old : Parts J T) (sender to : ℕ) (acto
   pub acting : IsActing old sender to (desk_of actor) link
 
 -- a core acts on a link that it was lent
-pub core_acting : {J T : Type 0} {same : J → J → Type 0} {made : J → ℕ} {polls : Owed J T} {answers : J → T → Type 0} {old : Parts J T} {sender to : ℕ} {link : Whole J T} {actor : RecordedView J T}
-    (world : IsWorld same made polls answers old) → sender < old.cores → to < old.cores → actor ≡ core_at sender old → link ≡ link_at sender to old.links → IsCoreActing old sender to actor link
+pub core_acting : {J T : Type 0} {meaning : Meaning J T} {old : Parts J T} {sender to : ℕ} {link : Whole J T} {actor : RecordedView J T}
+    (world : IsWorld meaning old) → sender < old.cores → to < old.cores → actor ≡ core_at sender old → link ≡ link_at sender to old.links → IsCoreActing old sender to actor link
 core_acting {sender = sender} world core to_there is link_is =
     record { core = core; actor_is = is; acting = record { there = omega (arith, core); to_there = to_there; desk_is = ap desk_of is ∙ sym (desk_is world sender core); link_is = link_is } }
 
 -- a world at rest stays one as a core does something on its link to another
-module _ {J : Type 0} {same : J → J → Type 0} {made : J → ℕ} {polls : Owed J ℕ} {answers : J → ℕ → Type 0} {old : Parts J ℕ} {sender to : ℕ}
-    {act : Act J} {actor now : RecordedView J ℕ} {link after : Whole J ℕ} {answer : Reply J} (world : IsWorld same made polls answers old)
-    (by : IsCoreActing old sender to actor link) (did : HasCoreActed same answers made polls to act actor link answer now after) where
-  core_did : HasCoreActed same answers made polls to act (core_at sender old) link answer now after
-  core_did = subst (λ at. HasCoreActed same answers made polls to act at link answer now after) by.actor_is did
+module _ {J : Type 0} {meaning : Meaning J ℕ} {old : Parts J ℕ} {sender to : ℕ}
+    {act : Act J} {actor now : RecordedView J ℕ} {link after : Whole J ℕ} {answer : Reply J} (world : IsWorld meaning old)
+    (by : IsCoreActing old sender to actor link) (did : HasCoreActed meaning to act actor link answer now after) where
+  core_did : HasCoreActed meaning to act (core_at sender old) link answer now after
+  core_did = subst (λ at. HasCoreActed meaning to act at link answer now after) by.actor_is did
 
-  done : IsDoneOn (Fits same answers) to (desk_of actor) link (desk_of now) after
+  done : IsDoneOn (Fits meaning) to (desk_of actor) link (desk_of now) after
   done = acted_on act did.acted
 
   abbrev pub core_sent : Parts J ℕ
@@ -86,7 +86,7 @@ module _ {J : Type 0} {same : J → J → Type 0} {made : J → ℕ} {polls : Ow
   pub core_at_rest : IsAtRest old → IsAtRest core_sent
   core_at_rest rest = rest_after old sender now (with_link old.links sender to after) rest (ap (λ view. view.core.out) core_did.rest ∙ rest sender by.core)
 
-  pub core_rests : IsWorld same made polls answers core_sent
+  pub core_rests : IsWorld meaning core_sent
   core_rests =
       rests world sender by.core now (with_link old.links sender to after) (record {
         recorded = core_did.sound;

@@ -1,6 +1,6 @@
 -- A step of one core: what it is in its world.
 use Rattle.rt_world.proofs.Words.{◌≡◌, ◌≢◌, ℕ, ◌+◌, ◌<◌, ◌≤◌, List, [], ◌++◌, length, sym, ◌∙◌, ap, subst, arith, get_or, set, get_or-set_same}
-use Rattle.rt_world.proofs.Words.{get_or-set_other, length-set, get_or_default, set-get_or, noted, map, Note, Owed, Whole, inward_of, RecordedView}
+use Rattle.rt_world.proofs.Words.{get_or-set_other, length-set, get_or_default, set-get_or, noted, map, Note, Meaning, Whole, inward_of, RecordedView}
 use Rattle.rt_world.proofs.Words.{IsRecorded, desk_of, Fits, IsInOf, journal_at, link_at, Parts, core_at, desk_at, world_of, IsWorld, opened_beside}
 use Rattle.rt_world.proofs.Words.{with_notes, IsSameSeat, ChangesLink, notes_at, seat_of, WorldView}
 use Rattle.rt_journal_desk.specs.Ends.{KeepsOuts}
@@ -8,8 +8,8 @@ use Rattle.rt_world.proofs.Desks.{desk_at-core, desks-core, journal_at-world, jo
 use Rattle.rt_world_links.proofs.LinkSteps.{OnlyReceived, OnlySent, IsSenderOn, sender_stays, received-same, sent-same, each_link, other_link}
 use Rattle.rt_world.proofs.WorldAfter.{IsStep, world_after, world_sender}
 
-module _ {J T : Type 0} {same : J → J → Type 0} {made : J → ℕ} {polls : Owed J T} {answers : J → T → Type 0} {old : Parts J T}
-    (world : IsWorld same made polls answers old) (core : ℕ) (there : core < old.cores) where
+module _ {J T : Type 0} {meaning : Meaning J T} {old : Parts J T}
+    (world : IsWorld meaning old) (core : ℕ) (there : core < old.cores) where
   within : core < length old.inside
   within = omega (arith, there, world.all_there.cores_are)
 
@@ -55,8 +55,8 @@ module _ {J T : Type 0} {same : J → J → Type 0} {made : J → ℕ} {polls : 
       )
 
   -- the ends on which the core sends are beside what it says
-  pub core_sender : (to : ℕ) → to < old.cores → IsSenderOn (Fits same answers) to (desk_of (core_at core old)) (link_at core to old.links)
-  core_sender to known = subst (λ desk. IsSenderOn (Fits same answers) to desk (link_at core to old.links)) desk_is (world_sender world core to (omega (arith, there)) known)
+  pub core_sender : (to : ℕ) → to < old.cores → IsSenderOn (Fits meaning) to (desk_of (core_at core old)) (link_at core to old.links)
+  core_sender to known = subst (λ desk. IsSenderOn (Fits meaning) to desk (link_at core to old.links)) desk_is (world_sender world core to (omega (arith, there)) known)
 
   module _ (now : RecordedView J T) (links : List (List (Whole J T))) where
     abbrev pub parts_now : Parts J T
@@ -64,13 +64,13 @@ module _ {J T : Type 0} {same : J → J → Type 0} {made : J → ℕ} {polls : 
 
     -- what the call says of the core afterwards, and of the links
     pub record DidStep : Type 0 where
-      pub recorded : IsRecorded same made polls now
+      pub recorded : IsRecorded meaning now
       pub seat : IsSameSeat (core_at core old) now
       pub rows_are : length links ≡ length old.links
       pub links_are : (sender : ℕ) → length (get_or links sender []) ≡ length (get_or old.links sender [])
       pub received : (sender to : ℕ) → sender ≢ core → OnlyReceived (link_at sender to old.links) (link_at sender to links)
       pub sent : (sender to : ℕ) → to ≢ core → OnlySent (link_at sender to old.links) (link_at sender to links)
-      pub senders : (to : ℕ) → to < old.cores → IsSenderOn (Fits same answers) to (desk_of now) (link_at core to links)
+      pub senders : (to : ℕ) → to < old.cores → IsSenderOn (Fits meaning) to (desk_of now) (link_at core to links)
       pub ins : (sender : ℕ) → sender ≤ old.cores → IsInOf sender now (inward_of (link_at sender core links))
 
     core_now : core_at core parts_now ≡ now
@@ -96,7 +96,7 @@ module _ {J T : Type 0} {same : J → J → Type 0} {made : J → ℕ} {polls : 
       desks_are = desks-core old core now within;
       seat = seat_is did.seat;
       other_cores = λ other away. get_or-set_other old.inside core other now (opened_beside 0 0 0 0) away;
-      recorded = λ known. subst (IsRecorded same made polls) (sym core_now) did.recorded;
+      recorded = λ known. subst (IsRecorded meaning) (sym core_now) did.recorded;
       written = world.outside;
       received = did.received;
       sent = did.sent;
@@ -105,12 +105,12 @@ module _ {J T : Type 0} {same : J → J → Type 0} {made : J → ℕ} {polls : 
     }
 
     -- the world is one again
-    pub rests : DidStep → IsWorld same made polls answers parts_now
+    pub rests : DidStep → IsWorld meaning parts_now
     rests did = world_after world core (set old.inside core now) old.outside links (desk_of now) (step_of did)
 
     -- what a call that sends nothing says: at most one link to the core changed, in what its receiver does
     pub record DidReceive : Type 0 where
-      pub recorded : IsRecorded same made polls now
+      pub recorded : IsRecorded meaning now
       pub seat : IsSameSeat (core_at core old) now
       pub outs : KeepsOuts (desk_of (core_at core old)) (desk_of now)
       pub lanes : now.lanes ≡ (core_at core old).lanes
@@ -120,7 +120,7 @@ module _ {J T : Type 0} {same : J → J → Type 0} {made : J → ℕ} {polls : 
       pub received : OnlyReceived (link_at sender core old.links) link
       pub ins : (from : ℕ) → from ≤ old.cores → IsInOf from now (inward_of (link_at from core links))
 
-    pub receives : DidReceive → IsWorld same made polls answers parts_now
+    pub receives : DidReceive → IsWorld meaning parts_now
     receives did = rests (record {
       recorded = did.recorded;
       seat = did.seat;

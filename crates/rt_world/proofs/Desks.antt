@@ -1,7 +1,7 @@
 -- The world that parts make, read off its actors.
 use Rattle.rt_world.proofs.Words.{◌≡◌, ℕ, ◌+◌, ◌<◌, List, [], ◌∷◌, ◌++◌, length, sym, ◌∙◌, ap, subst, arith, get_or, set, length_push, length-map}
 use Rattle.rt_world.proofs.Words.{get_or_push, get_or_append_left, map-set, map, Note, RecordedView, desk_of, journal_at, row_of, link_at, no_link, Parts}
-use Rattle.rt_world.proofs.Words.{core_at, desks, desk_at, world_of, DeskView, opened_desk, opened_beside, get_or-map, sent_at, assembly_of, notes_at, Owed}
+use Rattle.rt_world.proofs.Words.{core_at, desks, desk_at, world_of, DeskView, opened_desk, opened_beside, get_or-map, sent_at, assembly_of, notes_at, Meaning}
 use Rattle.rt_world.proofs.Words.{IsWorld, HasAllLists}
 use Rattle.std.proofs.Math.Seq.{set-append_seam}
 use Rattle.std.proofs.lemmas.List.{set-append_left}
@@ -54,7 +54,7 @@ module _ {J T : Type 0} (parts : Parts J T) where
       map-set (λ desk. desk.journal.notes) (desks parts) actor now
       ∙ ap (set (world_of parts).journals actor) (longer ∙ ap (λ before. notes ++ before) (sym (journal_at-world actor)))
 
-module _ {J T : Type 0} {same : J → J → Type 0} {made : J → ℕ} {polls : Owed J T} {answers : J → T → Type 0} (parts : Parts J T) (world : IsWorld same made polls answers parts) where
+module _ {J T : Type 0} {meaning : Meaning J T} (parts : Parts J T) (world : IsWorld meaning parts) where
   pub world_lists : HasAllLists (world_of parts)
   world_lists = record {
     journals_are = length-map (desks parts) (λ desk. desk.journal.notes) ∙ (desk_count parts ∙ ap (λ count. count + 1) world.all_there.cores_are);

@@ -1,5 +1,5 @@
 -- A world as it opens: nothing was noted, and it is at rest.
-use Rattle.rt_world.proofs.Words.{◌≡◌, ℕ, ◌<◌, ◌≤◌, List, [], refl, sym, ◌∙◌, ap, subst, ⊎_elim, arith, cases_lt, Owed, Whole, inward_of, RecordedView}
+use Rattle.rt_world.proofs.Words.{◌≡◌, ℕ, ◌<◌, ◌≤◌, List, [], refl, sym, ◌∙◌, ap, subst, ⊎_elim, arith, cases_lt, Meaning, Whole, inward_of, RecordedView}
 use Rattle.rt_world.proofs.Words.{IsRecorded, desk_of, Fits, IsInOf, journal_at, link_at, Parts, core_at, desk_at, world_of, HasAllLists, IsWorld, IsAtRest}
 use Rattle.rt_world.proofs.Words.{DeskView, IsWritten, opened_desk, terms_of_desk, sent_at, IsFresh}
 use Rattle.rt_link.specs.Whole.{fresh}
@@ -11,7 +11,7 @@ use Rattle.rt_world_links.proofs.FreshLinks.{in_of-opened, fresh_sender}
 use Rattle.rt_world_links.proofs.LinkSteps.{IsSenderOn}
 use Rattle.rt_world_links.proofs.Places.{none_anywhere, none_in_table}
 
-module _ {J T : Type 0} (same : J → J → Type 0) (made : J → ℕ) (polls : Owed J T) (answers : J → T → Type 0) (cores cap room : ℕ)
+module _ {J T : Type 0} (meaning : Meaning J T) (cores cap room : ℕ)
     (inside : List (RecordedView J T)) (outside : DeskView J T) (links : List (List (Whole J T)))
     (cores_open : AreOpened cores cap room inside) (outside_open : outside ≡ opened_desk cores cores cap room)
     (written : IsWritten (terms_of_desk outside) outside.journal.notes) (links_open : AreFresh cores cap links) where
@@ -27,13 +27,13 @@ module _ {J T : Type 0} (same : J → J → Type 0) (made : J → ℕ) (polls : 
       desk_at-outside parts actor (cores_open.cores_are ∙ last) ∙ (outside_open ∙ ap (λ number. opened_desk number cores cap room) last))
       (cases_lt actor cores)
 
-  senders : (sender core : ℕ) → sender ≤ cores → core < cores → IsSenderOn (Fits same answers) core (desk_at sender parts) (link_at sender core links)
+  senders : (sender core : ℕ) → sender ≤ cores → core < cores → IsSenderOn (Fits meaning) core (desk_at sender parts) (link_at sender core links)
   senders sender core known core_known =
-      subst (IsSenderOn (Fits same answers) core (desk_at sender parts)) (sym (links_open.each_fresh sender core known core_known))
-      (subst (λ desk. IsSenderOn (Fits same answers) core desk (fresh sender core cap 0)) (sym (desk_is sender known)) (fresh_sender (Fits same answers) sender core cores cap room core_known))
+      subst (IsSenderOn (Fits meaning) core (desk_at sender parts)) (sym (links_open.each_fresh sender core known core_known))
+      (subst (λ desk. IsSenderOn (Fits meaning) core desk (fresh sender core cap 0)) (sym (desk_is sender known)) (fresh_sender (Fits meaning) sender core cores cap room core_known))
 
   -- the parts that were just opened make a world at rest
-  pub world_at_opening : IsWorld same made polls answers parts
+  pub world_at_opening : IsWorld meaning parts
   world_at_opening = record {
     all_there = record {
       cores_are = cores_open.cores_are;
@@ -41,7 +41,7 @@ module _ {J T : Type 0} (same : J → J → Type 0) (made : J → ℕ) (polls : 
       links_are = links_open.cores_are;
       seats_are = λ actor known. desk_is actor known ∙ ap (λ desk. record { actor = actor; cores = cores; cap = cap; journal = record { notes = desk.journal.notes; room = room }; lanes = desk.lanes }) (sym (desk_is actor known));
     };
-    recorded = λ core known. subst (IsRecorded same made polls) (sym (cores_open.each_opened core known)) (recorded-opened same made polls core cores cap room known);
+    recorded = λ core known. subst (IsRecorded meaning) (sym (cores_open.each_opened core known)) (recorded-opened meaning core cores cap room known);
     outside = written;
     beside = record {
       outs = λ sender core known core_known. (senders sender core known core_known).out;

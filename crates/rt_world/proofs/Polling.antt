@@ -1,6 +1,6 @@
 -- A core's turn in its world: a job is picked, it is polled with its post, and the poll is settled; or it is handed back.
 use Rattle.rt_world.proofs.Words.{◌≡◌, ℕ, ◌+◌, ◌-◌, ◌^◌, ◌<◌, ◌≤◌, List, [], ◌∷◌, refl, sym, ◌∙◌, ap, subst, inl, inr, arith, set, get_or-set_same}
-use Rattle.rt_world.proofs.Words.{unwrap_or, set-set, set-get_or, Some, slice_get, JobId, Order, Journal, IsRightPick, Owed, Whole, RecordedView, row_of}
+use Rattle.rt_world.proofs.Words.{unwrap_or, set-set, set-get_or, Some, slice_get, JobId, Order, Journal, IsRightPick, Meaning, Whole, RecordedView, row_of}
 use Rattle.rt_world.proofs.Words.{link_at, Parts, core_at, world_of, IsWorld, IsAtRest, journal_at, noted, Job, return_reason, name_started, is_told, line}
 use Rattle.rt_world.proofs.Words.{turns, has_work, Makes, polls_made, poll_note, order_taken, opened_beside, with_notes, post_of, CallsAt, order_under}
 use Rattle.rt_world.proofs.Words.{pick_notes, IsPoll, Turns}
@@ -18,8 +18,8 @@ use Rattle.rt_world.proofs.Posting.{Post, parts_at, IsAt, calls_now}
 use Rattle.rt_world.proofs.Turning.{quiet, quiet_rests, quiet_at_rest, quiet_noted, handed_back, unchanged}
 use Rattle.rt_world.proofs.WorldAfter.{rest_after}
 
-module _ {J : Type 0} {same : J → J → Type 0} {made : J → ℕ} {polls : Owed J ℕ} {answers : J → ℕ → Type 0} {old : Parts J ℕ}
-    (world : IsWorld same made polls answers old) (number : ℕ) (there : number < old.cores) where
+module _ {J : Type 0} {meaning : Meaning J ℕ} {old : Parts J ℕ}
+    (world : IsWorld meaning old) (number : ℕ) (there : number < old.cores) where
   abbrev view : RecordedView J ℕ
   view = core_at number old
 
@@ -40,7 +40,7 @@ module _ {J : Type 0} {same : J → J → Type 0} {made : J → ℕ} {polls : Ow
     abbrev pub turned : Parts J ℕ
     turned = parts_now world number there new after
 
-    module _ (did : one.PollsOne same made polls answers number spent view new old.links after) where
+    module _ (did : one.PollsOne meaning number spent view new old.links after) where
       abbrev first : Post J
       first = post_of did.turn.picked (row_of number old.links)
 
@@ -48,7 +48,7 @@ module _ {J : Type 0} {same : J → J → Type 0} {made : J → ℕ} {polls : Ow
       last = post_of did.turn.left did.row
 
       -- the world after the pick
-      picked_world : IsWorld same made polls answers (parts_now world number there did.turn.picked old.links)
+      picked_world : IsWorld meaning (parts_now world number there did.turn.picked old.links)
       picked_world = receives world number there did.turn.picked old.links (record {
         recorded = did.turn.sound;
         seat = did.turn.stays.seat;
@@ -64,9 +64,9 @@ module _ {J : Type 0} {same : J → J → Type 0} {made : J → ℕ} {polls : Ow
       first_is : parts_at old number did.turn.picked first ≡ parts_now world number there did.turn.picked old.links
       first_is = λ i. record old { inside = set old.inside number did.turn.picked; links = set-get_or old.links number [] i }
 
-      called : IsAt same made polls answers old number did.turn.picked last
-          × Makes (CallsAt same answers number) did.turn.owed.calls (world_of (parts_at old number did.turn.picked first)) (world_of (parts_at old number did.turn.picked last))
-      called = calls_now same made polls answers old number there did.turn.picked did.turn.owed.calls first last (record { world = subst (IsWorld same made polls answers) (sym first_is) picked_world; desk = refl }) did.turn.owed.makes
+      called : IsAt meaning old number did.turn.picked last
+          × Makes (CallsAt meaning number) did.turn.owed.calls (world_of (parts_at old number did.turn.picked first)) (world_of (parts_at old number did.turn.picked last))
+      called = calls_now meaning old number there did.turn.picked did.turn.owed.calls first last (record { world = subst (IsWorld meaning) (sym first_is) picked_world; desk = refl }) did.turn.owed.makes
 
       -- the world after the poll
       abbrev mid : Parts J ℕ
@@ -75,20 +75,20 @@ module _ {J : Type 0} {same : J → J → Type 0} {made : J → ℕ} {polls : Ow
       last_is : parts_at old number did.turn.picked last ≡ mid
       last_is = λ i. record old { inside = set old.inside number (sym did.turn.rest i); links = set old.links number did.row }
 
-      mid_world : IsWorld same made polls answers mid
-      mid_world = subst (IsWorld same made polls answers) last_is called.0.world
+      mid_world : IsWorld meaning mid
+      mid_world = subst (IsWorld meaning) last_is called.0.world
 
       mid_core : core_at number mid ≡ did.turn.left
       mid_core = get_or-set_same old.inside number did.turn.left (opened_beside 0 0 0 0) (omega (arith, there, world.all_there.cores_are))
 
-      stays : one.StaysBeside same made polls number (core_at number mid) new mid.links after
-      stays = subst (λ at. one.StaysBeside same made polls number at new mid.links after) (sym mid_core) (settled_stays did)
+      stays : one.StaysBeside meaning number (core_at number mid) new mid.links after
+      stays = subst (λ at. one.StaysBeside meaning number at new mid.links after) (sym mid_core) (settled_stays did)
 
       settled_is : quiet mid_world number there new after stays ≡ turned
       settled_is = λ i. record old { inside = set-set old.inside number did.turn.left new i; links = after }
 
-      polled_rests : IsWorld same made polls answers turned
-      polled_rests = subst (IsWorld same made polls answers) settled_is (quiet_rests mid_world number there new after stays)
+      polled_rests : IsWorld meaning turned
+      polled_rests = subst (IsWorld meaning) settled_is (quiet_rests mid_world number there new after stays)
 
       abbrev before : Journal ℕ
       before = journal_at number (world_of old)
@@ -107,7 +107,7 @@ module _ {J : Type 0} {same : J → J → Type 0} {made : J → ℕ} {polls : Ow
           ∙ λ i. with_notes (settle_note did.turn.settles.out.name (unwrap_or did.turn.ran.told (did.turn.told i)) did.turn.ran.step ∷ []) (sym mid_core i).journal)
           ∙ ap (λ out. noted number (settle_note out.name (unwrap_or did.turn.ran.told spent) did.turn.ran.step ∷ []) (world_of mid)) (out_is did))
 
-      polled : IsPoll same made polls answers number spent (world_of old) (world_of turned)
+      polled : IsPoll meaning number spent (world_of old) (world_of turned)
       polled = record {
         turn_left = subst (λ journal. turns journal < 2 ^ 64 - 1) (sym here) did.turn.picks.turn_left;
         queue = did.queue;
@@ -122,25 +122,25 @@ module _ {J : Type 0} {same : J → J → Type 0} {made : J → ℕ} {polls : Ow
         calls = did.turn.owed.calls;
         step = did.turn.ran.step;
         told = did.turn.ran.told;
-        owed = subst (λ journal. polls did.turn.settles.sent (made did.turn.settles.sent + polls_made did.name journal) did.turn.owed.calls did.turn.ran.step did.turn.ran.told) (sym here) (poll_owed did);
+        owed = subst (λ journal. meaning.polls did.turn.settles.sent (meaning.made did.turn.settles.sent + polls_made did.name journal) did.turn.owed.calls did.turn.ran.step did.turn.ran.told) (sym here) (poll_owed did);
         answered = did.turn.settles.answered;
         posted = world_of mid;
-        posts = subst (λ start. Makes (CallsAt same answers number) did.turn.owed.calls start (world_of mid)) picked_noted
-            (subst (λ parts. Makes (CallsAt same answers number) did.turn.owed.calls (world_of (parts_at old number did.turn.picked first)) (world_of parts)) last_is called.1);
+        posts = subst (λ start. Makes (CallsAt meaning number) did.turn.owed.calls start (world_of mid)) picked_noted
+            (subst (λ parts. Makes (CallsAt meaning number) did.turn.owed.calls (world_of (parts_at old number did.turn.picked first)) (world_of parts)) last_is called.1);
         notes = settled_noted;
       }
 
     -- after a turn the world is one at rest again, and the turn is the step of its event
     pub record IsTurned (answer : Turned) : Type 0 where
-      pub holds : IsWorld same made polls answers turned
+      pub holds : IsWorld meaning turned
       pub at_rest : IsAtRest old → IsAtRest turned
-      pub does : Turns same made polls answers number spent (world_of old) (world_of turned) (turned_reply answer)
+      pub does : Turns meaning number spent (world_of old) (world_of turned) (turned_reply answer)
 
-    module _ (stays : one.StaysBeside same made polls number view new old.links after) where
-      without_poll : (answer : Turned) → Turns same made polls answers number spent (world_of old) (world_of turned) (turned_reply answer) → IsTurned answer
+    module _ (stays : one.StaysBeside meaning number view new old.links after) where
+      without_poll : (answer : Turned) → Turns meaning number spent (world_of old) (world_of turned) (turned_reply answer) → IsTurned answer
       without_poll answer turns = record { holds = quiet_rests world number there new after stays; at_rest = quiet_at_rest world number there new after stays; does = turns }
 
-    pub turns_now : (answer : Turned) → one.Turns same made polls answers number spent view new old.links after answer → IsTurned answer
+    pub turns_now : (answer : Turned) → one.Turns meaning number spent view new old.links after answer → IsTurned answer
     turns_now Made (inl poll) = record { holds = polled_rests poll; at_rest = λ rest. rest_after old number new after rest poll.turn.settles.out_now; does = inl (polled poll) }
     turns_now Made (inr back) = without_poll back.1 Made (inr (handed_back world number there new after back.1 back.0))
     turns_now Idle did = without_poll did.2 Idle ((λ queue. ap (has_work queue) here ∙ did.0 queue), unchanged world number there new after did.2 did.1)

@@ -1,6 +1,6 @@
 -- What a job's calls of its post do in the world, while its core polls it.
 use Rattle.rt_world.proofs.Words.{◌≡◌, ℕ, ◌<◌, ◌≤◌, List, [], ◌∷◌, refl, sym, ◌∙◌, ap, subst, inl, inr, arith, get_or, set, get_or-set_same, set-set}
-use Rattle.rt_world.proofs.Words.{length-set, get_or_from_slice_get, JobId, Reply, Owed, Whole, Fits, out_of, RecordedView, IsRecorded, desk_of, no_link}
+use Rattle.rt_world.proofs.Words.{length-set, get_or_from_slice_get, JobId, Reply, Meaning, Whole, Fits, out_of, RecordedView, IsRecorded, desk_of, no_link}
 use Rattle.rt_world.proofs.Words.{row_of, link_at, Parts, core_at, desk_at, world_of, IsWorld, journal_at, Unknown, Call, Makes, Submit, Redeem, Detach}
 use Rattle.rt_world.proofs.Words.{kept_by_sender, KeepsIn, opened_beside, RefusesTicket, Act, IsActOf, IsActAt, Acts, HasActed, CallsAt, Redeems, Detaches}
 use Rattle.rt_world.proofs.Words.{redeemed_reply, detached_reply, sent_reply}
@@ -25,15 +25,15 @@ module _ {J : Type 0} (base : Parts J ℕ) (number : ℕ) (picked : RecordedView
   abbrev pub parts_at : Post J → Parts J ℕ
   parts_at post = record base { inside = set base.inside number (view_at post); links = set base.links number post.ends }
 
-module _ {J : Type 0} (same : J → J → Type 0) (made : J → ℕ) (polls : Owed J ℕ) (answers : J → ℕ → Type 0) (base : Parts J ℕ) (number : ℕ) (picked : RecordedView J ℕ) where
+module _ {J : Type 0} (meaning : Meaning J ℕ) (base : Parts J ℕ) (number : ℕ) (picked : RecordedView J ℕ) where
   -- each actor and each end is as it should be there, and the post is the core's own
   pub record IsAt (post : Post J) : Type 0 where
-    pub world : IsWorld same made polls answers (parts_at base number picked post)
+    pub world : IsWorld meaning (parts_at base number picked post)
     pub desk : post.desk ≡ desk_of (view_at base number picked post)
 
-module _ {J : Type 0} (same : J → J → Type 0) (made : J → ℕ) (polls : Owed J ℕ) (answers : J → ℕ → Type 0) (base : Parts J ℕ) (number : ℕ) (there : number < base.cores) (picked : RecordedView J ℕ) where
+module _ {J : Type 0} (meaning : Meaning J ℕ) (base : Parts J ℕ) (number : ℕ) (there : number < base.cores) (picked : RecordedView J ℕ) where
   abbrev Here : Post J → Type 0
-  Here = IsAt same made polls answers base number picked
+  Here = IsAt meaning base number picked
 
   abbrev view : Post J → RecordedView J ℕ
   view = view_at base number picked
@@ -61,7 +61,7 @@ module _ {J : Type 0} (same : J → J → Type 0) (made : J → ℕ) (polls : Ow
     its_number = sym (ap (λ desk. desk.actor) its_desk) ∙ ap (λ desk. desk.actor) (at.world.all_there.seats_are number (omega (arith, there)))
 
     -- a call on one link
-    module _ (to : ℕ) (next : Post J) (lent : LendsEnd (Fits same answers) out_of (λ link. link.credited) kept_by_sender to post next) where
+    module _ (to : ℕ) (next : Post J) (lent : LendsEnd (Fits meaning) out_of (λ link. link.credited) kept_by_sender to post next) where
       rest_is : next.desk ≡ record post.desk { journal = record post.desk.journal { notes = next.desk.journal.notes }; lanes = next.desk.lanes }
       rest_is = lent.stays.rest
 
@@ -92,20 +92,20 @@ module _ {J : Type 0} (same : J → J → Type 0) (made : J → ℕ) (polls : Ow
 
       -- a call on one link is an act there
       module _ (act : Act J) (answer : Reply J) (own : IsActOf number act) (here : IsActAt to act) (silent : SaysNoMore post.desk.journal.notes next.desk.journal.notes)
-          (acts : ActsOn same answers to act post.desk lent.end answer next.desk lent.later) where
-        acted : HasActed same answers to act (desk_of (view post)) lent.end answer (desk_of (view next)) lent.later
-        acted = subst (λ desk. HasActed same answers to act desk lent.end answer (desk_of (view next)) lent.later) at.desk
-            (subst (λ desk. HasActed same answers to act post.desk lent.end answer desk lent.later) next_desk (record { acts = acts; stays = lent.stays; untouched = lent.untouched }))
+          (acts : ActsOn meaning to act post.desk lent.end answer next.desk lent.later) where
+        acted : HasActed meaning to act (desk_of (view post)) lent.end answer (desk_of (view next)) lent.later
+        acted = subst (λ desk. HasActed meaning to act desk lent.end answer (desk_of (view next)) lent.later) at.desk
+            (subst (λ desk. HasActed meaning to act post.desk lent.end answer desk lent.later) next_desk (record { acts = acts; stays = lent.stays; untouched = lent.untouched }))
 
-        did : HasCoreActed same answers made polls to act (view post) lent.end answer (view next) lent.later
+        did : HasCoreActed meaning to act (view post) lent.end answer (view next) lent.later
         did =
-            let recorded = subst (IsRecorded same made polls) core_is (at.world.recorded number there) in
+            let recorded = subst (IsRecorded meaning) core_is (at.world.recorded number there) in
             record {
               acted = acted;
               rest = refl;
               seat = record { number = refl; cores = refl; cap = refl; room = ap (λ desk. desk.journal.room) rest_is };
               ins = λ from. subst (KeepsIn from (view post)) (sym view_is) (ins_silent (view post) next.desk.journal.notes next.desk.lanes silent from);
-              sound = subst (IsRecorded same made polls) (sym view_is) (recorded_silent (view post) next.desk.journal.notes next.desk.lanes silent recorded acted.stays.written);
+              sound = subst (IsRecorded meaning) (sym view_is) (recorded_silent (view post) next.desk.journal.notes next.desk.lanes silent recorded acted.stays.written);
             }
 
         -- the world after it is the one where the post stands as it does then
@@ -115,14 +115,14 @@ module _ {J : Type 0} (same : J → J → Type 0) (made : J → ℕ) (polls : Ow
           links = (set-set base.links number post.ends (set (row_of number (parts post).links) to lent.later) ∙ ap (set base.links number) (ap (λ row. set row to lent.later) row_is ∙ sym lent.ends)) i;
         }
 
-        act_now : Here next × Acts same answers number to act (world_of (parts post)) (world_of (parts next)) answer
+        act_now : Here next × Acts meaning number to act (world_of (parts post)) (world_of (parts next)) answer
         act_now = (
-          record { world = subst (IsWorld same made polls answers) sent_is (core_rests at.world by did); desk = next_desk },
-          subst (λ then. Acts same answers number to act (world_of (parts post)) (world_of then) answer) sent_is (acts_now at.world by.acting (core_journals at.world by did) act own here acted),
+          record { world = subst (IsWorld meaning) sent_is (core_rests at.world by did); desk = next_desk },
+          subst (λ then. Acts meaning number to act (world_of (parts post)) (world_of then) answer) sent_is (acts_now at.world by.acting (core_journals at.world by did) act own here acted),
         )
 
     abbrev Now : Call J ℕ → Post J → Type 0
-    Now call next = Here next × CallsAt same answers number (world_of (parts post)) call (world_of (parts next))
+    Now call next = Here next × CallsAt meaning number (world_of (parts post)) call (world_of (parts next))
 
     -- nothing changed
     same_at : (next : Post J) → next ≡ post → Here next
@@ -135,13 +135,13 @@ module _ {J : Type 0} (same : J → J → Type 0) (made : J → ℕ) (polls : Ow
     unknown name refuses = subst (RefusesTicket name Unknown) (sym its_notes) refuses
 
     -- each call does in the world what the event of its name does
-    pub call_now : (call : Call J ℕ) (next : Post J) → Does (Fits same answers) out_of (λ link. link.credited) kept_by_sender post call next → Now call next
+    pub call_now : (call : Call J ℕ) (next : Post J) → Does (Fits meaning) out_of (λ link. link.credited) kept_by_sender post call next → Now call next
     call_now (Submit to order answer) next (inl none) = (same_at next none.2, inl (subst (λ cores. cores ≤ to) its_cores none.0, none.1, same_world next none.2))
     call_now (Submit to order answer) next (inr on) =
         let done = act_now to next on.lent (Send order) (sent_reply answer) tt tt (submitted_silent post.desk next.desk to order answer on.submits) (answer, refl, on.submits, on.sends, on.credited) in
         (done.0, inr (to_there to next on.lent, done.1))
     call_now (Redeem name answer) next (inl none) =
-        (same_at next none.3, subst (λ answer. Redeems same answers number name (world_of (parts post)) (world_of (parts next)) (redeemed_reply answer)) (sym none.1) (unknown name none.2, same_world next none.3))
+        (same_at next none.3, subst (λ answer. Redeems meaning number name (world_of (parts post)) (world_of (parts next)) (redeemed_reply answer)) (sym none.1) (unknown name none.2, same_world next none.3))
     call_now (Redeem name answer) next (inr on) =
         act_now name.to next on.lent (acts.Redeem name) (redeemed_reply answer) (on.knows.0 ∙ its_number) refl (redeemed_silent post.desk next.desk name answer on.redeems)
         (answer, refl, on.redeems, on.given, on.fits, on.out)
@@ -152,8 +152,8 @@ module _ {J : Type 0} (same : J → J → Type 0) (made : J → ℕ) (polls : Ow
         (answer, refl, on.detaches, on.out)
 
   -- and so do all of them, one after another
-  pub calls_now : (calls : List (Call J ℕ)) (post later : Post J) → Here post → Makes (Does (Fits same answers) out_of (λ link. link.credited) kept_by_sender) calls post later →
-      Here later × Makes (CallsAt same answers number) calls (world_of (parts post)) (world_of (parts later))
+  pub calls_now : (calls : List (Call J ℕ)) (post later : Post J) → Here post → Makes (Does (Fits meaning) out_of (λ link. link.credited) kept_by_sender) calls post later →
+      Here later × Makes (CallsAt meaning number) calls (world_of (parts post)) (world_of (parts later))
   calls_now [] post later at makes = (same_at post at later makes, same_world post at later makes)
   calls_now (call ∷ calls) post later at makes =
       let first = call_now post at call makes.0 makes.1 in

@@ -1,5 +1,5 @@
 -- A core does something on the link of a sender: it is the step of its event, and the world stays one.
-use Rattle.rt_world.proofs.Words.{◌≡◌, ℕ, ◌<◌, ◌≤◌, Bool, List, sym, ◌∙◌, ap, subst, Owed, Whole, inward_of, RecordedView, IsInOf, WorldView, journal_at}
+use Rattle.rt_world.proofs.Words.{◌≡◌, ℕ, ◌<◌, ◌≤◌, Bool, List, sym, ◌∙◌, ap, subst, Meaning, Whole, inward_of, RecordedView, IsInOf, WorldView, journal_at}
 use Rattle.rt_world.proofs.Words.{link_at, Parts, core_at, world_of, IsWorld, ◌+◌, true, false, [], ◌∷◌, length, arith, append-nil, slice_get, Reply, noted}
 use Rattle.rt_world.proofs.Words.{desk_at, IsAtRest, accepted_orders, ChangesLink, sent_at, Delivers, IsDelivery, next_place, HasReceived}
 use Rattle.rt_world_links.proofs.TakenLinks.{DidOnLink, on_link, took_on_link, seen_is, sent_is, only_received}
@@ -26,8 +26,8 @@ pub record IsReceiving {J T : Type 0} (old : Parts J T) (sender core : ℕ) (vie
   pub view_is : view ≡ core_at core old
   pub link_is : link ≡ link_at sender core old.links
 
-module _ {J T : Type 0} {same : J → J → Type 0} {made : J → ℕ} {polls : Owed J T} {answers : J → T → Type 0} {old : Parts J T}
-    {sender core : ℕ} {view : RecordedView J T} {link : Whole J T} (world : IsWorld same made polls answers old) (by : IsReceiving old sender core view link) where
+module _ {J T : Type 0} {meaning : Meaning J T} {old : Parts J T}
+    {sender core : ℕ} {view : RecordedView J T} {link : Whole J T} (world : IsWorld meaning old) (by : IsReceiving old sender core view link) where
   -- what is so of both is so in the world
   pub received_there : (Holds : RecordedView J T → Whole J T → Type 0) → Holds view link → Holds (core_at core old) (link_at sender core old.links)
   received_there Holds holds = subst (λ at. Holds at (link_at sender core old.links)) by.view_is (subst (Holds view) by.link_is holds)
@@ -41,9 +41,9 @@ module _ {J T : Type 0} {same : J → J → Type 0} {made : J → ℕ} {polls : 
   pub receiver_notes : {seen : WorldView J T} → world_of old ≡ seen → view.journal.notes ≡ journal_at core seen
   receiver_notes world_is = ap (λ view. view.journal.notes) by.view_is ∙ (sym (journal_is world core by.core_there) ∙ ap (journal_at core) world_is)
 
-module _ {J T : Type 0} {same : J → J → Type 0} {made : J → ℕ} {polls : Owed J T} {answers : J → T → Type 0} {old : Parts J T} {sender core : ℕ} {what : Receipt}
-    {its_view now : RecordedView J T} {its_link after : Whole J T} {answer : Reply J} (world : IsWorld same made polls answers old)
-    (by : IsReceiving old sender core its_view its_link) (it_did : HasReceived same made polls sender what its_view its_link answer now after) where
+module _ {J T : Type 0} {meaning : Meaning J T} {old : Parts J T} {sender core : ℕ} {what : Receipt}
+    {its_view now : RecordedView J T} {its_link after : Whole J T} {answer : Reply J} (world : IsWorld meaning old)
+    (by : IsReceiving old sender core its_view its_link) (it_did : HasReceived meaning sender what its_view its_link answer now after) where
   abbrev view : RecordedView J T
   view = core_at core old
 
@@ -53,8 +53,8 @@ module _ {J T : Type 0} {same : J → J → Type 0} {made : J → ℕ} {polls : 
   abbrev links : List (List (Whole J T))
   links = with_link old.links sender core after
 
-  did : HasReceived same made polls sender what view link answer now after
-  did = received_there world by (λ view link. HasReceived same made polls sender what view link answer now after) it_did
+  did : HasReceived meaning sender what view link answer now after
+  did = received_there world by (λ view link. HasReceived meaning sender what view link answer now after) it_did
 
   did_on_link : DidOnLink link after × (now.core.out ≡ view.core.out)
   did_on_link = by_what what did.receives
@@ -87,7 +87,7 @@ module _ {J T : Type 0} {same : J → J → Type 0} {made : J → ℕ} {polls : 
   pub received_at_rest : IsAtRest old → IsAtRest received
   received_at_rest rest = rest_after old core now links rest (did_on_link.1 ∙ rest core by.core_there)
 
-  pub received_rests : IsWorld same made polls answers received
+  pub received_rests : IsWorld meaning received
   received_rests =
       receives world core by.core_there now links (record {
         recorded = did.sound;

@@ -1,6 +1,6 @@
 -- A world at rest stays one as the outside actor does something on the link to a core.
 use Rattle.rt_world.proofs.Words.{◌≡◌, ◌≢◌, ℕ, ◌+◌, ◌<◌, ◌≤◌, List, ◌++◌, length, refl, sym, ◌∙◌, ap, subst, arith, set, map, set-get_or, Note, Order}
-use Rattle.rt_world.proofs.Words.{Journal, Owed, Whole, Fits, out_of, WorldView, journal_at, noted, link_at, Parts, desks, desk_at, world_of, IsWorld}
+use Rattle.rt_world.proofs.Words.{Journal, Meaning, Whole, Fits, out_of, WorldView, journal_at, noted, link_at, Parts, desks, desk_at, world_of, IsWorld}
 use Rattle.rt_world.proofs.Words.{Outcome, DeskView, opened_desk, StaysBeside, ChangesLink, seat_of}
 use Rattle.rt_world.proofs.Desks.{desk_at-outside, desks-outside, journal_at-world, journals-noted}
 use Rattle.rt_world_links.proofs.Places.{by_place}
@@ -20,13 +20,13 @@ pub record IsActing {J T : Type 0} (old : Parts J T) (sender to : ℕ) (desk : D
   pub desk_is : desk ≡ desk_at sender old
   pub link_is : link ≡ link_at sender to old.links
 
-module _ {J T : Type 0} {same : J → J → Type 0} {made : J → ℕ} {polls : Owed J T} {answers : J → T → Type 0} {old : Parts J T}
-    {sender to : ℕ} {desk : DeskView J T} {link : Whole J T} (world : IsWorld same made polls answers old) (acting : IsActing old sender to desk link) where
+module _ {J T : Type 0} {meaning : Meaning J T} {old : Parts J T}
+    {sender to : ℕ} {desk : DeskView J T} {link : Whole J T} (world : IsWorld meaning old) (acting : IsActing old sender to desk link) where
   -- the link's end is beside the sender
-  pub its_sender : IsSenderOn (Fits same answers) to desk link
+  pub its_sender : IsSenderOn (Fits meaning) to desk link
   its_sender =
-      subst (IsSenderOn (Fits same answers) to desk) (sym acting.link_is)
-      (subst (λ at. IsSenderOn (Fits same answers) to at (link_at sender to old.links)) (sym acting.desk_is) (world_sender world sender to acting.there acting.to_there))
+      subst (IsSenderOn (Fits meaning) to desk) (sym acting.link_is)
+      (subst (λ at. IsSenderOn (Fits meaning) to at (link_at sender to old.links)) (sym acting.desk_is) (world_sender world sender to acting.there acting.to_there))
 
   pub its_seat : desk ≡ seat_of sender (desk_at sender old) old
   its_seat = acting.desk_is ∙ world.all_there.seats_are sender acting.there
@@ -66,11 +66,11 @@ module _ {J T : Type 0} {same : J → J → Type 0} {made : J → ℕ} {polls : 
         let same_journals = journals_are ∙ ap (map (λ desk. desk.journal.notes)) same_desks in
         λ i. record (world_of old) { journals = same_journals i; sent = same_lists same_orders i }
 
-  module _ {now : DeskView J T} {after : Whole J T} (did : IsDoneOn (Fits same answers) to desk link now after) where
-    pub done_there : IsDoneOn (Fits same answers) to (desk_at sender old) (link_at sender to old.links) now after
+  module _ {now : DeskView J T} {after : Whole J T} (did : IsDoneOn (Fits meaning) to desk link now after) where
+    pub done_there : IsDoneOn (Fits meaning) to (desk_at sender old) (link_at sender to old.links) now after
     done_there =
-        subst (λ at. IsDoneOn (Fits same answers) to at (link_at sender to old.links) now after) acting.desk_is
-        (subst (λ at. IsDoneOn (Fits same answers) to desk at now after) acting.link_is did)
+        subst (λ at. IsDoneOn (Fits meaning) to at (link_at sender to old.links) now after) acting.desk_is
+        (subst (λ at. IsDoneOn (Fits meaning) to desk at now after) acting.link_is did)
 
     abbrev pub links : List (List (Whole J T))
     links = with_link old.links sender to after
@@ -86,20 +86,20 @@ module _ {J T : Type 0} {same : J → J → Type 0} {made : J → ℕ} {polls : 
     pub others_received : (r e : ℕ) → r ≢ sender → OnlyReceived (link_at r e old.links) (link_at r e links)
     others_received r e away = other_link OnlyReceived received-same old.links links sender to after changes r e (λ one two. away one)
 
-    pub senders_sent : (e : ℕ) → e < old.cores → IsSenderOn (Fits same answers) e now (link_at sender e links)
+    pub senders_sent : (e : ℕ) → e < old.cores → IsSenderOn (Fits meaning) e now (link_at sender e links)
     senders_sent =
-        by_place (λ at. at < old.cores → IsSenderOn (Fits same answers) at now (link_at sender at links)) to
-        (λ known. subst (IsSenderOn (Fits same answers) to now) (sym changes.changed) (record { out = done_there.stays.beside; lane = done_there.stays.lane }))
+        by_place (λ at. at < old.cores → IsSenderOn (Fits meaning) at now (link_at sender at links)) to
+        (λ known. subst (IsSenderOn (Fits meaning) to now) (sym changes.changed) (record { out = done_there.stays.beside; lane = done_there.stays.lane }))
         (λ e away known.
         let has = world_sender world sender e acting.there known in
-        subst (IsSenderOn (Fits same answers) e now) (sym (changes.others sender e (λ one two. away two))) (record {
+        subst (IsSenderOn (Fits meaning) e now) (sym (changes.others sender e (λ one two. away two))) (record {
           out = (done_there.stays.others e away).each _ _ has.out;
           lane = record { lane = has.lane.lane; is = done_there.stays.lanes e away ∙ has.lane.is; lane_of = has.lane.lane_of };
         }))
 
 -- the outside actor's desk, and the room that it has
-module _ {J T : Type 0} {same : J → J → Type 0} {made : J → ℕ} {polls : Owed J T} {answers : J → T → Type 0} {old : Parts J T}
-    (world : IsWorld same made polls answers old) (sender : ℕ) (is_last : sender ≡ old.cores) where
+module _ {J T : Type 0} {meaning : Meaning J T} {old : Parts J T}
+    (world : IsWorld meaning old) (sender : ℕ) (is_last : sender ≡ old.cores) where
   pub outside_desk : desk_at sender old ≡ old.outside
   outside_desk = desk_at-outside old sender (world.all_there.cores_are ∙ sym is_last)
 
@@ -110,14 +110,14 @@ module _ {J T : Type 0} {same : J → J → Type 0} {made : J → ℕ} {polls : 
   outside_room = sym (ap (λ desk. desk.journal.room) outside_desk) ∙ ap (λ desk. desk.journal.room) (world.all_there.seats_are sender (omega (arith, is_last)))
 
 -- the outside actor acts on a link that it was lent
-pub outside_acting : {J T : Type 0} {same : J → J → Type 0} {made : J → ℕ} {polls : Owed J T} {answers : J → T → Type 0} {old : Parts J T} {sender to : ℕ} {link : Whole J T}
-    (world : IsWorld same made polls answers old) → sender ≡ old.cores → to < old.cores → link ≡ link_at sender to old.links → IsActing old sender to old.outside link
+pub outside_acting : {J T : Type 0} {meaning : Meaning J T} {old : Parts J T} {sender to : ℕ} {link : Whole J T}
+    (world : IsWorld meaning old) → sender ≡ old.cores → to < old.cores → link ≡ link_at sender to old.links → IsActing old sender to old.outside link
 outside_acting {sender = sender} world is_last to_there link_is =
     record { there = omega (arith, is_last); to_there = to_there; desk_is = sym (outside_desk world sender is_last); link_is = link_is }
 
-module _ {J T : Type 0} {same : J → J → Type 0} {made : J → ℕ} {polls : Owed J T} {answers : J → T → Type 0} {old : Parts J T}
-    {sender to : ℕ} {link : Whole J T} {now : DeskView J T} {after : Whole J T} (world : IsWorld same made polls answers old) (is_last : sender ≡ old.cores)
-    (acting : IsActing old sender to old.outside link) (did : IsDoneOn (Fits same answers) to old.outside link now after) where
+module _ {J T : Type 0} {meaning : Meaning J T} {old : Parts J T}
+    {sender to : ℕ} {link : Whole J T} {now : DeskView J T} {after : Whole J T} (world : IsWorld meaning old) (is_last : sender ≡ old.cores)
+    (acting : IsActing old sender to old.outside link) (did : IsDoneOn (Fits meaning) to old.outside link now after) where
   abbrev pub outside_sent : Parts J T
   outside_sent = record old { outside = now; links = with_link old.links sender to after }
 
@@ -127,7 +127,7 @@ module _ {J T : Type 0} {same : J → J → Type 0} {made : J → ℕ} {polls : 
   pub outside_journals : map (λ desk. desk.journal.notes) (desks outside_sent) ≡ map (λ desk. desk.journal.notes) (set (desks old) sender now)
   outside_journals = ap (map (λ desk. desk.journal.notes)) outside_desks
 
-  pub outside_rests : IsWorld same made polls answers outside_sent
+  pub outside_rests : IsWorld meaning outside_sent
   outside_rests =
       world_after world sender old.inside now (with_link old.links sender to after) now (record {
         there = acting.there;

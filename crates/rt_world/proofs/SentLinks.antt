@@ -1,6 +1,6 @@
 -- A send as its world sees it: what the link's sender did on it, and what the sender is told.
 use Rattle.rt_world.proofs.Words.{◌≡◌, ℕ, ◌<◌, ◌≤◌, true, List, [], ◌∷◌, ◌++◌, length, sym, ◌∙◌, ap, subst, get_or, set, Result, Ok, Err, append-nil, Some}
-use Rattle.rt_world.proofs.Words.{map, JobId, Order, Journal, Owed, Whole, out_of, inward_of, journal_at, Parts, desks, world_of, IsWorld, SendError, Closed}
+use Rattle.rt_world.proofs.Words.{map, JobId, Order, Journal, Meaning, Whole, out_of, inward_of, journal_at, Parts, desks, world_of, IsWorld, SendError, Closed}
 use Rattle.rt_world.proofs.Words.{Full, Spent, accepted_orders, IsNextSent, outstanding_count, DeskView, terms_of_desk, Sends, sent_reply}
 use Rattle.rt_ids.specs.declared.note.Note.TheVariants as writes
 use Rattle.rt_ids.specs.declared.order.SendError.TheVariants.{NoCore}
@@ -14,9 +14,9 @@ use Rattle.rt_world_links.proofs.SentLinks.{added, IsSubmitted, same_gate, sent_
 use Rattle.rt_world.proofs.CoreSteps.{journal_is}
 use Rattle.rt_world.proofs.Sending.{IsActing, its_seat, its_cap, its_notes, later, journals_noted, same_now}
 
-module _ {J T : Type 0} {same : J → J → Type 0} {made : J → ℕ} {polls : Owed J T} {answers : J → T → Type 0} {old : Parts J T}
+module _ {J T : Type 0} {meaning : Meaning J T} {old : Parts J T}
     {sender core : ℕ} {desk now : DeskView J T} {link after : Whole J T} {order : Order J} {answer : Result JobId (SendError J)} {journals : List (Journal T)}
-    (world : IsWorld same made polls answers old) (acting : IsActing old sender core desk link) (did : IsSubmitted core order desk link answer now after)
+    (world : IsWorld meaning old) (acting : IsActing old sender core desk link) (did : IsSubmitted core order desk link answer now after)
     (journals_are : journals ≡ map (λ desk. desk.journal.notes) (set (desks old) sender now)) where
   -- the gate of the link is the one of the core's journal
   gate_told : final_count sender (journal_at core (world_of old)) ≡ final_of (inward_of link) link.shut

@@ -1,7 +1,7 @@
 -- What a sender does with its outcomes, as its world sees it.
 use Rattle.rt_world.proofs.Words.{◌≡◌, ℕ, cond, List, [], ◌∷◌, ◌++◌, length, refl, sym, ◌∙◌, ap, arith, append_assoc, Some, None, eq-eqb, append-nil}
 use Rattle.rt_world.proofs.Words.{length-append, Note, Outcomes, collected_outcomes, Journal, collected_notes, ◌+◌, ◌-◌, ◌<◌, ◌≤◌, subst, set, map, Result}
-use Rattle.rt_world.proofs.Words.{Ok, Err, Option, slice_get, JobId, Order, Owed, Whole, Fits, out_of, WorldView, journal_at, noted, link_at, Parts, desks}
+use Rattle.rt_world.proofs.Words.{Ok, Err, Option, slice_get, JobId, Order, Meaning, Whole, Fits, out_of, WorldView, journal_at, noted, link_at, Parts, desks}
 use Rattle.rt_world.proofs.Words.{world_of, IsWorld, TicketError, Unknown, Gone, Pending, Outcome, IsRedeemable, IsDetachable, outcome_note, DeskView}
 use Rattle.rt_world.proofs.Words.{RefusesTicket, RedeemsTicket, DetachesTicket, WasAccepted, uncollected, Collects, Redeems, Detaches, redeemed_reply}
 use Rattle.rt_world.proofs.Words.{detached_reply}
@@ -51,9 +51,9 @@ module _ {T : Type 0} where
       }
   are_of core (_ ∷ notes) before collected = absurd collected
 
-module _ {J T : Type 0} {same : J → J → Type 0} {made : J → ℕ} {polls : Owed J T} {answers : J → T → Type 0} {old : Parts J T}
-    {sender to : ℕ} {desk now : DeskView J T} {link after : Whole J T} {journals : List (Journal T)} (world : IsWorld same made polls answers old)
-    (acting : IsActing old sender to desk link) (did : IsDoneOn (Fits same answers) to desk link now after)
+module _ {J T : Type 0} {meaning : Meaning J T} {old : Parts J T}
+    {sender to : ℕ} {desk now : DeskView J T} {link after : Whole J T} {journals : List (Journal T)} (world : IsWorld meaning old)
+    (acting : IsActing old sender to desk link) (did : IsDoneOn (Fits meaning) to desk link now after)
     (journals_are : journals ≡ map (λ desk. desk.journal.notes) (set (desks old) sender now)) (same_orders : after.sent ≡ link.sent) where
   actor_is : now.actor ≡ sender
   actor_is = ap (λ desk. desk.actor) did.stays.rest ∙ ap (λ desk. desk.actor) (its_seat world acting)
@@ -78,8 +78,8 @@ module _ {J T : Type 0} {same : J → J → Type 0} {made : J → ℕ} {polls : 
         noted_now world acting now after journals_are _ (longer ∙ ap (λ notes. notes ++ desk.journal.notes) (told.are ∙ ap collected_notes (sym left))) same_orders,
       )
 
-module _ {J : Type 0} {same : J → J → Type 0} {made : J → ℕ} {polls : Owed J ℕ} {answers : J → ℕ → Type 0} {old : Parts J ℕ}
-    {sender : ℕ} {desk : DeskView J ℕ} {link : Whole J ℕ} {journals : List (Journal ℕ)} (world : IsWorld same made polls answers old)
+module _ {J : Type 0} {meaning : Meaning J ℕ} {old : Parts J ℕ}
+    {sender : ℕ} {desk : DeskView J ℕ} {link : Whole J ℕ} {journals : List (Journal ℕ)} (world : IsWorld meaning old)
     (name : JobId) (acting : IsActing old sender name.to desk link) (now : DeskView J ℕ) (after : Whole J ℕ)
     (journals_are : journals ≡ map (λ desk. desk.journal.notes) (set (desks old) sender now)) (same_orders : after.sent ≡ link.sent) where
   notes_are : desk.journal.notes ≡ journal_at sender (world_of old)
@@ -110,10 +110,10 @@ module _ {J : Type 0} {same : J → J → Type 0} {made : J → ℕ} {polls : Ow
       let at = lane.named.0 got.place (name.number, outcome) (taken-get link.got link.given got.place (name.number, outcome) got.got got.is) in
       (at.0, at.2)
 
-  fits_under : name.from ≡ sender → (outcome : Outcome J ℕ) → IsGot (out_of link) name.number outcome → FitsSent (Fits same answers) (out_of link) name.number outcome → FitsUnder same answers name (world_of old) outcome
+  fits_under : name.from ≡ sender → (outcome : Outcome J ℕ) → IsGot (out_of link) name.number outcome → FitsSent (Fits meaning) (out_of link) name.number outcome → FitsUnder meaning name (world_of old) outcome
   fits_under own outcome got fits = by_found (slice_get link.sent (name.number - link.base - 1)) refl fits
     where
-      by_found : (found : Option (Order J)) → slice_get link.sent (name.number - link.base - 1) ≡ found → IfSome found (λ order. Fits same answers order outcome) → FitsUnder same answers name (world_of old) outcome
+      by_found : (found : Option (Order J)) → slice_get link.sent (name.number - link.base - 1) ≡ found → IfSome found (λ order. Fits meaning order outcome) → FitsUnder meaning name (world_of old) outcome
       by_found None at fits = let range = in_range outcome got in absurd (omega (arith, slice_get-behind link.sent (name.number - link.base - 1) at, range.0, range.1))
       by_found (Some order) at fits =
           let base : link.base ≡ 0 = (its_sender world acting).out.base in
@@ -125,7 +125,7 @@ module _ {J : Type 0} {same : J → J → Type 0} {made : J → ℕ} {polls : Ow
           )
 
   pub redeems_now : name.from ≡ sender → (answer : Result (Outcome J ℕ) TicketError) → RedeemsTicket name desk answer now →
-      IfOk answer (IsGot (out_of link) name.number) → IfOk answer (FitsSent (Fits same answers) (out_of link) name.number) → Redeems same answers sender name (world_of old) then (redeemed_reply answer)
+      IfOk answer (IsGot (out_of link) name.number) → IfOk answer (FitsSent (Fits meaning) (out_of link) name.number) → Redeems meaning sender name (world_of old) then (redeemed_reply answer)
   redeems_now own (Ok outcome) redeems got fits = (
     subst (IsRedeemable name (outcome_note outcome)) notes_are redeems.0,
     subst (WasAccepted name) notes_are redeems.1,

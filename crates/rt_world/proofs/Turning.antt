@@ -1,6 +1,6 @@
 -- A world stays one as a core makes a step that sends nothing, or creates a queue before the first event.
 use Rattle.rt_world.proofs.Words.{◌≡◌, ℕ, ◌+◌, ◌-◌, ◌^◌, ◌<◌, ◌≤◌, [], ◌∷◌, sym, ◌∙◌, ap, subst, arith, List, Result, Ok, Err, get_or_from_slice_get, map}
-use Rattle.rt_world.proofs.Words.{Some, slice_get, Note, IsRightPick, Owed, RecordedView, desk_of, Whole, Fits, journal_at, noted, no_link, row_of, link_at}
+use Rattle.rt_world.proofs.Words.{Some, slice_get, Note, IsRightPick, Meaning, RecordedView, desk_of, Whole, Fits, journal_at, noted, no_link, row_of, link_at}
 use Rattle.rt_world.proofs.Words.{Parts, core_at, world_of, IsWorld, IsAtRest, created_count, return_reason, line, turns, CreatesQueue, with_notes}
 use Rattle.rt_world.proofs.Words.{IsHandBack}
 use Rattle.std.proofs.lemmas.Option.{slice_get_within}
@@ -16,8 +16,8 @@ use Rattle.rt_world.proofs.WorldAfter.{rest_after}
 use Rattle.rt_world.proofs.CoreSteps.{cores_are, parts_now, receives, journal_is, core_sender, core_noted, core_unchanged}
 
 -- a core that makes a step has each end beside it, and nothing is owed
-pub all_beside : {J T : Type 0} {same : J → J → Type 0} {made : J → ℕ} {polls : Owed J T} {answers : J → T → Type 0} {old : Parts J T}
-    (world : IsWorld same made polls answers old) (core : ℕ) (there : core < old.cores) → one.IsBesideAll core one.none_owed (core_at core old) old.links
+pub all_beside : {J T : Type 0} {meaning : Meaning J T} {old : Parts J T}
+    (world : IsWorld meaning old) (core : ℕ) (there : core < old.cores) → one.IsBesideAll core one.none_owed (core_at core old) old.links
 all_beside {old = old} world core there = record {
   rows = λ sender within. omega (arith, world.all_there.rows_are, its sender within);
   cores = λ sender within. omega (arith, world.all_there.links_are sender (its sender within), there);
@@ -28,9 +28,9 @@ all_beside {old = old} world core there = record {
     its sender within = subst (λ cores. sender ≤ cores) (cores_are world core there) within
 
 -- and the ends of the links on which it sends are beside its desk
-pub all_outs : {J T : Type 0} {same : J → J → Type 0} {made : J → ℕ} {polls : Owed J T} {answers : J → T → Type 0} {old : Parts J T}
-    (world : IsWorld same made polls answers old) (core : ℕ) (there : core < old.cores) → one.HasOuts (Fits same answers) core (core_at core old) old.links
-all_outs {same = same} {answers = answers} {old = old} world core there = record {
+pub all_outs : {J T : Type 0} {meaning : Meaning J T} {old : Parts J T}
+    (world : IsWorld meaning old) (core : ℕ) (there : core < old.cores) → one.HasOuts (Fits meaning) core (core_at core old) old.links
+all_outs {meaning = meaning} {old = old} world core there = record {
   count = world.all_there.links_are core (omega (arith, there)) ∙ sym (cores_are world core there);
   beside = λ to end is. (at_end to end is).out;
   lanes = λ to end is. (at_end to end is).lane;
@@ -41,9 +41,9 @@ all_outs {same = same} {answers = answers} {old = old} world core there = record
         subst (IsSenderOn (Fits same answers) to (desk_of (core_at core old))) (get_or_from_slice_get (row_of core old.links) to end (no_link core to) is)
         (core_sender world core there to (omega (arith, slice_get_within (row_of core old.links) to end is, world.all_there.links_are core (omega (arith, there)))))
 
-module _ {J T : Type 0} {same : J → J → Type 0} {made : J → ℕ} {polls : Owed J T} {answers : J → T → Type 0} {old : Parts J T}
-    (world : IsWorld same made polls answers old) (core : ℕ) (there : core < old.cores) (now : RecordedView J T) (links : List (List (Whole J T)))
-    (stays : one.StaysBeside same made polls core (core_at core old) now old.links links) where
+module _ {J T : Type 0} {meaning : Meaning J T} {old : Parts J T}
+    (world : IsWorld meaning old) (core : ℕ) (there : core < old.cores) (now : RecordedView J T) (links : List (List (Whole J T)))
+    (stays : one.StaysBeside meaning core (core_at core old) now old.links links) where
   abbrev view : RecordedView J T
   view = core_at core old
 
@@ -51,7 +51,7 @@ module _ {J T : Type 0} {same : J → J → Type 0} {made : J → ℕ} {polls : 
   quiet = parts_now world core there now links
 
   -- the core stays beside its ends, on which at most an outcome was given: the world is at rest again
-  pub quiet_rests : IsWorld same made polls answers quiet
+  pub quiet_rests : IsWorld meaning quiet
   quiet_rests = receives world core there now links (record {
     recorded = stays.recorded;
     seat = stays.seat;
@@ -81,7 +81,7 @@ module _ {J T : Type 0} {same : J → J → Type 0} {made : J → ℕ} {polls : 
   pub quiet_noted : (notes : List (Note T)) → now.journal ≡ with_notes notes view.journal → world_of quiet ≡ noted core notes (world_of old)
   quiet_noted notes longer = core_noted world core there now links notes longer same_lists
 
-  pub handed_back : one.HandsOneBack same view now → IsHandBack core (world_of old) (world_of quiet)
+  pub handed_back : one.HandsOneBack meaning view now → IsHandBack core (world_of old) (world_of quiet)
   handed_back did = record {
     turn_left = subst (λ journal. turns journal < 2 ^ 64 - 1) (sym here) did.did.turn_left;
     queue = did.did.queue;

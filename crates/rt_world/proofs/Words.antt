@@ -23,7 +23,7 @@ pub use Rattle.rt_ids.specs.declared.order.SendError.TheVariants.{Closed, Full, 
 pub use Rattle.rt_ids.specs.declared.stats.CoreStats.{CoreStats}
 pub use Rattle.rt_jobs.specs.Calls.{Call, Makes}
 pub use Rattle.rt_jobs.specs.Calls.Call.{Detach, Redeem, Submit}
-pub use Rattle.rt_jobs.specs.Steps.{Owed}
+pub use Rattle.rt_jobs.specs.Meanings.{Meaning}
 pub use Rattle.rt_journal_desk.proofs.NumberedOrders.{get_or-map}
 pub use Rattle.rt_journal.specs.Ends.{IsInOf, IsSameSeat, KeepsIn}
 pub use Rattle.rt_journal.specs.Polls.{poll_note, polls_made}

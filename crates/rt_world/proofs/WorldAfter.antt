@@ -1,6 +1,6 @@
 -- A world stays one where one actor makes a step.
 use Rattle.rt_world.proofs.Words.{◌≡◌, ◌≢◌, ℕ, ◌<◌, ◌≤◌, List, length, refl, sym, ◌∙◌, ap, subst, arith, get_or, set, get_or-set_same, get_or-set_other}
-use Rattle.rt_world.proofs.Words.{None, Owed, Whole, inward_of, RecordedView, IsRecorded, Fits, IsInOf, row_of, link_at, Parts, core_at, desks, desk_at}
+use Rattle.rt_world.proofs.Words.{None, Meaning, Whole, inward_of, RecordedView, IsRecorded, Fits, IsInOf, row_of, link_at, Parts, core_at, desks, desk_at}
 use Rattle.rt_world.proofs.Words.{IsWorld, IsAtRest, DeskView, IsWritten, terms_of_desk, opened_desk, opened_beside, seat_of}
 use Rattle.rt_world.proofs.Desks.{desk_count}
 use Rattle.rt_world_links.proofs.Places.{set_each, by_place}
@@ -12,12 +12,12 @@ pub rest_after : {J T : Type 0} (old : Parts J T) (core : ℕ) (now : RecordedVi
 rest_after old core now links rest out other there = set_each old.inside core now other (opened_beside 0 0 0 0) (λ view. view.core.out ≡ None) out (rest other there)
 
 -- a sender's end of each link is beside it
-pub world_sender : {J T : Type 0} {same : J → J → Type 0} {made : J → ℕ} {polls : Owed J T} {answers : J → T → Type 0} {old : Parts J T} → IsWorld same made polls answers old →
-    (sender core : ℕ) → sender ≤ old.cores → core < old.cores → IsSenderOn (Fits same answers) core (desk_at sender old) (link_at sender core old.links)
+pub world_sender : {J T : Type 0} {meaning : Meaning J T} {old : Parts J T} → IsWorld meaning old →
+    (sender core : ℕ) → sender ≤ old.cores → core < old.cores → IsSenderOn (Fits meaning) core (desk_at sender old) (link_at sender core old.links)
 world_sender world sender core known core_known = record { out = world.beside.outs sender core known core_known; lane = world.beside.lanes sender core known core_known }
 
-module _ {J T : Type 0} {same : J → J → Type 0} {made : J → ℕ} {polls : Owed J T} {answers : J → T → Type 0} {old : Parts J T}
-    (world : IsWorld same made polls answers old) (actor : ℕ) (inside : List (RecordedView J T)) (outside : DeskView J T) (links : List (List (Whole J T))) (desk : DeskView J T) where
+module _ {J T : Type 0} {meaning : Meaning J T} {old : Parts J T}
+    (world : IsWorld meaning old) (actor : ℕ) (inside : List (RecordedView J T)) (outside : DeskView J T) (links : List (List (Whole J T))) (desk : DeskView J T) where
   abbrev pub new : Parts J T
   new = record old { inside = inside; outside = outside; links = links }
 
@@ -30,11 +30,11 @@ module _ {J T : Type 0} {same : J → J → Type 0} {made : J → ℕ} {polls : 
     pub desks_are : desks new ≡ set (desks old) actor desk
     pub seat : desk ≡ seat_of actor desk old
     pub other_cores : (core : ℕ) → core ≢ actor → core_at core new ≡ core_at core old
-    pub recorded : actor < old.cores → IsRecorded same made polls (core_at actor new)
+    pub recorded : actor < old.cores → IsRecorded meaning (core_at actor new)
     pub written : IsWritten (terms_of_desk outside) outside.journal.notes
     pub received : (sender core : ℕ) → sender ≢ actor → OnlyReceived (link_at sender core old.links) (link_at sender core links)
     pub sent : (sender core : ℕ) → core ≢ actor → OnlySent (link_at sender core old.links) (link_at sender core links)
-    pub senders : (core : ℕ) → core < old.cores → IsSenderOn (Fits same answers) core desk (link_at actor core links)
+    pub senders : (core : ℕ) → core < old.cores → IsSenderOn (Fits meaning) core desk (link_at actor core links)
     pub ins : (sender : ℕ) → sender ≤ old.cores → actor < old.cores → IsInOf sender (core_at actor new) (inward_of (link_at sender actor links))
 
   module _ (step : IsStep) where
@@ -52,16 +52,16 @@ module _ {J T : Type 0} {same : J → J → Type 0} {made : J → ℕ} {polls : 
         by_place (λ at. at ≤ old.cores → desk_at at new ≡ seat_of at (desk_at at new) new) actor (λ known. desk_now ∙ (step.seat ∙ ap (λ now. seat_of actor now old) (sym desk_now)))
         (λ other away known. desk_elsewhere other away ∙ (world.all_there.seats_are other known ∙ ap (λ now. seat_of other now old) (sym (desk_elsewhere other away))))
 
-    recorded_now : (core : ℕ) → core < old.cores → IsRecorded same made polls (core_at core new)
+    recorded_now : (core : ℕ) → core < old.cores → IsRecorded meaning (core_at core new)
     recorded_now =
-        by_place (λ at. at < old.cores → IsRecorded same made polls (core_at at new)) actor step.recorded
-        (λ core away known. subst (IsRecorded same made polls) (sym (step.other_cores core away)) (world.recorded core known))
+        by_place (λ at. at < old.cores → IsRecorded meaning (core_at at new)) actor step.recorded
+        (λ core away known. subst (IsRecorded meaning) (sym (step.other_cores core away)) (world.recorded core known))
 
-    senders_now : (sender core : ℕ) → sender ≤ old.cores → core < old.cores → IsSenderOn (Fits same answers) core (desk_at sender new) (link_at sender core links)
+    senders_now : (sender core : ℕ) → sender ≤ old.cores → core < old.cores → IsSenderOn (Fits meaning) core (desk_at sender new) (link_at sender core links)
     senders_now sender core known core_known =
-        by_place (λ at. at ≤ old.cores → IsSenderOn (Fits same answers) core (desk_at at new) (link_at at core links)) actor
-        (λ known. subst (λ now. IsSenderOn (Fits same answers) core now (link_at actor core links)) (sym desk_now) (step.senders core core_known))
-        (λ other away known. subst (λ now. IsSenderOn (Fits same answers) core now (link_at other core links)) (sym (desk_elsewhere other away))
+        by_place (λ at. at ≤ old.cores → IsSenderOn (Fits meaning) core (desk_at at new) (link_at at core links)) actor
+        (λ known. subst (λ now. IsSenderOn (Fits meaning) core now (link_at actor core links)) (sym desk_now) (step.senders core core_known))
+        (λ other away known. subst (λ now. IsSenderOn (Fits meaning) core now (link_at other core links)) (sym (desk_elsewhere other away))
         (sender_stays refl (step.received other core away) (λ is. is) (world_sender world other core known core_known)))
         sender known
 
@@ -73,7 +73,7 @@ module _ {J T : Type 0} {same : J → J → Type 0} {made : J → ℕ} {polls : 
         core
 
     -- each actor and each end is as it should be again
-    pub world_after : IsWorld same made polls answers new
+    pub world_after : IsWorld meaning new
     world_after = record {
       all_there = record {
         cores_are = step.inside_are ∙ world.all_there.cores_are;

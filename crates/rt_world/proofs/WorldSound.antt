@@ -1,5 +1,5 @@
 -- The journals of a world at rest are joined, and so they are sound together.
-use Rattle.rt_world.proofs.Words.{ℕ, ◌+◌, refl, sym, ◌∙◌, ap, subst, arith, length-map, Owed, out_of, inward_of, link_at, Parts, core_at, desks, desk_at}
+use Rattle.rt_world.proofs.Words.{ℕ, ◌+◌, refl, sym, ◌∙◌, ap, subst, arith, length-map, Meaning, out_of, inward_of, link_at, Parts, core_at, desks, desk_at}
 use Rattle.rt_world.proofs.Words.{world_of, IsWorld, IsAtRest, AreJoined, IsSound, IsWritten, terms_of_desk, assembly_of}
 use Rattle.rt_ids.proofs.Joining.{joining_is_sound}
 use Rattle.rt_journal.specs.Together.{AreTogether, IsAssemblyOf}
@@ -7,8 +7,8 @@ use Rattle.rt_journal.proofs.Together.{together_joined}
 use Rattle.rt_world_links.proofs.LinkSteps.{plain_joined}
 use Rattle.rt_world.proofs.Desks.{desk_count, desk_at-core, desk_at-outside, journal_of-world}
 
-module _ {J : Type 0} {same : J → J → Type 0} {made : J → ℕ} {polls : Owed J ℕ} {answers : J → ℕ → Type 0} (parts : Parts J ℕ) (world : IsWorld same made polls answers parts) (rest : IsAtRest parts) where
-  together : AreTogether same made polls parts.cores parts.cap (λ actor. desk_at actor parts) (λ core. core_at core parts)
+module _ {J : Type 0} {meaning : Meaning J ℕ} (parts : Parts J ℕ) (world : IsWorld meaning parts) (rest : IsAtRest parts) where
+  together : AreTogether meaning parts.cores parts.cap (λ actor. desk_at actor parts) (λ core. core_at core parts)
       (λ sender core. out_of (link_at sender core parts.links)) (λ sender core. (link_at sender core parts.links).credited) (λ sender core. inward_of (link_at sender core parts.links))
   together = record {
     actors = λ actor known. ap terms_of_desk (world.all_there.seats_are actor known);

@@ -10,7 +10,7 @@ use Rattle.rt_link.specs.Calls.{Sends as SendsOn}
 use Rattle.rt_link.specs.Fits.{Fits}
 use Rattle.rt_link.specs.Whole.{out_of, kept_by_sender}
 use Rattle.rt_desk.specs.Lanes.{IsGot, FitsSent}
-use Rattle.rt_jobs.specs.Steps.{Owed}
+use Rattle.rt_jobs.specs.Meanings.{Meaning}
 use Rattle.rt_journal.specs.Ends.{IsSameSeat, KeepsIn}
 use Rattle.rt_journal.specs.Recorded.{RecordedView, IsRecorded, desk_of}
 use Rattle.rt_journal_desk.specs.Submissions.{DeskView, Submits, numbered}
@@ -46,12 +46,12 @@ module _ {J : Type 0} where
   HasReadyAct ready (Send order) = ready order
   HasReadyAct ready _ = Unit {0}
 
-module _ {J : Type 0} (same : J → J → Type 0) (answers : J → ℕ → Type 0) where
+module _ {J : Type 0} (meaning : Meaning J ℕ) where
   -- the step of the event of this name
   abbrev pub Acts : ℕ → ℕ → Act J → WorldView J ℕ → WorldView J ℕ → Reply J → Type 0
   Acts sender core (Send order) = Sends sender core order
   Acts sender core Collect = Collects sender core
-  Acts sender core (Redeem name) = Redeems same answers sender name
+  Acts sender core (Redeem name) = Redeems meaning sender name
   Acts sender core (Detach name) = Detaches sender name
 
   -- what is so of the actor's desk and of the link, and what the actor is told
@@ -63,20 +63,20 @@ module _ {J : Type 0} (same : J → J → Type 0) (answers : J → ℕ → Type 
       (count : ℕ) × (answer ≡ reply.Collected count) × CollectsFrom core desk count now × GetsAll (out_of link) (out_of after)
   ActsOn core (Redeem name) desk link answer now after =
       (told : Result (Outcome J ℕ) TicketError) × (answer ≡ redeemed_reply told) × RedeemsTicket name desk told now
-      × IfOk told (IsGot (out_of link) name.number) × IfOk told (FitsSent (Fits same answers) (out_of link) name.number) × (out_of after ≡ out_of link)
+      × IfOk told (IsGot (out_of link) name.number) × IfOk told (FitsSent (Fits meaning) (out_of link) name.number) × (out_of after ≡ out_of link)
   ActsOn core (Detach name) desk link answer now after =
       (told : Result (Unit {0}) TicketError) × (answer ≡ detached_reply told) × DetachesTicket name desk told now × (out_of after ≡ out_of link)
 
   -- the act, and what it keeps
   pub record HasActed (core : ℕ) (act : Act J) (desk : DeskView J ℕ) (link : Whole J ℕ) (answer : Reply J) (now : DeskView J ℕ) (after : Whole J ℕ) : Type 0 where
     pub acts : ActsOn core act desk link answer now after
-    pub stays : StaysBeside (Fits same answers) core desk now (out_of after) after.credited
+    pub stays : StaysBeside (Fits meaning) core desk now (out_of after) after.credited
     pub untouched : kept_by_sender after ≡ kept_by_sender link
 
   -- the act of a core, which changes nothing but its journal and its lanes
-  pub record HasCoreActed (made : J → ℕ) (polls : Owed J ℕ) (core : ℕ) (act : Act J) (view : RecordedView J ℕ) (link : Whole J ℕ) (answer : Reply J) (now : RecordedView J ℕ) (after : Whole J ℕ) : Type 0 where
+  pub record HasCoreActed (core : ℕ) (act : Act J) (view : RecordedView J ℕ) (link : Whole J ℕ) (answer : Reply J) (now : RecordedView J ℕ) (after : Whole J ℕ) : Type 0 where
     pub acted : HasActed core act (desk_of view) link answer (desk_of now) after
     pub rest : now ≡ record view { journal = now.journal; lanes = now.lanes }
     pub ins : (sender : ℕ) → KeepsIn sender view now
     pub seat : IsSameSeat view now
-    pub sound : IsRecorded same made polls now
+    pub sound : IsRecorded meaning now

@@ -10,11 +10,12 @@ use Rattle.rt_jobs.specs.Calls.Call.{Submit, Redeem, Detach}
 use Rattle.rt_world.specs.State.{WorldView}
 use Rattle.rt_world.specs.Sends.{Sends, sent_reply}
 use Rattle.rt_world.specs.Collections.{Redeems, Detaches, redeemed_reply, detached_reply}
+use Rattle.rt_jobs.specs.Meanings.{Meaning}
 
-module _ {J : Type 0} (same : J → J → Type 0) (answers : J → ℕ → Type 0) where
+module _ {J : Type 0} (meaning : Meaning J ℕ) where
   -- one call of a job that this core polls; an order for a core that there isn't is refused
   abbrev pub CallsAt : ℕ → WorldView J ℕ → Call J ℕ → WorldView J ℕ → Type 0
   CallsAt core old (Submit to order answer) new =
       ((old.cores ≤ to) × (answer ≡ Err (NoCore order)) × (new ≡ old)) ⊎ ((to < old.cores) × Sends core to order old new (sent_reply answer))
-  CallsAt core old (Redeem name answer) new = Redeems same answers core name old new (redeemed_reply answer)
+  CallsAt core old (Redeem name answer) new = Redeems meaning core name old new (redeemed_reply answer)
   CallsAt core old (Detach name answer) new = Detaches core name old new (detached_reply answer)

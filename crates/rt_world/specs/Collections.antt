@@ -18,6 +18,7 @@ pub use Rattle.rt_journal_desk.specs.Tickets.{RefusesTicket}
 use Rattle.rt_world.specs.declared.event.Reply.{Reply}
 use Rattle.rt_world.specs.declared.event.Reply.TheVariants as reply
 use Rattle.rt_world.specs.State.{WorldView, journal_at, order_under, noted}
+use Rattle.rt_jobs.specs.Meanings.{Meaning}
 
 module _ {T : Type 0} where
   -- a note for each outcome that is collected, the newest first
@@ -56,10 +57,10 @@ module _ {J T : Type 0} where
   Detaches sender name old new (reply.NoTicket Gone) = RefusesTicket name Gone (journal_at sender old) × (new ≡ old)
   Detaches sender name old new _ = ⊥
 
-module _ {J : Type 0} (same : J → J → Type 0) (answers : J → ℕ → Type 0) where
+module _ {J : Type 0} (meaning : Meaning J ℕ) where
   -- the outcome fits the order that was accepted under the name
   abbrev pub FitsUnder : JobId → WorldView J ℕ → Outcome J ℕ → Type 0
-  FitsUnder name world outcome = (order : Order J) × (order_under name world ≡ Some order) × Fits same answers order outcome
+  FitsUnder name world outcome = (order : Order J) × (order_under name world ≡ Some order) × Fits meaning order outcome
 
   -- Redeem: the outcome that was collected under the name, which fits the order that was sent; or the ticket is refused
   abbrev pub Redeems : ℕ → JobId → WorldView J ℕ → WorldView J ℕ → Reply J → Type 0

@@ -3,7 +3,7 @@ use Rattle.std.specs.Prelude.{◌≡◌, ℕ, ◌+◌, ◌<◌, ◌≤◌, None,
 use Rattle.rt_ids.specs.declared.order.Order.{Order}
 use Rattle.rt_ids.specs.declared.order.Outcome.{Outcome}
 use Rattle.rt_ids.specs.Journal.{Journal}
-use Rattle.rt_jobs.specs.Steps.{Owed}
+use Rattle.rt_jobs.specs.Meanings.{Meaning}
 use Rattle.rt_link.specs.declared.plain.Whole.{Whole}
 use Rattle.rt_link.specs.Whole.{out_of, inward_of}
 use Rattle.rt_link.specs.Fits.{Fits}
@@ -70,13 +70,13 @@ module _ {J T : Type 0} where
     pub ins : (sender core : ℕ) → sender ≤ parts.cores → core < parts.cores →
         IsInOf sender (core_at core parts) (inward_of (link_at sender core parts.links))
 
-module _ {J T : Type 0} (same : J → J → Type 0) (made : J → ℕ) (polls : Owed J T) (answers : J → T → Type 0) where
+module _ {J T : Type 0} (meaning : Meaning J T) where
   -- each core is recorded, and the ends of its links are beside their actors
   pub record IsWorld (parts : Parts J T) : Type 0 where
     pub all_there : AreAllThere parts
-    pub recorded : (core : ℕ) → core < parts.cores → IsRecorded same made polls (core_at core parts)
+    pub recorded : (core : ℕ) → core < parts.cores → IsRecorded meaning (core_at core parts)
     pub outside : IsWritten (terms_of_desk parts.outside) parts.outside.journal.notes
-    pub beside : AreBeside (Fits same answers) parts
+    pub beside : AreBeside (Fits meaning) parts
 
 module _ {J T : Type 0} where
   -- no core has a job out

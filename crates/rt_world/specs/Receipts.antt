@@ -5,7 +5,7 @@ use Rattle.rt_ids.specs.declared.note.Note.TheVariants as writes
 use Rattle.rt_ids.specs.Closing.{core_mode, final_count}
 use Rattle.rt_ids.specs.Filters.{accepted_orders}
 use Rattle.rt_ids.specs.Journal.{Journal}
-use Rattle.rt_jobs.specs.Steps.{Owed}
+use Rattle.rt_jobs.specs.Meanings.{Meaning}
 use Rattle.rt_link.specs.declared.plain.Whole.{Whole}
 use Rattle.rt_link.specs.Calls.{Shuts as ShutsOn}
 use Rattle.rt_link.specs.Whole.{inward_of, kept_by_receiver}
@@ -40,7 +40,7 @@ module _ {J T : Type 0} where
       (count : ℕ) × (answer ≡ reply.Noted) × ShutsOn (inward_of link) (inward_of after) count × TellsShut view sender count now
 
 -- the step, and what it keeps
-pub record HasReceived {J T : Type 0} (same : J → J → Type 0) (made : J → ℕ) (polls : Owed J T)
+pub record HasReceived {J T : Type 0} (meaning : Meaning J T)
     (sender : ℕ) (what : Receipt) (view : RecordedView J T) (link : Whole J T) (answer : Reply J) (now : RecordedView J T) (after : Whole J T) : Type 0 where
   pub receives : ReceivesOn sender what view link answer now after
   pub beside : IsInOf sender now (inward_of after)
@@ -48,5 +48,5 @@ pub record HasReceived {J T : Type 0} (same : J → J → Type 0) (made : J → 
   pub outs : KeepsOuts (desk_of view) (desk_of now)
   pub lanes : now.lanes ≡ view.lanes
   pub seat : IsSameSeat view now
-  pub sound : IsRecorded same made polls now
+  pub sound : IsRecorded meaning now
   pub untouched : kept_by_receiver after ≡ kept_by_receiver link

@@ -1,6 +1,6 @@
 -- Runs: events, one after another, each with the notes of its step and the reply of its actor. Links show all that was sent.
 use Rattle.std.specs.Prelude.{◌≡◌, ℕ, List, [], ◌∷◌}
-use Rattle.rt_jobs.specs.Steps.{Owed}
+use Rattle.rt_jobs.specs.Meanings.{Meaning}
 use Rattle.rt_world.specs.declared.event.Event.{Event}
 use Rattle.rt_world.specs.declared.event.Event.TheVariants.{Send, Deliver, Turn, Shut, Collect, Redeem, Detach}
 use Rattle.rt_world.specs.declared.event.Reply.{Reply}
@@ -14,15 +14,15 @@ use Rattle.rt_world.specs.Closings.{Shuts}
 use Rattle.rt_world.specs.Collections.{Collects, Redeems, Detaches}
 
 -- the words of a task: which jobs are of one task, the polls that a job made before, what a poll owes, and what may answer it
-module _ {J : Type 0} (same : J → J → Type 0) (made : J → ℕ) (polls : Owed J ℕ) (answers : J → ℕ → Type 0) where
+module _ {J : Type 0} (meaning : Meaning J ℕ) where
   -- the step of an event whose actors exist, and for which the journal has room
   abbrev pub Steps : Event J → WorldView J ℕ → WorldView J ℕ → Reply J → Type 0
   Steps (Send sender core order) old new answer = Sends sender core order old new answer
   Steps (Deliver core sender) old new answer = Delivers core sender old new answer
-  Steps (Turn core spent) old new answer = Turns same made polls answers core spent old new answer
+  Steps (Turn core spent) old new answer = Turns meaning core spent old new answer
   Steps (Shut core sender) old new answer = Shuts core sender old new answer
   Steps (Collect sender core) old new answer = Collects sender core old new answer
-  Steps (Redeem sender name) old new answer = Redeems same answers sender name old new answer
+  Steps (Redeem sender name) old new answer = Redeems meaning sender name old new answer
   Steps (Detach sender name) old new answer = Detaches sender name old new answer
 
   -- one event: first it is asked whether its actors exist, then whether the journal has room

@@ -13,7 +13,8 @@ use Rattle.rt_ids.specs.Picks.{IsRightPick, turns}
 use Rattle.rt_ids.specs.Commands.{return_reason}
 use Rattle.rt_jobs.specs.Calls.{Call, Makes}
 use Rattle.rt_jobs.specs.declared.job.Step.{Step}
-use Rattle.rt_jobs.specs.Steps.{IfDone, Owed}
+use Rattle.rt_jobs.specs.Meanings.{Meaning}
+use Rattle.rt_jobs.specs.Steps.{IfDone}
 use Rattle.rt_world_links.specs.declared.turn.Turned.{Turned}
 use Rattle.rt_world_links.specs.declared.turn.Turned.TheVariants as turned
 use Rattle.rt_world.specs.declared.event.Reply.{Reply}
@@ -47,7 +48,7 @@ module _ {J T : Type 0} where
     pub notes : new ≡ noted core (writes.Returned name reason ∷ writes.Pick queue runtime ∷ []) old
 
 -- the words of a task: which jobs are of one task, the polls that a job made before, what a poll owes, and what may answer it
-module _ {J : Type 0} (same : J → J → Type 0) (made : J → ℕ) (polls : Owed J ℕ) (answers : J → ℕ → Type 0) where
+module _ {J : Type 0} (meaning : Meaning J ℕ) where
   -- a turn is left, and the right pick is made: the first job of that line is polled once, and makes some calls of its post;
   -- the poll owes what the task says of it, and of its calls, counted from the job as it was sent
   pub record IsPoll (core spent : ℕ) (old new : WorldView J ℕ) : Type 0 where
@@ -64,11 +65,11 @@ module _ {J : Type 0} (same : J → J → Type 0) (made : J → ℕ) (polls : Ow
     pub calls : List (Call J ℕ)
     pub step : Step ℕ
     pub told : Option ℕ
-    pub owed : polls job (made job + polls_made name (journal_at core old)) calls step told
-    pub answered : IfDone step (answers job)
+    pub owed : meaning.polls job (meaning.made job + polls_made name (journal_at core old)) calls step told
+    pub answered : IfDone step (meaning.answers job)
     -- the calls are made after the notes of the pick, and before the note of the settled poll
     pub posted : WorldView J ℕ
-    pub posts : Makes (CallsAt same answers core) calls (noted core (pick_notes name queue runtime (journal_at core old)) old) posted
+    pub posts : Makes (CallsAt meaning core) calls (noted core (pick_notes name queue runtime (journal_at core old)) old) posted
     pub notes : new ≡ noted core (settle_note name (unwrap_or told spent) step ∷ []) posted
 
   -- Turn: a poll, or a job is handed back; nothing where no queue has work, and nothing where all turns are used

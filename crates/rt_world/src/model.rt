@@ -54,7 +54,7 @@ impl<J: Task<Out = u64>, A: Allocator + Clone> Model for World<J, A> {
 
     ghost invariant = { λ w.
         IsConfig w.cores w.cap w.room
-        × IsWorld J.SameTask J.made J.Polls J.Answers
+        × IsWorld J.meaning
         (record { cores = w.cores; cap = w.cap; room = w.room; inside = w.inside.items; outside = w.outside; links = w.links })
         × HasRoomFor (w.cores + 1) w.gathered.items (vec_capacity w.gathered)
         × IsAtRest (record { cores = w.cores; cap = w.cap; room = w.room; inside = w.inside.items; outside = w.outside; links = w.links }) };
@@ -104,7 +104,7 @@ impl<J: Task<Out = u64>, A: Allocator + Clone> World<J, A> {
         ensures cores { result.now.core.cores ≡ self.now.cores }
         ensures notes { result.now.journal.notes ≡ journal_at core self.now }
         ensures room { result.now.journal.room ≡ self.now.room }
-        ensures sound { IsRecorded J.SameTask J.made J.Polls result.now }
+        ensures sound { IsRecorded J.meaning result.now }
     {
         &self.inside[core.0 as usize]
     }

@@ -5,6 +5,7 @@ use Rattle.rt_world_laws.proofs.Words.{redeemed_reply, detached_reply, AreAlike,
 use Rattle.rt_world.specs.declared.event.Reply.TheVariants as reply
 use Rattle.rt_world_laws.specs.Alike.{AsksSame, AnsweredAlike, told_of}
 use Rattle.rt_world_laws.proofs.DeterminedSteps.{comes_once, sends_to, detaches_to, redeems_once}
+use Rattle.rt_jobs.specs.Meanings.{Meaning}
 
 module _ {J : Type 0} where
   -- a reply says what was answered
@@ -28,15 +29,15 @@ module _ {J : Type 0} where
   told_is (Ok outcome) = refl
   told_is (Err error) = refl
 
-module _ {J : Type 0} (same : J → J → Type 0) (answers : J → ℕ → Type 0) where
+module _ {J : Type 0} (meaning : Meaning J ℕ) where
   -- replies that are alike tell the same
-  told_same : (answer other : Result (Outcome J ℕ) TicketError) → AreAlike same answers (redeemed_reply answer) (redeemed_reply other) → told_of answer ≡ told_of other
+  told_same : (answer other : Result (Outcome J ℕ) TicketError) → AreAlike meaning (redeemed_reply answer) (redeemed_reply other) → told_of answer ≡ told_of other
   told_same answer other alike =
       told_is answer ∙ (⊎_elim (λ is. ap tells is) (λ both. ap tells both.redeemed ∙ (ap Ok both.tells ∙ sym (ap tells both.other_redeemed))) alike ∙ sym (told_is other))
 
   module _ (core : ℕ) where
     submits_once : (to : ℕ) (order : Order J) (answer other : Result JobId (SendError J)) (old new then : WorldView J ℕ) →
-        CallsAt same answers core old (Submit to order answer) new → CallsAt same answers core old (Submit to order other) then → (new ≡ then) × (answer ≡ other)
+        CallsAt meaning core old (Submit to order answer) new → CallsAt meaning core old (Submit to order other) then → (new ≡ then) × (answer ≡ other)
     submits_once to order answer other old new then (inl first) (inl second) = (first.2 ∙ sym second.2, first.1 ∙ sym second.1)
     submits_once to order answer other old new then (inl first) (inr second) = absurd (omega (arith, first.0, second.0))
     submits_once to order answer other old new then (inr first) (inl second) = absurd (omega (arith, first.0, second.0))
@@ -45,23 +46,23 @@ module _ {J : Type 0} (same : J → J → Type 0) (answers : J → ℕ → Type 
         (one.0, sent_same answer other one.1)
 
     -- calls that ask the same of one world leave one world, and are answered alike
-    call_once : (call other : Call J ℕ) → AsksSame call other → (old new then : WorldView J ℕ) → CallsAt same answers core old call new → CallsAt same answers core old other then →
+    call_once : (call other : Call J ℕ) → AsksSame call other → (old new then : WorldView J ℕ) → CallsAt meaning core old call new → CallsAt meaning core old other then →
         (new ≡ then) × AnsweredAlike call other
     call_once (Submit to order answer) (Submit at back told) asks old new then first second =
         submits_once to order answer told old new then first
-        (subst (λ at. CallsAt same answers core old (Submit at order told) then) (sym asks.0) (subst (λ order. CallsAt same answers core old (Submit at order told) then) (sym asks.1) second))
+        (subst (λ at. CallsAt meaning core old (Submit at order told) then) (sym asks.0) (subst (λ order. CallsAt meaning core old (Submit at order told) then) (sym asks.1) second))
     call_once (Redeem name answer) (Redeem back told) asks old new then first second =
-        let one = redeems_once same answers core old new then name (redeemed_reply answer) (redeemed_reply told) first (subst (λ name. CallsAt same answers core old (Redeem name told) then) (sym asks) second) in
+        let one = redeems_once meaning core old new then name (redeemed_reply answer) (redeemed_reply told) first (subst (λ name. CallsAt meaning core old (Redeem name told) then) (sym asks) second) in
         (one.0, told_same answer told one.1)
     call_once (Detach name answer) (Detach back told) asks old new then first second =
-        let again = subst (λ name. CallsAt same answers core old (Detach name told) then) (sym asks) second in
+        let again = subst (λ name. CallsAt meaning core old (Detach name told) then) (sym asks) second in
         let one = comes_once (detaches_to core name old (detached_reply answer) first) (detaches_to core name old (detached_reply told) again) in
         (one.0, detached_same answer told one.1)
     call_once _ _ asks old new then first second = absurd asks
 
-    pub calls_once : (calls others : List (Call J ℕ)) → AskAlike calls others → (old new then : WorldView J ℕ) → Makes (CallsAt same answers core) calls old new → Makes (CallsAt same answers core) others old then → new ≡ then
-    calls_once [] others alike old new then first second = first ∙ sym (subst (λ others. Makes (CallsAt same answers core) others old then) alike second)
+    pub calls_once : (calls others : List (Call J ℕ)) → AskAlike calls others → (old new then : WorldView J ℕ) → Makes (CallsAt meaning core) calls old new → Makes (CallsAt meaning core) others old then → new ≡ then
+    calls_once [] others alike old new then first second = first ∙ sym (subst (λ others. Makes (CallsAt meaning core) others old then) alike second)
     calls_once (call ∷ calls) [] alike old new then first second = absurd alike
     calls_once (call ∷ calls) (other ∷ others) alike old new then first second =
         let one = call_once call other alike.0 old first.0 second.0 first.1 second.1 in
-        calls_once calls others (alike.1 one.1) first.0 new then first.2 (subst (λ start. Makes (CallsAt same answers core) others start then) (sym one.0) second.2)
+        calls_once calls others (alike.1 one.1) first.0 new then first.2 (subst (λ start. Makes (CallsAt meaning core) others start then) (sym one.0) second.2)

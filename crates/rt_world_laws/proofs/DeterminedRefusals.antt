@@ -1,5 +1,5 @@
 -- What a journal told of a refusal, each longer one tells.
-use Rattle.rt_world_laws.proofs.Words.{append_assoc, ◌≡◌, ℕ, Bool, true, false, List, [], ◌∷◌, ◌++◌, refl, sym, ◌∙◌, ap, get_or, ◌||◌, Journal, Owed, Event, Reply}
+use Rattle.rt_world_laws.proofs.Words.{append_assoc, ◌≡◌, ℕ, Bool, true, false, List, [], ◌∷◌, ◌++◌, refl, sym, ◌∙◌, ap, get_or, ◌||◌, Journal, Meaning, Event, Reply}
 use Rattle.rt_world_laws.proofs.Words.{WorldView, journal_at, Happens, is_refusal, tells_refusal, WasRefused, WasRefusedSince, IsToldRun}
 use Rattle.std.proofs.Math.Bool.{or-true}
 use Rattle.rt_world_laws.proofs.KeptLists.{Extends, is_later}
@@ -45,16 +45,16 @@ module _ {T : Type 0} {old middle new : List (Journal T)} where
 pub was_refused : {T : Type 0} {old new : List (Journal T)} → WasRefusedSince old new → WasRefused new
 was_refused {T} {old} refused = (refused.core, ap tells_refusal refused.since ∙ tells-added refused.notes (get_or old refused.core []) refused.told)
 
-module _ {J : Type 0} (same : J → J → Type 0) (made : J → ℕ) (polls : Owed J ℕ) (answers : J → ℕ → Type 0) where
+module _ {J : Type 0} (meaning : Meaning J ℕ) where
   -- each event keeps what was told
-  pub refused-happens : (event : Event J) (old new : WorldView J ℕ) (answer : Reply J) → Happens same made polls answers event old new answer → WasRefused old.journals → WasRefused new.journals
+  pub refused-happens : (event : Event J) (old new : WorldView J ℕ) (answer : Reply J) → Happens meaning event old new answer → WasRefused old.journals → WasRefused new.journals
   refused-happens event old new answer happens refused =
-      let more = (is_later same made polls answers event old new answer happens).journals refused.0 in
+      let more = (is_later meaning event old new answer happens).journals refused.0 in
       (refused.0, ap tells_refusal more.1 ∙ tells-longer more.0 (journal_at refused.0 old) refused.1)
 
-  pub extends-run : (events : List (Event J)) (old new : WorldView J ℕ) (replies : List (Reply J)) → IsToldRun same made polls answers events old new replies → Extends old.journals new.journals
+  pub extends-run : (events : List (Event J)) (old new : WorldView J ℕ) (replies : List (Reply J)) → IsToldRun meaning events old new replies → Extends old.journals new.journals
   extends-run [] old new replies run core = ([], ap (journal_at core) run.0)
   extends-run (event ∷ events) old new replies run core =
-      let first = (is_later same made polls answers event old run.0 run.1 run.3).journals core in
+      let first = (is_later meaning event old run.0 run.1 run.3).journals core in
       let later = extends-run events run.0 new run.2 run.4 core in
       (later.0 ++ first.0, later.1 ∙ (ap (λ rest. later.0 ++ rest) first.1 ∙ sym (append_assoc later.0 first.0 (journal_at core old))))

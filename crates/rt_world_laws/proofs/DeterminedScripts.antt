@@ -1,6 +1,6 @@
 -- A poll of a script job owes one step and one time, and asks one thing, so a run of script jobs has one result.
 use Rattle.rt_world_laws.proofs.Words.{◌≡◌, ℕ, List, [], refl, sym, ◌∙◌, subst, Option, Some, None, slice_get, Result, Ok, Err, JobId, SendError, Call, Step, Script}
-use Rattle.rt_world_laws.proofs.Words.{AskAlike, CallNoQueues, PollsOrderNone, OwesOne, ScriptSame, script_made, ScriptPolls, ScriptAnswers}
+use Rattle.rt_world_laws.proofs.Words.{AskAlike, CallNoQueues, PollsOrderNone, OwesOne, script_meaning}
 use Rattle.rt_jobs.specs.declared.poll.Poll.{Poll}
 use Rattle.rt_jobs.specs.declared.poll.Poll.TheVariants as poll
 use Rattle.rt_jobs.specs.Scripts.{Does, SendsSmall, detach_calls}
@@ -36,7 +36,7 @@ module _ (calls others : List (Call Script ℕ)) where
   asks_one (Some (poll.Submit time core queue)) step other told other_told first second = sends_alike core queue first.0 second.0
   asks_one (Some (poll.Done time value)) step other told other_told first second = alike_as [] [] first.0 second.0 refl
 
-pub scripts_owe_one : OwesOne ScriptPolls
+pub scripts_owe_one : OwesOne script_meaning
 scripts_owe_one = record {
   step = λ job place calls others step other told other_told first second. (one_step calls others step other told other_told (slice_get job.polls place) first second).0;
   told = λ job place calls others step other told other_told first second. (one_step calls others step other told other_told (slice_get job.polls place) first second).1;
@@ -57,8 +57,8 @@ orders_none (Some (poll.Submit time core queue)) calls step told does = none_as 
     detached (Err error) = tt
 orders_none (Some (poll.Done time value)) calls step told does = none_as calls [] does.0 tt
 
-pub scripts_order_none : PollsOrderNone ScriptPolls
+pub scripts_order_none : PollsOrderNone script_meaning
 scripts_order_none job place calls step told does = orders_none (slice_get job.polls place) calls step told does
 
 pub script_run_once : ScriptRunIsDetermined
-script_run_once = run_once ScriptSame script_made ScriptPolls ScriptAnswers scripts_owe_one
+script_run_once = run_once script_meaning scripts_owe_one

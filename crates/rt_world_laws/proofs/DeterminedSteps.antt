@@ -19,6 +19,7 @@ use Rattle.rt_ids.specs.Outstanding.{is_gone, name_collected}
 use Rattle.rt_ids.proofs.Collected.{nothing_collected_under}
 use Rattle.rt_world.specs.declared.event.Reply.TheVariants as reply
 use Rattle.rt_world.specs.Deliveries.{IsAnswered}
+use Rattle.rt_jobs.specs.Meanings.{Meaning}
 
 -- the world and the reply are the ones of this result
 pub record Comes {J T : Type 0} (result : WorldView J T × Reply J) (new : WorldView J T) (answer : Reply J) : Type 0 where
@@ -126,13 +127,13 @@ module _ {J T : Type 0} (sender : ℕ) (name : JobId) (old : WorldView J T) wher
   detaches_to (reply.NoTicket Gone) did = comes_as (λ i. detached_by (refused_by (did.0.0 i) (did.0.1 i) true)) (record { world = did.1; told = refl })
   detaches_to _ did = absurd did
 
-module _ {J : Type 0} (same : J → J → Type 0) (answers : J → ℕ → Type 0) (sender : ℕ) (old new other : WorldView J ℕ) (name : JobId) where
+module _ {J : Type 0} (meaning : Meaning J ℕ) (sender : ℕ) (old new other : WorldView J ℕ) (name : JobId) where
   -- a redeem has one result, except for how far a job got that comes back
-  pub redeems_once : (answer also : Reply J) → Redeems same answers sender name old new answer → Redeems same answers sender name old other also → (new ≡ other) × AreAlike same answers answer also
+  pub redeems_once : (answer also : Reply J) → Redeems meaning sender name old new answer → Redeems meaning sender name old other also → (new ≡ other) × AreAlike meaning answer also
   redeems_once (reply.Redeemed outcome) (reply.Redeemed back) first second =
       let tells : outcome_note outcome ≡ outcome_note back = same_Some _ _ (sym first.0.collected ∙ second.0.collected) in
       let order = same_Some _ _ (sym second.2.1 ∙ first.2.1) in
-      let other_fits = subst (λ order. Fits same answers order back) order second.2.2 in (
+      let other_fits = subst (λ order. Fits meaning order back) order second.2.2 in (
         first.3 ∙ (ap (λ outcome. noted sender (writes.Redeemed name outcome ∷ []) old) tells ∙ sym second.3),
         inr (record { outcome = outcome; back = back; redeemed = refl; other_redeemed = refl; tells = tells; order = first.2.0; fits = first.2.2; other_fits = other_fits }),
       )

@@ -1,6 +1,6 @@
 -- A turn has one result, if each poll owes one step and one time.
 use Rattle.rt_world_laws.proofs.Words.{◌≡◌, ℕ, ◌+◌, ◌-◌, ◌^◌, ◌⊎◌, inl, inr, false, List, [], ◌∷◌, refl, sym, ◌∙◌, ap, subst, arith, unwrap_or}
-use Rattle.rt_world_laws.proofs.Words.{true≢false, none-some, same_Some, Option, Some, JobId, Order, Journal, IsRightPick, Owed, Reply, WorldView, journal_at, noted}
+use Rattle.rt_world_laws.proofs.Words.{true≢false, none-some, same_Some, Option, Some, JobId, Order, Journal, IsRightPick, Meaning, Reply, WorldView, journal_at, noted}
 use Rattle.rt_world_laws.proofs.Words.{Job, return_reason, KeyAtMost, line, turns, virtual_runtime, has_work, Makes, order_under, CallsAt, pick_notes}
 use Rattle.rt_world_laws.proofs.Words.{settle_note, IsPoll, IsHandBack, Turns, OwesOne}
 use Rattle.rt_journal.proofs.Ahead.{one_key}
@@ -38,13 +38,13 @@ made_once {journal = journal} {queue = queue} {runtime = runtime} {other = other
       same_head (line queue journal) name also first.others second.others first.first (ap (λ queue. line queue journal) one ∙ second.first),
     )
 
-module _ {J : Type 0} (same : J → J → Type 0) (made : J → ℕ) (polls : Owed J ℕ) (answers : J → ℕ → Type 0) (owes : OwesOne polls)
+module _ {J : Type 0} (meaning : Meaning J ℕ) (owes : OwesOne meaning)
     (core spent : ℕ) (old : WorldView J ℕ) where
   abbrev journal : Journal ℕ
   journal = journal_at core old
 
   abbrev Polls : WorldView J ℕ → Type 0
-  Polls new = IsPoll same made polls answers core spent old new
+  Polls new = IsPoll meaning core spent old new
 
   abbrev HandsBack : WorldView J ℕ → Type 0
   HandsBack new = IsHandBack core old new
@@ -69,10 +69,10 @@ module _ {J : Type 0} (same : J → J → Type 0) (made : J → ℕ) (polls : Ow
         its_job : first.job ≡ second.job
         its_job = same_job (order_under first.name old) first.queue second.queue first.job second.job first.task (ap (λ name. order_under name old) its.2 ∙ second.task)
 
-        owed : polls first.job (made first.job + polls_made first.name journal) second.calls second.step second.told
+        owed : meaning.polls first.job (meaning.made first.job + polls_made first.name journal) second.calls second.step second.told
         owed =
-            subst (λ job. polls job (made job + polls_made first.name journal) second.calls second.step second.told) (sym its_job)
-            (subst (λ name. polls second.job (made second.job + polls_made name journal) second.calls second.step second.told) (sym its.2) second.owed)
+            subst (λ job. meaning.polls job (meaning.made job + polls_made first.name journal) second.calls second.step second.told) (sym its_job)
+            (subst (λ name. meaning.polls second.job (meaning.made second.job + polls_made name journal) second.calls second.step second.told) (sym its.2) second.owed)
 
         its_step : first.step ≡ second.step
         its_step = owes.step _ _ _ _ _ _ _ _ first.owed owed
@@ -82,8 +82,8 @@ module _ {J : Type 0} (same : J → J → Type 0) (made : J → ℕ) (polls : Ow
 
         its_posted : first.posted ≡ second.posted
         its_posted =
-            calls_once same answers core first.calls second.calls (owes.asks _ _ _ _ _ _ _ _ first.owed owed) (picked first.name first.queue first.runtime) first.posted second.posted first.posts
-            (subst (λ start. Makes (CallsAt same answers core) second.calls start second.posted) (λ i. picked (sym its.2 i) (sym its.0 i) (sym its.1 i)) second.posts)
+            calls_once meaning core first.calls second.calls (owes.asks _ _ _ _ _ _ _ _ first.owed owed) (picked first.name first.queue first.runtime) first.posted second.posted first.posts
+            (subst (λ start. Makes (CallsAt meaning core) second.calls start second.posted) (λ i. picked (sym its.2 i) (sym its.0 i) (sym its.1 i)) second.posts)
 
     one_back : HandsBack new → HandsBack other → new ≡ other
     one_back first second =
@@ -111,7 +111,7 @@ module _ {J : Type 0} (same : J → J → Type 0) (made : J → ℕ) (polls : Ow
   no_idle (inl poll) idle = true≢false (sym poll.right.eligible.work ∙ idle poll.queue)
   no_idle (inr back) idle = true≢false (sym back.right.eligible.work ∙ idle back.queue)
 
-  pub turns_once : (new other : WorldView J ℕ) (answer other_answer : Reply J) → Turns same made polls answers core spent old new answer → Turns same made polls answers core spent old other other_answer →
+  pub turns_once : (new other : WorldView J ℕ) (answer other_answer : Reply J) → Turns meaning core spent old new answer → Turns meaning core spent old other other_answer →
       (new ≡ other) × (answer ≡ other_answer)
   turns_once new other reply.Noted reply.Noted first second = (one_turn new other first second, refl)
   turns_once new other reply.Noted reply.Idle first second = absurd (no_idle first second.0)

@@ -1,6 +1,6 @@
 -- What each event leaves: as many journals and lists of orders as before, each journal behind what it got, and no refusal told, if no queue is ordered.
 use Rattle.rt_world_laws.proofs.Words.{append_assoc, ◌≡◌, ℕ, ◌+◌, false, List, [], ◌∷◌, ◌++◌, length, refl, sym, ◌∙◌, ap, subst, inl, inr, ⊎_elim, get_or, set}
-use Rattle.rt_world_laws.proofs.Words.{unwrap_or, true≢false, length-set, Some, slice_get, JobId, Note, Order, Journal, Owed, Event, Reply, WorldView, journal_at}
+use Rattle.rt_world_laws.proofs.Words.{unwrap_or, true≢false, length-set, Some, slice_get, JobId, Note, Order, Journal, Meaning, Event, Reply, WorldView, journal_at}
 use Rattle.rt_world_laws.proofs.Words.{noted, Happens, Create, Reason, Unknown, Gone, Closed, Full, Spent, accepted_orders, name_started, is_told, outcome_note}
 use Rattle.rt_world_laws.proofs.Words.{Call, Makes, Submit, Send, Deliver, Turn, Shut, Collect, without_job, sent_at, with_sent, Sends, sent_reply, Delivers}
 use Rattle.rt_world_laws.proofs.Words.{next_place, CallsAt, pick_notes, settle_note, Turns, Shuts, collected_notes, uncollected, Collects, Redeems, Detaches}
@@ -149,25 +149,25 @@ module _ {J T : Type 0} where
   detaches sender name old new (reply.NoTicket Gone) happens = later_same happens.1
   detaches sender name old new _ happens = absurd happens
 
-module _ {J : Type 0} (same : J → J → Type 0) (made : J → ℕ) (polls : Owed J ℕ) (answers : J → ℕ → Type 0) where
-  redeems : {none : Type 0} (sender : ℕ) (name : JobId) (old new : WorldView J ℕ) (answer : Reply J) → Redeems same answers sender name old new answer → IsLater none old new
+module _ {J : Type 0} (meaning : Meaning J ℕ) where
+  redeems : {none : Type 0} (sender : ℕ) (name : JobId) (old new : WorldView J ℕ) (answer : Reply J) → Redeems meaning sender name old new answer → IsLater none old new
   redeems sender name old new (reply.Redeemed outcome) happens = later_noted sender (writes.Redeemed name (outcome_note outcome) ∷ []) (λ none plain. refl) happens.3
   redeems sender name old new (reply.NoTicket error) happens = later_same happens.1
   redeems sender name old new _ happens = absurd happens
 
   -- what the calls of a post do
-  called : (core : ℕ) (calls : List (Call J ℕ)) (old new : WorldView J ℕ) → Makes (CallsAt same answers core) calls old new → IsLater (CallNoQueues calls) old new
+  called : (core : ℕ) (calls : List (Call J ℕ)) (old new : WorldView J ℕ) → Makes (CallsAt meaning core) calls old new → IsLater (CallNoQueues calls) old new
   called core [] old new makes = later_same makes
   called core (Submit to order answer ∷ calls) old new makes =
       later_then (later_if (λ none. none.0) (submitted makes.1)) (later_if (λ none. none.1) (called core calls makes.0 new makes.2))
     where
-      submitted : CallsAt same answers core old (Submit to order answer) makes.0 → IsLater (IsNoCreation order) old makes.0
+      submitted : CallsAt meaning core old (Submit to order answer) makes.0 → IsLater (IsNoCreation order) old makes.0
       submitted (inl none) = later_same none.2
       submitted (inr sent) = sends core to order old makes.0 (sent_reply answer) sent.1
   called core (RedeemCall name answer ∷ calls) old new makes = later_then (redeems core name old makes.0 (redeemed_reply answer) makes.1) (called core calls makes.0 new makes.2)
   called core (DetachCall name answer ∷ calls) old new makes = later_then (detaches core name old makes.0 (detached_reply answer) makes.1) (called core calls makes.0 new makes.2)
 
-  turns : (core spent : ℕ) (old new : WorldView J ℕ) (answer : Reply J) → Turns same made polls answers core spent old new answer → IsLater (PollsOrderNone polls) old new
+  turns : (core spent : ℕ) (old new : WorldView J ℕ) (answer : Reply J) → Turns meaning core spent old new answer → IsLater (PollsOrderNone meaning) old new
   turns core spent old new reply.Noted (inl poll) =
       let picked = pick_notes poll.name poll.queue poll.runtime (journal_at core old) in
       later_then {middle = noted core picked old}
@@ -179,7 +179,7 @@ module _ {J : Type 0} (same : J → J → Type 0) (made : J → ℕ) (polls : Ow
   turns core spent old new reply.Spent happens = later_same happens.2
   turns core spent old new _ happens = absurd happens
 
-  steps : (event : Event J) (old new : WorldView J ℕ) (answer : Reply J) → Steps same made polls answers event old new answer → IsLater (OrdersNoQueue event × PollsOrderNone polls) old new
+  steps : (event : Event J) (old new : WorldView J ℕ) (answer : Reply J) → Steps meaning event old new answer → IsLater (OrdersNoQueue event × PollsOrderNone meaning) old new
   steps (Send sender core order) old new answer happens = later_if (λ none. none.0) (sends sender core order old new answer happens)
   steps (Deliver core sender) old new answer happens = delivers core sender old new answer happens
   steps (Turn core spent) old new answer happens = later_if (λ none. none.1) (turns core spent old new answer happens)
@@ -189,10 +189,10 @@ module _ {J : Type 0} (same : J → J → Type 0) (made : J → ℕ) (polls : Ow
   steps (Detach sender name) old new answer happens = detaches sender name old new answer happens
 
   -- what an event leaves
-  pub is_later : (event : Event J) (old new : WorldView J ℕ) (answer : Reply J) → Happens same made polls answers event old new answer → IsLater (OrdersNoQueue event × PollsOrderNone polls) old new
+  pub is_later : (event : Event J) (old new : WorldView J ℕ) (answer : Reply J) → Happens meaning event old new answer → IsLater (OrdersNoQueue event × PollsOrderNone meaning) old new
   is_later event old new (reply.NoActor back) happens = later_same happens.2
   is_later event old new (reply.NoRoom back) happens = later_same happens.3
   is_later event old new answer happens = steps event old new answer happens.2
 
-  pub happens_keep : (event : Event J) (old new : WorldView J ℕ) (answer : Reply J) → Happens same made polls answers event old new answer → HasAllLists old → HasAllLists new
+  pub happens_keep : (event : Event J) (old new : WorldView J ℕ) (answer : Reply J) → Happens meaning event old new answer → HasAllLists old → HasAllLists new
   happens_keep event old new answer happens = (is_later event old new answer happens).lists

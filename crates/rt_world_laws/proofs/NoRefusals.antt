@@ -1,5 +1,5 @@
 -- If no queue is ordered, no refusal is told.
-use Rattle.rt_world_laws.proofs.Words.{ℕ, List, [], ◌∷◌, sym, ◌∙◌, ap, subst, ⊎_elim, true≢false, none-some, slice_get, Owed, Event, Reply, WorldView, journal_at}
+use Rattle.rt_world_laws.proofs.Words.{ℕ, List, [], ◌∷◌, sym, ◌∙◌, ap, subst, ⊎_elim, true≢false, none-some, slice_get, Meaning, Event, Reply, WorldView, journal_at}
 use Rattle.rt_world_laws.proofs.Words.{Create, IsUnbegun, IsToldRun, OrderNoQueues, PollsOrderNone}
 use Rattle.rt_world_laws.specs.Creations.{RunOfJobsIsDetermined}
 use Rattle.rt_world_laws.proofs.PlainNotes.{opening_plain}
@@ -13,18 +13,18 @@ plain_unbegun world unbegun = record {
   told = λ refused. true≢false (sym refused.1 ∙ opening_plain (journal_at refused.0 world) (unbegun.opening refused.0));
 }
 
-module _ {J : Type 0} (same : J → J → Type 0) (made : J → ℕ) (polls : Owed J ℕ) (answers : J → ℕ → Type 0) where
-  pub run_plain : PollsOrderNone polls → (events : List (Event J)) → OrderNoQueues events → (old new : WorldView J ℕ) (replies : List (Reply J)) →
-      IsToldRun same made polls answers events old new replies → IsPlain old → IsPlain new
+module _ {J : Type 0} (meaning : Meaning J ℕ) where
+  pub run_plain : PollsOrderNone meaning → (events : List (Event J)) → OrderNoQueues events → (old new : WorldView J ℕ) (replies : List (Reply J)) →
+      IsToldRun meaning events old new replies → IsPlain old → IsPlain new
   run_plain polls_none [] none old new replies run plain = subst (λ world. IsPlain world) (sym run.0) plain
   run_plain polls_none (event ∷ events) none old new replies run plain =
-      run_plain polls_none events none.1 run.0 new run.2 run.4 ((is_later same made polls answers event old run.0 run.1 run.3).plain (none.0, polls_none) plain)
+      run_plain polls_none events none.1 run.0 new run.2 run.4 ((is_later meaning event old run.0 run.1 run.3).plain (none.0, polls_none) plain)
 
-  pub jobs_once : RunOfJobsIsDetermined same made polls answers
+  pub jobs_once : RunOfJobsIsDetermined meaning
   jobs_once owes polls_none events old new other replies others unbegun none run other_run =
       let plain = plain_unbegun old unbegun in
       ⊎_elim (λ same. same)
       (λ refused.
       absurd (⊎_elim (λ told. (run_plain polls_none events none old new replies run plain).told (was_refused told))
       (λ told. (run_plain polls_none events none old other others other_run plain).told (was_refused told)) refused))
-      (run_once same made polls answers owes events old new other replies others unbegun.lists run other_run)
+      (run_once meaning owes events old new other replies others unbegun.lists run other_run)

@@ -3,7 +3,7 @@ use Rattle.rt_world_laws.proofs.Words.{◌≡◌, ℕ, ◌-◌, ◌^◌, ◌<◌
 use Rattle.rt_world_laws.proofs.Words.{IsRightPick, virtual_runtime, has_work, ◌+◌, List, ◌∷◌, length, inl, inr, ap, None, Some, JobId, Order, Event, Reply}
 use Rattle.rt_world_laws.proofs.Words.{WorldView, Happens, journal_at, noted, Job, return_reason, accepted_orders, IsNextSent, line, outstanding_count, turns, Step}
 use Rattle.rt_world_laws.proofs.Words.{Script, Send, Turn, AreThere, without_job, terms_at, order_under, with_sent, IsNearlyFull, pick_notes, settle_note}
-use Rattle.rt_world_laws.proofs.Words.{OrderNoQueues, with_creations, ScriptSame, script_made, ScriptPolls, ScriptAnswers, AreAlike, AreAllAlike, name}
+use Rattle.rt_world_laws.proofs.Words.{OrderNoQueues, with_creations, AreAlike, AreAllAlike, name, script_meaning}
 use Rattle.std.proofs.Common.{eqb-true}
 use Rattle.rt_ids.specs.Lines.{jobs_out}
 use Rattle.std.specs.Prelude.{◌&&◌}
@@ -20,6 +20,7 @@ use Rattle.rt_world_laws.proofs.DeterminedOpenings.{fresh_once}
 use Rattle.rt_world_laws.proofs.DeterminedScripts.{scripts_owe_one, scripts_order_none}
 use Rattle.rt_world_laws.proofs.NoRefusals.{jobs_once}
 use Rattle.rt_world_laws.proofs.UnbegunCreations.{unbegun_fresh, unbegun_creations, first_world, fresh_first}
+use Rattle.rt_jobs.specs.Meanings.{Meaning}
 
 module _ (journal : Journal ℕ) (queue runtime : ℕ) (at : runtime ≡ virtual_runtime queue journal) (work : has_work queue journal ≡ true) (nobody : jobs_out journal ≡ []) where
   -- a queue is at most what it is itself
@@ -61,12 +62,12 @@ are_plain [] = true
 are_plain (answer ∷ replies) = is_plain_reply answer && are_plain replies
 
 -- replies that are alike are the same, if no outcome is redeemed
-module _ {J : Type 0} (same : J → J → Type 0) (answers : J → ℕ → Type 0) where
-  same_reply : (answer other : Reply J) → is_plain_reply answer ≡ true → AreAlike same answers answer other → answer ≡ other
+module _ {J : Type 0} (meaning : Meaning J ℕ) where
+  same_reply : (answer other : Reply J) → is_plain_reply answer ≡ true → AreAlike meaning answer other → answer ≡ other
   same_reply answer other plain (inl is) = is
   same_reply answer other plain (inr both) = absurd (true≢false (sym plain ∙ ap is_plain_reply both.redeemed))
 
-  pub same_replies : (replies others : List (Reply J)) → are_plain replies ≡ true → AreAllAlike same answers replies others → replies ≡ others
+  pub same_replies : (replies others : List (Reply J)) → are_plain replies ≡ true → AreAllAlike meaning replies others → replies ≡ others
   same_replies [] others plain alike = sym alike
   same_replies (answer ∷ replies) others plain alike =
       let parts = and_parts (is_plain_reply answer) (are_plain replies) plain in
@@ -74,7 +75,7 @@ module _ {J : Type 0} (same : J → J → Type 0) (answers : J → ℕ → Type 
 
 -- one event of script jobs
 abbrev Occurs : Event Script → WorldView Script ℕ → WorldView Script ℕ → Reply Script → Type 0
-Occurs = Happens ScriptSame script_made ScriptPolls ScriptAnswers
+Occurs = Happens script_meaning
 
 -- a run with these replies, which ends with these journals
 pub record IsRow (start : WorldView Script ℕ) (events : List (Event Script)) (journals : List (Journal ℕ)) (replies : List (Reply Script)) : Type 0 where
@@ -115,7 +116,7 @@ module _ {events : List (Event Script)} {world : WorldView Script ℕ} {journals
   pub polling : {core spent : ℕ} (queue runtime time : ℕ) (its : JobId) (others : List JobId) (job : Script) (step : Step ℕ) →
       core < world.cores → (IsNearlyFull core world → ⊥) → turns (journal_at core world) ≤ 50 → IsRightPick queue runtime (journal_at core world) →
       line queue (journal_at core world) ≡ its ∷ others → return_reason queue (journal_at core world) ≡ None → order_under its world ≡ Some (Job queue job) →
-      ScriptPolls job (job.polled + polls_made its (journal_at core world)) [] step (Some time) → IfDone step (ScriptAnswers job) →
+      script_meaning.polls job (job.polled + polls_made its (journal_at core world)) [] step (Some time) → IfDone step (script_meaning.answers job) →
       IsRow (noted core (settle_note its time step ∷ []) (noted core (pick_notes its queue runtime (journal_at core world)) world)) events journals replies →
       IsRow world (Turn core spent ∷ events) journals (reply.Noted ∷ replies)
   polling queue runtime time its others job step there room few right first kept task owed answered =
@@ -157,7 +158,7 @@ module _ (cores cap : ℕ) (queues : List (ℕ × ℕ)) (events : List (Event Sc
         run = run;
         ends = found.ends;
         only = λ other others other_run.
-            let one = jobs_once ScriptSame script_made ScriptPolls ScriptAnswers scripts_owe_one scripts_order_none events (with_creations queues empty) found.end other replies others
+            let one = jobs_once script_meaning scripts_owe_one scripts_order_none events (with_creations queues empty) found.end other replies others
             (unbegun_creations queues empty (unbegun_fresh cores cap room empty fresh)) none run other_run in
-            (ap (λ world. world.journals) (sym one.0) ∙ found.ends, sym (same_replies ScriptSame ScriptAnswers replies others plain one.1));
+            (ap (λ world. world.journals) (sym one.0) ∙ found.ends, sym (same_replies script_meaning replies others plain one.1));
       }

@@ -27,7 +27,7 @@ pub use Rattle.rt_ids.specs.declared.order.SendError.{SendError}
 pub use Rattle.rt_jobs.specs.Calls.Call.{Detach, Redeem, Submit}
 pub use Rattle.rt_jobs.specs.Calls.{Call, Makes}
 pub use Rattle.rt_jobs.specs.Scripts.{Script}
-pub use Rattle.rt_jobs.specs.Steps.{Owed}
+pub use Rattle.rt_jobs.specs.Meanings.{Meaning}
 pub use Rattle.rt_jobs.specs.declared.job.Step.{Step}
 pub use Rattle.rt_link.specs.Fits.{Fits}
 pub use Rattle.rt_journal_desk.specs.Tickets.{RefusesTicket}
@@ -47,7 +47,7 @@ pub use Rattle.rt_world_laws.specs.Alike.{AreAlike, AreAllAlike, AskAlike}
 pub use Rattle.rt_world_laws.specs.Creations.{CallNoQueues, IsNoCreation, OrderNoQueues, PollsOrderNone, with_creations}
 pub use Rattle.rt_world_laws.specs.Determined.{IsToldRun, OwesOne, WasRefused, WasRefusedSince, is_refusal, tells_refusal}
 pub use Rattle.rt_world_laws.specs.Rows.{name}
-pub use Rattle.rt_world_laws.specs.ScriptRuns.{ScriptAnswers, ScriptPolls, ScriptSame, script_made}
+pub use Rattle.rt_jobs.specs.ScriptMeaning.{script_meaning}
 pub use Rattle.std.proofs.Common.{Bool, List, [], ap, append_assoc, arith, cond, false, get_or, get_or-set_same, inl, inr, length, refl, set}
 pub use Rattle.std.proofs.Common.{subst, sym, true, ℕ, ⊎_elim, ◌++◌, ◌+◌, ◌-◌, ◌<◌, ◌^◌, ◌∙◌, ◌∷◌, ◌≡◌, ◌≤◌, ◌⊎◌}
 pub use Rattle.std.proofs.Math.Logic.{⊎_map}

@@ -10,6 +10,7 @@ use Rattle.rt_jobs.specs.Calls.Call.{Submit, Redeem, Detach}
 use Rattle.rt_link.specs.Fits.{Fits}
 use Rattle.rt_world.specs.declared.event.Reply.{Reply}
 use Rattle.rt_world.specs.declared.event.Reply.TheVariants as reply
+use Rattle.rt_jobs.specs.Meanings.{Meaning}
 
 module _ {J T : Type 0} where
   -- what is told of a redeemed outcome
@@ -37,7 +38,7 @@ module _ {J T : Type 0} where
   AskAlike (call ∷ calls) [] = ⊥
   AskAlike (call ∷ calls) (other ∷ others) = AsksSame call other × (AnsweredAlike call other → AskAlike calls others)
 
-module _ {J : Type 0} (same : J → J → Type 0) (answers : J → ℕ → Type 0) where
+module _ {J : Type 0} (meaning : Meaning J ℕ) where
   -- both redeem what one order may come to, and tell the same of it; if a job came back, it has that order's task, and may differ in how far it got
   pub record AreBothRedeemed (answer other : Reply J) : Type 0 where
     pub outcome : Outcome J ℕ
@@ -46,13 +47,13 @@ module _ {J : Type 0} (same : J → J → Type 0) (answers : J → ℕ → Type 
     pub other_redeemed : other ≡ reply.Redeemed back
     pub tells : outcome_note outcome ≡ outcome_note back
     pub order : Order J
-    pub fits : Fits same answers order outcome
-    pub other_fits : Fits same answers order back
+    pub fits : Fits meaning order outcome
+    pub other_fits : Fits meaning order back
 
-module _ {J : Type 0} (same : J → J → Type 0) (answers : J → ℕ → Type 0) where
+module _ {J : Type 0} (meaning : Meaning J ℕ) where
   -- two replies are the same, except that jobs which come back with a redeemed outcome may differ: no journal tells how far such a job got
   abbrev pub AreAlike : Reply J → Reply J → Type 0
-  AreAlike answer other = (answer ≡ other) ⊎ AreBothRedeemed same answers answer other
+  AreAlike answer other = (answer ≡ other) ⊎ AreBothRedeemed meaning answer other
 
   -- replies that are alike, one by one
   abbrev pub AreAllAlike : List (Reply J) → List (Reply J) → Type 0

@@ -7,7 +7,7 @@ use Rattle.rt_ids.specs.Commands.{created_count}
 use Rattle.rt_jobs.specs.Calls.{Call}
 use Rattle.rt_jobs.specs.Calls.Call.{Submit}
 use Rattle.rt_jobs.specs.declared.job.Step.{Step}
-use Rattle.rt_jobs.specs.Steps.{Owed}
+use Rattle.rt_jobs.specs.Meanings.{Meaning}
 use Rattle.rt_world.specs.declared.event.Event.{Event}
 use Rattle.rt_world.specs.declared.event.Event.TheVariants.{Send}
 use Rattle.rt_world.specs.declared.event.Reply.{Reply}
@@ -45,13 +45,13 @@ module _ {J : Type 0} where
   CallNoQueues (_ ∷ calls) = CallNoQueues calls
 
   -- no poll orders a queue
-  abbrev pub PollsOrderNone : {T : Type 0} → Owed J T → Type 0
-  PollsOrderNone {T} polls = (job : J) (place : ℕ) (calls : List (Call J T)) (step : Step T) (told : Option ℕ) → polls job place calls step told → CallNoQueues calls
+  abbrev pub PollsOrderNone : {T : Type 0} → Meaning J T → Type 0
+  PollsOrderNone {T} meaning = (job : J) (place : ℕ) (calls : List (Call J T)) (step : Step T) (told : Option ℕ) → meaning.polls job place calls step told → CallNoQueues calls
 
-module _ {J : Type 0} (same : J → J → Type 0) (made : J → ℕ) (polls : Owed J ℕ) (answers : J → ℕ → Type 0) where
+module _ {J : Type 0} (meaning : Meaning J ℕ) where
   -- before its first event, a world and events that order no queue have one result, where no job orders one
   abbrev pub RunOfJobsIsDetermined : Type 0
   RunOfJobsIsDetermined =
-      OwesOne polls → PollsOrderNone polls → (events : List (Event J)) (old new other : WorldView J ℕ) (replies others : List (Reply J)) → IsUnbegun old → OrderNoQueues events →
-      IsToldRun same made polls answers events old new replies → IsToldRun same made polls answers events old other others →
-      (new ≡ other) × AreAllAlike same answers replies others
+      OwesOne meaning → PollsOrderNone meaning → (events : List (Event J)) (old new other : WorldView J ℕ) (replies others : List (Reply J)) → IsUnbegun old → OrderNoQueues events →
+      IsToldRun meaning events old new replies → IsToldRun meaning events old other others →
+      (new ≡ other) × AreAllAlike meaning replies others

@@ -7,7 +7,7 @@ use Rattle.rt_ids.specs.Assembly.{Assembly}
 use Rattle.rt_ids.specs.Journal.{Journal}
 use Rattle.rt_jobs.specs.Calls.{Call}
 use Rattle.rt_jobs.specs.declared.job.Step.{Step}
-use Rattle.rt_jobs.specs.Steps.{Owed}
+use Rattle.rt_jobs.specs.Meanings.{Meaning}
 use Rattle.rt_world.specs.declared.event.Event.{Event}
 use Rattle.rt_world.specs.declared.event.Reply.{Reply}
 use Rattle.rt_world.specs.State.{WorldView}
@@ -37,36 +37,36 @@ module _ {T : Type 0} where
     pub since : slice_index_or new core [] ≡ notes ++ slice_index_or old core []
     pub told : IsTrue (tells_refusal notes)
 
-module _ {J T : Type 0} (polls : Owed J T) where
+module _ {J T : Type 0} (meaning : Meaning J T) where
   -- each poll of a job owes one step and one time, whatever its post answered, and asks the same of it as long as it is answered alike
   pub record OwesOne : Type 0 where
     pub step : (job : J) (place : ℕ) (calls others : List (Call J T)) (step other : Step T) (told other_told : Option ℕ) →
-        polls job place calls step told → polls job place others other other_told → step ≡ other
+        meaning.polls job place calls step told → meaning.polls job place others other other_told → step ≡ other
     pub told : (job : J) (place : ℕ) (calls others : List (Call J T)) (step other : Step T) (told other_told : Option ℕ) →
-        polls job place calls step told → polls job place others other other_told → told ≡ other_told
+        meaning.polls job place calls step told → meaning.polls job place others other other_told → told ≡ other_told
     pub asks : (job : J) (place : ℕ) (calls others : List (Call J T)) (step other : Step T) (told other_told : Option ℕ) →
-        polls job place calls step told → polls job place others other other_told → AskAlike calls others
+        meaning.polls job place calls step told → meaning.polls job place others other other_told → AskAlike calls others
 
-module _ {J : Type 0} (same : J → J → Type 0) (made : J → ℕ) (polls : Owed J ℕ) (answers : J → ℕ → Type 0) where
+module _ {J : Type 0} (meaning : Meaning J ℕ) where
   -- events, one after another, and what their actors are told
   abbrev pub IsToldRun : List (Event J) → WorldView J ℕ → WorldView J ℕ → List (Reply J) → Type 0
   IsToldRun [] old new replies = (new ≡ old) × (replies ≡ [])
   IsToldRun (event ∷ events) old new replies =
       (between : WorldView J ℕ) × (answer : Reply J) × (rest : List (Reply J))
-      × Happens same made polls answers event old between answer × IsToldRun events between new rest × (replies ≡ answer ∷ rest)
+      × Happens meaning event old between answer × IsToldRun events between new rest × (replies ≡ answer ∷ rest)
 
   -- two runs of the same events from one world end in one world, with replies that are alike; else one of them was refused memory
   abbrev pub RunIsDetermined : Type 0
   RunIsDetermined =
       (events : List (Event J)) (old new other : WorldView J ℕ) (replies others : List (Reply J)) → HasAllLists old →
       IsToldRun events old new replies → IsToldRun events old other others →
-      ((new ≡ other) × AreAllAlike same answers replies others) ⊎ (WasRefusedSince old.journals new.journals ⊎ WasRefusedSince old.journals other.journals)
+      ((new ≡ other) × AreAllAlike meaning replies others) ⊎ (WasRefusedSince old.journals new.journals ⊎ WasRefusedSince old.journals other.journals)
 
   -- and so their journals are the same
   abbrev pub AssemblyIsDetermined : Type 0
   AssemblyIsDetermined =
       (events : List (Event J)) (old : WorldView J ℕ) (assembly other : Assembly ℕ) → HasAllLists old →
-      RunsTo same made polls answers events old assembly → RunsTo same made polls answers events old other →
+      RunsTo meaning events old assembly → RunsTo meaning events old other →
       (assembly ≡ other) ⊎ (WasRefusedSince old.journals assembly.journals ⊎ WasRefusedSince old.journals other.journals)
 
 -- two fresh worlds of the same numbers are one

@@ -1,6 +1,6 @@
 -- No world is hollow: a fresh one has its lists, and each event keeps them.
 use Rattle.std.specs.Prelude.{◌≡◌, ◌⊎◌, ℕ, []}
-use Rattle.rt_jobs.specs.Steps.{Owed}
+use Rattle.rt_jobs.specs.Meanings.{Meaning}
 use Rattle.rt_world.specs.declared.event.Event.{Event}
 use Rattle.rt_world.specs.declared.event.Reply.{Reply}
 use Rattle.rt_world.specs.State.{WorldView}
@@ -13,7 +13,7 @@ HollowIsRefused J T =
     (cores cap room : ℕ) (world : WorldView J T) → (world.journals ≡ []) ⊎ (world.sent ≡ []) →
     (IsFresh cores cap room world → ⊥) × (IsUnbegun world → ⊥)
 
-module _ {J : Type 0} (same : J → J → Type 0) (made : J → ℕ) (polls : Owed J ℕ) (answers : J → ℕ → Type 0) where
+module _ {J : Type 0} (meaning : Meaning J ℕ) where
   -- after each event there are as many lists as before
   abbrev pub EventsKeepLists : Type 0
-  EventsKeepLists = (event : Event J) (old new : WorldView J ℕ) (answer : Reply J) → Happens same made polls answers event old new answer → HasAllLists old → HasAllLists new
+  EventsKeepLists = (event : Event J) (old new : WorldView J ℕ) (answer : Reply J) → Happens meaning event old new answer → HasAllLists old → HasAllLists new

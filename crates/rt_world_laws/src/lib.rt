@@ -13,8 +13,8 @@ use rt_jobs::Task;
 
 /// Two runs of the same events from one world have one result, unless a core had no memory for a queue.
 pub fn run_is_determined<J: Task<Out = u64>>()
-    ensures run { OwesOne J.Polls → RunIsDetermined J.SameTask J.made J.Polls J.Answers }
-    ensures assembly { OwesOne J.Polls → AssemblyIsDetermined J.SameTask J.made J.Polls J.Answers }
+    ensures run { OwesOne J.meaning → RunIsDetermined J.meaning }
+    ensures assembly { OwesOne J.meaning → AssemblyIsDetermined J.meaning }
 {}
 
 /// The same, of script jobs.
@@ -29,7 +29,7 @@ pub fn hollow_world_is_refused<J: Task<Out = u64>>()
 
 /// Each event keeps how many journals and lists of orders there are.
 pub fn events_keep_lists<J: Task<Out = u64>>()
-    ensures { EventsKeepLists J.SameTask J.made J.Polls J.Answers }
+    ensures { EventsKeepLists J.meaning }
 {}
 
 /// Two fresh worlds of the same numbers are one.
@@ -39,7 +39,7 @@ pub fn opening_is_determined<J: Task<Out = u64>>()
 
 /// Before its first event, a world and events that order no queue have one result.
 pub fn run_of_jobs_is_determined<J: Task<Out = u64>>()
-    ensures { RunOfJobsIsDetermined J.SameTask J.made J.Polls J.Answers }
+    ensures { RunOfJobsIsDetermined J.meaning }
 {}
 
 /// One job makes just its five notes.

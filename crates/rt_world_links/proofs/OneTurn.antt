@@ -1,6 +1,6 @@
 -- A pick and the poll that it begins are one turn of a core.
 use Rattle.rt_world_links.proofs.Words.{ℕ, same_Some, set, Err, CreatesQueue, ◌≡◌, ◌+◌, ◌≤◌, Bool, true, false, List, ◌∷◌, refl, sym, ◌∙◌, ap, subst, Result}
-use Rattle.rt_world_links.proofs.Words.{Ok, Option, Some, None, JobId, Order, Whole, inward_of, Journal, Owed, RecordedView, IsRecorded, link_at}
+use Rattle.rt_world_links.proofs.Words.{Ok, Option, Some, None, JobId, Order, Whole, inward_of, Journal, Meaning, RecordedView, IsRecorded, link_at}
 use Rattle.rt_world_links.proofs.Words.{OutcomeNote, Job, Reason, polls_made, poll_note, order_taken, IsInOwing, told_under, owed_back, GivesOnOne}
 use Rattle.rt_world_links.proofs.Words.{none_owed, IsBesideAll, IsKeptBeside}
 use Rattle.std.proofs.Common.{add-zero}
@@ -19,8 +19,8 @@ use Rattle.rt_world_links.specs.OneTurn.{StaysBeside, HandsOneBack, TurnsOwing, 
 use Rattle.rt_world_links.proofs.LentLinks.{no_gift}
 
 -- so each end is beside the core, except for what is owed
-pub beside_then : {J T : Type 0} {same : J → J → Type 0} {made : J → ℕ} {polls : Owed J T} {owed : ℕ → Option (JobId × OutcomeNote T)} {old new : RecordedView J T} →
-    IsKeptBeside same made polls owed old new → (number : ℕ) (links : List (List (Whole J T))) → IsBesideAll number none_owed old links → IsBesideAll number owed new links
+pub beside_then : {J T : Type 0} {meaning : Meaning J T} {owed : ℕ → Option (JobId × OutcomeNote T)} {old new : RecordedView J T} →
+    IsKeptBeside meaning owed old new → (number : ℕ) (links : List (List (Whole J T))) → IsBesideAll number none_owed old links → IsBesideAll number owed new links
 beside_then {old = old} {new = new} kept number links before = record {
   rows = λ sender there. before.rows sender (its sender there);
   cores = λ sender there. before.cores sender (its sender there);
@@ -45,9 +45,9 @@ pub polls_made-picked : {T : Type 0} (name which : JobId) (queue runtime : ℕ) 
 polls_made-picked name which queue runtime false notes = add-zero (polls_made which notes + 0) ∙ add-zero (polls_made which notes)
 polls_made-picked name which queue runtime true notes = add-zero (polls_made which notes + 0) ∙ add-zero (polls_made which notes)
 
-module _ {J : Type 0} {same : J → J → Type 0} {made : J → ℕ} {polls : Owed J ℕ} (old : RecordedView J ℕ) (number : ℕ) (links : List (List (Whole J ℕ))) (before : IsBesideAll number none_owed old links) where
+module _ {J : Type 0} {meaning : Meaning J ℕ} (old : RecordedView J ℕ) (number : ℕ) (links : List (List (Whole J ℕ))) (before : IsBesideAll number none_owed old links) where
   -- where no turn is made, nothing changes
-  pub no_turn : IsRecorded same made polls old → old.core.out ≡ None → StaysBeside same made polls number old old links links
+  pub no_turn : IsRecorded meaning old → old.core.out ≡ None → StaysBeside meaning number old old links links
   no_turn recorded free = record {
     recorded = recorded;
     at_rest = free;
@@ -59,10 +59,10 @@ module _ {J : Type 0} {same : J → J → Type 0} {made : J → ℕ} {polls : Ow
   }
 
   -- where a job is handed back, its outcome is owed to its sender, who is there
-  module _ (picked : Result (Turn J) PickError) (middle : RecordedView J ℕ) (picks : Picks same old picked middle) (kept : IsKeptBeside same made polls (owed_back picked) old middle)
+  module _ (picked : Result (Turn J) PickError) (middle : RecordedView J ℕ) (picks : Picks meaning old picked middle) (kept : IsKeptBeside meaning (owed_back picked) old middle)
       (name : JobId) (reason : Reason) (order : Order J) (is_back : picked ≡ Ok (Back name reason order)) where
-    back : IsHandBack same old name reason order middle
-    back = subst (λ answer. Picks same old answer middle) is_back picks
+    back : IsHandBack meaning old name reason order middle
+    back = subst (λ answer. Picks meaning old answer middle) is_back picks
 
     task_now : order_taken middle.took name ≡ Some (Job back.queue back.sent)
     task_now = ap (λ took. order_taken took name) back.took ∙ back.task
@@ -70,31 +70,31 @@ module _ {J : Type 0} {same : J → J → Type 0} {made : J → ℕ} {polls : Ow
     pub back_known : name.from ≤ middle.core.cores
     back_known = (kept.sound.taken name _ task_now).sender
 
-    pub back_sent : IsSentUnder same middle.took name order
+    pub back_sent : IsSentUnder meaning middle.took name order
     back_sent = record { queue = back.queue; sent = back.sent; task = task_now; job = back.job; back = back.back; same_task = back.same_task }
 
     pub back_owed : IsBesideAll number (told_under name (Some (outcomes.Returned reason))) middle links
     back_owed = owed_as (owed_back picked) (told_under name (Some (outcomes.Returned reason))) (λ sender. ap (λ answer. owed_back {T = ℕ} answer sender) is_back) number middle links (beside_then kept number links before)
 
     pub back_turns : (links_now : List (List (Whole J ℕ))) → GivesOnOne number links links_now → IsBesideAll number none_owed middle links_now →
-        HandsOneBack same old middle × StaysBeside same made polls number old middle links links_now
+        HandsOneBack meaning old middle × StaysBeside meaning number old middle links links_now
     back_turns links_now gives then = (
       record { name = name; reason = reason; order = order; did = back },
       record { recorded = kept.sound; at_rest = back.out; seat = kept.seat; outs = kept.outs; lanes = kept.lanes; links = gives; ins = then },
     )
 
 -- the sender of the job that made a turn is there
-pub turn_known : {J : Type 0} {same : J → J → Type 0} {made : J → ℕ} {polls : Owed J ℕ} {answers : J → ℕ → Type 0} {number spent : ℕ} {name : JobId} {queue : ℕ} {started : Bool} {settled : Settled ℕ} {old new : RecordedView J ℕ}
-    {before after : List (List (Whole J ℕ))} → TurnsOwing same made polls answers number spent name queue started settled old new before after → name.from ≤ new.core.cores
+pub turn_known : {J : Type 0} {meaning : Meaning J ℕ} {number spent : ℕ} {name : JobId} {queue : ℕ} {started : Bool} {settled : Settled ℕ} {old new : RecordedView J ℕ}
+    {before after : List (List (Whole J ℕ))} → TurnsOwing meaning number spent name queue started settled old new before after → name.from ≤ new.core.cores
 turn_known {name = name} did =
     let turn = did.turn in
     let task = turn.sound.out _ turn.picks.out in
     subst (λ cores. name.from ≤ cores) (sym (turn.stays_settled.seat.cores ∙ ap (λ view. view.core.cores) turn.rest)) (turn.sound.taken name _ task.task).sender
 
 -- a creation leaves the core at rest
-pub created_stays : {J T : Type 0} {same : J → J → Type 0} {made : J → ℕ} {polls : Owed J T} {old now : RecordedView J T} {number : ℕ} {links : List (List (Whole J T))} →
+pub created_stays : {J T : Type 0} {meaning : Meaning J T} {old now : RecordedView J T} {number : ℕ} {links : List (List (Whole J T))} →
     IsBesideAll number none_owed old links → old.core.out ≡ None → (weight : ℕ) (told : Result ℕ CreateError) → CreatesQueue weight old told now →
-    IsKeptBeside same made polls none_owed old now → StaysBeside same made polls number old now links links
+    IsKeptBeside meaning none_owed old now → StaysBeside meaning number old now links links
 created_stays {old = old} {now = now} {number = number} {links = links} beside free weight told did kept = record {
   recorded = kept.sound;
   at_rest = by_told told did ∙ free;
@@ -111,9 +111,9 @@ created_stays {old = old} {now = now} {number = number} {links = links} beside f
     by_told (Err Memory) did = ap (λ view. view.core.out) did.1
 
 -- a turn whose job was polled, and whose outcome was given
-module _ {J : Type 0} {same : J → J → Type 0} {made : J → ℕ} {polls : Owed J ℕ} {answers : J → ℕ → Type 0} {number spent : ℕ} {view new : RecordedView J ℕ}
-    {before after : List (List (Whole J ℕ))} (did : PollsOne same made polls answers number spent view new before after) where
-  pub settled_stays : StaysBeside same made polls number did.turn.left new (set before number did.row) after
+module _ {J : Type 0} {meaning : Meaning J ℕ} {number spent : ℕ} {view new : RecordedView J ℕ}
+    {before after : List (List (Whole J ℕ))} (did : PollsOne meaning number spent view new before after) where
+  pub settled_stays : StaysBeside meaning number did.turn.left new (set before number did.row) after
   settled_stays = record {
     recorded = did.recorded;
     at_rest = did.turn.settles.out_now;
@@ -137,9 +137,9 @@ module _ {J : Type 0} {same : J → J → Type 0} {made : J → ℕ} {polls : Ow
       ∙ polls_made-picked did.name did.name did.queue did.turn.picks.runtime did.started view.journal.notes)))
 
   -- what the poll owed of the job that was in the core, it owes of the one that was sent
-  pub poll_owed : polls did.turn.settles.sent (made did.turn.settles.sent + polls_made did.name view.journal.notes) did.turn.owed.calls did.turn.ran.step did.turn.ran.told
+  pub poll_owed : meaning.polls did.turn.settles.sent (meaning.made did.turn.settles.sent + polls_made did.name view.journal.notes) did.turn.owed.calls did.turn.ran.step did.turn.ran.told
   poll_owed =
-      subst (λ count. polls did.turn.settles.sent (made did.turn.settles.sent + count) did.turn.owed.calls did.turn.ran.step did.turn.ran.told) counted
+      subst (λ count. meaning.polls did.turn.settles.sent (meaning.made did.turn.settles.sent + count) did.turn.owed.calls did.turn.ran.step did.turn.ran.told) counted
       (did.turn.settles.owed did.turn.owed.calls did.turn.owed.owed)
 
   pub poll_task : order_taken view.took did.name ≡ Some (Job did.queue did.turn.settles.sent)

@@ -8,7 +8,7 @@ pub use Rattle.rt_ids.specs.declared.order.Order.TheVariants.{Job}
 pub use Rattle.rt_ids.specs.declared.order.Outcome.{Outcome}
 pub use Rattle.rt_ids.specs.declared.order.Reason.{Reason}
 pub use Rattle.rt_ids.specs.declared.order.SendError.{SendError}
-pub use Rattle.rt_jobs.specs.Steps.{Owed}
+pub use Rattle.rt_jobs.specs.Meanings.{Meaning}
 pub use Rattle.rt_journal.proofs.DeliveredEnds.{told_elsewhere}
 pub use Rattle.rt_journal.specs.Ends.{Gives, IsInOf, IsInOwing, IsSameSeat, told_under}
 pub use Rattle.rt_journal_desk.specs.Ends.{IsOutOf}

@@ -6,7 +6,7 @@ use Rattle.rt_ids.specs.declared.note.OutcomeNote.{OutcomeNote}
 use Rattle.rt_ids.specs.declared.order.Order.{Order}
 use Rattle.rt_ids.specs.declared.order.Outcome.{Outcome}
 use Rattle.rt_ids.specs.Outcomes.{outcome_note}
-use Rattle.rt_jobs.specs.Steps.{Owed}
+use Rattle.rt_jobs.specs.Meanings.{Meaning}
 use Rattle.rt_core.specs.declared.turn.Settled.{Settled}
 use Rattle.rt_journal_desk.specs.Posts.{AreOutsOf}
 use Rattle.rt_journal.specs.Recorded.{RecordedView, IsRecorded, desk_of}
@@ -36,10 +36,10 @@ module _ {J T : Type 0} where
 abbrev pub HasOuts : {J T : Type 0} → (Order J → Outcome J T → Type 0) → ℕ → RecordedView J T → List (List (Whole J T)) → Type 0
 HasOuts fits number view links = AreOutsOf fits out_of (λ link. link.credited) (desk_of view) (row_of number links)
 
-module _ {J T : Type 0} (same : J → J → Type 0) (made : J → ℕ) (polls : Owed J T) where
+module _ {J T : Type 0} (meaning : Meaning J T) where
   -- a call of a core that sends nothing: it is recorded at the same seat, and the ends are beside it, except for these outcomes, which are owed then
   pub record IsKeptBeside (owed : ℕ → Option (JobId × OutcomeNote T)) (old new : RecordedView J T) : Type 0 where
-    pub sound : IsRecorded same made polls new
+    pub sound : IsRecorded meaning new
     pub seat : IsSameSeat old new
     pub ins : (sender : ℕ) → LeavesOwed sender (owed sender) old new
     pub outs : KeepsOuts (desk_of old) (desk_of new)
@@ -47,7 +47,7 @@ module _ {J T : Type 0} (same : J → J → Type 0) (made : J → ℕ) (polls : 
 
   -- the core is recorded and has no job out, its seat is the same, and the ends of its links are beside it: the outcome of the turn, if there is one, was given
   pub record StaysBeside (number : ℕ) (old new : RecordedView J T) (before after : List (List (Whole J T))) : Type 0 where
-    pub recorded : IsRecorded same made polls new
+    pub recorded : IsRecorded meaning new
     pub at_rest : new.core.out ≡ None
     pub seat : IsSameSeat old new
     pub outs : KeepsOuts (desk_of old) (desk_of new)

@@ -5,7 +5,7 @@ use Rattle.rt_ids.specs.declared.order.Order.{Order}
 use Rattle.rt_ids.specs.declared.order.Reason.{Reason}
 use Rattle.rt_ids.specs.Work.{has_work}
 use Rattle.rt_ids.specs.Picks.{turns}
-use Rattle.rt_jobs.specs.Steps.{Owed}
+use Rattle.rt_jobs.specs.Meanings.{Meaning}
 use Rattle.rt_core.specs.declared.turn.Settled.{Settled}
 use Rattle.rt_journal_desk.specs.Calls.{Does}
 use Rattle.rt_journal.specs.Recorded.{RecordedView, IsRecorded}
@@ -19,24 +19,24 @@ use Rattle.rt_world_links.specs.declared.turn.Turned.TheVariants.{Made, Idle, Sp
 use Rattle.rt_world_links.specs.Links.{row_of, GivesOnOne}
 pub use Rattle.rt_world_links.specs.Beside.{none_owed, owed_settled, IsBesideAll, HasOuts, IsKeptBeside, StaysBeside}
 
-module _ {J T : Type 0} (same : J → J → Type 0) where
+module _ {J T : Type 0} (meaning : Meaning J T) where
   -- the first job of the line of the right pick is handed back
   pub record HandsOneBack (old new : RecordedView J T) : Type 0 where
     pub name : JobId
     pub reason : Reason
     pub order : Order J
-    pub did : IsHandBack same old name reason order new
+    pub did : IsHandBack meaning old name reason order new
 
-module _ {J : Type 0} (same : J → J → Type 0) (made : J → ℕ) (polls : Owed J ℕ) (answers : J → ℕ → Type 0) where
+module _ {J : Type 0} (meaning : Meaning J ℕ) where
   -- a core's turn with the job in its place, whose post has the links on which the core sends: the right pick, one poll, and its settling
   abbrev pub TurnsOn : ℕ → RecordedView J ℕ → List (Whole J ℕ) → JobId → ℕ → Bool → Settled ℕ → RecordedView J ℕ → List (Whole J ℕ) → Type 0
-  TurnsOn spent = IsPostingTurn same made polls answers (Does (Fits same answers) out_of (λ link. link.credited) kept_by_sender) out_of kept_by_sender (λ time. time ≡ spent)
+  TurnsOn spent = IsPostingTurn meaning (Does (Fits meaning) out_of (λ link. link.credited) kept_by_sender) out_of kept_by_sender (λ time. time ≡ spent)
 
   -- such a turn, whose outcome is owed, if the job is done
   pub record TurnsOwing (number spent : ℕ) (name : JobId) (queue : ℕ) (started : Bool) (settled : Settled ℕ) (old new : RecordedView J ℕ) (before after : List (List (Whole J ℕ))) : Type 0 where
     pub row : List (Whole J ℕ)
     pub turn : TurnsOn spent old (row_of number before) name queue started settled new row
-    pub recorded : IsRecorded same made polls new
+    pub recorded : IsRecorded meaning new
     pub links : after ≡ slice_set before number row
     pub owing : IsBesideAll number (owed_settled J name settled) new after
 
@@ -48,16 +48,16 @@ module _ {J : Type 0} (same : J → J → Type 0) (made : J → ℕ) (polls : Ow
     pub settled : Settled ℕ
     pub row : List (Whole J ℕ)
     pub turn : TurnsOn spent old (row_of number before) name queue started settled new row
-    pub recorded : IsRecorded same made polls new
+    pub recorded : IsRecorded meaning new
     pub links : GivesOnOne number (slice_set before number row) after
     pub ins : IsBesideAll number none_owed new after
 
   -- a poll, or a job is handed back; nothing where no queue has work, and nothing where all turns are used
   abbrev pub Turns : ℕ → ℕ → RecordedView J ℕ → RecordedView J ℕ → List (List (Whole J ℕ)) → List (List (Whole J ℕ)) → Turned → Type 0
   Turns number spent old new before after Made =
-      PollsOne number spent old new before after ⊎ (HandsOneBack same old new × StaysBeside same made polls number old new before after)
+      PollsOne number spent old new before after ⊎ (HandsOneBack meaning old new × StaysBeside meaning number old new before after)
   Turns number spent old new before after Idle =
-      ((queue : ℕ) → has_work queue old.journal.notes ≡ false) × (new ≡ old) × StaysBeside same made polls number old new before after
+      ((queue : ℕ) → has_work queue old.journal.notes ≡ false) × (new ≡ old) × StaysBeside meaning number old new before after
   Turns number spent old new before after Spent =
       (turns old.journal.notes ≡ 2 ^ 64 - 1) × ((queue : ℕ) × (has_work queue old.journal.notes ≡ true)) × (new ≡ old)
-      × StaysBeside same made polls number old new before after
+      × StaysBeside meaning number old new before after

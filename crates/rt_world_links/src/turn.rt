@@ -43,10 +43,10 @@ pub fn turn_of<J: Job + Task<Out = u64>, A: Allocator + Clone>(
     requires number { number < core.old.core.cores }
     requires free { core.old.core.out ≡ None }
     requires room { length core.old.journal.notes + core.old.core.cores * (3 * core.old.cap) + 3 ≤ core.old.journal.room }
-    requires sound { IsRecorded J.SameTask J.made J.Polls core.old }
-    requires outs { one.HasOuts (Fits J.SameTask J.Answers) number core.old links.old }
+    requires sound { IsRecorded J.meaning core.old }
+    requires outs { one.HasOuts (Fits J.meaning) number core.old links.old }
     requires beside { one.IsBesideAll number one.none_owed core.old links.old }
-    ensures { one.Turns J.SameTask J.made J.Polls J.Answers number spent core.old core.new links.old links.new result }
+    ensures { one.Turns J.meaning number spent core.old core.new links.old links.new result }
 {
     match core.ahead() {
         Ok(Ahead::Job(next)) => {
@@ -76,10 +76,10 @@ fn post_turn<J: Job + Task<Out = u64>, A: Allocator + Clone>(
     requires number { number < core.old.core.cores }
     requires ahead { IsAhead core.old.core next.now.queue next.now.vr next.now.name next.now.started }
     requires room { length core.old.journal.notes + core.old.core.cores * (3 * core.old.cap) + 3 ≤ core.old.journal.room }
-    requires outs { one.HasOuts (Fits J.SameTask J.Answers) number core.old links.old }
+    requires outs { one.HasOuts (Fits J.meaning) number core.old links.old }
     requires beside { one.IsBesideAll number one.none_owed core.old links.old }
-    ensures turns { one.TurnsOwing J.SameTask J.made J.Polls J.Answers number spent next.now.name next.now.queue next.now.started result core.old core.new links.old links.new }
-    ensures may_answer { MayAnswer J.Answers core.new.took next.now.name result }
+    ensures turns { one.TurnsOwing J.meaning number spent next.now.name next.now.queue next.now.started result core.old core.new links.old links.new }
+    ensures may_answer { MayAnswer J.meaning core.new.took next.now.name result }
 {
     let alloc = *links.rows.allocator();
     let mut meter = spent;
@@ -95,7 +95,7 @@ fn give_done_on<J: Job + Task<Out = u64>, A: Allocator + Clone>(
     settled: &Settled<u64>,
 )
     requires sender { name.from ≤ core.now.core.cores }
-    requires may_answer { MayAnswer J.Answers core.now.took name settled.now }
+    requires may_answer { MayAnswer J.meaning core.now.took name settled.now }
     requires owed { one.IsBesideAll number (one.owed_settled J name settled.now) core.now links.old }
     ensures links { GivesOnOne number links.old links.new }
     ensures beside { one.IsBesideAll number one.none_owed core.now links.new }
@@ -113,8 +113,8 @@ fn hand_back<J: Task<Out = u64>, A: Allocator + Clone>(
     requires ahead { TellsAhead core.old.core (Ok told.Back) }
     requires room { length core.old.journal.notes + 2 ≤ core.old.journal.room }
     requires beside { one.IsBesideAll number one.none_owed core.old links.old }
-    ensures back { one.HandsOneBack J.SameTask core.old core.new }
-    ensures stays { one.StaysBeside J.SameTask J.made J.Polls number core.old core.new links.old links.new }
+    ensures back { one.HandsOneBack J.meaning core.old core.new }
+    ensures stays { one.StaysBeside J.meaning number core.old core.new links.old links.new }
 {
     let (name, reason, order) = back_of(core.pick());
     give_back_on(core, links, number, name, reason, order);
@@ -141,7 +141,7 @@ fn give_back_on<J: Task<Out = u64>, A: Allocator + Clone>(
     order: Order<J>,
 )
     requires sender { name.from ≤ core.now.core.cores }
-    requires sent { IsSentUnder J.SameTask core.now.took name order }
+    requires sent { IsSentUnder J.meaning core.now.took name order }
     requires owed { one.IsBesideAll number (told_under name (Some (Returned reason))) core.now links.old }
     ensures links { GivesOnOne number links.old links.new }
     ensures beside { one.IsBesideAll number one.none_owed core.now links.new }

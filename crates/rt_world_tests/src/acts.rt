@@ -56,15 +56,15 @@ pub enum Became {
 
 /// A send of an order that hands in no job.
 fn send(from: u8, to: u8, order: Order<ScriptJob>) -> Event<ScriptJob>
-    requires { HasReadyJob ⟦<ScriptJob as Task>⟧.done ⟦<ScriptJob as Task>⟧.CanPoll order }
-    ensures { HasReadyEvent (HasReadyJob ⟦<ScriptJob as Task>⟧.done ⟦<ScriptJob as Task>⟧.CanPoll) result }
+    requires { HasReadyJob ⟦<ScriptJob as Task>⟧.meaning order }
+    ensures { HasReadyEvent (HasReadyJob ⟦<ScriptJob as Task>⟧.meaning) result }
 {
     Event::Send(ActorNo(from), CoreNo(to), order)
 }
 
 /// A send of this job to a queue.
 fn send_job(rt: &impl Abort, from: u8, to: u8, queue: u8, job: ScriptJob) -> Event<ScriptJob>
-    ensures { HasReadyEvent (HasReadyJob ⟦<ScriptJob as Task>⟧.done ⟦<ScriptJob as Task>⟧.CanPoll) result }
+    ensures { HasReadyEvent (HasReadyJob ⟦<ScriptJob as Task>⟧.meaning) result }
 {
     assert!(rt; !job.is_done());
     Event::Send(ActorNo(from), CoreNo(to), Order::Job(QueueNo(queue), job))
@@ -104,7 +104,7 @@ fn ticket(from: u8, to: u8, number: u64) -> Ticket {
 
 /// The event of the model.
 pub fn event_of(rt: &impl Abort, act: &Act) -> Event<ScriptJob>
-    ensures { HasReadyEvent (HasReadyJob ⟦<ScriptJob as Task>⟧.done ⟦<ScriptJob as Task>⟧.CanPoll) result }
+    ensures { HasReadyEvent (HasReadyJob ⟦<ScriptJob as Task>⟧.meaning) result }
 {
     match act {
         Act::Job(from, to, queue, time, answer) => {

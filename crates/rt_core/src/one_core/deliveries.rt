@@ -56,7 +56,7 @@ impl<J: Task, A: Allocator + Clone> Core<J, A> {
         J::Out: Copy,
         requires room { inside_count self.old < self.old.queues.room }
         requires sender { name.from ≤ self.old.cores }
-        requires ready { IsReady J.done J.CanPoll job }
+        requires ready { IsReady J.meaning job }
         ensures delivers { Delivers self.old name (orders.Job queue job) result.0 self.new result.1.items }
         ensures bounded { IsBounded self.new }
     {
@@ -81,7 +81,7 @@ impl<J: Task, A: Allocator + Clone> Core<J, A> {
     fn take_in(&mut self, name: JobId, queue: QueueNo, job: J)
         requires room { inside_count self.old < self.old.queues.room }
         requires sender { name.from ≤ self.old.cores }
-        requires ready { IsReady J.done J.CanPoll job }
+        requires ready { IsReady J.meaning job }
         requires exists { queue < queue_count self.old.queues }
         requires is_open { mode_of queue self.old.queues ≡ None }
         ensures enters { Enters self.old name queue job self.new }
@@ -98,7 +98,7 @@ impl<J: Task, A: Allocator + Clone> Core<J, A> {
     pub(super) fn join(&mut self, name: JobId, queue: QueueNo, job: J)
         requires room { inside_count self.old < self.old.queues.room }
         requires sender { name.from ≤ self.old.cores }
-        requires ready { IsReady J.done J.CanPoll job }
+        requires ready { IsReady J.meaning job }
         requires exists { queue < queue_count self.old.queues }
         requires is_open { mode_of queue self.old.queues ≡ None }
         requires work { is_working queue self.old ≡ true }
@@ -114,7 +114,7 @@ impl<J: Task, A: Allocator + Clone> Core<J, A> {
     pub(super) fn activate(&mut self, name: JobId, queue: QueueNo, job: J)
         requires room { inside_count self.old < self.old.queues.room }
         requires sender { name.from ≤ self.old.cores }
-        requires ready { IsReady J.done J.CanPoll job }
+        requires ready { IsReady J.meaning job }
         requires exists { queue < queue_count self.old.queues }
         requires is_open { mode_of queue self.old.queues ≡ None }
         requires idle { is_working queue self.old ≡ false }

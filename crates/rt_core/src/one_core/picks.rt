@@ -21,7 +21,7 @@ impl<J: Task, A: Allocator + Clone> Core<J, A> {
         requires turns { self.old.turns < 2 ^ 64 - 1 }
         requires work { (queue : ℕ) × (waiting_of queue self.old.queues ≡ [] → ⊥) }
         ensures picks { Picks self.old (Ok result.0) self.new result.1.items }
-        ensures ready { IsReadyTurn J.done J.CanPoll (Ok result.0) }
+        ensures ready { IsReadyTurn J.meaning (Ok result.0) }
         ensures bounded { IsBounded self.new }
     {
         let (key, name, started, job) = self.take_out();

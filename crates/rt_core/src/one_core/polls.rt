@@ -26,7 +26,7 @@ impl<J: Task, A: Allocator + Clone> Core<J, A> {
         ensures exists { result.0.queue < queue_count self.new.queues }
         ensures tallied { result.0.queue < length self.old.tallies }
         ensures at { result.0.vr ≡ runtime_of result.0.queue self.old }
-        ensures ready { IsReady J.done J.CanPoll result.3 }
+        ensures ready { IsReady J.meaning result.3 }
         ensures bounded { IsBounded self.new }
     {
         let Some((key, slip)) = self.ready.take_least() else {
@@ -54,7 +54,7 @@ impl<J: Task, A: Allocator + Clone> Core<J, A> {
     /// The job that was out goes to the tail of its queue.
     pub(super) fn yield_out(&mut self, job: J, time: u64) -> JobId
         requires out { IsSome self.old.out }
-        requires ready { IsReady J.done J.CanPoll job }
+        requires ready { IsReady J.meaning job }
         ensures yields { YieldsOut self.old result job time self.new }
         ensures bounded { IsBounded self.new }
     {

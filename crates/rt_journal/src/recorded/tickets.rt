@@ -33,17 +33,17 @@ impl<J: Task<Out = u64>, A: Allocator + Clone> Recorded<J, A> {
         order: Order<J>,
     ) -> Result<Ticket, SendError<J>>
         requires beside { IsOutOf to (desk_of self.old) (O.out end.old) (O.credited end.old) }
-        requires lane { HasLane (Fits J.SameTask J.Answers) to (desk_of self.old) (O.out end.old) (O.credited end.old) }
+        requires lane { HasLane (Fits J.meaning) to (desk_of self.old) (O.out end.old) (O.credited end.old) }
         requires room { length self.old.journal.notes < self.old.journal.room }
-        requires ready { HasReadyJob J.done J.CanPoll order }
+        requires ready { HasReadyJob J.meaning order }
         ensures submits { Submits to order (desk_of self.old) result (desk_of self.new) }
         ensures sends { Sends (O.out end.old) (O.credited end.old) order (O.out end.new) (numbered result) }
         ensures credited { O.credited end.new ≡ O.credited end.old }
-        ensures stays { StaysBeside (Fits J.SameTask J.Answers) to (desk_of self.old) (desk_of self.new) (O.out end.new) (O.credited end.new) }
+        ensures stays { StaysBeside (Fits J.meaning) to (desk_of self.old) (desk_of self.new) (O.out end.new) (O.credited end.new) }
         ensures rest { self.new ≡ record self.old { journal = self.new.journal; lanes = self.new.lanes } }
         ensures ins { (sender : ℕ) → KeepsIn sender self.old self.new }
         ensures seat { IsSameSeat self.old self.new }
-        ensures sound { IsRecorded J.SameTask J.made J.Polls self.new }
+        ensures sound { IsRecorded J.meaning self.new }
         ensures untouched { O.untouched end.new ≡ O.untouched end.old }
     {
         self.said.submit(end, to, order)
@@ -52,17 +52,17 @@ impl<J: Task<Out = u64>, A: Allocator + Clone> Recorded<J, A> {
     /// Collects all outcomes that the link of a core shows, and notes each. How many there were.
     pub fn collect_from<O: OutEnd<J>>(&mut self, end: &mut O, core: CoreNo) -> usize
         requires beside { IsOutOf core (desk_of self.old) (O.out end.old) (O.credited end.old) }
-        requires lane { HasLane (Fits J.SameTask J.Answers) core (desk_of self.old) (O.out end.old) (O.credited end.old) }
+        requires lane { HasLane (Fits J.meaning) core (desk_of self.old) (O.out end.old) (O.credited end.old) }
         requires room { length self.old.journal.notes + length (O.out end.old).sent ≤ self.old.journal.room + (O.out end.old).got }
         ensures collects { CollectsFrom core (desk_of self.old) result (desk_of self.new) }
         ensures books { booked (desk_of self.new) ≡ booked (desk_of self.old) }
         ensures few { length self.new.journal.notes ≤ length self.old.journal.notes + self.old.cap }
         ensures end { GetsAll (O.out end.old) (O.out end.new) }
-        ensures stays { StaysBeside (Fits J.SameTask J.Answers) core (desk_of self.old) (desk_of self.new) (O.out end.new) (O.credited end.new) }
+        ensures stays { StaysBeside (Fits J.meaning) core (desk_of self.old) (desk_of self.new) (O.out end.new) (O.credited end.new) }
         ensures rest { self.new ≡ record self.old { journal = self.new.journal; lanes = self.new.lanes } }
         ensures ins { (sender : ℕ) → KeepsIn sender self.old self.new }
         ensures seat { IsSameSeat self.old self.new }
-        ensures sound { IsRecorded J.SameTask J.made J.Polls self.new }
+        ensures sound { IsRecorded J.meaning self.new }
         ensures untouched { O.untouched end.new ≡ O.untouched end.old }
     {
         self.said.collect_from(end, core)
@@ -88,17 +88,17 @@ impl<J: Task<Out = u64>, A: Allocator + Clone> Recorded<J, A> {
         ticket: Ticket,
     ) -> Result<Outcome<J, u64>, TicketError>
         requires beside { IsOutOf ticket.to (desk_of self.old) (O.out end.old) (O.credited end.old) }
-        requires lane { HasLane (Fits J.SameTask J.Answers) ticket.to (desk_of self.old) (O.out end.old) (O.credited end.old) }
+        requires lane { HasLane (Fits J.meaning) ticket.to (desk_of self.old) (O.out end.old) (O.credited end.old) }
         requires room { HoldsSome ticket (desk_of self.old) → length self.old.journal.notes < self.old.journal.room }
         ensures redeems { RedeemsTicket ticket (desk_of self.old) result (desk_of self.new) }
         ensures given { IfOk result (IsGot (O.out end.old) ticket.number) }
-        ensures fits { IfOk result (FitsSent (Fits J.SameTask J.Answers) (O.out end.old) ticket.number) }
+        ensures fits { IfOk result (FitsSent (Fits J.meaning) (O.out end.old) ticket.number) }
         ensures out { O.out end.new ≡ O.out end.old }
-        ensures stays { StaysBeside (Fits J.SameTask J.Answers) ticket.to (desk_of self.old) (desk_of self.new) (O.out end.new) (O.credited end.new) }
+        ensures stays { StaysBeside (Fits J.meaning) ticket.to (desk_of self.old) (desk_of self.new) (O.out end.new) (O.credited end.new) }
         ensures rest { self.new ≡ record self.old { journal = self.new.journal; lanes = self.new.lanes } }
         ensures ins { (sender : ℕ) → KeepsIn sender self.old self.new }
         ensures seat { IsSameSeat self.old self.new }
-        ensures sound { IsRecorded J.SameTask J.made J.Polls self.new }
+        ensures sound { IsRecorded J.meaning self.new }
         ensures untouched { O.untouched end.new ≡ O.untouched end.old }
     {
         self.said.redeem(end, ticket)
@@ -111,15 +111,15 @@ impl<J: Task<Out = u64>, A: Allocator + Clone> Recorded<J, A> {
     /// `Unknown` and `Gone`, as `redeem`. Nothing changes.
     pub fn detach<O: OutEnd<J>>(&mut self, end: &mut O, ticket: Ticket) -> Result<(), TicketError>
         requires beside { IsOutOf ticket.to (desk_of self.old) (O.out end.old) (O.credited end.old) }
-        requires lane { HasLane (Fits J.SameTask J.Answers) ticket.to (desk_of self.old) (O.out end.old) (O.credited end.old) }
+        requires lane { HasLane (Fits J.meaning) ticket.to (desk_of self.old) (O.out end.old) (O.credited end.old) }
         requires room { HoldsSome ticket (desk_of self.old) → length self.old.journal.notes < self.old.journal.room }
         ensures detaches { DetachesTicket ticket (desk_of self.old) result (desk_of self.new) }
         ensures out { O.out end.new ≡ O.out end.old }
-        ensures stays { StaysBeside (Fits J.SameTask J.Answers) ticket.to (desk_of self.old) (desk_of self.new) (O.out end.new) (O.credited end.new) }
+        ensures stays { StaysBeside (Fits J.meaning) ticket.to (desk_of self.old) (desk_of self.new) (O.out end.new) (O.credited end.new) }
         ensures rest { self.new ≡ record self.old { journal = self.new.journal; lanes = self.new.lanes } }
         ensures ins { (sender : ℕ) → KeepsIn sender self.old self.new }
         ensures seat { IsSameSeat self.old self.new }
-        ensures sound { IsRecorded J.SameTask J.made J.Polls self.new }
+        ensures sound { IsRecorded J.meaning self.new }
         ensures untouched { O.untouched end.new ≡ O.untouched end.old }
     {
         self.said.detach(end, ticket)

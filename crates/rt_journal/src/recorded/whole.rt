@@ -67,12 +67,12 @@ fn turn_lent<J: Job<Out = u64>, A: Allocator + Clone, O: OutEnd<J> + Drop, M: Me
     meter: &mut M,
 ) -> (Step<u64>, u64)
     requires ahead { IsAhead core.old next.now.queue next.now.vr next.now.name next.now.started }
-    requires outs { AreOutsOf (Fits J.SameTask J.Answers) O.out O.credited said.old ends.old.items }
+    requires outs { AreOutsOf (Fits J.meaning) O.out O.credited said.old ends.old.items }
     requires room { length said.old.journal.notes + said.old.cores * (3 * said.old.cap) < said.old.journal.room }
-    ensures whole { MakesCalls (Does (Fits J.SameTask J.Answers) O.out O.credited O.untouched) (lends said.old ends.old.items) (lends said.new ends.new.items) (λ calls.
-        (spent : ℕ) × M.Tells meter.old spent × TurnsWhole J.SameTask J.done J.CanPoll J.made J.Polls J.Answers core.old spent calls next.now.name next.now.queue next.now.started
+    ensures whole { MakesCalls (Does (Fits J.meaning) O.out O.credited O.untouched) (lends said.old ends.old.items) (lends said.new ends.new.items) (λ calls.
+        (spent : ℕ) × M.Tells meter.old spent × TurnsWhole J.meaning core.old spent calls next.now.name next.now.queue next.now.started
         (pick_notes next.now.queue next.now.vr next.now.name next.now.started) (settled_of result.0) (settle_notes next.now.name result.1 result.0) core.new) }
-    ensures outs { AreOutsOf (Fits J.SameTask J.Answers) O.out O.credited said.new ends.new.items }
+    ensures outs { AreOutsOf (Fits J.meaning) O.out O.credited said.new ends.new.items }
     ensures few { sum_by left_of said.old.lanes ≤ said.old.cores * (3 * said.old.cap) }
     ensures room { length said.new.journal.notes < said.new.journal.room }
     ensures written { IsWritten (terms_of_desk said.new) said.new.journal.notes }
@@ -114,18 +114,18 @@ impl<J: Job<Out = u64>, A: Allocator + Clone> Recorded<J, A> {
         meter: &mut M,
     ) -> Settled<u64>
         requires ahead { IsAhead self.old.core next.now.queue next.now.vr next.now.name next.now.started }
-        requires outs { AreOutsOf (Fits J.SameTask J.Answers) O.out O.credited (desk_of self.old) ends.old.items }
+        requires outs { AreOutsOf (Fits J.meaning) O.out O.credited (desk_of self.old) ends.old.items }
         requires room { length self.old.journal.notes + self.old.core.cores * (3 * self.old.cap) + 3 ≤ self.old.journal.room }
-        ensures turns { IsPostingTurn J.SameTask J.made J.Polls J.Answers (Does (Fits J.SameTask J.Answers) O.out O.credited O.untouched) O.out O.untouched (M.Tells meter.old)
+        ensures turns { IsPostingTurn J.meaning (Does (Fits J.meaning) O.out O.credited O.untouched) O.out O.untouched (M.Tells meter.old)
             self.old ends.old.items next.now.name next.now.queue next.now.started result self.new ends.new.items }
         ensures owes { (sender : ℕ) → LeavesOwed sender (told_under next.now.name (option_map outcome_note (outcome_settled {J = J} result)) sender) self.old self.new }
-        ensures may_answer { MayAnswer J.Answers self.new.took next.now.name result }
-        ensures outs { AreOutsOf (Fits J.SameTask J.Answers) O.out O.credited (desk_of self.new) ends.new.items }
+        ensures may_answer { MayAnswer J.meaning self.new.took next.now.name result }
+        ensures outs { AreOutsOf (Fits J.meaning) O.out O.credited (desk_of self.new) ends.new.items }
         ensures few { length self.new.journal.notes ≤ length self.old.journal.notes + self.old.core.cores * (3 * self.old.cap) + 3 }
         ensures at_rest { self.new.core.out ≡ None }
         ensures took { self.new.took ≡ self.old.took }
         ensures seat { IsSameSeat self.old self.new }
-        ensures sound { IsRecorded J.SameTask J.made J.Polls self.new }
+        ensures sound { IsRecorded J.meaning self.new }
     {
         self.turn_noted(alloc, ends, next, meter)
     }
@@ -139,9 +139,9 @@ impl<J: Job<Out = u64>, A: Allocator + Clone> Recorded<J, A> {
         meter: &mut M,
     ) -> Settled<u64>
         requires ahead { IsAhead self.old.core next.now.queue next.now.vr next.now.name next.now.started }
-        requires outs { AreOutsOf (Fits J.SameTask J.Answers) O.out O.credited (desk_of self.old) ends.old.items }
+        requires outs { AreOutsOf (Fits J.meaning) O.out O.credited (desk_of self.old) ends.old.items }
         requires room { length self.old.journal.notes + self.old.core.cores * (3 * self.old.cap) + 3 ≤ self.old.journal.room }
-        ensures { TurnsNoted J.SameTask J.made J.Polls J.Answers (Fits J.SameTask J.Answers) O.out O.credited O.untouched (M.Tells meter.old)
+        ensures { TurnsNoted J.meaning O.out O.credited O.untouched (M.Tells meter.old)
             self.old ends.old.items next.now.name next.now.queue next.now.started result self.new ends.new.items }
     {
         // There are fewer notes than turns that a core can make.
@@ -157,7 +157,7 @@ impl<J: Job<Out = u64>, A: Allocator + Clone> Recorded<J, A> {
     /// Gives the outcome of a turn on the end of the job's sender, if the job is done.
     pub fn give_done<I: InEnd<J>>(&self, end: &mut I, name: JobId, settled: &Settled<u64>)
         requires owed { IsInOwing name.from (told_under name (option_map outcome_note (outcome_settled {J = J} settled.now)) name.from) self.now (I.inward end.old) }
-        requires may_answer { MayAnswer J.Answers self.now.took name settled.now }
+        requires may_answer { MayAnswer J.meaning self.now.took name settled.now }
         ensures gives { Gives (I.inward end.old) name.number (outcome_settled settled.now) (I.inward end.new) }
         ensures beside { IsInOf name.from self.now (I.inward end.new) }
         ensures untouched { I.untouched end.new ≡ I.untouched end.old }

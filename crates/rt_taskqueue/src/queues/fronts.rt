@@ -50,8 +50,8 @@ impl<J: Job, A: Allocator + Clone> Queues<J, A> {
         meter: &mut M,
     ) -> (Step<J::Out>, Option<u64>, u64)
         requires exists { queue < queue_count self.old }
-        requires ready { IsFrontReady J.done J.CanPoll (waiting_of queue self.old) }
-        ensures polls { MakesCalls P.Does post.old post.new (λ calls. PollsFront J.SameTask J.done J.CanPoll J.made J.Polls J.Answers (queues_alone self.old) queue calls result.0 result.1 (queues_alone self.new)) }
+        requires ready { IsFrontReady J.meaning (waiting_of queue self.old) }
+        ensures polls { MakesCalls P.Does post.old post.new (λ calls. PollsFront J.meaning (queues_alone self.old) queue calls result.0 result.1 (queues_alone self.new)) }
         ensures tells { M.Tells meter.old result.2 }
         ensures slips { self.new.slips ≡ self.old.slips }
         ensures limits { IsWithinLimits self.new }
@@ -71,8 +71,8 @@ impl<J: Job, A: Allocator + Clone> Queues<J, A> {
         meter: &mut M,
     ) -> (Step<J::Out>, Option<u64>, u64)
         requires exists { queue < queue_count self.old }
-        requires ready { IsFrontReady J.done J.CanPoll (waiting_of queue self.old) }
-        ensures turns { MakesCalls P.Does post.old post.new (λ calls. TurnsFront J.SameTask J.done J.CanPoll J.made J.Polls J.Answers (queues_alone self.old) queue calls result.0 result.1 (queues_alone self.new)) }
+        requires ready { IsFrontReady J.meaning (waiting_of queue self.old) }
+        ensures turns { MakesCalls P.Does post.old post.new (λ calls. TurnsFront J.meaning (queues_alone self.old) queue calls result.0 result.1 (queues_alone self.new)) }
         ensures tells { M.Tells meter.old result.2 }
         ensures slips { self.new.slips ≡ self.old.slips }
         ensures limits { IsWithinLimits self.new }

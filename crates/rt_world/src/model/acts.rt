@@ -41,8 +41,8 @@ impl<J: Task<Out = u64>, A: Allocator + Clone> World<J, A> {
         requires own { IsActOf from act }
         requires at { IsActAt to act }
         requires room { length (journal_at from self.old) + notes_for self.old.cap act ≤ self.old.room }
-        requires ready { HasReadyAct (HasReadyJob J.done J.CanPoll) act }
-        ensures { Acts J.SameTask J.Answers from to act self.old self.new result }
+        requires ready { HasReadyAct (HasReadyJob J.meaning) act }
+        ensures { Acts J.meaning from to act self.old self.new result }
     {
         let link = self.links.link_mut(from, to);
         if from.0 < self.cores {
@@ -61,11 +61,11 @@ fn core_acts<J: Task<Out = u64>, A: Allocator + Clone>(
     act: Act<J>,
 ) -> Reply<J>
     requires beside { IsOutOf to (desk_of core.old) (out_of link.old) link.old.credited }
-    requires lane { HasLane (Fits J.SameTask J.Answers) to (desk_of core.old) (out_of link.old) link.old.credited }
+    requires lane { HasLane (Fits J.meaning) to (desk_of core.old) (out_of link.old) link.old.credited }
     requires at { IsActAt to act }
     requires room { length core.old.journal.notes + notes_for core.old.cap act ≤ core.old.journal.room }
-    requires ready { HasReadyAct (HasReadyJob J.done J.CanPoll) act }
-    ensures { HasCoreActed J.SameTask J.Answers J.made J.Polls to act core.old link.old result core.new link.new }
+    requires ready { HasReadyAct (HasReadyJob J.meaning) act }
+    ensures { HasCoreActed J.meaning to act core.old link.old result core.new link.new }
 {
     match act {
         Act::Send(order) => reply_to(core.submit(link, to, order)),
@@ -83,11 +83,11 @@ fn desk_acts<J: Task<Out = u64>>(
     act: Act<J>,
 ) -> Reply<J>
     requires beside { IsOutOf to desk.old (out_of link.old) link.old.credited }
-    requires lane { HasLane (Fits J.SameTask J.Answers) to desk.old (out_of link.old) link.old.credited }
+    requires lane { HasLane (Fits J.meaning) to desk.old (out_of link.old) link.old.credited }
     requires at { IsActAt to act }
     requires room { length desk.old.journal.notes + notes_for desk.old.cap act ≤ desk.old.journal.room }
-    requires ready { HasReadyAct (HasReadyJob J.done J.CanPoll) act }
-    ensures { HasActed J.SameTask J.Answers to act desk.old link.old result desk.new link.new }
+    requires ready { HasReadyAct (HasReadyJob J.meaning) act }
+    ensures { HasActed J.meaning to act desk.old link.old result desk.new link.new }
 {
     match act {
         Act::Send(order) => reply_to(desk.submit(link, to, order)),

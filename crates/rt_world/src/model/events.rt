@@ -50,8 +50,8 @@ impl<J: Job + Task<Out = u64>, A: Allocator + Clone> World<J, A> {
     /// An event whose actor or core doesn't exist (`NoActor`), or whose actor's journal has fewer than `3 * cores * cap + 4` notes
     /// free (`NoRoom`), changes nothing and comes back.
     pub fn step(&mut self, event: Event<J>) -> Reply<J>
-        requires ready { HasReadyEvent (HasReadyJob J.done J.CanPoll) event }
-        ensures { Happens J.SameTask J.made J.Polls J.Answers event self.old self.new result }
+        requires ready { HasReadyEvent (HasReadyJob J.meaning) event }
+        ensures { Happens J.meaning event self.old self.new result }
     {
         if !self.has_actors(&event) {
             return Reply::NoActor(event);
@@ -73,8 +73,8 @@ impl<J: Job + Task<Out = u64>, A: Allocator + Clone> World<J, A> {
     /// All these events, one after another. Their journals are a run of the events, and they are sound together.
     pub fn run(self, events: Vec<Event<J>>) -> Assembly
         requires unbegun { IsUnbegun self }
-        requires ready { All (HasReadyEvent (HasReadyJob J.done J.CanPoll)) events.items }
-        ensures run { RunsTo J.SameTask J.made J.Polls J.Answers events.items self result }
+        requires ready { All (HasReadyEvent (HasReadyJob J.meaning)) events.items }
+        ensures run { RunsTo J.meaning events.items self result }
         ensures sound { IsSound result }
         ensures joined { AreJoined result }
     {

@@ -48,7 +48,7 @@ fn core_receives<J: Task<Out = u64>, A: Allocator + Clone>(
     requires beside { IsInOf from core.old (inward_of link.old) }
     requires room { length core.old.journal.notes + 4 ≤ core.old.journal.room }
     requires may { MayReceive from what core.old.journal.notes }
-    ensures { HasReceived J.SameTask J.made J.Polls from what core.old link.old result core.new link.new }
+    ensures { HasReceived J.meaning from what core.old link.old result core.new link.new }
 {
     match what {
         Receipt::Take => reply_if(core.deliver(link)),

@@ -22,7 +22,7 @@ impl<J: Task<Out = u64>, A: Allocator + Clone> World<J, A> {
         requires sender { from ≤ self.old.cores }
         requires core { to < self.old.cores }
         requires room { length (journal_at from self.old) + 4 ≤ self.old.room }
-        requires ready { HasReadyJob J.done J.CanPoll order }
+        requires ready { HasReadyJob J.meaning order }
         ensures { Sends from to order self.old self.new result }
     {
         self.act(from, to, Act::Send(order))
@@ -44,7 +44,7 @@ impl<J: Job + Task<Out = u64>, A: Allocator + Clone> World<J, A> {
     pub(super) fn turn(&mut self, core: CoreNo, spent: u64) -> Reply<J>
         requires core { core < self.old.cores }
         requires room { length (journal_at core self.old) + (3 * self.old.cores * self.old.cap + 4) ≤ self.old.room }
-        ensures { Turns J.SameTask J.made J.Polls J.Answers core spent self.old self.new result }
+        ensures { Turns J.meaning core spent self.old self.new result }
     {
         reply_for(turn_of(
             &mut self.inside[core.0 as usize],

@@ -40,7 +40,7 @@ impl<J: Task<Out = u64>, A: Allocator + Clone> World<J, A> {
     pub(super) fn redeem(&mut self, from: ActorNo, ticket: Ticket) -> Reply<J>
         requires sender { from ≤ self.old.cores }
         requires room { length (journal_at from self.old) + 4 ≤ self.old.room }
-        ensures { Redeems J.SameTask J.Answers from ticket self.old self.new result }
+        ensures { Redeems J.meaning from ticket self.old self.new result }
     {
         if !self.knows(from, ticket) {
             return Reply::NoTicket(TicketError::Unknown);

@@ -2,4 +2,4 @@ use Rattle.rt_world_laws.proofs.KeptLists.{happens_keep}
 use Rattle.rt_world_laws.proofs.events_keep_lists.Goals as goal
 
 pub returns : goal.returns
-returns g c = happens_keep g.J.Task.SameTask g.J.Task.made g.J.Task.Polls g.J.Task.Answers
+returns g c = happens_keep g.J.Task.meaning

@@ -2,4 +2,4 @@ use Rattle.rt_world_laws.proofs.NoRefusals.{jobs_once}
 use Rattle.rt_world_laws.proofs.run_of_jobs_is_determined.Goals as goal
 
 pub returns : goal.returns
-returns g c = jobs_once g.J.Task.SameTask g.J.Task.made g.J.Task.Polls g.J.Task.Answers
+returns g c = jobs_once g.J.Task.meaning

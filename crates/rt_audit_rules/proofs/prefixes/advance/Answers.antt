@@ -5,8 +5,8 @@ use Rattle.rt_audit_rules.specs.Sides.{name_told}
 use Rattle.rt_audit_rules.proofs.ToldNames.{same_next, told_at_place}
 use Rattle.rt_audit_rules.proofs.prefixes.advance.Goals as goal
 
-pub returns-else-is_same-clause-only : goal.returns-else-is_same-clause-only
-returns-else-is_same-clause-only c =
+pub returns-else-laws-clause-only : goal.returns-else-laws-clause-only
+returns-else-laws-clause-only c =
     λ none begins.
     let all = list_told (name_told c.args.whole.now) c.args.other.now.notes in
     let told = list_told (name_told c.args.whole.now) (at_place c.args.behind c.args.other.now.notes) in
@@ -14,4 +14,4 @@ returns-else-is_same-clause-only c =
     let more = told_at_place (name_told c.args.whole.now) c.in-Some-next_told.found c.args.other.now.notes in
     let there = subst (λ items. all ≡ items ++ more.0) c.in-Some-next_told.ensures.next.next more.1 in
     let one = same_next told c.in-Some.name c.in-Some-next_told.next begins.0 more.0 (sym here ∙ there) in
-    both_ways c.is_same.result c.if-is_same.false (c.is_same.ensures.only (sym one))
+    both_ways c.is_same.result c.if-laws.same_task.false (c.is_same.ensures.only (sym one))

@@ -8,5 +8,5 @@ pub fetch_or-requires : goal.fetch_or-requires
 fetch_or-requires g c = (
   search rules,
   search rules,
-  shuts (Fits g.J.Task.SameTask g.J.Task.Answers) (HasReadyJob g.J.Task.done g.J.Task.CanPoll) _ _ _ _ c.requires.receiver.takes c.requires.receiver.used _ refl,
+  shuts (Fits g.J.Task.meaning) (HasReadyJob g.J.Task.meaning) _ _ _ _ c.requires.receiver.takes c.requires.receiver.used _ refl,
 )

@@ -9,7 +9,7 @@ swap-requires g c = (
   search rules,
   search rules,
   give-allowed c.args.seat.now.me c.put_outcome.new.seat.me c.args.slot c.args.number c.args.outcome c.requires.receiver c.put_outcome.ensures.put c.requires.slot c.requires.owed
-      (Fits g.J.Task.SameTask g.J.Task.Answers) (HasReadyJob g.J.Task.done g.J.Task.CanPoll) _ _ _ c.args.given c.requires.given c.requires.may,
+      (Fits g.J.Task.meaning) (HasReadyJob g.J.Task.meaning) _ _ _ c.args.given c.requires.given c.requires.may,
 )
 
 pub returns-clause-receiver : goal.returns-clause-receiver

@@ -10,7 +10,7 @@ pub load-accepted-requires : goal.load-accepted-requires
 load-accepted-requires g c = (
   search rules,
   search rules,
-  looks (Fits g.J.Task.SameTask g.J.Task.Answers) (HasReadyJob g.J.Task.done g.J.Task.CanPoll) _ _ _ _ c.requires.receiver.takes c.requires.receiver.used,
+  looks (Fits g.J.Task.meaning) (HasReadyJob g.J.Task.meaning) _ _ _ _ c.requires.receiver.takes c.requires.receiver.used,
 )
 
 pub take_order-order-requires-clause-full :

@@ -10,7 +10,7 @@ pub load-given-requires : goal.load-given-requires
 load-given-requires g c = (
   search rules,
   search rules,
-  gathers (Fits g.J.Task.SameTask g.J.Task.Answers) (HasReadyJob g.J.Task.done g.J.Task.CanPoll) _ _ _ _ c.requires.sender.sends c.requires.sender.used,
+  gathers (Fits g.J.Task.meaning) (HasReadyJob g.J.Task.meaning) _ _ _ _ c.requires.sender.sends c.requires.sender.used,
 )
 
 pub take_outcome-found-requires-clause-full :

@@ -8,5 +8,5 @@ pub compare_exchange-requires : goal.compare_exchange-requires
 compare_exchange-requires g c = (
   search rules,
   search rules,
-  probes (Fits g.J.Task.SameTask g.J.Task.Answers) (HasReadyJob g.J.Task.done g.J.Task.CanPoll) _ _ _ _ _ c.requires.sender.sends c.requires.sender.used c.requires.number,
+  probes (Fits g.J.Task.meaning) (HasReadyJob g.J.Task.meaning) _ _ _ _ _ c.requires.sender.sends c.requires.sender.used c.requires.number,
 )

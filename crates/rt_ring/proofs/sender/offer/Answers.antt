@@ -10,7 +10,7 @@ compare_exchange-requires g c = (
   search rules,
   search rules,
   offer-allowed c.args.seat.now.me c.put_order.new.seat.me c.args.slot c.args.last c.args.order c.requires.sender c.put_order.ensures.put c.requires.slot c.requires.room
-      (Fits g.J.Task.SameTask g.J.Task.Answers) (HasReadyJob g.J.Task.done g.J.Task.CanPoll) _ _ _ c.requires.number.0 c.requires.number.1 c.requires.ready,
+      (Fits g.J.Task.meaning) (HasReadyJob g.J.Task.meaning) _ _ _ c.requires.number.0 c.requires.number.1 c.requires.ready,
 )
 
 pub returns-then-compare_exchange-last-clause-ok : goal.returns-then-compare_exchange-last-clause-ok

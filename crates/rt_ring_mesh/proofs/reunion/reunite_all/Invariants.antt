@@ -3,4 +3,4 @@ use Rattle.rt_ring_mesh.proofs.Rows.{AreRowsPart}
 use Rattle.rt_ring_mesh.proofs.reunion.reunite_all.Given as goal
 
 abbrev pub invariant-loop-step : goal.invariant-loop-step
-invariant-loop-step g l = AreRowsPart (Fits g.J.Task.SameTask g.J.Task.Answers) l.cores l.step l.fn.all.items l.all.items
+invariant-loop-step g l = AreRowsPart (Fits g.J.Task.meaning) l.cores l.step l.fn.all.items l.all.items

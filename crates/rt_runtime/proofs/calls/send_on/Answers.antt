@@ -15,12 +15,12 @@ submit-requires-clause-beside g c =
 
 pub submit-requires-clause-lane : goal.submit-requires-clause-lane
 submit-requires-clause-lane g c =
-    subst (λ end. HasLane (Fits g.J.Task.SameTask g.J.Task.Answers) c.args.to c.args.desk.now end.out end.credited)
+    subst (λ end. HasLane (Fits g.J.Task.meaning) c.args.to c.args.desk.now end.out end.credited)
     (sym (lent_out c.args.to c.args.ends.now c.requires.there c.to.inside.0 _ c.to.view_is c.ends.view_is c.index_mut.result.now c.index_mut.ensures.value)) c.requires.lane
 
 pub returns-clause-stays : goal.returns-clause-stays
 returns-clause-stays g c =
-    subst (λ end. StaysBeside (Fits g.J.Task.SameTask g.J.Task.Answers) c.args.to c.args.desk.now c.submit.new.self end.out end.credited)
+    subst (λ end. StaysBeside (Fits g.J.Task.meaning) c.args.to c.args.desk.now c.submit.new.self end.out end.credited)
     (sym (put_at c.args.to c.args.ends.now c.requires.there c.to.inside.0 _ c.to.view_is c.ends.view_is c.submit.new.end)) c.submit.ensures.stays
 
 pub returns-clause-ends : goal.returns-clause-ends

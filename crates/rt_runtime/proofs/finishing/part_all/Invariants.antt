@@ -8,5 +8,5 @@ abbrev pub invariant-loop-one : goal.invariant-loop-one
 invariant-loop-one g l = record {
   room_ends : vec_capacity l.all_ends ≡ vec_capacity l.fn.ends;
   room_journals : vec_capacity l.all_journals ≡ vec_capacity l.fn.journals;
-  parted : IsParted g.J.Task.SameTask g.J.Task.made g.J.Task.Polls (Fits g.J.Task.SameTask g.J.Task.Answers) l.fn.all.items (into_iter_items l.one-iterator) (into_iter_len l.one-iterator) l.all_ends.items l.all_journals.items;
+  parted : IsParted g.J.Task.meaning l.fn.all.items (into_iter_items l.one-iterator) (into_iter_len l.one-iterator) l.all_ends.items l.all_journals.items;
 }

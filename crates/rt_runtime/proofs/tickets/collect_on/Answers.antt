@@ -9,7 +9,7 @@ pub collect_from-requires-clause-beside : goal.collect_from-requires-clause-besi
 collect_from-requires-clause-beside g c = subst (λ end. IsOutOf c.args.core c.args.desk.now end.out end.credited) (sym (lent_out c.args.core c.args.ends.now c.requires.there c.core.inside.0 _ c.core.view_is c.ends.view_is c.index_mut.result.now c.index_mut.ensures.value)) c.requires.beside
 
 pub collect_from-requires-clause-lane : goal.collect_from-requires-clause-lane
-collect_from-requires-clause-lane g c = subst (λ end. HasLane (Fits g.J.Task.SameTask g.J.Task.Answers) c.args.core c.args.desk.now end.out end.credited) (sym (lent_out c.args.core c.args.ends.now c.requires.there c.core.inside.0 _ c.core.view_is c.ends.view_is c.index_mut.result.now c.index_mut.ensures.value)) c.requires.lane
+collect_from-requires-clause-lane g c = subst (λ end. HasLane (Fits g.J.Task.meaning) c.args.core c.args.desk.now end.out end.credited) (sym (lent_out c.args.core c.args.ends.now c.requires.there c.core.inside.0 _ c.core.view_is c.ends.view_is c.index_mut.result.now c.index_mut.ensures.value)) c.requires.lane
 
 pub collect_from-requires-clause-room : goal.collect_from-requires-clause-room
 collect_from-requires-clause-room g c =
@@ -22,7 +22,7 @@ returns-clause-shown g c =
 
 pub returns-clause-stays : goal.returns-clause-stays
 returns-clause-stays g c =
-    subst (λ end. StaysBeside (Fits g.J.Task.SameTask g.J.Task.Answers) c.args.core c.args.desk.now c.collect_from.new.self end.out end.credited) (sym (put_at c.args.core c.args.ends.now c.requires.there c.core.inside.0 _ c.core.view_is c.ends.view_is c.collect_from.new.end)) c.collect_from.ensures.stays
+    subst (λ end. StaysBeside (Fits g.J.Task.meaning) c.args.core c.args.desk.now c.collect_from.new.self end.out end.credited) (sym (put_at c.args.core c.args.ends.now c.requires.there c.core.inside.0 _ c.core.view_is c.ends.view_is c.collect_from.new.end)) c.collect_from.ensures.stays
 
 pub returns-clause-ends : goal.returns-clause-ends
 returns-clause-ends g c =

@@ -9,14 +9,14 @@ pub detach-requires-clause-beside : goal.detach-requires-clause-beside
 detach-requires-clause-beside g c = subst (λ end. IsOutOf c.args.ticket.to c.args.desk.now end.out end.credited) (sym (lent_out c.args.ticket.to c.args.ends.now c.requires.there c.to.inside.0 _ (c.to.view_is ∙ ap (λ name. name.to) c.name-to.ensures) c.ends.view_is c.index_mut.result.now c.index_mut.ensures.value)) c.requires.beside
 
 pub detach-requires-clause-lane : goal.detach-requires-clause-lane
-detach-requires-clause-lane g c = subst (λ end. HasLane (Fits g.J.Task.SameTask g.J.Task.Answers) c.args.ticket.to c.args.desk.now end.out end.credited) (sym (lent_out c.args.ticket.to c.args.ends.now c.requires.there c.to.inside.0 _ (c.to.view_is ∙ ap (λ name. name.to) c.name-to.ensures) c.ends.view_is c.index_mut.result.now c.index_mut.ensures.value)) c.requires.lane
+detach-requires-clause-lane g c = subst (λ end. HasLane (Fits g.J.Task.meaning) c.args.ticket.to c.args.desk.now end.out end.credited) (sym (lent_out c.args.ticket.to c.args.ends.now c.requires.there c.to.inside.0 _ (c.to.view_is ∙ ap (λ name. name.to) c.name-to.ensures) c.ends.view_is c.index_mut.result.now c.index_mut.ensures.value)) c.requires.lane
 
 pub returns-clause-out : goal.returns-clause-out
 returns-clause-out g c = ap (λ end. end.out) (put_at c.args.ticket.to c.args.ends.now c.requires.there c.to.inside.0 _ (c.to.view_is ∙ ap (λ name. name.to) c.name-to.ensures) c.ends.view_is c.detach.new.end) ∙ (c.detach.ensures.out ∙ ap (λ end. end.out) (lent_out c.args.ticket.to c.args.ends.now c.requires.there c.to.inside.0 _ (c.to.view_is ∙ ap (λ name. name.to) c.name-to.ensures) c.ends.view_is c.index_mut.result.now c.index_mut.ensures.value))
 
 pub returns-clause-stays : goal.returns-clause-stays
 returns-clause-stays g c =
-    subst (λ end. StaysBeside (Fits g.J.Task.SameTask g.J.Task.Answers) c.args.ticket.to c.args.desk.now c.detach.new.self end.out end.credited) (sym (put_at c.args.ticket.to c.args.ends.now c.requires.there c.to.inside.0 _ (c.to.view_is ∙ ap (λ name. name.to) c.name-to.ensures) c.ends.view_is c.detach.new.end)) c.detach.ensures.stays
+    subst (λ end. StaysBeside (Fits g.J.Task.meaning) c.args.ticket.to c.args.desk.now c.detach.new.self end.out end.credited) (sym (put_at c.args.ticket.to c.args.ends.now c.requires.there c.to.inside.0 _ (c.to.view_is ∙ ap (λ name. name.to) c.name-to.ensures) c.ends.view_is c.detach.new.end)) c.detach.ensures.stays
 
 pub returns-clause-ends : goal.returns-clause-ends
 returns-clause-ends g c =

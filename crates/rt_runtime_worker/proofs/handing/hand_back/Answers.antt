@@ -8,17 +8,17 @@ back_of-name-requires g c = c.pick.ensures.back c.requires.ahead
 
 pub give_on-requires-clause-known : goal.give_on-requires-clause-known
 give_on-requires-clause-known g c =
-    let did = handed_back c.args.recorded.now c.pick.new.self c.pick.result c.back_of-name.result.0 c.back_of-name.result.1 c.back_of-name.result.2 c.back_of-name.ensures g.J.Task.SameTask c.pick.ensures.picks in
+    let did = handed_back c.args.recorded.now c.pick.new.self c.pick.result c.back_of-name.result.0 c.back_of-name.result.1 c.back_of-name.result.2 c.back_of-name.ensures g.J.Task.meaning c.pick.ensures.picks in
     omega (arith, (c.requires.linked.recorded.taken _ _ did.task).sender, c.pick.ensures.seat.cores)
 
 pub give_on-requires-clause-sent : goal.give_on-requires-clause-sent
 give_on-requires-clause-sent g c =
-    sent_under c.args.recorded.now c.pick.new.self c.pick.result c.back_of-name.result.0 c.back_of-name.result.1 c.back_of-name.result.2 c.back_of-name.ensures g.J.Task.SameTask
-    (handed_back c.args.recorded.now c.pick.new.self c.pick.result c.back_of-name.result.0 c.back_of-name.result.1 c.back_of-name.result.2 c.back_of-name.ensures g.J.Task.SameTask c.pick.ensures.picks)
+    sent_under c.args.recorded.now c.pick.new.self c.pick.result c.back_of-name.result.0 c.back_of-name.result.1 c.back_of-name.result.2 c.back_of-name.ensures g.J.Task.meaning
+    (handed_back c.args.recorded.now c.pick.new.self c.pick.result c.back_of-name.result.0 c.back_of-name.result.1 c.back_of-name.result.2 c.back_of-name.ensures g.J.Task.meaning c.pick.ensures.picks)
 
 pub give_on-requires-clause-owing : goal.give_on-requires-clause-owing
 give_on-requires-clause-owing g c =
-    let did = handed_back c.args.recorded.now c.pick.new.self c.pick.result c.back_of-name.result.0 c.back_of-name.result.1 c.back_of-name.result.2 c.back_of-name.ensures g.J.Task.SameTask c.pick.ensures.picks in
+    let did = handed_back c.args.recorded.now c.pick.new.self c.pick.result c.back_of-name.result.0 c.back_of-name.result.1 c.back_of-name.result.2 c.back_of-name.ensures g.J.Task.meaning c.pick.ensures.picks in
     stay_owing c.args.recorded.now c.pick.new.self c.pick.result c.back_of-name.result.0 c.back_of-name.result.1 c.back_of-name.result.2 c.back_of-name.ensures c.args.ends.now c.requires.linked.beside
     (c.requires.linked.recorded.taken _ _ did.task).sender c.pick.ensures.seat c.pick.ensures.outs c.pick.ensures.lanes c.pick.ensures.ins
 
@@ -27,13 +27,13 @@ returns-clause-hands g c = record {
   name = c.back_of-name.result.0;
   reason = c.back_of-name.result.1;
   order = c.back_of-name.result.2;
-  did = handed_back c.args.recorded.now c.pick.new.self c.pick.result c.back_of-name.result.0 c.back_of-name.result.1 c.back_of-name.result.2 c.back_of-name.ensures g.J.Task.SameTask c.pick.ensures.picks;
+  did = handed_back c.args.recorded.now c.pick.new.self c.pick.result c.back_of-name.result.0 c.back_of-name.result.1 c.back_of-name.result.2 c.back_of-name.ensures g.J.Task.meaning c.pick.ensures.picks;
 }
 
 pub returns-clause-stays : goal.returns-clause-stays
 returns-clause-stays g c = record {
   seat = c.pick.ensures.seat;
   ends = c.give_on.ensures.ends;
-  opening = opening_returned g.J.Task.SameTask c.args.recorded.now c.pick.new.self _ _ _
-      (handed_back c.args.recorded.now c.pick.new.self c.pick.result c.back_of-name.result.0 c.back_of-name.result.1 c.back_of-name.result.2 c.back_of-name.ensures g.J.Task.SameTask c.pick.ensures.picks);
+  opening = opening_returned g.J.Task.meaning c.args.recorded.now c.pick.new.self _ _ _
+      (handed_back c.args.recorded.now c.pick.new.self c.pick.result c.back_of-name.result.0 c.back_of-name.result.1 c.back_of-name.result.2 c.back_of-name.ensures g.J.Task.meaning c.pick.ensures.picks);
 }

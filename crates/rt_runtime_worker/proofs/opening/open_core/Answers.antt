@@ -14,7 +14,7 @@ create_all-requires-clause-room g c =
 
 pub returns-clause-since : goal.returns-clause-since
 returns-clause-since g c =
-    subst (λ old. CreatesSince g.J.Task.SameTask g.J.Task.made g.J.Task.Polls (queues_of c.args.core c.args.queues.now) old c.create_all.new.recorded) c.in_ok-recorded.ensures.opened c.in_ok-create_all.ensures.since
+    subst (λ old. CreatesSince g.J.Task.meaning (queues_of c.args.core c.args.queues.now) old c.create_all.new.recorded) c.in_ok-recorded.ensures.opened c.in_ok-create_all.ensures.since
 
 pub returns-clause-noted : goal.returns-clause-noted
 returns-clause-noted g c = c.in_ok-create_all.ensures.noted ∙ ap (λ view. behind_entries c.args.core c.args.queues.now view.journal.notes) c.in_ok-recorded.ensures.opened

@@ -7,7 +7,7 @@ use Rattle.rt_runtime_worker.proofs.posting.post_turn.Goals as goal
 
 pub turn_posting-requires-clause-outs : goal.turn_posting-requires-clause-outs
 turn_posting-requires-clause-outs g c =
-    (subst (AreBeside (Fits g.J.Task.SameTask g.J.Task.Answers) c.args.recorded.now) (sym c.ends.view_is) c.requires.beside).outs
+    (subst (AreBeside (Fits g.J.Task.meaning) c.args.recorded.now) (sym c.ends.view_is) c.requires.beside).outs
 
 pub returns-clause-polls : goal.returns-clause-polls
 returns-clause-polls g c =

@@ -26,7 +26,7 @@ returns-clause-polls g c =
           capacity = refl;
         };
         polled = record {
-          owed = subst (λ told. g.J.Task.Polls was.job (g.J.Task.made was.job) polled.owed.calls c.poll-step.result told) (sym c.told-told.ensures) polled.owed.owed;
+          owed = subst (λ told. g.J.Task.meaning.polls was.job (g.J.Task.meaning.made was.job) polled.owed.calls c.poll-step.result told) (sym c.told-told.ensures) polled.owed.owed;
           answered = polled.answers;
           task = polled.same;
           later = polled.later;

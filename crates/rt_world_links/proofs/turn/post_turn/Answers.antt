@@ -21,14 +21,14 @@ row g c =
 
 pub turn_posting-requires-clause-outs : goal.turn_posting-requires-clause-outs
 turn_posting-requires-clause-outs g c =
-    subst (AreOutsOf (Fits g.J.Task.SameTask g.J.Task.Answers) out_of (λ link. link.credited) (desk_of c.args.core.now))
+    subst (AreOutsOf (Fits g.J.Task.meaning) out_of (λ link. link.credited) (desk_of c.args.core.now))
     (sym (row g (goal.at.turn_posting-requires-clause-outs g c).After-index_mut)) c.requires.outs
 
 pub returns-clause-turns : goal.returns-clause-turns
 returns-clause-turns g c =
     let next = c.args.next.now in
     let done = c.turn_posting.ensures in
-    let turn = subst (λ at. TurnsOn g.J.Task.SameTask g.J.Task.made g.J.Task.Polls g.J.Task.Answers c.args.spent c.args.core.now at next.name next.queue next.started c.turn_posting.result c.turn_posting.new.self c.turn_posting.new.ends.items)
+    let turn = subst (λ at. TurnsOn g.J.Task.meaning c.args.spent c.args.core.now at next.name next.queue next.started c.turn_posting.result c.turn_posting.new.self c.turn_posting.new.ends.items)
     (row g (goal.at.returns-clause-turns g c).After-index_mut) done.turns in
     rw (map-set, c.links.view_is, c.number.view_is) (record {
       row = c.turn_posting.new.ends.items;

@@ -4,7 +4,7 @@ use Rattle.rt_core.specs.Deliveries.{Delivers}
 use Rattle.rt_core.proofs.one_core.Core.deliver.Goals as goal
 
 pub deliver_job-requires : goal.deliver_job-requires
-deliver_job-requires g c = (assumption, (c.requires.room, (c.requires.sender, subst (HasReadyJob g.J.Task.done g.J.Task.CanPoll) c.in-Job.is c.requires.ready)))
+deliver_job-requires g c = (assumption, (c.requires.room, (c.requires.sender, subst (HasReadyJob g.J.Task.meaning) c.in-Job.is c.requires.ready)))
 
 pub deliver_create-requires : goal.deliver_create-requires
 deliver_create-requires g c = (assumption, c.requires.sender)

@@ -62,7 +62,7 @@ new_of g c =
     let inside = c.self.inside in
     core_view inside.core inside.cores (queues_alone inside.queues) (slice_set inside.tallies.items c.place.result c.args.tally) inside.floor inside.turns None inside.senders inside.mode
 
-core_of : (g : Over) (c : After-relist g) → IsCore g.J.Task.done g.J.Task.CanPoll (new_of g c)
+core_of : (g : Over) (c : After-relist g) → IsCore g.J.Task.meaning (new_of g c)
     (slips_after (is_any (waiting_of c.args.queue (queues_alone c.self.inside.queues))) c.args.queue c.self.inside.queues.slips)
     (keys_after (is_any (waiting_of c.args.queue (queues_alone c.self.inside.queues))) c.args.tally.runtime c.args.queue c.self.inside.ready.keys) (c.self.inside.inside - 1) c.self.inside.room c.self.inside.tallies.cap
 core_of g c =
@@ -72,8 +72,8 @@ core_of g c =
     let fits = subst (λ (view : CoreView g.row.J.Denot). FitsTurns view.turns 0 c.args.tally) (sym c.self.view_is) c.requires.fits in
     let tallies = ap (λ place. slice_set inside.tallies.items place c.args.tally) (c.place.ensures ∙ out.2) in
     let any : ℕ → Bool = λ queue. is_any (waiting_of queue (queues_alone inside.queues)) in
-    subst (λ (queue : ℕ). IsCore g.J.Task.done g.J.Task.CanPoll (new_of g c) (slips_after (any queue) queue inside.queues.slips) (keys_after (any queue) c.args.tally.runtime queue inside.ready.keys) (inside.inside - 1) inside.room inside.tallies.cap) (sym out.2)
-    (IsCore-ended g.J.Task.done g.J.Task.CanPoll (old_of g at) (new_of g c) inside.queues.slips inside.ready.keys inside.inside inside.room inside.tallies.cap out.0 c.args.tally (any out.0.queue)
+    subst (λ (queue : ℕ). IsCore g.J.Task.meaning (new_of g c) (slips_after (any queue) queue inside.queues.slips) (keys_after (any queue) c.args.tally.runtime queue inside.ready.keys) (inside.inside - 1) inside.room inside.tallies.cap) (sym out.2)
+    (IsCore-ended g.J.Task.meaning (old_of g at) (new_of g c) inside.queues.slips inside.ready.keys inside.inside inside.room inside.tallies.cap out.0 c.args.tally (any out.0.queue)
     c.self.invariant out.1 refl refl tallies fits refl refl refl refl refl)
 
 pub invariant_of-self : goal.invariant_of-self

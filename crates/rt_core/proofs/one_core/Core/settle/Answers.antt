@@ -20,23 +20,23 @@ returns-in-Done-clause-settles g c =
 
 pub returns-in-Done-clause-answers : goal.returns-in-Done-clause-answers
 returns-in-Done-clause-answers g c =
-    let owed = subst (λ step. IfDone step (g.J.Task.Answers c.args.ran.before)) c.in-Done.is c.into_parts-job.ensures.answers in
-    answers_out g.J.Task.SameTask g.J.Task.Answers c.args.self.now.out c.args.ran.before c.in-Done.answer g.met.J.Task.same_task g.met.J.Task.answers_same c.requires owed
+    let owed = subst (λ step. IfDone step (g.J.Task.meaning.answers c.args.ran.before)) c.in-Done.is c.into_parts-job.ensures.answers in
+    answers_out g.J.Task.meaning c.args.self.now.out c.args.ran.before c.in-Done.answer g.met.J.Task.laws c.requires owed
 
 pub yield_out-name-requires : goal.yield_out-name-requires
 yield_out-name-requires g c =
     let parts = c.into_parts-job.ensures in
     let job = c.into_parts-job.result.0 in
     record {
-      out = out_if_same g.J.Task.SameTask c.args.self.now.out c.args.ran.before c.requires;
-      ready = (parts.done ∙ ap is_done_step c.in-Yield.is, subst (λ step. OnYield step (g.J.Task.CanPoll job)) c.in-Yield.is parts.ready);
+      out = out_if_same g.J.Task.meaning c.args.self.now.out c.args.ran.before c.requires;
+      ready = (parts.done ∙ ap is_done_step c.in-Yield.is, subst (λ step. OnYield step (g.J.Task.meaning.can_poll job)) c.in-Yield.is parts.ready);
     }
 
 pub finish_out-name-requires : goal.finish_out-name-requires
-finish_out-name-requires g c = out_if_same g.J.Task.SameTask c.args.self.now.out c.args.ran.before c.requires
+finish_out-name-requires g c = out_if_same g.J.Task.meaning c.args.self.now.out c.args.ran.before c.requires
 
 pub returns-in-Yield-clause-answers : goal.returns-in-Yield-clause-answers
-returns-in-Yield-clause-answers g c = yields_no_answer g.J.Task.Answers c.args.self.now.out
+returns-in-Yield-clause-answers g c = yields_no_answer g.J.Task.meaning c.args.self.now.out
 
 pub returns-in-Yield-clause-bounded : goal.returns-in-Yield-clause-bounded
 returns-in-Yield-clause-bounded g c = c.yield_out-name.ensures.bounded

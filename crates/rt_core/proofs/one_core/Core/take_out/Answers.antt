@@ -76,7 +76,7 @@ takes_of g c =
     }
 
 -- what holds inside from then on
-core_of : (g : Over) (c : Joined-self g) → IsCore g.J.Task.done g.J.Task.CanPoll
+core_of : (g : Over) (c : Joined-self g) → IsCore g.J.Task.meaning
     (core_view c.self.inside.core c.self.inside.cores (queues_alone c.pop_front.new.self)
     (slice_set c.self.inside.tallies.items c.place.result (record c.index_mut.result.now { selected = c.index_mut.result.now.selected + 1 })) c.max-self-inside.result (c.self.inside.turns + 1)
     (Some (record { name = c.in-Some-pop_front.name; queue = c.in-Some.key.queue; job = c.of-as_it_was.result.value })) c.self.inside.senders c.self.inside.mode)
@@ -84,7 +84,7 @@ core_of : (g : Over) (c : Joined-self g) → IsCore g.J.Task.done g.J.Task.CanPo
 core_of g c =
     let inside = c.self.inside in
     let old = core_view inside.core inside.cores (queues_alone inside.queues) inside.tallies.items inside.floor inside.turns (job_out inside.out) inside.senders inside.mode in
-    IsCore-taken g.J.Task.done g.J.Task.CanPoll old _ inside.queues.slips inside.ready.keys c.take_least.new.self.keys c.in-Some.key inside.inside inside.room inside.tallies.cap
+    IsCore-taken g.J.Task.meaning old _ inside.queues.slips inside.ready.keys c.take_least.new.self.keys c.in-Some.key inside.inside inside.room inside.tallies.cap
     c.in-Some-pop_front.name c.in-Some-pop_front.started c.in-Some-pop_front.job c.self.invariant c.in-Some.ensures.least c.in-Some.ensures.absent (takes_of g c) c.pop_front.ensures.limits
 
 pub invariant_of-self : goal.invariant_of-self
@@ -101,13 +101,13 @@ returns g c =
     let free : job_out inside.out ≡ None = subst (λ (view : CoreView g.row.J.Denot). view.out ≡ None) (sym c.self.view_is) c.requires.free in
     let exists = first_exists old inside.ready.keys key later are core.listed free in
     let others = waiting_of key.queue (queues_alone c.pop_front.new.self) in
-    let all = subst (λ waiting. All (λ one. IsReady g.J.Task.done g.J.Task.CanPoll one.2) waiting) c.in-Some-pop_front.ensures.head (core.pollable.at key.queue) in
+    let all = subst (λ waiting. All (λ one. IsReady g.J.Task.meaning one.2) waiting) c.in-Some-pop_front.ensures.head (core.pollable.at key.queue) in
     rw (← c.self.view_is, c.put_slip.ensures) (record {
       takes = takes_of g c;
       exists = omega (arith, exists, c.in-Some-pop_front.ensures.rest.queues.same_count);
       tallied = omega (arith, exists, core.counted.tallies);
       at = sym (first_runtime old inside.ready.keys key later are core.listed);
-      ready = All-head (λ one. IsReady g.J.Task.done g.J.Task.CanPoll one.2) (c.in-Some-pop_front.name, c.in-Some-pop_front.started, c.in-Some-pop_front.job) others all;
+      ready = All-head (λ one. IsReady g.J.Task.meaning one.2) (c.in-Some-pop_front.name, c.in-Some-pop_front.started, c.in-Some-pop_front.job) others all;
       bounded = IsBounded-from_turns _ (core_of g c).turns;
     })
 
@@ -147,7 +147,7 @@ overflow_add-index_mut g c =
     let there : c.place.result < length inside.tallies.items = omega (arith, c.place.ensures, core.counted.tallies, exists) in
     let read = tally_read inside.tallies.items c.place.result key.queue c.index_mut.result.now c.place.ensures there c.index_mut.ensures.value in
     let left : inside.turns < 2 ^ 64 - 1 = subst (λ (view : CoreView g.row.J.Denot). view.turns < 2 ^ 64 - 1) (sym c.self.view_is) c.requires.turns in
-    let before = first_fits g.J.Task.done g.J.Task.CanPoll old inside.queues.slips inside.ready.keys inside.inside inside.room inside.tallies.cap key.queue core free in
+    let before = first_fits g.J.Task.meaning old inside.queues.slips inside.ready.keys inside.inside inside.room inside.tallies.cap key.queue core free in
     omega (arith, left, ap (λ (tally : Tally). tally.selected) read, before.selected)
 
 pub overflow_add-self : goal.overflow_add-self

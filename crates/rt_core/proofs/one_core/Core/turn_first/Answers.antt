@@ -43,7 +43,7 @@ read g c place at was found =
 fits : (g : Over) (c : In-Some g) → FitsTurns c.self.inside.turns 0 (tally_of c.in-Some.key.queue (old_of g c))
 fits g c =
     let inside = c.self.inside in
-    first_fits g.J.Task.done g.J.Task.CanPoll (old_of g c) inside.queues.slips inside.ready.keys inside.inside inside.room inside.tallies.cap c.in-Some.key.queue c.self.invariant (free g c)
+    first_fits g.J.Task.meaning (old_of g c) inside.queues.slips inside.ready.keys inside.inside inside.room inside.tallies.cap c.in-Some.key.queue c.self.invariant (free g c)
 
 pub turn_front-step-requires : goal.turn_front-step-requires
 turn_front-step-requires g c =
@@ -52,7 +52,7 @@ turn_front-step-requires g c =
     let queue = c.in-Some.key.queue in
     record {
       exists = exists g at;
-      ready = front_ready g.J.Task.done g.J.Task.CanPoll (waiting_of queue (queues_alone c.self.inside.queues))
+      ready = front_ready g.J.Task.meaning (waiting_of queue (queues_alone c.self.inside.queues))
           (first_waits (old_of g at) c.self.inside.ready.keys c.in-Some.key c.take_least.new.self.keys c.in-Some.ensures.least core.listed (free g at)) (core.pollable.at queue);
     }
 
@@ -86,7 +86,7 @@ relist-requires g c =
 
 -- what is known once the slip has its place again
 turn_of : (g : Over) (c : After-turned-tally g) → job_out c.self.inside.out ≡ None → c.index.result.now ≡ tally_of c.in-Some.key.queue (core_view c.self.inside.core c.self.inside.cores (queues_alone c.self.inside.queues) c.self.inside.tallies.items c.self.inside.floor c.self.inside.turns (job_out c.self.inside.out) c.self.inside.senders c.self.inside.mode) →
-    HasTurned g.J.Task.SameTask g.J.Task.done g.J.Task.CanPoll g.J.Task.made g.J.Task.Polls g.J.Task.Answers
+    HasTurned g.J.Task.meaning
     (core_view c.self.inside.core c.self.inside.cores (queues_alone c.self.inside.queues) c.self.inside.tallies.items c.self.inside.floor c.self.inside.turns (job_out c.self.inside.out) c.self.inside.senders c.self.inside.mode)
     c.self.inside.queues.slips c.self.inside.ready.keys c.self.inside.inside c.self.inside.room c.self.inside.tallies.cap c.in-Some.key c.turn_front-step.ensures.turns.0 c.turn_front-step.result.0 c.turn_front-step.result.1
     c.unwrap_or-time.result c.turned-tally.result (queues_alone c.turn_front-step.new.self)
@@ -117,7 +117,7 @@ invariant_of-self g c =
     let old = core_view inside.core inside.cores (queues_alone inside.queues) inside.tallies.items inside.floor inside.turns (job_out inside.out) inside.senders inside.mode in
     let slip = c.in-Some.ensures.slip in
     let tally = c.turned-tally.result in
-    IsCore-turned_as g.J.Task.SameTask g.J.Task.done g.J.Task.CanPoll g.J.Task.made g.J.Task.Polls g.J.Task.Answers old inside.queues.slips inside.ready.keys inside.inside inside.room inside.tallies.cap key c.turn_front-step.ensures.turns.0
+    IsCore-turned_as g.J.Task.meaning old inside.queues.slips inside.ready.keys inside.inside inside.room inside.tallies.cap key c.turn_front-step.ensures.turns.0
     c.turn_front-step.result.0 c.turn_front-step.result.1 c.unwrap_or-time.result tally (queues_alone queues) turn _ _ _ _
     (λ i. core_view inside.core inside.cores (queues_alone (c.relist.ensures.slips i)) (slice_set inside.tallies.items (c.place-2.ensures i) tally) (c.max-self-inside.ensures i) (inside.turns + 1) (job_out inside.out) inside.senders inside.mode)
     (ap (λ lines. lines.slips) c.relist.ensures.slips ∙ (λ i. slips_after (is_any (waiting_of (slip i) (queues_alone queues))) (slip i) (slice_set (c.turn_front-step.ensures.slips i) (slip i) true)))
@@ -133,9 +133,9 @@ returns g c =
     let queues = c.turn_front-step.new.self in
     let turns = c.turn_front-step.ensures.turns in
     let old = core_view inside.core inside.cores (queues_alone inside.queues) inside.tallies.items inside.floor inside.turns (job_out inside.out) inside.senders inside.mode in
-    let bounded = IsBounded-turned g.J.Task.SameTask g.J.Task.done g.J.Task.CanPoll g.J.Task.made g.J.Task.Polls g.J.Task.Answers old inside.queues.slips inside.ready.keys inside.inside inside.room inside.tallies.cap key turns.0
+    let bounded = IsBounded-turned g.J.Task.meaning old inside.queues.slips inside.ready.keys inside.inside inside.room inside.tallies.cap key turns.0
     c.turn_front-step.result.0 c.turn_front-step.result.1 c.unwrap_or-time.result c.turned-tally.result (queues_alone queues) turn in
-    let first = TurnsFirst-turned g.J.Task.SameTask g.J.Task.done g.J.Task.CanPoll g.J.Task.made g.J.Task.Polls g.J.Task.Answers old inside.queues.slips inside.ready.keys inside.inside inside.room inside.tallies.cap key turns.0
+    let first = TurnsFirst-turned g.J.Task.meaning old inside.queues.slips inside.ready.keys inside.inside inside.room inside.tallies.cap key turns.0
     c.turn_front-step.result.0 c.turn_front-step.result.1 c.unwrap_or-time.result c.turned-tally.result (queues_alone queues) turn c.turn_front-step.result.2 c.unwrap_or-time.ensures in
     rw (← c.self.view_is, c.relist.ensures.slips, c.place-2.ensures, c.max-self-inside.ensures) (record {
       turns = (turns.0, turns.1, (c.turn_front-step.result.2, c.turn_front-step.ensures.tells, first));
@@ -156,7 +156,7 @@ overflow_sub-self g c =
     let turn = turn_of g (goal.at.overflow_sub-self g c).After-turned-tally (free g some) (read g some c.place.result c.place.ensures c.index.result.now c.index.ensures) in
     let inside = c.self.inside in
     let old = core_view inside.core inside.cores (queues_alone inside.queues) inside.tallies.items inside.floor inside.turns (job_out inside.out) inside.senders inside.mode in
-    let one = one_inside g.J.Task.SameTask g.J.Task.done g.J.Task.CanPoll g.J.Task.made g.J.Task.Polls g.J.Task.Answers old inside.queues.slips inside.ready.keys inside.inside inside.room inside.tallies.cap c.in-Some.key c.turn_front-step.ensures.turns.0
+    let one = one_inside g.J.Task.meaning old inside.queues.slips inside.ready.keys inside.inside inside.room inside.tallies.cap c.in-Some.key c.turn_front-step.ensures.turns.0
     c.turn_front-step.result.0 c.turn_front-step.result.1 c.unwrap_or-time.result c.turned-tally.result (queues_alone c.turn_front-step.new.self) turn in
     omega (arith, one, c.ended-done.ensures, one_at_most (is_done_step c.turn_front-step.result.0))
 

@@ -23,7 +23,7 @@ returns-clause-whole g c =
       (
         turns.2.0,
         turns.2.1,
-        TurnsWhole-first g.J.Task.SameTask g.J.Task.done g.J.Task.CanPoll g.J.Task.made g.J.Task.Polls g.J.Task.Answers c.args.self.now turned.new.self turns.2.0
+        TurnsWhole-first g.J.Task.meaning c.args.self.now turned.new.self turns.2.0
             turns.0 turned.result.0 turned.result.1 next.queue next.vr next.name next.started c.requires.ahead turns.2.2,
       ),
     )

@@ -87,7 +87,7 @@ new_of g c =
     let inside = c.self.inside in
     core_view inside.core inside.cores (queues_alone c.push_back.new.self) (slice_set inside.tallies.items c.place-2.result c.charged-tally.result) inside.floor inside.turns (job_out c.take.new.self) inside.senders inside.mode
 
-core_of : (g : Over) (c : After-drop-out g) → IsCore g.J.Task.done g.J.Task.CanPoll (new_of g c) (slice_set c.self.inside.queues.slips c.in-Some.out.queue false)
+core_of : (g : Over) (c : After-drop-out g) → IsCore g.J.Task.meaning (new_of g c) (slice_set c.self.inside.queues.slips c.in-Some.out.queue false)
     (inserted (record { vr = c.charged-tally.result.runtime; queue = c.in-Some.out.queue }) c.self.inside.ready.keys) c.self.inside.inside c.self.inside.room c.self.inside.tallies.cap
 core_of g c =
     let at = (goal.at.returns g c).In-Some in
@@ -97,7 +97,7 @@ core_of g c =
     let fits = charge_fits inside.turns c.index.result.now c.charged-tally.result c.args.time c.shares-shares.result 0 (before g at c.place.result c.place.ensures c.index.result.now c.index.ensures)
     charged.value charged.charge charged.clamped (omega arith) in
     let tallies = ap (λ place. slice_set inside.tallies.items place c.charged-tally.result) c.place-2.ensures in
-    IsCore-yielded g.J.Task.done g.J.Task.CanPoll (old_of g at) (new_of g c) inside.queues.slips inside.ready.keys inside.inside inside.room inside.tallies.cap (out_of g at) c.args.job c.charged-tally.result
+    IsCore-yielded g.J.Task.meaning (old_of g at) (new_of g c) inside.queues.slips inside.ready.keys inside.inside inside.room inside.tallies.cap (out_of g at) c.args.job c.charged-tally.result
     c.self.invariant (was_out g at) free c.push_back.ensures.joins.queues c.push_back.ensures.limits tallies fits refl refl refl refl c.requires.ready
 
 pub invariant_of-self : goal.invariant_of-self

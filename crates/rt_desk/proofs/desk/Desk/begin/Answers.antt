@@ -6,5 +6,5 @@ use Rattle.rt_desk.proofs.desk.Desk.begin.Goals as goal
 
 pub returns : goal.returns
 returns g c =
-    subst (λ d. AreEndsOf (Fits g.J.Task.SameTask g.J.Task.Answers) g.O.OutEnd.out g.O.OutEnd.credited d c.args.ends.now) (sym c.requires.fresh)
-    (AreEndsOf-fresh (Fits g.J.Task.SameTask g.J.Task.Answers) g.O.OutEnd.out g.O.OutEnd.credited c.args.self.now.actor c.args.cores c.args.cap c.args.ends.now c.requires.unused)
+    subst (λ d. AreEndsOf (Fits g.J.Task.meaning) g.O.OutEnd.out g.O.OutEnd.credited d c.args.ends.now) (sym c.requires.fresh)
+    (AreEndsOf-fresh (Fits g.J.Task.meaning) g.O.OutEnd.out g.O.OutEnd.credited c.args.self.now.actor c.args.cores c.args.cap c.args.ends.now c.requires.unused)

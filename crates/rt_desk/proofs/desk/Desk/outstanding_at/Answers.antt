@@ -8,8 +8,8 @@ use Rattle.rt_desk.proofs.desk.Desk.outstanding_at.Goals as goal
 
 pub outstanding-requires : goal.outstanding-requires
 outstanding-requires g c =
-    at-core (Fits g.J.Task.SameTask g.J.Task.Answers) g.O.OutEnd.out g.O.OutEnd.credited _ c.args.ends.now c.args.core _ _
-    (subst (λ d. AreEndsOf (Fits g.J.Task.SameTask g.J.Task.Answers) g.O.OutEnd.out g.O.OutEnd.credited d c.args.ends.now) (sym c.self.view_is) c.requires.ends)
+    at-core (Fits g.J.Task.meaning) g.O.OutEnd.out g.O.OutEnd.credited _ c.args.ends.now c.args.core _ _
+    (subst (λ d. AreEndsOf (Fits g.J.Task.meaning) g.O.OutEnd.out g.O.OutEnd.credited d c.args.ends.now) (sym c.self.view_is) c.requires.ends)
     (subst (λ d. c.args.core < length d.lanes) (sym c.self.view_is) c.requires.core)
     c.index-lane.ensures c.index-ends-core.is
 

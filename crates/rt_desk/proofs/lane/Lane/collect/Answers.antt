@@ -22,7 +22,7 @@ loop-count-preserved g c = record {
   lane = c.loop-count-test.ensures.lane;
   untouched = c.loop-count-test.ensures.untouched ∙ c.loop-count.invariant.untouched;
   many =
-      CollectsMany-next (Fits g.J.Task.SameTask g.J.Task.Answers) c.args.self.now c.loop-count.self c.collect_one.new.self
+      CollectsMany-next (Fits g.J.Task.meaning) c.args.self.now c.loop-count.self c.collect_one.new.self
       (g.O.OutEnd.out c.args.end.now) (g.O.OutEnd.out c.loop-count.end) (g.O.OutEnd.out c.collect_one.new.end)
       (g.O.OutEnd.credited c.args.end.now) (g.O.OutEnd.credited c.loop-count.end) (g.O.OutEnd.credited c.collect_one.new.end)
       c.loop-count.invariant.lane c.collect_one.ensures.lane c.loop-count.count c.loop-count.invariant.many
@@ -31,7 +31,7 @@ loop-count-preserved g c = record {
 
 pub returns-clause-collects : goal.returns-clause-collects
 returns-clause-collects g c =
-    CollectsAll-end (Fits g.J.Task.SameTask g.J.Task.Answers) c.args.self.now c.loop-count.self c.collect_one.new.self
+    CollectsAll-end (Fits g.J.Task.meaning) c.args.self.now c.loop-count.self c.collect_one.new.self
     (g.O.OutEnd.out c.args.end.now) (g.O.OutEnd.out c.loop-count.end) (g.O.OutEnd.out c.collect_one.new.end)
     (g.O.OutEnd.credited c.args.end.now) (g.O.OutEnd.credited c.loop-count.end) (g.O.OutEnd.credited c.collect_one.new.end)
     c.loop-count.invariant.lane c.loop-count.count c.loop-count.invariant.many

@@ -7,7 +7,7 @@ use Rattle.rt_desk.proofs.lane.Lane.collect.Given as goal
 -- the lane belongs to its end, and each outcome that was collected is counted
 abbrev pub invariant-loop-count : goal.invariant-loop-count
 invariant-loop-count g l = record {
-  lane : IsLaneOf (Fits g.J.Task.SameTask g.J.Task.Answers) l.self (g.O.OutEnd.out l.end) (g.O.OutEnd.credited l.end);
+  lane : IsLaneOf (Fits g.J.Task.meaning) l.self (g.O.OutEnd.out l.end) (g.O.OutEnd.credited l.end);
   untouched : g.O.OutEnd.untouched l.end ≡ g.O.OutEnd.untouched l.fn.end;
   many : CollectsMany l.fn.self l.self (g.O.OutEnd.out l.fn.end) (g.O.OutEnd.out l.end) (g.O.OutEnd.credited l.fn.end) (g.O.OutEnd.credited l.end) l.count;
 }

@@ -9,7 +9,7 @@ pub returns-in-Pending-clause-lane : goal.returns-in-Pending-clause-lane
 returns-in-Pending-clause-lane g c =
     let there : at c.self.inside.shelf.entries c.args.number ≡ Some Pending = ap (λ l. at l.entries c.args.number) c.self.view_is ∙ c.in-Pending.ensures in
     let removes = pulled c.self.inside.shelf.entries c.pull.new.self.entries c.args.number Pending c.pull.result c.pull.ensures.none c.pull.ensures.removes there in
-    IsLaneOf-waits_for_none (Fits g.J.Task.SameTask g.J.Task.Answers) c.args.self.now _ (g.O.OutEnd.out c.args.end.now) (g.O.OutEnd.out c.args.end.now)
+    IsLaneOf-waits_for_none (Fits g.J.Task.meaning) c.args.self.now _ (g.O.OutEnd.out c.args.end.now) (g.O.OutEnd.out c.args.end.now)
     (g.O.OutEnd.credited c.args.end.now) (g.O.OutEnd.credited c.args.end.now) c.requires c.args.number
     (c.put.ensures.room ∙ (c.pull.ensures.room ∙ ap (λ l. l.room) c.self.view_is)) (ap (λ l. l.count) c.self.view_is) (ap (λ l. l.last) c.self.view_is)
     (record {
@@ -24,7 +24,7 @@ returns-in-Collected-clause-lane g c =
     let there = ap (λ l. at l.entries c.args.number) c.self.view_is ∙ c.in-Collected.ensures.1 in
     let removes = pulled c.self.inside.shelf.entries c.pull-in-Collected.new.self.entries c.args.number (Collected outcome) c.pull-in-Collected.result
     c.pull-in-Collected.ensures.none c.pull-in-Collected.ensures.removes there in
-    IsLaneOf-gone (Fits g.J.Task.SameTask g.J.Task.Answers) c.args.self.now _ (g.O.OutEnd.out c.args.end.now) (g.O.OutEnd.out c.credit.new.self)
+    IsLaneOf-gone (Fits g.J.Task.meaning) c.args.self.now _ (g.O.OutEnd.out c.args.end.now) (g.O.OutEnd.out c.credit.new.self)
     (g.O.OutEnd.credited c.args.end.now) (g.O.OutEnd.credited c.credit.new.self) c.requires c.args.number
     (c.pull-in-Collected.ensures.room ∙ ap (λ l. l.room) c.self.view_is) (ap (λ l. l.count) c.self.view_is) (ap (λ l. l.last) c.self.view_is)
     outcome (subst (λ l. Removes l.entries c.pull-in-Collected.new.self.entries c.args.number (Collected outcome)) c.self.view_is removes)

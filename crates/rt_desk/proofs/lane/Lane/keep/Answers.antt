@@ -9,7 +9,7 @@ pub returns-in-Pending-clause-lane : goal.returns-in-Pending-clause-lane
 returns-in-Pending-clause-lane g c =
     let number = c.args.number in
     let removes = subst (λ e. Removes c.self.inside.shelf.entries c.pull.new.self.entries number e) c.in-Pending.is c.in-Some.ensures.removes in
-    IsLaneOf-collected (Fits g.J.Task.SameTask g.J.Task.Answers) c.args.self.now (g.O.OutEnd.out c.args.end.now) (g.O.OutEnd.credited c.args.end.now) number c.args.outcome c.requires
+    IsLaneOf-collected (Fits g.J.Task.meaning) c.args.self.now (g.O.OutEnd.out c.args.end.now) (g.O.OutEnd.credited c.args.end.now) number c.args.outcome c.requires
     (record {
       entries = c.put.new.self.entries;
       room = c.put.new.self.room;
@@ -27,7 +27,7 @@ pub returns-in-Detached-clause-lane : goal.returns-in-Detached-clause-lane
 returns-in-Detached-clause-lane g c =
     let number = c.args.number in
     let removes = subst (λ e. Removes c.self.inside.shelf.entries c.pull.new.self.entries number e) c.in-Detached.is c.in-Some.ensures.removes in
-    IsLaneOf-let_go (Fits g.J.Task.SameTask g.J.Task.Answers) c.args.self.now (g.O.OutEnd.out c.args.end.now) (g.O.OutEnd.credited c.args.end.now) number c.args.outcome c.requires
+    IsLaneOf-let_go (Fits g.J.Task.meaning) c.args.self.now (g.O.OutEnd.out c.args.end.now) (g.O.OutEnd.credited c.args.end.now) number c.args.outcome c.requires
     (record { entries = c.pull.new.self.entries; room = c.pull.new.self.room; count = c.self.inside.count; last = c.self.inside.last })
     (g.O.OutEnd.out c.credit.new.self) (g.O.OutEnd.credited c.credit.new.self)
     (subst (λ l. Removes l.entries c.pull.new.self.entries number Detached) c.self.view_is removes) c.credit.ensures.same c.credit.ensures.credited
@@ -35,10 +35,10 @@ returns-in-Detached-clause-lane g c =
 
 pub unreachable-requires : goal.unreachable-requires
 unreachable-requires g c =
-    not_none (Fits g.J.Task.SameTask g.J.Task.Answers) c.args.self.now (g.O.OutEnd.out c.args.end.now) (g.O.OutEnd.credited c.args.end.now) c.args.number c.args.outcome c.requires
+    not_none (Fits g.J.Task.meaning) c.args.self.now (g.O.OutEnd.out c.args.end.now) (g.O.OutEnd.credited c.args.end.now) c.args.number c.args.outcome c.requires
     (ap (λ l. at l.entries c.args.number) (sym c.self.view_is) ∙ c.in_default.ensures.none)
 
 pub unreachable-requires-in-Collected : goal.unreachable-requires-in-Collected
 unreachable-requires-in-Collected g c =
-    not_collected (Fits g.J.Task.SameTask g.J.Task.Answers) c.args.self.now (g.O.OutEnd.out c.args.end.now) (g.O.OutEnd.credited c.args.end.now) c.args.number c.args.outcome c.requires _
+    not_collected (Fits g.J.Task.meaning) c.args.self.now (g.O.OutEnd.out c.args.end.now) (g.O.OutEnd.credited c.args.end.now) c.args.number c.args.outcome c.requires _
     (ap (λ l. at l.entries c.args.number) (sym c.self.view_is) ∙ (c.in-Some.ensures.removes.was ∙ ap Some c.in-Collected.is))

@@ -4,10 +4,10 @@ use Rattle.rt_journal.proofs.recorded.Recorded.give_back.Goals as goal
 
 pub give-requires : goal.give-requires
 give-requires g c =
-    let recorded = subst (IsRecorded g.J.Task.SameTask g.J.Task.made g.J.Task.Polls) c.self.view_is c.self.invariant.0 in
-    (given_back g.J.Task.Answers c.args.self.now recorded c.args.name c.args.reason c.args.order c.requires.sent (g.I.InEnd.inward c.args.end.now) c.requires.owed).0
+    let recorded = subst (IsRecorded g.J.Task.meaning) c.self.view_is c.self.invariant.0 in
+    (given_back g.J.Task.meaning c.args.self.now recorded c.args.name c.args.reason c.args.order c.requires.sent (g.I.InEnd.inward c.args.end.now) c.requires.owed).0
 
 pub returns-clause-beside : goal.returns-clause-beside
 returns-clause-beside g c =
-    let recorded = subst (IsRecorded g.J.Task.SameTask g.J.Task.made g.J.Task.Polls) c.self.view_is c.self.invariant.0 in
-    (given_back g.J.Task.Answers c.args.self.now recorded c.args.name c.args.reason c.args.order c.requires.sent (g.I.InEnd.inward c.args.end.now) c.requires.owed).1 (g.I.InEnd.inward c.give.new.self) c.give.ensures.gives
+    let recorded = subst (IsRecorded g.J.Task.meaning) c.self.view_is c.self.invariant.0 in
+    (given_back g.J.Task.meaning c.args.self.now recorded c.args.name c.args.reason c.args.order c.requires.sent (g.I.InEnd.inward c.args.end.now) c.requires.owed).1 (g.I.InEnd.inward c.give.new.self) c.give.ensures.gives

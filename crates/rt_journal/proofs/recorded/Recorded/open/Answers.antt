@@ -5,11 +5,11 @@ use Rattle.rt_journal.proofs.recorded.Recorded.open.Goals as goal
 pub invariant_of-result : goal.invariant_of-result
 invariant_of-result g c =
     rw (c.in_ok-core.ensures, c.in_ok-said.ensures.opened, c.new.ensures) (
-      recorded-opened g.J.Task.SameTask g.J.Task.made g.J.Task.Polls c.args.core c.args.cores c.args.cap c.args.room c.requires,
+      recorded-opened g.J.Task.meaning c.args.core c.args.cores c.args.cap c.args.room c.requires,
       ap (λ at. opened_desk at c.args.cores c.args.cap c.args.room) c.core.view_is,
     )
 
 pub returns-clause-sound : goal.returns-clause-sound
 returns-clause-sound g c =
     rw (c.in_ok-core.ensures, c.in_ok-said.ensures.opened, c.new.ensures)
-    (recorded-opened g.J.Task.SameTask g.J.Task.made g.J.Task.Polls c.args.core c.args.cores c.args.cap c.args.room c.requires)
+    (recorded-opened g.J.Task.meaning c.args.core c.args.cores c.args.cap c.args.room c.requires)

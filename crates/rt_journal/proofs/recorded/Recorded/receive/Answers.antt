@@ -14,7 +14,7 @@ pub write-requires : goal.write-requires
 write-requires g c =
     let next = subst (λ view. IsNextIn view c.args.envelope.name) (sym c.self.view_is) c.requires.next in
     let spelled = subst IsSpelledOrder c.without_job-within_ranges.ensures.same c.without_job-within_ranges.ensures.spelled in
-    let did = done g.met.J.Task.same_task (view_of c.self.inside.core c.self.inside.took.items c.self.inside.said) c.self.invariant.0 c.args.envelope next spelled c.deliver-delivered.new.self c.deliver-delivered.result.0 c.deliver-delivered.result.1.items c.deliver-delivered.ensures.delivers in
+    let did = done g.met.J.Task.laws (view_of c.self.inside.core c.self.inside.took.items c.self.inside.said) c.self.invariant.0 c.args.envelope next spelled c.deliver-delivered.new.self c.deliver-delivered.result.0 c.deliver-delivered.result.1.items c.deliver-delivered.ensures.delivers in
     let few : length c.deliver-delivered.result.1.items ≤ 2 = omega (arith, did.few, length-reverse c.deliver-delivered.result.1.items) in
     let may = may_note c.self.inside.core c.self.inside.took.items c.self.inside.said c.self.invariant.1 c.as_slice.ensures.value (record { notes = did.kept.notes; no_pick = did.kept.no_pick; no_answer = did.kept.no_answer }) did.lists.sent few c.self.view_is (omega (arith, c.requires.room)) in
     assumption
@@ -24,7 +24,7 @@ invariant_of-self g c =
     let next = subst (λ view. IsNextIn view c.args.envelope.name) (sym c.self.view_is) c.requires.next in
     let spelled = subst IsSpelledOrder c.without_job-within_ranges.ensures.same c.without_job-within_ranges.ensures.spelled in
     let said_is = c.write.ensures ∙ ap (λ notes. desk_with (reverse notes) c.self.inside.said) c.as_slice.ensures.value in
-    let now = received_now g.met.J.Task.same_task (view_of c.self.inside.core c.self.inside.took.items c.self.inside.said) c.self.invariant.0 c.args.envelope next spelled c.deliver-delivered.new.self c.deliver-delivered.result.0 c.deliver-delivered.result.1.items c.deliver-delivered.ensures.delivers
+    let now = received_now g.met.J.Task.laws (view_of c.self.inside.core c.self.inside.took.items c.self.inside.said) c.self.invariant.0 c.args.envelope next spelled c.deliver-delivered.new.self c.deliver-delivered.result.0 c.deliver-delivered.result.1.items c.deliver-delivered.ensures.delivers
     _ (λ i. record { cap = (said_is i).cap; core = c.deliver-delivered.new.self; journal = (said_is i).journal; took = c.with-self-inside.ensures i; lanes = (said_is i).lanes }) in (
       now.sound,
       desk_is c.write.new.self c.deliver-delivered.new.self c.self.inside.took.items (ap (λ desk. desk.actor) said_is ∙ (ap (λ desk. desk.actor) c.self.invariant.1 ∙ sym now.seat.number))
@@ -36,12 +36,12 @@ returns g c =
     let next = subst (λ view. IsNextIn view c.args.envelope.name) (sym c.self.view_is) c.requires.next in
     let spelled = subst IsSpelledOrder c.without_job-within_ranges.ensures.same c.without_job-within_ranges.ensures.spelled in
     let said_is = c.write.ensures ∙ ap (λ notes. desk_with (reverse notes) c.self.inside.said) c.as_slice.ensures.value in
-    let now = received_now g.met.J.Task.same_task (view_of c.self.inside.core c.self.inside.took.items c.self.inside.said) c.self.invariant.0 c.args.envelope next spelled c.deliver-delivered.new.self c.deliver-delivered.result.0 c.deliver-delivered.result.1.items c.deliver-delivered.ensures.delivers
+    let now = received_now g.met.J.Task.laws (view_of c.self.inside.core c.self.inside.took.items c.self.inside.said) c.self.invariant.0 c.args.envelope next spelled c.deliver-delivered.new.self c.deliver-delivered.result.0 c.deliver-delivered.result.1.items c.deliver-delivered.ensures.delivers
     _ (λ i. record { cap = (said_is i).cap; core = c.deliver-delivered.new.self; journal = (said_is i).journal; took = c.with-self-inside.ensures i; lanes = (said_is i).lanes }) in
     record {
       receives = rw (← c.self.view_is) now.receives;
       gives = rw (← c.self.view_is, c.outcome_of.ensures) now.gives;
-      fits = rw c.outcome_of.ensures (fits_delivered g.J.Task.Answers g.met.J.Task.same_task c.self.inside.core c.deliver-delivered.new.self c.args.envelope.name c.deliver-delivered.result.1.items c.args.envelope.order c.deliver-delivered.result.0 c.deliver-delivered.ensures.delivers);
+      fits = rw c.outcome_of.ensures (fits_delivered g.J.Task.meaning g.met.J.Task.laws c.self.inside.core c.deliver-delivered.new.self c.args.envelope.name c.deliver-delivered.result.1.items c.args.envelope.order c.deliver-delivered.result.0 c.deliver-delivered.ensures.delivers);
       stands = now.stands;
       sound = now.sound;
       seat = rw (← c.self.view_is) now.seat;

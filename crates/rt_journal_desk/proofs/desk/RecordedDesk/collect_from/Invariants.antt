@@ -5,7 +5,7 @@ use Rattle.rt_journal_desk.proofs.desk.RecordedDesk.collect_from.Given as goal
 -- so many outcomes were collected and noted, and there is room for those that the end may still show
 abbrev pub invariant-loop-core : goal.invariant-loop-core
 invariant-loop-core g l = record {
-  stays : StaysBeside (Fits g.J.Task.SameTask g.J.Task.Answers) l.core l.initial.self l.self (g.O.OutEnd.out l.end) (g.O.OutEnd.credited l.end);
+  stays : StaysBeside (Fits g.J.Task.meaning) l.core l.initial.self l.self (g.O.OutEnd.out l.end) (g.O.OutEnd.credited l.end);
   gathered : CollectsFrom l.core l.initial.self l.count l.self;
   end : g.O.OutEnd.out l.end ≡ record (g.O.OutEnd.out l.initial.end) { seen = (g.O.OutEnd.out l.end).seen; got = (g.O.OutEnd.out l.end).got };
   longer : IsPrefix (g.O.OutEnd.out l.initial.end).seen (g.O.OutEnd.out l.end).seen;

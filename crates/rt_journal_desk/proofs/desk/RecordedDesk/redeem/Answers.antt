@@ -28,7 +28,7 @@ returns-in-Ok g c =
     let named = its_name (c.name.view_is ∙ c.name-name.ensures) (are_same _ _ c.ne.result c.ne.ensures c.if-ne.false) in
     let called = redeemed_call c.args.ticket taken named c.in-Ok.ensures.lane c.in-Ok.ensures.out c.in-Ok.ensures.given c.in-Ok.ensures.redeems c.name-name.ensures c.note.ensures.same c.push.ensures.notes in
     let given = subst (λ id. IsGot (g.O.OutEnd.out c.args.end.now) id.number c.in-Ok.outcome) (c.name.view_is ∙ c.name-name.ensures) c.in-Ok.ensures.given in
-    let fits = subst (λ id. FitsSent (Fits g.J.Task.SameTask g.J.Task.Answers) (g.O.OutEnd.out c.args.end.now) id.number c.in-Ok.outcome) (c.name.view_is ∙ c.name-name.ensures) c.in-Ok.ensures.fits in
+    let fits = subst (λ id. FitsSent (Fits g.J.Task.meaning) (g.O.OutEnd.out c.args.end.now) id.number c.in-Ok.outcome) (c.name.view_is ∙ c.name-name.ensures) c.in-Ok.ensures.fits in
     assumption called
 
 pub returns-in-Err : goal.returns-in-Err

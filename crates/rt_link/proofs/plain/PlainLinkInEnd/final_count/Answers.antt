@@ -5,7 +5,7 @@ use Rattle.rt_link.specs.Whole.{IsLink}
 use Rattle.rt_link.proofs.plain.PlainLinkInEnd.final_count.Goals as goal
 
 pub returns-then-self-clause-law : goal.returns-then-self-clause-law
-returns-then-self-clause-law g c = subst (IsLink (Fits g.J.Task.SameTask g.J.Task.Answers) (HasReadyJob g.J.Task.done g.J.Task.CanPoll)) c.self.view_is c.self.invariant.link
+returns-then-self-clause-law g c = subst (IsLink (Fits g.J.Task.meaning) (HasReadyJob g.J.Task.meaning)) c.self.view_is c.self.invariant.link
 
 pub returns-else-self-clause-law : goal.returns-else-self-clause-law
-returns-else-self-clause-law g c = subst (IsLink (Fits g.J.Task.SameTask g.J.Task.Answers) (HasReadyJob g.J.Task.done g.J.Task.CanPoll)) c.self.view_is c.self.invariant.link
+returns-else-self-clause-law g c = subst (IsLink (Fits g.J.Task.meaning) (HasReadyJob g.J.Task.meaning)) c.self.view_is c.self.invariant.link

@@ -5,4 +5,4 @@ use Rattle.rt_link.specs.Whole.{IsLink}
 use Rattle.rt_link.proofs.plain.PlainLinkOutEnd.outstanding.Goals as goal
 
 pub returns-clause-law : goal.returns-clause-law
-returns-clause-law g c = subst (IsLink (Fits g.J.Task.SameTask g.J.Task.Answers) (HasReadyJob g.J.Task.done g.J.Task.CanPoll)) c.self.view_is c.self.invariant.link
+returns-clause-law g c = subst (IsLink (Fits g.J.Task.meaning) (HasReadyJob g.J.Task.meaning)) c.self.view_is c.self.invariant.link

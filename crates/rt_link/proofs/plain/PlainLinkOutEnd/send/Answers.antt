@@ -16,4 +16,4 @@ pub returns-clause-law : goal.returns-clause-law
 returns-clause-law g c = (invariant_of-self g c).link
 
 pub returns-then-self-clause-law : goal.returns-then-self-clause-law
-returns-then-self-clause-law g c = subst (IsLink (Fits g.J.Task.SameTask g.J.Task.Answers) (HasReadyJob g.J.Task.done g.J.Task.CanPoll)) c.self.view_is c.self.invariant.link
+returns-then-self-clause-law g c = subst (IsLink (Fits g.J.Task.meaning) (HasReadyJob g.J.Task.meaning)) c.self.view_is c.self.invariant.link

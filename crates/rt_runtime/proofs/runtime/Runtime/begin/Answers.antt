@@ -33,7 +33,7 @@ invariant_of-result g c =
             some_place = omega (arith, numbers.some_place);
             few_places = numbers.places_most;
           })
-          (Fits g.J.Task.SameTask g.J.Task.Answers),
+          (Fits g.J.Task.meaning),
       (record {
         cores_are = sym (ap (λ desk. desk.cores) desk);
         cap_is = sym (ap (λ desk. desk.cap) desk);

@@ -4,4 +4,4 @@ use Rattle.rt_runtime_worker.specs.Ended.{HasEnded}
 use Rattle.rt_runtime_worker.proofs.ended.Ended.into_linked.Goals as goal
 
 pub returns-clause-ended : goal.returns-clause-ended
-returns-clause-ended g c = subst (HasEnded g.J.Task.SameTask g.J.Task.made g.J.Task.Polls (Fits g.J.Task.SameTask g.J.Task.Answers)) c.self.view_is c.self.invariant
+returns-clause-ended g c = subst (HasEnded g.J.Task.meaning) c.self.view_is c.self.invariant

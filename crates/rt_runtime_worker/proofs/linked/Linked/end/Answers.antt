@@ -6,10 +6,10 @@ use Rattle.rt_runtime_worker.proofs.linked.Linked.end.Goals as goal
 
 pub returns-clause-ending : goal.returns-clause-ending
 returns-clause-ending g c =
-    ending_now c.args.self.now c.close_returning.new.self c.shut_gates.new.self (subst (IsLinked g.J.Task.SameTask g.J.Task.made g.J.Task.Polls (Fits g.J.Task.SameTask g.J.Task.Answers)) c.self.view_is c.self.invariant.0) c.requires.spare
+    ending_now c.args.self.now c.close_returning.new.self c.shut_gates.new.self (subst (IsLinked g.J.Task.meaning) c.self.view_is c.self.invariant.0) c.requires.spare
     c.close_returning.ensures c.shut_gates.ensures.shuts
 
 pub returns-clause-acts : goal.returns-clause-acts
 returns-clause-acts g c =
-    ending_acts c.args.self.now c.close_returning.new.self c.shut_gates.new.self (subst (IsLinked g.J.Task.SameTask g.J.Task.made g.J.Task.Polls (Fits g.J.Task.SameTask g.J.Task.Answers)) c.self.view_is c.self.invariant.0) c.requires.spare
+    ending_acts c.args.self.now c.close_returning.new.self c.shut_gates.new.self (subst (IsLinked g.J.Task.meaning) c.self.view_is c.self.invariant.0) c.requires.spare
     c.close_returning.ensures c.shut_gates.ensures.shuts c.requires.short c.requires.acts

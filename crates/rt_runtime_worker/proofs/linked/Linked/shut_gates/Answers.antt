@@ -8,7 +8,7 @@ use Rattle.rt_runtime_worker.proofs.linked.Linked.shut_gates.Goals as goal
 pub loop-sender-init : goal.loop-sender-init
 loop-sender-init g c = record {
   first = shuts_none c.args.self.now;
-  linked = subst (IsLinked g.J.Task.SameTask g.J.Task.made g.J.Task.Polls (Fits g.J.Task.SameTask g.J.Task.Answers)) c.self.view_is c.self.invariant.0;
+  linked = subst (IsLinked g.J.Task.meaning) c.self.view_is c.self.invariant.0;
   end = omega (arith, c.self.invariant.1, ap (λ view. view.recorded.core.cores) c.self.view_is);
 }
 

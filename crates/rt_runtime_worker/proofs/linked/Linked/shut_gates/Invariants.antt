@@ -7,6 +7,6 @@ use Rattle.rt_runtime_worker.proofs.linked.Linked.shut_gates.Given as goal
 abbrev pub invariant-loop-sender : goal.invariant-loop-sender
 invariant-loop-sender g l = record {
   first : ShutsFirst l.sender l.fn.self l.self;
-  linked : IsLinked g.J.Task.SameTask g.J.Task.made g.J.Task.Polls (Fits g.J.Task.SameTask g.J.Task.Answers) l.self;
+  linked : IsLinked g.J.Task.meaning l.self;
   end : l.sender-end ≡ l.fn.self.recorded.core.cores + 1;
 }

@@ -13,4 +13,4 @@ returns-clause-leaves g c =
     ]
 
 pub returns-clause-linked : goal.returns-clause-linked
-returns-clause-linked g c = subst (IsLinked g.J.Task.SameTask g.J.Task.made g.J.Task.Polls (Fits g.J.Task.SameTask g.J.Task.Answers)) c.self-2.view_is c.self-2.invariant.0
+returns-clause-linked g c = subst (IsLinked g.J.Task.meaning) c.self-2.view_is c.self-2.invariant.0

@@ -33,7 +33,7 @@ turn_on-requires-clause-room g c =
 
 pub returns-in-Ok-Job-clause-makes : goal.returns-in-Ok-Job-clause-makes
 returns-in-Ok-Job-clause-makes g c =
-    subst (λ (old : LinkedView _ _). PollsOne g.J.Task.made g.J.Task.Polls g.J.Task.Answers (Fits g.J.Task.SameTask g.J.Task.Answers) (g.M.Meter.Tells c.args.meter.now) old (record { recorded = c.turn_on.new.recorded; ends = c.turn_on.new.ends })) c.self.view_is
+    subst (λ (old : LinkedView _ _). PollsOne g.J.Task.meaning (g.M.Meter.Tells c.args.meter.now) old (record { recorded = c.turn_on.new.recorded; ends = c.turn_on.new.ends })) c.self.view_is
     c.turn_on.ensures.polls
 
 pub returns-in-Ok-Job-clause-stays : goal.returns-in-Ok-Job-clause-stays
@@ -52,7 +52,7 @@ pub hand_back-requires-clause-room : goal.hand_back-requires-clause-room
 hand_back-requires-clause-room g c = (subst (λ (view : LinkedView _ _). HasTurnRoom view.recorded) (sym c.self.view_is) c.requires.room).back
 
 pub returns-in-Ok-Back-clause-makes : goal.returns-in-Ok-Back-clause-makes
-returns-in-Ok-Back-clause-makes g c = subst (λ (old : LinkedView _ _). HandsBack g.J.Task.SameTask old.recorded c.hand_back.new.recorded) c.self.view_is c.hand_back.ensures.hands
+returns-in-Ok-Back-clause-makes g c = subst (λ (old : LinkedView _ _). HandsBack g.J.Task.meaning old.recorded c.hand_back.new.recorded) c.self.view_is c.hand_back.ensures.hands
 
 pub returns-in-Ok-Back-clause-stays : goal.returns-in-Ok-Back-clause-stays
 returns-in-Ok-Back-clause-stays g c = subst (λ (old : LinkedView _ _). StaysLinked old (record { recorded = c.hand_back.new.recorded; ends = c.hand_back.new.ends })) c.self.view_is c.hand_back.ensures.stays
@@ -71,7 +71,7 @@ pub returns-in-Ok-Idle-clause-stays : goal.returns-in-Ok-Idle-clause-stays
 returns-in-Ok-Idle-clause-stays g c = stays_same c.args.self.now
 
 pub returns-in-Ok-Idle-clause-linked : goal.returns-in-Ok-Idle-clause-linked
-returns-in-Ok-Idle-clause-linked g c = subst (IsLinked g.J.Task.SameTask g.J.Task.made g.J.Task.Polls (Fits g.J.Task.SameTask g.J.Task.Answers)) c.self.view_is c.self.invariant.0
+returns-in-Ok-Idle-clause-linked g c = subst (IsLinked g.J.Task.meaning) c.self.view_is c.self.invariant.0
 
 pub returns-in-Err-Spent-clause-makes : goal.returns-in-Err-Spent-clause-makes
 returns-in-Err-Spent-clause-makes g c =
@@ -84,4 +84,4 @@ pub returns-in-Err-Spent-clause-stays : goal.returns-in-Err-Spent-clause-stays
 returns-in-Err-Spent-clause-stays g c = stays_same c.args.self.now
 
 pub returns-in-Err-Spent-clause-linked : goal.returns-in-Err-Spent-clause-linked
-returns-in-Err-Spent-clause-linked g c = subst (IsLinked g.J.Task.SameTask g.J.Task.made g.J.Task.Polls (Fits g.J.Task.SameTask g.J.Task.Answers)) c.self.view_is c.self.invariant.0
+returns-in-Err-Spent-clause-linked g c = subst (IsLinked g.J.Task.meaning) c.self.view_is c.self.invariant.0

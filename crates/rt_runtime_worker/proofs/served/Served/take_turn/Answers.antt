@@ -11,5 +11,5 @@ turn-requires g c = record {
 
 pub invariant_of-self : goal.invariant_of-self
 invariant_of-self g c =
-    turned_served c.self.inside.linked c.turn.new.self c.self.invariant.linked c.turn.ensures.linked c.turn.ensures.stays.seat g.J.Task.Answers _ c.turn.result c.self.inside.ending c.turn.ensures.makes
+    turned_served c.self.inside.linked c.turn.new.self c.self.invariant.linked c.turn.ensures.linked c.turn.ensures.stays.seat _ c.turn.result c.self.inside.ending c.turn.ensures.makes
     (subst (λ view. IsReady view.ending view.linked.recorded) (sym c.self.view_is) c.look.ensures.ready) c.self.invariant.acts

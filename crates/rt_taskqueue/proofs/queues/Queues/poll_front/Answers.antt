@@ -23,8 +23,8 @@ poll_at-requires-clause-there g c =
     let line = c.index.result.now in
     let exists = exists-view inside.room inside.jobs lines (ap queues_alone c.self.view_is) c.requires.exists in
     let here = line_read lines c.queue.inside.0 c.args.queue line (omega (arith, exists, c.queue.view_is)) c.index.ensures c.queue.view_is in
-    let ready = subst (λ (view : QueuesView g.row.J.Denot). IsFrontReady g.J.Task.done g.J.Task.CanPoll (waiting_of c.args.queue view)) (sym (ap queues_alone c.self.view_is)) c.requires.ready in
-    let some = some_waiting c.self.invariant.0 c.args.queue (some_ready g.J.Task.done g.J.Task.CanPoll (waiting_of c.args.queue (alone inside.room inside.jobs lines)) ready) in
+    let ready = subst (λ (view : QueuesView g.row.J.Denot). IsFrontReady g.J.Task.meaning (waiting_of c.args.queue view)) (sym (ap queues_alone c.self.view_is)) c.requires.ready in
+    let some = some_waiting c.self.invariant.0 c.args.queue (some_ready g.J.Task.meaning (waiting_of c.args.queue (alone inside.room inside.jobs lines)) ready) in
     head_filled c.self.invariant.0 c.args.queue line here (omega (arith, some, ap (λ (l : Line). l.count) here))
 
 pub poll_at-requires-clause-ready : goal.poll_at-requires-clause-ready
@@ -34,9 +34,9 @@ poll_at-requires-clause-ready g c =
     let line = c.index.result.now in
     let exists = exists-view inside.room inside.jobs lines (ap queues_alone c.self.view_is) c.requires.exists in
     let here = line_read lines c.queue.inside.0 c.args.queue line (omega (arith, exists, c.queue.view_is)) c.index.ensures c.queue.view_is in
-    let ready = subst (λ (view : QueuesView g.row.J.Denot). IsFrontReady g.J.Task.done g.J.Task.CanPoll (waiting_of c.args.queue view)) (sym (ap queues_alone c.self.view_is)) c.requires.ready in
-    subst (λ (l : Line). IfSome (get inside.jobs l.head) (λ waiting. IsReady g.J.Task.done g.J.Task.CanPoll waiting.job)) here
-    (head_ready g.J.Task.done g.J.Task.CanPoll c.self.invariant.0 c.args.queue exists ready)
+    let ready = subst (λ (view : QueuesView g.row.J.Denot). IsFrontReady g.J.Task.meaning (waiting_of c.args.queue view)) (sym (ap queues_alone c.self.view_is)) c.requires.ready in
+    subst (λ (l : Line). IfSome (get inside.jobs l.head) (λ waiting. IsReady g.J.Task.meaning waiting.job)) here
+    (head_ready g.J.Task.meaning c.self.invariant.0 c.args.queue exists ready)
 
 pub invariant_of-self : goal.invariant_of-self
 invariant_of-self g c =
@@ -51,8 +51,8 @@ returns-clause-polls g c =
     let polls = c.poll_at.ensures.polls.2 in
     let exists = exists-view inside.room inside.jobs lines (ap queues_alone c.self.view_is) c.requires.exists in
     let here = line_read lines c.queue.inside.0 c.args.queue line (omega (arith, exists, c.queue.view_is)) c.index.ensures c.queue.view_is in
-    let ready = subst (λ (view : QueuesView g.row.J.Denot). IsFrontReady g.J.Task.done g.J.Task.CanPoll (waiting_of c.args.queue view)) (sym (ap queues_alone c.self.view_is)) c.requires.ready in
-    let some = some_waiting c.self.invariant.0 c.args.queue (some_ready g.J.Task.done g.J.Task.CanPoll (waiting_of c.args.queue (alone inside.room inside.jobs lines)) ready) in
+    let ready = subst (λ (view : QueuesView g.row.J.Denot). IsFrontReady g.J.Task.meaning (waiting_of c.args.queue view)) (sym (ap queues_alone c.self.view_is)) c.requires.ready in
+    let some = some_waiting c.self.invariant.0 c.args.queue (some_ready g.J.Task.meaning (waiting_of c.args.queue (alone inside.room inside.jobs lines)) ready) in
     let renews = subst (λ (l : Line). Renews inside.jobs l.head polls.front polls.job c.poll_at.new.jobs) (sym here) polls.renews in
     let renewed = front_renewed c.args.queue polls.front polls.job c.self.invariant.0 renews exists some in
     rw (← c.self.view_is) (

@@ -17,7 +17,7 @@ invariant_of-self g c =
     let there : c.args.core < c.self.inside.cores = omega (arith, c.requires.core, ap (λ world. world.cores) c.self.view_is) in
     let view = viewed c.self.invariant.1 c.args.core there _ c.core.view_is c.index_mut.ensures.value in
     let did = rw view at c.create.ensures in
-    let kept : IsKeptBeside g.J.Task.SameTask g.J.Task.made g.J.Task.Polls none_owed _ c.create.new.self = record { sound = did.sound; seat = did.seat; ins = did.ins; outs = did.outs; lanes = did.lanes } in
+    let kept : IsKeptBeside g.J.Task.meaning none_owed _ c.create.new.self = record { sound = did.sound; seat = did.seat; ins = did.ins; outs = did.outs; lanes = did.lanes } in
     let stays = created_stays (all_beside c.self.invariant.1 c.args.core there) (c.self.invariant.3 c.args.core there) c.args.shares c.create.result did.creates kept in
     rw c.core.view_is
     (c.self.invariant.0, quiet_rests c.self.invariant.1 c.args.core there c.create.new.self _ stays, c.self.invariant.2, quiet_at_rest c.self.invariant.1 c.args.core there c.create.new.self _ stays c.self.invariant.3)
@@ -27,6 +27,6 @@ returns g c =
     let there : c.args.core < c.self.inside.cores = omega (arith, c.requires.core, ap (λ world. world.cores) c.self.view_is) in
     let view = viewed c.self.invariant.1 c.args.core there _ c.core.view_is c.index_mut.ensures.value in
     let did = rw view at c.create.ensures in
-    let kept : IsKeptBeside g.J.Task.SameTask g.J.Task.made g.J.Task.Polls none_owed _ c.create.new.self = record { sound = did.sound; seat = did.seat; ins = did.ins; outs = did.outs; lanes = did.lanes } in
+    let kept : IsKeptBeside g.J.Task.meaning none_owed _ c.create.new.self = record { sound = did.sound; seat = did.seat; ins = did.ins; outs = did.outs; lanes = did.lanes } in
     let stays = created_stays (all_beside c.self.invariant.1 c.args.core there) (c.self.invariant.3 c.args.core there) c.args.shares c.create.result did.creates kept in
     rw (← c.self.view_is, c.core.view_is) (creates_now c.self.invariant.1 c.args.core there c.create.new.self _ stays c.args.shares c.create.result did.creates)

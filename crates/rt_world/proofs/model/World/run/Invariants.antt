@@ -3,4 +3,4 @@ use Rattle.rt_world.proofs.model.World.run.Given as goal
 
 -- the events so far have run
 abbrev pub invariant-loop-event : goal.invariant-loop-event
-invariant-loop-event g l = IsRun g.J.Task.SameTask g.J.Task.made g.J.Task.Polls g.J.Task.Answers l.yielded l.fn.self l.world
+invariant-loop-event g l = IsRun g.J.Task.meaning l.yielded l.fn.self l.world

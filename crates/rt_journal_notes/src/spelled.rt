@@ -5,13 +5,14 @@ ghost use Rattle.rt_shares.specs.Charge.{InRange};
 ghost use Rattle.rt_ids.specs.Limits.{most_queues};
 ghost use Rattle.rt_ids.specs.Spelled as spec;
 ghost use Rattle.rt_ids.specs.Orders.{IsSpelledOrder};
-ghost use Rattle.rt_journal_write.specs.Writers.{terms_seen};
+ghost use Rattle.rt_journal_notes.specs.Writers.{terms_seen};
 
+use crate::assembly::Assembly;
+use crate::journal::Journal;
 use rt_ids::{
     ActorNo, Answer, JobId, LAST_NUMBER, MOST_CAPACITY, MOST_CORES, Note, Order, OutcomeNote,
     QueueNo, Reason,
 };
-use rt_journal_notes::{Assembly, Journal};
 use rt_shares::Shares;
 
 /// Whose journal a note stands in, and what holds of the whole house.
@@ -22,23 +23,25 @@ pub struct Writer {
     pub cap: u16,
 }
 
-/// Whether the journals have a text.
-/// They have as many cores and places as there may be, a journal for each actor, and each note is one that its actor may write, within its ranges.
-pub fn is_spelled(assembly: &Assembly) -> bool
-    ensures { IsTrue result ↔ spec.IsSpelled assembly.now }
-{
-    let cores = assembly.cores();
-    let cap = assembly.cap();
-    if !is_within_limits(cores, cap) {
-        return false;
-    }
-    for actor in 0..cores + 1 {
-        let writer = Writer { actor, cores, cap };
-        if !are_spelled(writer, assembly.journal(ActorNo(actor))) {
+impl Assembly {
+    /// Whether the journals have a text: there are as many cores and places as there may be, each actor has a journal, and each note is one
+    /// that its actor may write, within its ranges.
+    pub fn is_spelled(&self) -> bool
+        ensures { IsTrue result ↔ spec.IsSpelled self.now }
+    {
+        let cores = self.cores();
+        let cap = self.cap();
+        if !is_within_limits(cores, cap) {
             return false;
         }
+        for actor in 0..cores + 1 {
+            let writer = Writer { actor, cores, cap };
+            if !are_spelled(writer, self.journal(ActorNo(actor))) {
+                return false;
+            }
+        }
+        true
     }
-    true
 }
 
 /// Whether there are as many cores and places as there may be.

@@ -3,9 +3,9 @@ use Rattle.std.specs.Prelude.{All}
 use Rattle.std.proofs.lemmas.List.Elements.{All-more}
 use Rattle.std.proofs.lemmas.List.{take_all}
 use Rattle.rt_ids.specs.Spelled as spec
-use Rattle.rt_journal_write.specs.Writers.{terms_seen}
-use Rattle.rt_journal_write.proofs.SpelledLemmas.{each_from_all, each_at}
-use Rattle.rt_journal_write.proofs.spelled.are_spelled.Goals as goal
+use Rattle.rt_journal_notes.specs.Writers.{terms_seen}
+use Rattle.rt_journal_notes.proofs.SpelledLemmas.{each_from_all, each_at}
+use Rattle.rt_journal_notes.proofs.spelled.are_spelled.Goals as goal
 
 pub loop-note-preserved : goal.loop-note-preserved
 loop-note-preserved c =

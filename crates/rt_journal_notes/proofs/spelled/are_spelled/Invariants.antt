@@ -2,8 +2,8 @@
 use Rattle.std.proofs.Common.{take}
 use Rattle.std.specs.Prelude.{All}
 use Rattle.rt_ids.specs.Spelled as spec
-use Rattle.rt_journal_write.specs.Writers.{terms_seen}
-use Rattle.rt_journal_write.proofs.spelled.are_spelled.Given as goal
+use Rattle.rt_journal_notes.specs.Writers.{terms_seen}
+use Rattle.rt_journal_notes.proofs.spelled.are_spelled.Given as goal
 
 abbrev pub invariant-loop-note : goal.invariant-loop-note
 invariant-loop-note l = All (spec.IsSpelledNote (terms_seen l.writer)) (take l.note-index l.note-items)
