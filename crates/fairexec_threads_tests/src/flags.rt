@@ -50,7 +50,7 @@ const ROWS: [Row; 3] = [
 /// What stands behind the outcomes, and before the statistics if they are wanted, and the verdict.
 fn between<'a>(written: &'a [u8], row: &Row, stats: bool) -> Option<&'a [u8]> {
     let rest = written.strip_prefix(row.outcomes.as_bytes())?;
-    let rest = rest.strip_suffix(b"sound\n")?;
+    let rest = rest.strip_suffix("sound\n".as_bytes())?;
     if stats {
         return rest.strip_suffix(row.stats.as_bytes());
     }
@@ -65,9 +65,9 @@ fn is_journal_if(alloc: Global, journal: bool, row: &Row, text: &[u8]) -> bool {
     let mut source = text;
     let mut verdict = Vec::new(alloc);
     audit_text(alloc, &mut source, &mut verdict) == Ok(true)
-        && verdict.as_slice() == b"sound\n"
+        && verdict.as_slice() == "sound\n".as_bytes()
         && text.starts_with(row.head.as_bytes())
-        && text.ends_with(b"\nend\n")
+        && text.ends_with("\nend\n".as_bytes())
 }
 
 /// Whether the run of a row is told as it is wanted.
