@@ -1,0 +1,4 @@
+pub mod ClockSteps
+pub mod PercentileLemmas
+pub mod SpanSteps
+pub mod SummaryLemmas

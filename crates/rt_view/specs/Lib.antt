@@ -1,0 +1,5 @@
+pub mod Clocks
+pub mod Spans
+pub mod Waits
+pub mod Percentiles
+pub mod Summaries

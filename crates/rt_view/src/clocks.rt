@@ -1,0 +1,43 @@
+//! How far a core came.
+
+ghost use Rattle.std.specs.Prelude.{◌≡◌, ℕ, []};
+ghost use Rattle.rt_view.specs.Clocks.{clock_of, clock_run, clock_after};
+
+use rt_ids::Note;
+
+/// How far a core came: its turns, and the processor time of the polls that it settled, in nanoseconds.
+///
+/// The time of a poll counts as for its charge: at least 1 ns, at most 2^40 - 1 ns.
+#[derive(Clone, Copy)]
+pub struct Clock {
+    pub turns: u64,
+    pub time: u128,
+}
+
+impl Clock {
+    /// No note was read.
+    pub fn new() -> Self
+        ensures { result ≡ clock_of {T = ℕ} [] }
+    {
+        Clock { turns: 0, time: 0 }
+    }
+
+    /// Reads the next note. What the types can't hold is told as the greatest number.
+    pub fn add(&mut self, note: &Note<u64>)
+        ensures { self.new ≡ clock_after note.now self.old }
+    {
+        match *note {
+            Note::Pick(_, _) => self.turns = self.turns.saturating_add(1),
+            Note::Yield(_, time) => self.run(time),
+            Note::Done(_, time, _) => self.run(time),
+            _ => {}
+        }
+    }
+
+    /// A poll of this time is settled.
+    fn run(&mut self, time: u64)
+        ensures { self.new ≡ clock_run time self.old }
+    {
+        self.time = self.time.saturating_add(rt_shares::clamped(time) as u128);
+    }
+}

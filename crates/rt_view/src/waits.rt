@@ -1,0 +1,102 @@
+//! How long the jobs of a core waited, and how long they ran.
+
+ghost use Rattle.std.specs.Prelude.{◌≡◌, ◌<◌, ◌∷◌, ℕ, [], length, OnOk, IfOk};
+ghost use Rattle.rt_ids.specs.Filters as filters;
+ghost use Rattle.rt_ids.specs.Journal.{Journal as Notes};
+ghost use Rattle.rt_journal_facts.specs.Accounts.{greatest_count};
+ghost use Rattle.rt_view.specs.Waits as spec;
+
+use crate::clocks::Clock;
+use crate::spans::{Span, Spans};
+use rt_ids::{JobId, Note};
+use rt_journal_facts::note_at;
+use rt_journal_facts::told::name_started;
+use rt_journal_notes::Journal;
+use std::alloc::{AllocError, Global};
+
+/// The spans of the jobs of one core, in the order in which they ended.
+#[derive(Drop)]
+pub struct JobSpans {
+    /// From where a job enters its queue until its first poll begins.
+    pub waits: Vec<Span>,
+    /// From where its first poll begins until it is done.
+    pub runs: Vec<Span>,
+}
+
+/// The job that enters a queue.
+fn name_taken(note: &Note<u64>) -> Option<JobId>
+    ensures { result ≡ spec.name_taken note.now }
+{
+    match *note {
+        Note::Took(name, _) => Some(name),
+        _ => None,
+    }
+}
+
+/// The job that is done.
+fn name_finished(note: &Note<u64>) -> Option<JobId>
+    ensures { result ≡ filters.name_finished note.now }
+{
+    match *note {
+        Note::Done(name, _, _) => Some(name),
+        _ => None,
+    }
+}
+
+/// Of the notes that were read: the clock, and the spans of both kinds.
+#[derive(Drop)]
+struct Walk {
+    clock: Clock,
+    waits: Spans,
+    runs: Spans,
+}
+
+impl Walk {
+    /// No note was read.
+    fn new(alloc: Global) -> Self
+        ensures { spec.KnowsWalk result [] }
+    {
+        Walk {
+            clock: Clock::new(),
+            waits: Spans::new(alloc),
+            runs: Spans::new(alloc),
+        }
+    }
+
+    /// Reads the next note.
+    fn add(&mut self, note: &Note<u64>) -> Result<(), AllocError>
+        ensures { OnOk result ((before : Notes ℕ) → length before < greatest_count → spec.KnowsWalk self.old before → spec.KnowsWalk self.new (note.now ∷ before)) }
+    {
+        self.clock.add(note);
+        self.waits
+            .add(&self.clock, name_taken(note), name_started(note))?;
+        self.runs
+            .add(&self.clock, name_started(note), name_finished(note))
+    }
+}
+
+/// How long the jobs of a core waited, and how long they ran, by its journal.
+/// It takes as many steps for a note as the count of jobs has binary digits.
+///
+/// # Errors
+///
+/// `AllocError` for want of memory.
+pub fn job_spans(alloc: Global, journal: &Journal<u64>) -> Result<JobSpans, AllocError>
+    ensures waits { IfOk result (λ spans. spans.waits.items ≡ spec.waits journal.now.notes) }
+    ensures runs { IfOk result (λ spans. spans.runs.items ≡ spec.runs journal.now.notes) }
+{
+    let mut walk = Walk::new(alloc);
+    for place in 0..journal.len() {
+        let note = note_at(journal, place);
+        walk.add(&note)?;
+    }
+    let Walk {
+        clock: _,
+        waits,
+        runs,
+    } = walk;
+    Ok(JobSpans {
+        waits: waits.into_ended(),
+        runs: runs.into_ended(),
+    })
+}
