@@ -50,7 +50,7 @@ module _ {J T : Type 0} (outside : JournalView T) where
   read_last [] = refl
   read_last (worker ∷ ended) = read_last ended
 
-module _ {J : Type 0} {meaning : Meaning J ℕ} (view : RuntimeView J ℕ) (is : IsRuntime (Fits meaning) view) (ended : List (LinkedView J ℕ))
+module _ {J : Type 0} (meaning : Meaning J ℕ) (view : RuntimeView J ℕ) (is : IsRuntime (Fits meaning) view) (ended : List (LinkedView J ℕ))
     (kept : Together StaysLinked view.workers ended) where
   pub count : length ended ≡ view.desk.cores
   count = sym (together_length StaysLinked view.workers ended kept) ∙ is.count

@@ -25,7 +25,7 @@ use Rattle.rt_runtime_worker.proofs.Stepping.{Opens}
 use Rattle.rt_runtime_worker.proofs.Posted.{resent_beside}
 use Rattle.rt_link.specs.Fits.{Fits}
 
-module _ {J T : Type 0} {meaning : Meaning J T} (core : ℕ) (recorded : RecordedView J T) (ends : EndsView J T) (known : core < recorded.core.cores) (at : ℕ) (inside : EndsView J T)
+module _ {J T : Type 0} (meaning : Meaning J T) (core : ℕ) (recorded : RecordedView J T) (ends : EndsView J T) (known : core < recorded.core.cores) (at : ℕ) (inside : EndsView J T)
     (opens : Opens core ends at inside) (before : Sending J T) (is : before ≡ get_or inside.outs at before) (beside : AreBeside (Fits meaning) recorded ends) where
   out_in_place : core < length ends.outs
   out_in_place = omega (arith, known, beside.outs.count)
