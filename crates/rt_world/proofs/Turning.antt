@@ -36,9 +36,9 @@ all_outs {meaning = meaning} {old = old} world core there = record {
   lanes = λ to end is. (at_end to end is).lane;
 }
   where
-    at_end : (to : ℕ) (end : Whole _ _) → slice_get (row_of core old.links) to ≡ Some end → IsSenderOn (Fits same answers) to (desk_of (core_at core old)) end
+    at_end : (to : ℕ) (end : Whole _ _) → slice_get (row_of core old.links) to ≡ Some end → IsSenderOn (Fits meaning) to (desk_of (core_at core old)) end
     at_end to end is =
-        subst (IsSenderOn (Fits same answers) to (desk_of (core_at core old))) (get_or_from_slice_get (row_of core old.links) to end (no_link core to) is)
+        subst (IsSenderOn (Fits meaning) to (desk_of (core_at core old))) (get_or_from_slice_get (row_of core old.links) to end (no_link core to) is)
         (core_sender world core there to (omega (arith, slice_get_within (row_of core old.links) to end is, world.all_there.links_are core (omega (arith, there)))))
 
 module _ {J T : Type 0} {meaning : Meaning J T} {old : Parts J T}

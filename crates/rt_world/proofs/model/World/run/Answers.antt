@@ -20,7 +20,7 @@ step-requires g c =
     record { ready = subst (HasReadyEvent (HasReadyJob g.J.Task.meaning)) (sym turn.1) (c.requires.ready _ c.in-Some.event turn.0) }
 
 pub loop-event-preserved : goal.loop-event-preserved
-loop-event-preserved g c = run_longer _ _ _ _ c.loop-event.yielded _ _ _ c.in-Some.event _ c.loop-event.invariant c.step.ensures
+loop-event-preserved g c = run_longer g.J.Task.meaning c.loop-event.yielded _ _ _ c.in-Some.event _ c.loop-event.invariant c.step.ensures
 
 pub returns-clause-run : goal.returns-clause-run
 returns-clause-run g c =
