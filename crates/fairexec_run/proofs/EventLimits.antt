@@ -1,10 +1,11 @@
 -- The events that a script's lines tell: their actors exist, and their jobs have made no poll.
-use Rattle.std.proofs.Common.{ℕ, ◌≤◌, List, length, arith, ◌==◌, All, slice_index_or}
+use Rattle.std.proofs.Common.{◌≡◌, ℕ, ◌≤◌, List, length, arith, ◌==◌, false, All, slice_index_or}
 use Rattle.std.specs.Prelude.{map}
 use Rattle.std.proofs.lemmas.List.Elements.{All-map}
 use Rattle.std.proofs.lemmas.Bool.Decides.{nat_tests}
 use Rattle.rt_ids.specs.declared.order.Order.TheVariants as order
 use Rattle.rt_jobs.specs.Ready.{HasReadyJob}
+use Rattle.rt_jobs.specs.ScriptMeaning.{script_meaning}
 use Rattle.rt_jobs.specs.Scripts.{Script}
 use Rattle.rt_world.specs.declared.event.Event.{Event}
 use Rattle.rt_world.specs.Sends.{actor_of, AreThere}
@@ -35,8 +36,8 @@ is_there cores (Redeem name) here = here.sender
 is_there cores (Detach name) here = here.sender
 
 -- and its job may be polled
-pub is_ready : (cores : ℕ) (event : ScriptEvent) → IsEventOf cores event → HasReadyEvent (HasReadyJob (λ job. job.polled == length job.polls) (λ job. Unit {0})) (event_of event)
-is_ready cores (Send sender core (order.Job queue job)) here = (grind (arith, nat_tests, here.some_polls, here.none_made), tt)
+pub is_ready : (cores : ℕ) (event : ScriptEvent) → IsEventOf cores event → HasReadyEvent (HasReadyJob script_meaning) (event_of event)
+is_ready cores (Send sender core (order.Job queue job)) here = let open_yet : (job.polled == length job.polls) ≡ false = grind (arith, nat_tests, here.some_polls, here.none_made) in (open_yet, tt)
 is_ready cores (Send sender core (order.Create weight)) here = tt
 is_ready cores (Send sender core (order.SetShares queue weight)) here = tt
 is_ready cores (Send sender core (order.Close queue mode)) here = tt
@@ -50,7 +51,7 @@ is_ready cores (Detach name) here = tt
 
 -- the jobs of such events may be polled
 abbrev pub AreReady : List (Event Script) → Type 0
-AreReady events = All (HasReadyEvent (HasReadyJob (λ job. job.polled == length job.polls) (λ job. Unit {0}))) events
+AreReady events = All (HasReadyEvent (HasReadyJob script_meaning)) events
 
 pub are_ready : (cores : ℕ) (events : List ScriptEvent) → All (IsEventOf cores) events → AreReady (map event_of events)
-are_ready cores events all = All-map (HasReadyEvent (HasReadyJob (λ job. job.polled == length job.polls) (λ job. Unit {0}))) event_of events (λ place default within. is_ready cores (slice_index_or events place default) (all place default within))
+are_ready cores events all = All-map (HasReadyEvent (HasReadyJob script_meaning)) event_of events (λ place default within. is_ready cores (slice_index_or events place default) (all place default within))

@@ -4,13 +4,14 @@ use Rattle.std.proofs.lemmas.Bool.Decides.{nat_tests}
 use Rattle.rt_ids.specs.declared.order.Order.{Order}
 use Rattle.rt_ids.specs.declared.order.Order.TheVariants as order
 use Rattle.rt_jobs.specs.Ready.{HasReadyJob}
+use Rattle.rt_jobs.specs.ScriptMeaning.{script_meaning}
 use Rattle.rt_jobs.specs.Scripts.{Script}
 use Rattle.fairexec_threads_script.specs.Limits.{IsToldOf}
 
 not_done : (polled count : ℕ) → polled ≡ 0 → 1 ≤ count → (polled == count) ≡ false
 not_done polled count none some = grind (arith, nat_tests, none, some)
 
-pub ready_told : (cores core : ℕ) (one : Order Script) → IsToldOf cores (core, one) → HasReadyJob (λ job. job.polled == length job.polls) (λ job. Unit {0}) one
+pub ready_told : (cores core : ℕ) (one : Order Script) → IsToldOf cores (core, one) → HasReadyJob script_meaning one
 ready_told cores core (order.Job queue job) told = (not_done job.polled (length job.polls) told.none_made told.some_polls, tt)
 ready_told cores core (order.Create weight) told = tt
 ready_told cores core (order.SetShares queue weight) told = tt
