@@ -1,5 +1,6 @@
 // A link of two words by hand in Rust: the same protocol as rt_ring, as one writes it without proofs. It stands in four forms:
-// with acquire and release, or with sequentially consistent steps as the kit's; with both words on one cache line, or apart.
+// with acquire and release, or with sequentially consistent steps as the kit's; with both words on one cache line, or apart. In two
+// more forms, with the words apart, an end remembers what it saw, and looks again only once that is used up.
 use std::cell::UnsafeCell;
 use std::hint::spin_loop;
 use std::mem::MaybeUninit;
@@ -62,13 +63,14 @@ pub enum Outcome<J> {
 
 pub trait Form: Send + Sync + 'static {
     const STRICT: bool;
+    const REMEMBERS: bool;
     fn new() -> Self;
     fn accept(&self) -> &AtomicU64;
     fn given(&self) -> &AtomicU64;
 }
 
 macro_rules! form {
-    ($name:ident, $strict:expr, $align:expr) => {
+    ($name:ident, $strict:expr, $align:expr, $remembers:expr) => {
         #[repr(align($align))]
         struct Word(AtomicU64);
         pub struct $name {
@@ -77,6 +79,7 @@ macro_rules! form {
         }
         impl Form for $name {
             const STRICT: bool = $strict;
+            const REMEMBERS: bool = $remembers;
             fn new() -> Self {
                 $name { accept: Word(AtomicU64::new(0)), given: Word(AtomicU64::new(0)) }
             }
@@ -92,19 +95,27 @@ macro_rules! form {
 
 mod close {
     use super::*;
-    form!(Close, false, 8);
+    form!(Close, false, 8, false);
 }
 mod close_strict {
     use super::*;
-    form!(CloseStrict, true, 8);
+    form!(CloseStrict, true, 8, false);
 }
 mod apart {
     use super::*;
-    form!(Apart, false, 128);
+    form!(Apart, false, 128, false);
 }
 mod apart_strict {
     use super::*;
-    form!(ApartStrict, true, 128);
+    form!(ApartStrict, true, 128, false);
+}
+mod remembers {
+    use super::*;
+    form!(Remembers, false, 128, true);
+}
+mod remembers_strict {
+    use super::*;
+    form!(RemembersStrict, true, 128, true);
 }
 
 struct Board<W, J> {
@@ -120,6 +131,7 @@ pub struct Out<W, J> {
     capacity: u64,
     count: u64,
     collected: u64,
+    shown: u64,
     redeemed: u64,
     next_order: usize,
     next_outcome: usize,
@@ -130,6 +142,7 @@ pub struct In<W, J> {
     capacity: u64,
     taken: u64,
     given: u64,
+    shown: u64,
     gate: u64,
     next_order: usize,
     next_outcome: usize,
@@ -149,8 +162,8 @@ fn open<W: Form, J: Load>(capacity: u64) -> (Out<W, J>, In<W, J>) {
     });
     let other = board.clone();
     (
-        Out { board, capacity, count: 0, collected: 0, redeemed: 0, next_order: 0, next_outcome: 0 },
-        In { board: other, capacity, taken: 0, given: 0, gate: 0, next_order: 0, next_outcome: 0 },
+        Out { board, capacity, count: 0, collected: 0, shown: 0, redeemed: 0, next_order: 0, next_outcome: 0 },
+        In { board: other, capacity, taken: 0, given: 0, shown: 0, gate: 0, next_order: 0, next_outcome: 0 },
     )
 }
 
@@ -182,9 +195,12 @@ impl<W: Form, J: Load> Out<W, J> {
     }
 
     fn collect(&mut self) -> Option<(u64, Outcome<J>)> {
-        let order = if W::STRICT { Ordering::SeqCst } else { Ordering::Acquire };
-        if self.board.words.given().load(order) == self.collected {
-            return None;
+        if !W::REMEMBERS || self.shown == self.collected {
+            let order = if W::STRICT { Ordering::SeqCst } else { Ordering::Acquire };
+            self.shown = self.board.words.given().load(order);
+            if self.shown == self.collected {
+                return None;
+            }
         }
         let found = unsafe { (*self.board.outcomes.get_unchecked(self.next_outcome).get()).assume_init_read() };
         self.collected += 1;
@@ -195,9 +211,12 @@ impl<W: Form, J: Load> Out<W, J> {
 
 impl<W: Form, J: Load> In<W, J> {
     fn take(&mut self) -> Option<(u64, Order<J>)> {
-        let order = if W::STRICT { Ordering::SeqCst } else { Ordering::Acquire };
-        if self.board.words.accept().load(order) == self.taken + self.gate {
-            return None;
+        if !W::REMEMBERS || self.shown == self.taken + self.gate {
+            let order = if W::STRICT { Ordering::SeqCst } else { Ordering::Acquire };
+            self.shown = self.board.words.accept().load(order);
+            if self.shown == self.taken + self.gate {
+                return None;
+            }
         }
         let found = unsafe { (*self.board.orders.get_unchecked(self.next_order).get()).assume_init_read() };
         self.taken += 1;
@@ -219,6 +238,7 @@ impl<W: Form, J: Load> In<W, J> {
     fn shut(&mut self) -> u64 {
         let last = self.board.words.accept().fetch_or(GATE, Ordering::SeqCst);
         self.gate = GATE;
+        self.shown = last + GATE;
         last
     }
 }
@@ -434,4 +454,6 @@ fn main() {
     all::<close_strict::CloseStrict>("hand_strict");
     all::<apart::Apart>("hand_apart");
     all::<apart_strict::ApartStrict>("hand_apart_strict");
+    all::<remembers::Remembers>("hand_remembers");
+    all::<remembers_strict::RemembersStrict>("hand_remembers_strict");
 }

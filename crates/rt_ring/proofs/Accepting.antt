@@ -14,7 +14,7 @@ use Rattle.rt_link.specs.declared.plain.Whole.{Whole}
 use Rattle.rt_ids.proofs.Prefixes.{IsPrefix-append}
 use Rattle.rt_link.proofs.WholeLaws.{IsLink-send}
 use Rattle.rt_ring.specs.Carried.{Place, spare}
-use Rattle.rt_ring.specs.Rule.{gate_bit}
+use Rattle.rt_ring.specs.Rule.{gate_bit, two_words}
 use Rattle.rt_ring.specs.Slots.{Homes, AreInPlace, order_slot, outcome_slot}
 use Rattle.rt_ring.specs.After.{with_sent, with_closed}
 use Rattle.rt_ring.specs.Told.{Accepts}
@@ -68,7 +68,7 @@ module _ {J T : Type 0} (fits : Order J → Outcome J T → Type 0) (ready : Ord
         credits = r.credits;
         terms_are = r.terms_are;
         words = ap (λ (words : List ℕ). set words 0 next) r.words
-            ∙ (let e : next ≡ r.link.base + length (r.link.sent ++ order ∷ []) + gate_bit r.link.shut = omega arith in ap (λ (z : ℕ). z ∷ (r.link.base + length r.link.given) ∷ []) e);
+            ∙ (let e : next ≡ r.link.base + length (r.link.sent ++ order ∷ []) + gate_bit r.link.shut = omega arith in ap (λ (z : ℕ). two_words z (r.link.base + length r.link.given)) e);
         slots = placed;
         views = AreTold-sender r.link later s.homes after r.sender r.receiver seat s.views view r.views at used (record view.out { sent = view.out.sent ++ order ∷ [] }) go
             (KnowsOut-sent r.link view.out order ((r.views seat view at).sends go).1) (KnowsInward-sent r.link order ungated);

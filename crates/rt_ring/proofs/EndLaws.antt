@@ -1,7 +1,5 @@
 -- What is true of an end stays true through its calls.
-use Rattle.std.proofs.Common.{◌≡◌, ◌≢◌, ℕ, ◌+◌, ◌<◌, ◌≤◌, Bool, true, false, List, [], ◌∷◌, ◌++◌, length, length-append, Some, refl, sym, ap, ◌∙◌, subst, arith}
-use Rattle.std.specs.Prelude.{slice_get}
-use Rattle.std.proofs.lemmas.Option.{slice_get_within}
+use Rattle.std.proofs.Common.{◌≡◌, ℕ, ◌+◌, ◌<◌, ◌≤◌, Bool, true, [], ◌∷◌, ◌++◌, length, length-append, refl, sym, ap, ◌∙◌, subst, arith}
 use Rattle.atomic_table.specs.Seated.{TableId}
 use Rattle.rt_ids.specs.declared.order.Order.{Order}
 use Rattle.rt_ids.specs.declared.order.Outcome.{Outcome}
@@ -11,10 +9,9 @@ use Rattle.rt_ids.proofs.Prefixes.{IsPrefix-self}
 use Rattle.rt_link.proofs.Numbers.{AreNamed-append, AreNamed-wider, AreNamed-room}
 use Rattle.rt_ring.specs.Carried.{Place, IsSender, IsReceiver}
 use Rattle.rt_ring.specs.Ends.{IsOut, IsInward}
-use Rattle.rt_ring.specs.Rule.{gate_bit}
 use Rattle.rt_ring.specs.Slots.{place_of}
 use Rattle.rt_ring.specs.After.{with_got, with_taken, with_given}
-use Rattle.rt_ring.specs.Told.{SeesOrders, SeesOutcomes}
+use Rattle.rt_ring.specs.Told.{SeesOutcomes}
 use Rattle.rt_ring.specs.declared.board.Known.{Known}
 
 -- a place that is the next one in turn
@@ -26,19 +23,23 @@ pub AreOf-seen : {J T : Type 0} (fits : Order J → Outcome J T → Type 0) (old
     → AreOf fits new.out.base new.out.sent new.out.seen
 AreOf-seen fits old new got sees now = subst (λ (v : Known _ _). AreOf fits v.out.base v.out.sent new.out.seen) (sym now) sees.named
 
-module _ {J T : Type 0} (table board : TableId) (me : Place J T) (base capacity count collected credited next_order next_outcome : ℕ)
-    (is : IsOut table board me base capacity count collected credited next_order next_outcome) where
-  -- after an outcome was got
-  pub IsOut-got : (fits : Order J → Outcome J T → Type 0) (table' : TableId) (new : Place J T) (outcome : ℕ × Outcome J T) (next : ℕ) → table' ≡ table → IsSender new
-      → SeesOutcomes fits me.0.out new.0.out.seen → new.0 ≡ with_got me.0 new.0.out.seen (me.0.out.got + 1) → slice_get new.0.out.seen me.0.out.got ≡ Some outcome
-      → Follows capacity next_outcome next → IsOut table' board new base capacity count (collected + 1) credited next_order next
-  IsOut-got fits table' new outcome next same seat sees now there follows =
-      let within : me.0.out.got < length new.0.out.seen = slice_get_within new.0.out.seen me.0.out.got outcome there in
-      let few : length new.0.out.seen ≤ length me.0.out.sent = sees.few in
+-- and after an outcome was got, which was seen
+pub AreOf-got : {J T : Type 0} (fits : Order J → Outcome J T → Type 0) (old new : Known J T) (got : ℕ) → SeesOutcomes fits old.out old.out.seen → new ≡ with_got old old.out.seen got
+    → AreOf fits new.out.base new.out.sent new.out.seen
+AreOf-got fits old new got sees now = subst (λ (v : Known _ _). AreOf fits v.out.base v.out.sent v.out.seen) (sym now) sees.named
+
+module _ {J T : Type 0} (table board : TableId) (me : Place J T) (base capacity count collected seen credited next_order next_outcome : ℕ)
+    (is : IsOut table board me base capacity count collected seen credited next_order next_outcome) where
+  -- after an outcome was got, which was seen
+  pub IsOut-got : (fits : Order J → Outcome J T → Type 0) (table' : TableId) (new : Place J T) (next : ℕ) → table' ≡ table → IsSender new
+      → SeesOutcomes fits me.0.out me.0.out.seen → new.0 ≡ with_got me.0 me.0.out.seen (me.0.out.got + 1) → me.0.out.got < length me.0.out.seen
+      → Follows capacity next_outcome next → IsOut table' board new base capacity count (collected + 1) seen credited next_order next
+  IsOut-got fits table' new next same seat sees now within follows =
+      let few : length me.0.out.seen ≤ length me.0.out.sent = sees.few in
       let room : length me.0.out.sent ≤ credited + me.0.out.capacity = is.sound.room in
       let credits : credited ≤ me.0.out.got = is.sound.credits in
       let capacity_is : me.0.out.capacity ≡ capacity = is.capacity_is in
-      let sound : SoundOut (record me.0.out { seen = new.0.out.seen; got = me.0.out.got + 1 }) credited = record {
+      let sound : SoundOut (record me.0.out { got = me.0.out.got + 1 }) credited = record {
         numbered = is.sound.numbered;
         room = room;
         credits = omega arith;
@@ -53,13 +54,43 @@ module _ {J T : Type 0} (table board : TableId) (me : Place J T) (base capacity 
         capacity_is = ap (λ (v : Known J T). v.out.capacity) now ∙ is.capacity_is;
         count_is = ap (λ (v : Known J T). length v.out.sent) now ∙ is.count_is;
         collected_is = ap (λ (v : Known J T). v.out.got) now ∙ ap (λ (n : ℕ). n + 1) is.collected_is;
+        seen_is = is.seen_is ∙ ap (λ (v : Known J T). base + length v.out.seen) (sym now);
+        few = subst (λ (v : Known J T). length v.out.seen ≤ length v.out.sent) (sym now) sees.few;
         next_order_is = is.next_order_is;
         next_outcome_is = follows collected (omega arith) is.next_outcome_is;
         sound = subst (λ (v : Known J T). SoundOut v.out credited) (sym now) sound;
       }
 
-module _ {J T : Type 0} (table board : TableId) (me : Place J T) (from to base capacity taken given gate last next_order next_outcome : ℕ)
-    (is : IsInward table board me from to base capacity taken given gate last next_order next_outcome) where
+  -- after a gather, or where none was needed
+  pub IsOut-seen : (table' : TableId) (new : Place J T) (now_seen : ℕ) → table' ≡ table → IsSender new
+      → (me.0.out.got ≤ length new.0.out.seen) × (length new.0.out.seen ≤ length me.0.out.sent)
+      → new.0 ≡ with_got me.0 new.0.out.seen me.0.out.got → now_seen ≡ me.0.out.base + length new.0.out.seen
+      → IsOut table' board new base capacity count collected now_seen credited next_order next_outcome
+  IsOut-seen table' new now_seen same seat few now counted =
+      let sound : SoundOut (record me.0.out { seen = new.0.out.seen }) credited = record {
+        numbered = is.sound.numbered;
+        room = is.sound.room;
+        credits = is.sound.credits;
+        behind = few.0;
+        within = is.sound.within;
+      } in record {
+        at_table = same ∙ is.at_table;
+        words = is.words;
+        seat = seat;
+        small = is.small;
+        base_is = ap (λ (v : Known J T). v.out.base) now ∙ is.base_is;
+        capacity_is = ap (λ (v : Known J T). v.out.capacity) now ∙ is.capacity_is;
+        count_is = ap (λ (v : Known J T). length v.out.sent) now ∙ is.count_is;
+        collected_is = ap (λ (v : Known J T). v.out.got) now ∙ is.collected_is;
+        seen_is = counted ∙ ap (λ (b : ℕ). b + length new.0.out.seen) is.base_is;
+        few = let same_sent : length new.0.out.sent ≡ length me.0.out.sent = ap (λ (v : Known J T). length v.out.sent) now in omega (arith, few.1);
+        next_order_is = is.next_order_is;
+        next_outcome_is = is.next_outcome_is;
+        sound = subst (λ (v : Known J T). SoundOut v.out credited) (sym now) sound;
+      }
+
+module _ {J T : Type 0} (table board : TableId) (me : Place J T) (from to base capacity taken given : ℕ) (shut : Bool) (seen next_order next_outcome : ℕ)
+    (is : IsInward table board me from to base capacity taken given shut seen next_order next_outcome) where
   -- fewer outcomes are given than orders taken
   pub IsInward-awaits : (fits : Order J → Outcome J T → Type 0) (number : ℕ) (outcome : Outcome J T) → MayGive fits me.0.inward number outcome → length me.0.inward.given < me.0.inward.taken
   IsInward-awaits fits number outcome may = AreNamed-room me.0.inward.base me.0.inward.taken me.0.inward.given number outcome may.0 may.1 may.3 is.sound.named
@@ -67,7 +98,7 @@ module _ {J T : Type 0} (table board : TableId) (me : Place J T) (from to base c
   -- after an outcome was given
   pub IsInward-given : (fits : Order J → Outcome J T → Type 0) (table' : TableId) (new : Place J T) (number : ℕ) (outcome : Outcome J T) (next : ℕ) → table' ≡ table → IsReceiver new
       → MayGive fits me.0.inward number outcome → new.0 ≡ with_given me.0 number outcome
-      → Follows capacity next_outcome next → IsInward table' board new from to base capacity taken (given + 1) gate last next_order next
+      → Follows capacity next_outcome next → IsInward table' board new from to base capacity taken (given + 1) shut seen next_order next
   IsInward-given fits table' new number outcome next same seat may now follows =
       let awaits : length me.0.inward.given < me.0.inward.taken = IsInward-awaits fits number outcome may in
       let longer : length (me.0.inward.given ++ (number, outcome) ∷ []) ≡ length me.0.inward.given + 1 = length-append me.0.inward.given ((number, outcome) ∷ []) in
@@ -91,24 +122,23 @@ module _ {J T : Type 0} (table board : TableId) (me : Place J T) (from to base c
         capacity_is = ap (λ (v : Known J T). v.inward.capacity) now ∙ is.capacity_is;
         taken_is = ap (λ (v : Known J T). v.inward.taken) now ∙ is.taken_is;
         given_is = ap (λ (v : Known J T). length v.inward.given) now ∙ (longer ∙ ap (λ (n : ℕ). n + 1) is.given_is);
-        gate_is = is.gate_is ∙ ap (λ (v : Known J T). gate_bit v.inward.shut) (sym now);
-        last_is = λ shut. is.last_is (ap (λ (v : Known J T). v.inward.shut) (sym now) ∙ shut) ∙ ap (λ (v : Known J T). base + length v.inward.seen) (sym now);
+        shut_is = is.shut_is ∙ ap (λ (v : Known J T). v.inward.shut) (sym now);
+        seen_is = is.seen_is ∙ ap (λ (v : Known J T). base + length v.inward.seen) (sym now);
         next_order_is = is.next_order_is;
         next_outcome_is = follows given (omega arith) is.next_outcome_is;
         sound = subst (λ (v : Known J T). SoundIn v.inward) (sym now) sound;
       }
 
-  -- after an order was taken
-  pub IsInward-taken : (ready : Order J → Type 0) (table' : TableId) (new : Place J T) (order : Order J) (next : ℕ) → table' ≡ table → IsReceiver new
-      → SeesOrders ready me.0.inward new.0.inward.seen → new.0 ≡ with_taken me.0 new.0.inward.seen (me.0.inward.taken + 1) → slice_get new.0.inward.seen me.0.inward.taken ≡ Some order
-      → Follows capacity next_order next → IsInward table' board new from to base capacity (taken + 1) given gate last next next_outcome
-  IsInward-taken ready table' new order next same seat sees now there follows =
-      let within : me.0.inward.taken < length new.0.inward.seen = slice_get_within new.0.inward.seen me.0.inward.taken order there in
-      let room : length new.0.inward.seen ≤ length me.0.inward.given + me.0.inward.capacity = sees.room in
+  -- after an order was taken, which was seen
+  pub IsInward-taken : (table' : TableId) (new : Place J T) (next : ℕ) → table' ≡ table → IsReceiver new
+      → new.0 ≡ with_taken me.0 me.0.inward.seen (me.0.inward.taken + 1) → me.0.inward.taken < length me.0.inward.seen
+      → Follows capacity next_order next → IsInward table' board new from to base capacity (taken + 1) given shut seen next next_outcome
+  IsInward-taken table' new next same seat now within follows =
+      let room : length me.0.inward.seen ≤ length me.0.inward.given + me.0.inward.capacity = is.sound.room in
       let owed : length me.0.inward.given ≤ me.0.inward.taken = is.sound.within in
       let capacity_is : me.0.inward.capacity ≡ capacity = is.capacity_is in
-      let sound : SoundIn (record me.0.inward { seen = new.0.inward.seen; taken = me.0.inward.taken + 1 }) = record {
-        numbered = sees.numbered;
+      let sound : SoundIn (record me.0.inward { taken = me.0.inward.taken + 1 }) = record {
+        numbered = is.sound.numbered;
         behind = omega arith;
         within = omega arith;
         room = room;
@@ -124,19 +154,37 @@ module _ {J T : Type 0} (table board : TableId) (me : Place J T) (from to base c
         capacity_is = ap (λ (v : Known J T). v.inward.capacity) now ∙ is.capacity_is;
         taken_is = ap (λ (v : Known J T). v.inward.taken) now ∙ ap (λ (n : ℕ). n + 1) is.taken_is;
         given_is = ap (λ (v : Known J T). length v.inward.given) now ∙ is.given_is;
-        gate_is = is.gate_is ∙ ap (λ (v : Known J T). gate_bit v.inward.shut) (sym now);
-        last_is = λ shut. let was : me.0.inward.shut ≡ true = ap (λ (v : Known J T). v.inward.shut) (sym now) ∙ shut in is.last_is was ∙ ap (λ (z : List (Order J)). base + length z) (sym (sees.final was));
+        shut_is = is.shut_is ∙ ap (λ (v : Known J T). v.inward.shut) (sym now);
+        seen_is = is.seen_is ∙ ap (λ (v : Known J T). base + length v.inward.seen) (sym now);
         next_order_is = follows taken (omega arith) is.next_order_is;
         next_outcome_is = is.next_outcome_is;
         sound = subst (λ (v : Known J T). SoundIn v.inward) (sym now) sound;
       }
 
   -- a gate that is shut stays as it is
-  pub Shuts-again : gate ≢ 0 → Shuts me.0.inward me.0.inward last
-  Shuts-again not_open =
-      let shut : me.0.inward.shut ≡ true = is_shut me.0.inward.shut is.gate_is in
-      (ap (λ (s : Bool). record me.0.inward { shut = s }) shut, (IsPrefix-self me.0.inward.seen, λ _. refl), is.last_is shut ∙ ap (λ (b : ℕ). b + length me.0.inward.seen) (sym is.base_is))
-    where
-      is_shut : (b : Bool) → gate ≡ gate_bit b → b ≡ true
-      is_shut true e = refl
-      is_shut false e = absurd (not_open e)
+  pub Shuts-again : shut ≡ true → Shuts me.0.inward me.0.inward seen
+  Shuts-again now_shut =
+      let was : me.0.inward.shut ≡ true = sym is.shut_is ∙ now_shut in
+      (ap (λ (s : Bool). record me.0.inward { shut = s }) was, (IsPrefix-self me.0.inward.seen, λ _. refl), is.seen_is ∙ ap (λ (b : ℕ). b + length me.0.inward.seen) (sym is.base_is))
+
+  -- after a look, or where none was needed
+  pub IsInward-seen : (table' : TableId) (new : Place J T) (now_seen : ℕ) → table' ≡ table → IsReceiver new → SoundIn new.0.inward
+      → new.0 ≡ with_taken me.0 new.0.inward.seen me.0.inward.taken → now_seen ≡ me.0.inward.base + length new.0.inward.seen
+      → IsInward table' board new from to base capacity taken given shut now_seen next_order next_outcome
+  IsInward-seen table' new now_seen same seat sound now count = record {
+    at_table = same ∙ is.at_table;
+    words = is.words;
+    seat = seat;
+    small = is.small;
+    from_is = ap (λ (v : Known J T). v.inward.from) now ∙ is.from_is;
+    to_is = ap (λ (v : Known J T). v.inward.to) now ∙ is.to_is;
+    base_is = ap (λ (v : Known J T). v.inward.base) now ∙ is.base_is;
+    capacity_is = ap (λ (v : Known J T). v.inward.capacity) now ∙ is.capacity_is;
+    taken_is = ap (λ (v : Known J T). v.inward.taken) now ∙ is.taken_is;
+    given_is = ap (λ (v : Known J T). length v.inward.given) now ∙ is.given_is;
+    shut_is = is.shut_is ∙ ap (λ (v : Known J T). v.inward.shut) (sym now);
+    seen_is = count ∙ ap (λ (b : ℕ). b + length new.0.inward.seen) is.base_is;
+    next_order_is = is.next_order_is;
+    next_outcome_is = is.next_outcome_is;
+    sound = sound;
+  }

@@ -14,7 +14,7 @@ use Rattle.rt_ids.proofs.Prefixes.{IsPrefix-append}
 use Rattle.rt_link.proofs.Lists.{slice_get-starts}
 use Rattle.rt_link.proofs.WholeLaws.{IsLink-give, IsLink-awaits}
 use Rattle.rt_ring.specs.Carried.{Place}
-use Rattle.rt_ring.specs.Rule.{gate_bit}
+use Rattle.rt_ring.specs.Rule.{gate_bit, two_words}
 use Rattle.rt_ring.specs.Slots.{order_slot, outcome_slot}
 use Rattle.rt_ring.specs.After.{with_given}
 use Rattle.rt_ring.specs.Told.{Gives}
@@ -65,7 +65,7 @@ module _ {J T : Type 0} (fits : Order J → Outcome J T → Type 0) (ready : Ord
   pub gives-one : (slots seat given : ℕ) (me : Place J T) (number : ℕ) (outcome : Outcome J T) (more : List (ℕ × Slot J T)) → me.0.takes ≡ true → me.0.fresh ≡ false
       → me.1 ≡ (outcome_slot me.0.inward.capacity (length me.0.inward.given), Back number outcome) ∷ (order_slot me.0.inward.capacity (length me.0.inward.given), Empty) ∷ more
       → given ≡ me.0.inward.base + length me.0.inward.given + 1 → MayGive fits me.0.inward number outcome
-      → Allows (Rule fits ready terms) slots seat me 1 (λ _. given) (Gives me)
+      → Allows (Rule fits ready terms) slots seat me 16 (λ _. given) (Gives me)
   gives-one slots seat given me number outcome more go used carried is may s r wide at _ =
       let view : Known J T = me.0 in let inward : Inward J T = view.inward in
       let k : KnowsInward r.link inward = ((r.views seat view at).takes go).1 in
@@ -77,7 +77,7 @@ module _ {J T : Type 0} (fits : Order J → Outcome J T → Type 0) (ready : Ord
       let later : Whole J T = record r.link { given = r.link.given ++ (number, outcome) ∷ [] } in
       let o : ℕ = outcome_slot r.link.capacity (length r.link.given) in let e : ℕ = order_slot r.link.capacity (length r.link.given) in
       let holds : me.1 ≡ (o, Back number outcome) ∷ (e, Empty) ∷ more = carried ∙ λ i. (outcome_slot (capacity i) (count i), Back number outcome) ∷ (order_slot (capacity i) (count i), Empty) ∷ more in
-      subst (λ (c : List (ℕ × Slot J T)). Owes fits ready terms s 1 seat (view, c) (Gives (view, c)) given) (sym holds) (
+      subst (λ (c : List (ℕ × Slot J T)). Owes fits ready terms s 16 seat (view, c) (Gives (view, c)) given) (sym holds) (
         with_given view number outcome,
         chain gives gives,
         (tt, tt),
@@ -88,8 +88,8 @@ module _ {J T : Type 0} (fits : Order J → Outcome J T → Type 0) (ready : Ord
           law = IsLink-give r.law number outcome may';
           credits = r.credits;
           terms_are = r.terms_are;
-          words = ap (λ (words : List ℕ). set words 1 given) r.words
-              ∙ (let e : given ≡ r.link.base + length (r.link.given ++ (number, outcome) ∷ []) = omega arith in ap (λ (z : ℕ). (r.link.base + length r.link.sent + gate_bit r.link.shut) ∷ z ∷ []) e);
+          words = ap (λ (words : List ℕ). set words 16 given) r.words
+              ∙ (let e : given ≡ r.link.base + length (r.link.given ++ (number, outcome) ∷ []) = omega arith in ap (λ (z : ℕ). two_words (r.link.base + length r.link.sent + gate_bit r.link.shut) z) e);
           slots = AreInPlace-given fits ready r.link r.law r.credits s.homes r.slots number outcome (IsLink-awaits r.law number outcome may');
           views = AreTold-receiver r.link later s.homes (set (set s.homes o (some (Back number outcome))) e (some Empty)) r.sender r.receiver seat s.views view r.views at used
               (record inward { given = inward.given ++ (number, outcome) ∷ [] }) go (KnowsInward-given r.link number outcome inward k) (KnowsOut-given r.link number outcome);

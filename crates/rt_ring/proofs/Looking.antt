@@ -1,22 +1,23 @@
--- The steps of the receiver's seat on the accept word: look and shut.
-use Rattle.std.proofs.Common.{◌≡◌, ℕ, ◌+◌, ◌*◌, ◌^◌, ◌<◌, ◌≤◌, Bool, true, false, List, [], ◌∷◌, length, set, get_or, refl, sym, ap, ap₂, ◌∙◌, arith}
+-- The steps of the receiver's seat that tell of orders: look, lift an order, and shut.
+use Rattle.std.proofs.Common.{◌≡◌, ℕ, ◌+◌, ◌*◌, ◌^◌, ◌<◌, ◌≤◌, Bool, true, false, List, ◌∷◌, length, set, get_or, refl, sym, ap, ap₂, ◌∙◌, arith}
 use Rattle.std.specs.Prelude.{bit_or}
 use Rattle.std.proofs.lemmas.Nat.{or_block}
 use Rattle.std.specs.Int.Bits.{or_zero_r}
 use lib.ListN.{get_elem?}
 use mathlib.Core.Option.{some, none}
-use native.Mathlib.Decide.{dec_le}
 use Rattle.atomic_table.specs.Table.{State, keeps, takes, chain, Allows}
 use Rattle.rt_ids.specs.declared.order.Order.{Order}
 use Rattle.rt_ids.specs.declared.order.Outcome.{Outcome}
 use Rattle.rt_link.specs.declared.ends.Inward.{Inward}
 use Rattle.rt_link.specs.declared.plain.Whole.{Whole}
+use Rattle.rt_ids.proofs.Prefixes.{IsPrefix-self, IsPrefix-length}
+use Rattle.rt_link.proofs.Lists.{slice_get-starts, slice_get-seen}
 use Rattle.rt_link.proofs.WholeLaws.{IsLink-take, IsLink-shut}
 use Rattle.rt_ring.specs.Carried.{Place}
-use Rattle.rt_ring.specs.Rule.{gate_bit}
-use Rattle.rt_ring.specs.Slots.{order_slot, outcome_slot, order_at}
+use Rattle.rt_ring.specs.Rule.{gate_bit, two_words}
+use Rattle.rt_ring.specs.Slots.{order_slot, outcome_slot, slot_of_order, order_at}
 use Rattle.rt_ring.specs.After.{with_taken, with_shut}
-use Rattle.rt_ring.specs.Told.{SeesOrders, Looks, Closes}
+use Rattle.rt_ring.specs.Told.{SeesOrders, Looks, LiftsOrder, Closes}
 use Rattle.rt_ring.specs.Views.{KnowsInward}
 use Rattle.rt_ring.specs.declared.board.Known.{Known}
 use Rattle.rt_ring.specs.declared.board.Slot.{Slot}
@@ -24,7 +25,7 @@ use Rattle.rt_ring.specs.Slots.{Empty}
 use Rattle.rt_ring.specs.declared.board.Terms.{Terms}
 use Rattle.rt_ring.proofs.SeatViews.{AreTold-receiver}
 use Rattle.rt_ring.proofs.TakenSlots.{order-there, vacant-there, AreInPlace-taken}
-use Rattle.rt_ring.proofs.Stepping.{Rule, Owes, accept-word, accept-same, Rule-receiver_learns}
+use Rattle.rt_ring.proofs.Stepping.{Rule, Owes, accept-word, accept-same, return-same, Rule-receiver_learns}
 use Rattle.rt_ring.proofs.TakenViews.{KnowsInward-seen, KnowsInward-taken, KnowsInward-shut, KnowsOut-taken, KnowsOut-shut}
 
 -- a count with its top bit set
@@ -64,21 +65,36 @@ module _ {J T : Type 0} (fits : Order J → Outcome J T → Type 0) (ready : Ord
         ready_orders = r.law.ready_orders;
       }
 
-  look-goes : Dec (length r.link.sent ≤ r.link.taken) → Owes fits ready terms s 0 seat me (Looks ready me) (get_or s.words 0 0)
-  look-goes (yes all) =
-      let taken : inward.taken ≡ r.link.taken = ap (λ (i : Inward J T). i.taken) k.knows in (
-        with_taken me.0 r.link.sent inward.taken,
-        keeps,
-        tt,
-        Rule-receiver_learns fits ready terms s r 0 seat me.0 (accept-same fits ready terms s r) at (record inward { seen = r.link.sent }) used go (KnowsInward-seen r.link inward k r.law.taken_sent),
-        record { seen = r.link.sent; sees = sees; found_is = found; one = λ less. absurd (omega arith); none = λ _. refl },
-      )
-  look-goes (no some_left) =
+  look-goes : Owes fits ready terms s 0 seat me (Looks ready me) (get_or s.words 0 0)
+  look-goes = (
+    with_taken me.0 r.link.sent inward.taken,
+    keeps,
+    tt,
+    Rule-receiver_learns fits ready terms s r 0 seat me.0 (accept-same fits ready terms s r) at (record inward { seen = r.link.sent }) used go (KnowsInward-seen r.link inward k r.law.taken_sent),
+    record { seen = r.link.sent; sees = sees; found_is = found; saw = refl },
+  )
+
+  -- what the receiver saw before
+  saw : SeesOrders ready inward inward.seen
+  saw = record {
+    longer = IsPrefix-self inward.seen;
+    final = λ _. refl;
+    taken_seen = let taken : inward.taken ≡ r.link.taken = ap (λ (i : Inward J T). i.taken) k.knows in omega (arith, k.taken_seen);
+    numbered = omega (arith, sees.numbered, IsPrefix-length r.link.sent inward.seen k.sees);
+    room = omega (arith, sees.room, IsPrefix-length r.link.sent inward.seen k.sees);
+    ready_orders = λ i order there. r.law.ready_orders i order (slice_get-seen r.link.sent inward.seen k.sees i order there);
+  }
+
+  lift-goes : inward.taken < length inward.seen → Owes fits ready terms s 16 seat me (LiftsOrder ready me) (get_or s.words 16 0)
+  lift-goes within =
       let taken : inward.taken ≡ r.link.taken = ap (λ (i : Inward J T). i.taken) k.knows in
       let capacity : inward.capacity ≡ r.link.capacity = ap (λ (i : Inward J T). i.capacity) k.knows in
+      let longer : length inward.seen ≤ length r.link.sent = IsPrefix-length r.link.sent inward.seen k.sees in
       let more : r.link.taken < length r.link.sent = omega arith in
+      let same : order_at r.link.sent r.link.taken ≡ order_at {T = T} inward.seen inward.taken =
+      ap (λ (n : ℕ). order_at r.link.sent n) (sym taken) ∙ ap slot_of_order (slice_get-starts r.link.sent inward.seen inward.taken k.sees within) in
       let later : Whole J T = record r.link { taken = r.link.taken + 1 } in (
-        with_taken me.0 r.link.sent (inward.taken + 1),
+        with_taken me.0 inward.seen (inward.taken + 1),
         chain (takes (order_slot r.link.capacity r.link.taken) (order_at r.link.sent r.link.taken)) (takes (outcome_slot r.link.capacity r.link.taken) Empty),
         (order-there fits ready r.link r.law r.credits s.homes r.slots more, vacant-there fits ready r.link r.law r.credits s.homes r.slots more),
         record {
@@ -88,17 +104,14 @@ module _ {J T : Type 0} (fits : Order J → Outcome J T → Type 0) (ready : Ord
           law = IsLink-take r.law more;
           credits = r.credits;
           terms_are = r.terms_are;
-          words = accept-same fits ready terms s r ∙ r.words;
+          words = return-same fits ready terms s r ∙ r.words;
           slots = AreInPlace-taken fits ready r.link r.law r.credits s.homes r.slots more;
           views = AreTold-receiver r.link later s.homes (set (set s.homes (order_slot r.link.capacity r.link.taken) none) (outcome_slot r.link.capacity r.link.taken) none) r.sender r.receiver seat s.views me.0 r.views at used
-              (record inward { seen = r.link.sent; taken = inward.taken + 1 }) go (KnowsInward-taken r.link inward k (omega arith)) (KnowsOut-taken r.link);
+              (record inward { taken = inward.taken + 1 }) go (KnowsInward-taken r.link inward k (omega arith)) (KnowsOut-taken r.link);
         },
         record {
-          seen = r.link.sent;
-          sees = sees;
-          found_is = found;
-          one = λ _. λ i. (with_taken me.0 r.link.sent (inward.taken + 1), (outcome_slot (sym capacity i) (sym taken i), Empty) ∷ (order_slot (sym capacity i) (sym taken i), order_at r.link.sent (sym taken i)) ∷ me.1);
-          none = λ all. absurd (omega arith);
+          sees = saw;
+          lifted = λ i. (with_taken me.0 inward.seen (inward.taken + 1), (outcome_slot (sym capacity i) (sym taken i), Empty) ∷ (order_slot (sym capacity i) (sym taken i), same i) ∷ me.1);
         },
       )
 
@@ -116,7 +129,7 @@ module _ {J T : Type 0} (fits : Order J → Outcome J T → Type 0) (ready : Ord
           credits = r.credits;
           terms_are = r.terms_are;
           words = ap (λ (words : List ℕ). set words 0 (bit_or (get_or words 0 0) gate)) r.words
-              ∙ ap (λ (z : ℕ). z ∷ (r.link.base + length r.link.given) ∷ []) (count-or_gate (r.link.base + length r.link.sent) gate r.link.shut r.law.numbered is);
+              ∙ ap (λ (z : ℕ). two_words z (r.link.base + length r.link.given)) (count-or_gate (r.link.base + length r.link.sent) gate r.link.shut r.law.numbered is);
           slots = record { count = r.slots.count; orders = r.slots.orders; emptied = r.slots.emptied; vacant = r.slots.vacant; outcomes = r.slots.outcomes };
           views = AreTold-receiver r.link later s.homes s.homes r.sender r.receiver seat s.views me.0 r.views at used (record inward { seen = r.link.sent; shut = true }) go
               (KnowsInward-shut r.link inward k r.law.taken_sent) (KnowsOut-shut r.link);
@@ -126,7 +139,10 @@ module _ {J T : Type 0} (fits : Order J → Outcome J T → Type 0) (ready : Ord
 
 module _ {J T : Type 0} (fits : Order J → Outcome J T → Type 0) (ready : Order J → Type 0) (terms : Terms) (slots seat : ℕ) (me : Place J T) (go : me.0.takes ≡ true) (used : me.0.fresh ≡ false) where
   pub looks : Allows (Rule fits ready terms) slots seat me 0 (λ y. y) (Looks ready me)
-  looks s r wide at _ = look-goes fits ready terms slots seat me s r at go used (dec_le (length r.link.sent) r.link.taken)
+  looks s r wide at _ = look-goes fits ready terms slots seat me s r at go used
+
+  pub lifts_order : me.0.inward.taken < length me.0.inward.seen → Allows (Rule fits ready terms) slots seat me 16 (λ y. y) (LiftsOrder ready me)
+  lifts_order within s r wide at _ = lift-goes fits ready terms slots seat me s r at go used within
 
   pub shuts : (gate : ℕ) → gate ≡ 2 ^ 63 → Allows (Rule fits ready terms) slots seat me 0 (λ y. bit_or y gate) (Closes ready me)
   shuts gate is s r wide at _ = shut-goes fits ready terms slots seat me s r at go used gate is

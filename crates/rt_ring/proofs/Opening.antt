@@ -1,5 +1,5 @@
 -- The table at the start, the first gather, and the seat that is parted.
-use Rattle.std.proofs.Common.{◌≡◌, ℕ, zero, suc, ◌+◌, ◌*◌, ◌%◌, ◌^◌, ◌<◌, ⊎_elim, true, false, List, [], ◌∷◌, map, replicate, length, set, get_or, refl, sym, ap, ap₂, ◌∙◌, arith, subst, mod-lt}
+use Rattle.std.proofs.Common.{◌≡◌, ℕ, zero, suc, ◌+◌, ◌*◌, ◌%◌, ◌^◌, ◌<◌, ⊎_elim, true, false, List, [], map, replicate, length, set, get_or, refl, sym, ap, ap₂, ◌∙◌, arith, subst, mod-lt}
 use native.Mathlib.Nat.{mod-eq_of_lt}
 use mathlib.Core.Option.{some}
 use lib.ListN.{get_elem?}
@@ -11,6 +11,7 @@ use Rattle.rt_link.specs.declared.ends.Outward.{Outward}
 use Rattle.rt_ids.proofs.Prefixes.{IsPrefix-self}
 use Rattle.rt_link.proofs.WholeLaws.{IsLink-fresh}
 use Rattle.rt_ring.specs.Carried.{Place, out_slots}
+use Rattle.rt_ring.specs.Rule.{two_words}
 use Rattle.rt_ring.specs.Slots.{Homes, order_slot, outcome_slot}
 use Rattle.rt_ring.specs.Told.{Stocks}
 use Rattle.rt_ring.specs.Views.{IsTold, fresh_link, first_view, out_part, inward_part}
@@ -35,7 +36,7 @@ module _ {X : Type 0} where
 
 module _ {J T : Type 0} (fits : Order J → Outcome J T → Type 0) (ready : Order J → Type 0) (terms : Terms) where
   pub starts : (k : ℕ) → k ≡ terms.capacity + terms.capacity → terms.base < 2 ^ 63
-      → Rule fits ready terms (opening (terms.base ∷ terms.base ∷ []) (replicate k Empty) (first_view terms))
+      → Rule fits ready terms (opening (two_words terms.base terms.base) (replicate k Empty) (first_view terms))
   starts k is small = record {
     link = fresh_link terms;
     sender = 0;
@@ -43,7 +44,7 @@ module _ {J T : Type 0} (fits : Order J → Outcome J T → Type 0) (ready : Ord
     law = IsLink-fresh terms.from terms.to terms.capacity terms.base small;
     credits = refl;
     terms_are = refl;
-    words = ap₂ (λ (a b : ℕ). a ∷ b ∷ []) (let e : terms.base ≡ terms.base + 0 + 0 = omega arith in e) (let e : terms.base ≡ terms.base + 0 = omega arith in e);
+    words = ap₂ two_words (let e : terms.base ≡ terms.base + 0 + 0 = omega arith in e) (let e : terms.base ≡ terms.base + 0 = omega arith in e);
     slots = record {
       count = length-homes k Empty ∙ is;
       orders = λ i a b. absurd (omega arith);
@@ -60,12 +61,12 @@ module _ {J T : Type 0} (fits : Order J → Outcome J T → Type 0) (ready : Ord
   }
 
   -- the first gather takes all order slots
-  pub stocks : (slots seat : ℕ) (me : Place J T) → me.0.fresh ≡ true → me.0.sends ≡ true → me.1 ≡ [] → Allows (Rule fits ready terms) slots seat me 1 (λ y. y) (Stocks me)
+  pub stocks : (slots seat : ℕ) (me : Place J T) → me.0.fresh ≡ true → me.0.sends ≡ true → me.1 ≡ [] → Allows (Rule fits ready terms) slots seat me 16 (λ y. y) (Stocks me)
   stocks slots seat me new go none_yet s r wide at _ =
       let view : Known J T = me.0 in let told = r.views seat view at in let first = told.fresh new in let n : ℕ = r.link.capacity in
       let act : Act (Slot J T) = take_all 0 n in let after : Homes J T = homes_after s.homes [] act in
       let gt = r.law.got_given in let tk = r.law.given_taken in let ts = r.law.taken_sent in let none_sent : length r.link.sent ≡ 0 = first.2 in
-      subst (λ (c : List (ℕ × Slot J T)). Owes fits ready terms s 1 seat (view, c) (Stocks (view, c)) (get_or s.words 1 0)) (sym none_yet) (
+      subst (λ (c : List (ℕ × Slot J T)). Owes fits ready terms s 16 seat (view, c) (Stocks (view, c)) (get_or s.words 16 0)) (sym none_yet) (
         record view { fresh = false },
         act,
         Valid-take_all s.homes 0 n (λ j a b. subst (λ (z : ℕ). get_elem? s.homes (2 * z) ≡ some (some Empty)) (mod-eq_of_lt (let h : j < n = omega arith in h)) (first.3 j (omega arith) (omega arith))),

@@ -1,16 +1,17 @@
 -- The receiver's seat through its calls: it carries the slots of the orders that have no outcome yet.
-use Rattle.std.proofs.Common.{◌≡◌, ◌≢◌, ℕ, ◌+◌, ◌-◌, ◌<◌, ◌≤◌, Option, Some, List, [], ◌∷◌, ◌++◌, length, length-append, refl, sym, ap, ap₂, ◌∙◌, subst, arith}
+use Rattle.std.proofs.Common.{◌≡◌, ℕ, ◌+◌, ◌-◌, ◌<◌, ◌≤◌, Bool, false, Option, Some, List, [], ◌∷◌, ◌++◌, length, length-append, refl, sym, ap, ap₂, ◌∙◌, subst, arith}
 use Rattle.std.specs.Prelude.{slice_get}
-use native.Mathlib.Decide.{dec_le}
 use Rattle.atomic_table.specs.Table.{rest, Allows}
 use Rattle.rt_ids.specs.declared.order.Order.{Order}
 use Rattle.rt_ids.specs.declared.order.Outcome.{Outcome}
-use Rattle.rt_link.specs.Calls.{MayGive}
+use Rattle.rt_link.specs.Calls.{MayGive, SeesMore}
+use Rattle.rt_link.specs.Ends.{SoundIn}
 use Rattle.rt_ring.specs.Carried.{Place, IsReceiver, inward_slots}
 use Rattle.rt_ring.specs.Rule.{gate_bit}
 use Rattle.rt_ring.specs.Slots.{order_slot, outcome_slot, slot_of_order}
 use Rattle.rt_ring.specs.After.{with_taken, with_shut, with_given}
-use Rattle.rt_ring.specs.Told.{SeesOrders, Looks, Gives}
+use Rattle.rt_ring.specs.Told.{SeesOrders, Looks, LiftsOrder, Gives}
+use Rattle.rt_ring.specs.declared.board.Known.{Known}
 use Rattle.rt_ring.specs.declared.board.Slot.{Slot}
 use Rattle.rt_ring.specs.Slots.{Empty, Sent, Back}
 use Rattle.rt_ring.specs.declared.board.Terms.{Terms}
@@ -75,9 +76,9 @@ module _ {J T : Type 0} (old me : Place J T) (slot number : ℕ) (outcome : Outc
 
   pub give-allowed : (fits : Order J → Outcome J T → Type 0) (ready : Order J → Type 0) (terms : Terms) (slots seat given : ℕ)
       → given ≡ old.0.inward.base + length old.0.inward.given + 1 → MayGive fits old.0.inward number outcome
-      → Allows (Rule fits ready terms) slots seat me 1 (λ _. given) (Gives me)
+      → Allows (Rule fits ready terms) slots seat me 16 (λ _. given) (Gives me)
   give-allowed fits ready terms slots seat given count may =
-      subst (λ (m : Place J T). Allows (Rule fits ready terms) slots seat m 1 (λ _. given) (Gives m)) (sym now)
+      subst (λ (m : Place J T). Allows (Rule fits ready terms) slots seat m 16 (λ _. given) (Gives m)) (sym now)
       (gives-one fits ready terms slots seat given offered number outcome (owed_slots old) is.takes is.used in_front count may)
 
   pub give-done : (found : ℕ) (new : Place J T) → Gives me found new → (new.0 ≡ with_given old.0 number outcome) × IsReceiver new
@@ -87,44 +88,48 @@ module _ {J T : Type 0} (old me : Place J T) (slot number : ℕ) (outcome : Outc
       (ap (λ (m : Place J T). m.0) after, IsReceiver-given old new number outcome is after)
 
 -- a look was made
-module _ {J T : Type 0} (ready : Order J → Type 0) (old new : Place J T) (found taken : ℕ) (told : Looks ready old found new) (is : IsReceiver old)
-    (number : taken ≡ old.0.inward.base + old.0.inward.taken + gate_bit old.0.inward.shut) where
-  -- and showed no further order
-  pub look-none : found ≡ taken
-      → IsReceiver new × SeesOrders ready old.0.inward new.0.inward.seen × (new.0 ≡ with_taken old.0 new.0.inward.seen old.0.inward.taken) × (length new.0.inward.seen ≡ old.0.inward.taken)
-  look-none same =
-      let shown : found ≡ old.0.inward.base + length told.seen + gate_bit old.0.inward.shut = told.found_is in
-      let all : length told.seen ≡ old.0.inward.taken = omega arith in let after = told.none all in (
-        IsReceiver-seen old new told.seen is after,
-        subst (λ (m : Place J T). SeesOrders ready old.0.inward m.0.inward.seen) (sym after) told.sees,
-        subst (λ (m : Place J T). m.0 ≡ with_taken old.0 m.0.inward.seen old.0.inward.taken) (sym after) refl,
-        subst (λ (m : Place J T). length m.0.inward.seen ≡ old.0.inward.taken) (sym after) all,
-      )
+module _ {J T : Type 0} (ready : Order J → Type 0) (old new : Place J T) (found : ℕ) (told : Looks ready old found new) (is : IsReceiver old) where
+  pub look-keeps : IsReceiver new
+  look-keeps = IsReceiver-seen old new told.seen is told.saw
 
-  -- and took the slots of the next order
-  pub look-some : found ≢ taken
-      → (order : Order J) × (slice_get told.seen old.0.inward.taken ≡ Some order)
-      × (new ≡ (with_taken old.0 told.seen (old.0.inward.taken + 1), (outcome_slot old.0.inward.capacity old.0.inward.taken, Empty) ∷ (order_slot old.0.inward.capacity old.0.inward.taken, Sent order) ∷ old.1))
-  look-some differs =
-      let less : old.0.inward.taken < length told.seen = more (dec_le (length told.seen) old.0.inward.taken) in
-      let order = slice_get-there told.seen old.0.inward.taken less in (
-        order.0,
-        order.1,
-        told.one less ∙ ap (λ (z : Option (Order J)). (with_taken old.0 told.seen (old.0.inward.taken + 1), (outcome_slot old.0.inward.capacity old.0.inward.taken, Empty) ∷ (order_slot old.0.inward.capacity old.0.inward.taken, slot_of_order z) ∷ old.1)) order.1,
-      )
-    where
-      more : Dec (length told.seen ≤ old.0.inward.taken) → old.0.inward.taken < length told.seen
-      more (yes h) = let shown : found ≡ old.0.inward.base + length told.seen + gate_bit old.0.inward.shut = told.found_is in let seen : old.0.inward.taken ≤ length told.seen = told.sees.taken_seen in absurd (differs (omega arith))
-      more (no h) = omega arith
+  pub look-view : new.0 ≡ with_taken old.0 new.0.inward.seen old.0.inward.taken
+  look-view = subst (λ (m : Place J T). m.0 ≡ with_taken old.0 m.0.inward.seen old.0.inward.taken) (sym told.saw) refl
+
+  pub look-sees : SeesOrders ready old.0.inward new.0.inward.seen
+  look-sees = subst (λ (m : Place J T). SeesOrders ready old.0.inward m.0.inward.seen) (sym told.saw) told.sees
+
+  pub look-more : SeesMore old.0.inward new.0.inward
+  look-more = (look-sees.longer, look-sees.final)
+
+  pub look-sound : SoundIn old.0.inward → SoundIn new.0.inward
+  look-sound sound = subst (λ (v : Known J T). SoundIn v.inward) (sym look-view) (record {
+    numbered = look-sees.numbered;
+    behind = look-sees.taken_seen;
+    within = sound.within;
+    room = look-sees.room;
+    named = sound.named;
+  })
+
+  -- with the gate open, the word is the number of the last order seen
+  pub look-found : old.0.inward.shut ≡ false → found ≡ old.0.inward.base + length new.0.inward.seen
+  look-found is_open =
+      let shown : found ≡ old.0.inward.base + length told.seen + gate_bit false = told.found_is ∙ ap (λ (b : Bool). old.0.inward.base + length told.seen + gate_bit b) is_open in
+      let same : length new.0.inward.seen ≡ length told.seen = ap (λ (m : Place J T). length m.0.inward.seen) told.saw in omega arith
+
+-- the slots of the next order were taken
+module _ {J T : Type 0} (ready : Order J → Type 0) (old new : Place J T) (found : ℕ) (told : LiftsOrder ready old found new) (is : IsReceiver old)
+    (within : old.0.inward.taken < length old.0.inward.seen) where
+  -- the order lies in its slot
+  pub lift-order : (order : Order J) × (slice_get old.0.inward.seen old.0.inward.taken ≡ Some order)
+      × (new ≡ (with_taken old.0 old.0.inward.seen (old.0.inward.taken + 1), (outcome_slot old.0.inward.capacity old.0.inward.taken, Empty) ∷ (order_slot old.0.inward.capacity old.0.inward.taken, Sent order) ∷ old.1))
+  lift-order = let order = slice_get-there old.0.inward.seen old.0.inward.taken within in (
+    order.0,
+    order.1,
+    told.lifted ∙ ap (λ (z : Option (Order J)). (with_taken old.0 old.0.inward.seen (old.0.inward.taken + 1), (outcome_slot old.0.inward.capacity old.0.inward.taken, Empty) ∷ (order_slot old.0.inward.capacity old.0.inward.taken, slot_of_order z) ∷ old.1)) order.1,
+  )
 
   -- the slots went behind the others, the order's with nothing in it
-  pub look-taken : (slot : ℕ) (order : Order J) (last : Place J T) → slot ≡ order_slot old.0.inward.capacity old.0.inward.taken → length old.0.inward.given ≤ old.0.inward.taken
-      → slice_get told.seen old.0.inward.taken ≡ Some order
-      → last ≡ (with_taken old.0 told.seen (old.0.inward.taken + 1), (old.1 ++ (outcome_slot old.0.inward.capacity old.0.inward.taken, Empty) ∷ []) ++ (slot, Empty) ∷ [])
-      → IsReceiver last × SeesOrders ready old.0.inward last.0.inward.seen × (last.0 ≡ with_taken old.0 last.0.inward.seen (old.0.inward.taken + 1)) × (slice_get last.0.inward.seen old.0.inward.taken ≡ Some order)
-  look-taken slot order last at owed is_order after = (
-    IsReceiver-taken old last told.seen slot is owed at after,
-    subst (λ (m : Place J T). SeesOrders ready old.0.inward m.0.inward.seen) (sym after) told.sees,
-    subst (λ (m : Place J T). m.0 ≡ with_taken old.0 m.0.inward.seen (old.0.inward.taken + 1)) (sym after) refl,
-    subst (λ (m : Place J T). slice_get m.0.inward.seen old.0.inward.taken ≡ Some order) (sym after) is_order,
-  )
+  pub lift-keeps : (slot : ℕ) (last : Place J T) → slot ≡ order_slot old.0.inward.capacity old.0.inward.taken → length old.0.inward.given ≤ old.0.inward.taken
+      → last ≡ (with_taken old.0 old.0.inward.seen (old.0.inward.taken + 1), (old.1 ++ (outcome_slot old.0.inward.capacity old.0.inward.taken, Empty) ∷ []) ++ (slot, Empty) ∷ [])
+      → IsReceiver last
+  lift-keeps slot last at owed after = IsReceiver-taken old last old.0.inward.seen slot is owed at after

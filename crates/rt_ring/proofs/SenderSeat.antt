@@ -1,7 +1,6 @@
 -- The sender's seat through its calls: it carries the slots of the orders that it may send.
 use Rattle.std.proofs.Common.{◌≡◌, ◌≢◌, Option, Some, ℕ, ◌+◌, ◌-◌, ◌^◌, ◌<◌, ◌≤◌, false, eqb, List, [], ◌∷◌, ◌++◌, length, length-append, refl, sym, ap, ap₂, ◌∙◌, subst, arith}
 use Rattle.std.specs.Prelude.{slice_get}
-use native.Mathlib.Decide.{dec_le}
 use prog.Atomic.{either}
 use Rattle.atomic_table.specs.Table.{rest, Allows}
 use Rattle.rt_ids.specs.declared.order.Order.{Order}
@@ -9,7 +8,7 @@ use Rattle.rt_ids.specs.declared.order.Outcome.{Outcome}
 use Rattle.rt_ring.specs.Carried.{Place, IsSender, spare, out_slots}
 use Rattle.rt_ring.specs.Slots.{order_slot, outcome_slot, slot_of_outcome}
 use Rattle.rt_ring.specs.After.{with_sent, with_closed, with_got}
-use Rattle.rt_ring.specs.Told.{Accepts, SeesOutcomes, Gathers}
+use Rattle.rt_ring.specs.Told.{Accepts, SeesOutcomes, Gathers, LiftsOutcome}
 use Rattle.rt_ring.specs.declared.board.Slot.{Slot}
 use Rattle.rt_ring.specs.Slots.{Empty, Sent, Back}
 use Rattle.rt_ring.specs.declared.board.Terms.{Terms}
@@ -91,44 +90,33 @@ module _ {J T : Type 0} (old me : Place J T) (slot last : ℕ) (order : Order J)
     offer-miss miss = from_offered.miss miss
 
 -- a gather was made
-module _ {J T : Type 0} (fits : Order J → Outcome J T → Type 0) (old new : Place J T) (found got : ℕ) (told : Gathers fits old found new) (is : IsSender old)
-    (number : got ≡ old.0.out.base + old.0.out.got) where
-  -- and showed no further outcome
-  pub gather-none : found ≡ got
-      → IsSender new × SeesOutcomes fits old.0.out new.0.out.seen × (new.0 ≡ with_got old.0 new.0.out.seen old.0.out.got) × (length new.0.out.seen ≡ old.0.out.got)
-  gather-none same =
-      let shown : found ≡ old.0.out.base + length told.seen = told.found_is in
-      let all : length told.seen ≡ old.0.out.got = omega arith in let after = told.none all in (
-        IsSender-seen old new told.seen is after,
-        subst (λ (m : Place J T). SeesOutcomes fits old.0.out m.0.out.seen) (sym after) told.sees,
-        subst (λ (m : Place J T). m.0 ≡ with_got old.0 m.0.out.seen old.0.out.got) (sym after) refl,
-        subst (λ (m : Place J T). length m.0.out.seen ≡ old.0.out.got) (sym after) all,
-      )
+module _ {J T : Type 0} (fits : Order J → Outcome J T → Type 0) (old new : Place J T) (found : ℕ) (told : Gathers fits old found new) (is : IsSender old) where
+  pub gather-keeps : IsSender new
+  gather-keeps = IsSender-seen old new told.seen is told.saw
 
-  -- and took the slots of the next outcome
-  pub gather-some : found ≢ got
-      → (outcome : ℕ × Outcome J T) × (slice_get told.seen old.0.out.got ≡ Some outcome)
-      × (new ≡ (with_got old.0 told.seen (old.0.out.got + 1), (order_slot old.0.out.capacity old.0.out.got, Empty) ∷ (outcome_slot old.0.out.capacity old.0.out.got, Back outcome.0 outcome.1) ∷ old.1))
-  gather-some differs =
-      let less : old.0.out.got < length told.seen = more (dec_le (length told.seen) old.0.out.got) in
-      let outcome = slice_get-there told.seen old.0.out.got less in (
-        outcome.0,
-        outcome.1,
-        told.one less ∙ ap (λ (z : Option (ℕ × Outcome J T)). (with_got old.0 told.seen (old.0.out.got + 1), (order_slot old.0.out.capacity old.0.out.got, Empty) ∷ (outcome_slot old.0.out.capacity old.0.out.got, slot_of_outcome z) ∷ old.1)) outcome.1,
-      )
-    where
-      more : Dec (length told.seen ≤ old.0.out.got) → old.0.out.got < length told.seen
-      more (yes h) = let shown : found ≡ old.0.out.base + length told.seen = told.found_is in let seen : old.0.out.got ≤ length told.seen = told.sees.got_seen in absurd (differs (omega arith))
-      more (no h) = omega arith
+  pub gather-view : new.0 ≡ with_got old.0 new.0.out.seen old.0.out.got
+  gather-view = subst (λ (m : Place J T). m.0 ≡ with_got old.0 m.0.out.seen old.0.out.got) (sym told.saw) refl
+
+  pub gather-sees : SeesOutcomes fits old.0.out new.0.out.seen
+  gather-sees = subst (λ (m : Place J T). SeesOutcomes fits old.0.out m.0.out.seen) (sym told.saw) told.sees
+
+  pub gather-found : found ≡ old.0.out.base + length new.0.out.seen
+  gather-found = told.found_is ∙ ap (λ (m : Place J T). old.0.out.base + length m.0.out.seen) (sym told.saw)
+
+-- the slots of the next outcome were taken
+module _ {J T : Type 0} (fits : Order J → Outcome J T → Type 0) (old new : Place J T) (found : ℕ) (told : LiftsOutcome fits old found new) (is : IsSender old)
+    (within : old.0.out.got < length old.0.out.seen) where
+  -- the outcome lies in its slot
+  pub lift-outcome : (outcome : ℕ × Outcome J T) × (slice_get old.0.out.seen old.0.out.got ≡ Some outcome)
+      × (new ≡ (with_got old.0 old.0.out.seen (old.0.out.got + 1), (order_slot old.0.out.capacity old.0.out.got, Empty) ∷ (outcome_slot old.0.out.capacity old.0.out.got, Back outcome.0 outcome.1) ∷ old.1))
+  lift-outcome = let outcome = slice_get-there old.0.out.seen old.0.out.got within in (
+    outcome.0,
+    outcome.1,
+    told.lifted ∙ ap (λ (z : Option (ℕ × Outcome J T)). (with_got old.0 old.0.out.seen (old.0.out.got + 1), (order_slot old.0.out.capacity old.0.out.got, Empty) ∷ (outcome_slot old.0.out.capacity old.0.out.got, slot_of_outcome z) ∷ old.1)) outcome.1,
+  )
 
   -- the slots went behind the others, the outcome's with nothing in it
-  pub gather-got : (slot : ℕ) (outcome : ℕ × Outcome J T) (last : Place J T) → slot ≡ outcome_slot old.0.out.capacity old.0.out.got → length old.0.out.sent ≤ old.0.out.got + old.0.out.capacity
-      → slice_get told.seen old.0.out.got ≡ Some outcome
-      → last ≡ (with_got old.0 told.seen (old.0.out.got + 1), (old.1 ++ (order_slot old.0.out.capacity old.0.out.got, Empty) ∷ []) ++ (slot, Empty) ∷ [])
-      → IsSender last × SeesOutcomes fits old.0.out last.0.out.seen × (last.0 ≡ with_got old.0 last.0.out.seen (old.0.out.got + 1)) × (slice_get last.0.out.seen old.0.out.got ≡ Some outcome)
-  gather-got slot outcome last at room is_outcome after = (
-    IsSender-got old last told.seen slot is room at after,
-    subst (λ (m : Place J T). SeesOutcomes fits old.0.out m.0.out.seen) (sym after) told.sees,
-    subst (λ (m : Place J T). m.0 ≡ with_got old.0 m.0.out.seen (old.0.out.got + 1)) (sym after) refl,
-    subst (λ (m : Place J T). slice_get m.0.out.seen old.0.out.got ≡ Some outcome) (sym after) is_outcome,
-  )
+  pub lift-keeps : (slot : ℕ) (last : Place J T) → slot ≡ outcome_slot old.0.out.capacity old.0.out.got → length old.0.out.sent ≤ old.0.out.got + old.0.out.capacity
+      → last ≡ (with_got old.0 old.0.out.seen (old.0.out.got + 1), (old.1 ++ (order_slot old.0.out.capacity old.0.out.got, Empty) ∷ []) ++ (slot, Empty) ∷ [])
+      → IsSender last
+  lift-keeps slot last at room after = IsSender-got old last old.0.out.seen slot is room at after

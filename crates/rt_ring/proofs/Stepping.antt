@@ -39,14 +39,14 @@ module _ {J T : Type 0} (fits : Order J → Outcome J T → Type 0) (ready : Ord
     pub accept-word : get_or s.words 0 0 ≡ r.link.base + length r.link.sent + gate_bit r.link.shut
     accept-word = ap (λ (words : List ℕ). get_or words 0 0) r.words
 
-    pub return-word : get_or s.words 1 0 ≡ r.link.base + length r.link.given
-    return-word = ap (λ (words : List ℕ). get_or words 1 0) r.words
+    pub return-word : get_or s.words 16 0 ≡ r.link.base + length r.link.given
+    return-word = ap (λ (words : List ℕ). get_or words 16 0) r.words
 
     pub accept-same : set s.words 0 (get_or s.words 0 0) ≡ s.words
     accept-same = ap (λ (words : List ℕ). set words 0 (get_or words 0 0)) r.words ∙ sym r.words
 
-    pub return-same : set s.words 1 (get_or s.words 1 0) ≡ s.words
-    return-same = ap (λ (words : List ℕ). set words 1 (get_or words 1 0)) r.words ∙ sym r.words
+    pub return-same : set s.words 16 (get_or s.words 16 0) ≡ s.words
+    return-same = ap (λ (words : List ℕ). set words 16 (get_or words 16 0)) r.words ∙ sym r.words
 
     module _ (word seat : ℕ) (view : Known J T) (same : set s.words word (get_or s.words word 0) ≡ s.words) (at : get_elem? s.views seat ≡ some view) where
       abbrev now_knows : Known J T → State (Slot J T) (Known J T)

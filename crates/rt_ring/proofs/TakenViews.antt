@@ -1,4 +1,4 @@
--- What the two seats know after a look or a shut.
+-- What the two seats know after a look, after an order was lifted, and after a shut.
 use Rattle.std.proofs.Common.{◌+◌, ◌≤◌, true, length, refl, ap}
 use Rattle.rt_link.specs.declared.ends.Outward.{Outward}
 use Rattle.rt_link.specs.declared.ends.Inward.{Inward}
@@ -16,12 +16,12 @@ module _ {J T : Type 0} (link : Whole J T) (inward : Inward J T) (k : KnowsInwar
     final = λ _. refl;
   }
 
-  pub KnowsInward-taken : link.taken + 1 ≤ length link.sent → KnowsInward (record link { taken = link.taken + 1 }) (record inward { seen = link.sent; taken = inward.taken + 1 })
+  pub KnowsInward-taken : link.taken + 1 ≤ length inward.seen → KnowsInward (record link { taken = link.taken + 1 }) (record inward { taken = inward.taken + 1 })
   KnowsInward-taken within = record {
-    knows = ap (λ (i : Inward J T). record i { seen = link.sent; taken = i.taken + 1 }) k.knows;
-    sees = IsPrefix-self link.sent;
+    knows = ap (λ (i : Inward J T). record i { seen = inward.seen; taken = i.taken + 1 }) k.knows;
+    sees = k.sees;
     taken_seen = within;
-    final = λ _. refl;
+    final = k.final;
   }
 
   pub KnowsInward-shut : link.taken ≤ length link.sent → KnowsInward (record link { shut = true }) (record inward { seen = link.sent; shut = true })

@@ -1,5 +1,5 @@
 -- The rule of the table, which holds between any two steps of its seats.
-use Rattle.std.specs.Prelude.{◌≡◌, ℕ, ◌+◌, ◌^◌, Bool, true, false, List, [], ◌∷◌, length}
+use Rattle.std.specs.Prelude.{◌≡◌, ℕ, ◌+◌, ◌^◌, Bool, true, false, List, ◌∷◌, ◌++◌, length, replicate}
 use Rattle.atomic_table.specs.Table.{State}
 use Rattle.rt_ids.specs.declared.order.Order.{Order}
 use Rattle.rt_ids.specs.declared.order.Outcome.{Outcome}
@@ -16,10 +16,14 @@ abbrev pub gate_bit : Bool → ℕ
 gate_bit true = 2 ^ 63
 gate_bit false = 0
 
+-- the accept word and the return word, each with 15 words of 0 behind it
+abbrev pub two_words : ℕ → ℕ → List ℕ
+two_words accept return = accept ∷ (replicate 15 0 ++ return ∷ replicate 15 0)
+
 module _ {J T : Type 0} where
   -- the accept word counts what was sent, and has the gate; the return word counts what was given
   abbrev pub words_of : Whole J T → List ℕ
-  words_of link = (link.base + length link.sent + gate_bit link.shut) ∷ (link.base + length link.given) ∷ []
+  words_of link = two_words (link.base + length link.sent + gate_bit link.shut) (link.base + length link.given)
 
   -- the terms of a link
   abbrev pub terms_of : Whole J T → Terms

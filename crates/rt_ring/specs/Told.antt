@@ -36,17 +36,20 @@ module _ {J T : Type 0} where
     pub room : length seen ≤ length inward.given + inward.capacity
     pub ready_orders : AreReady ready seen
 
-  -- look: all orders so far were seen, and the slots of the next one were taken
+  -- look: all orders so far were seen
   pub record Looks (ready : Order J → Type 0) (old : Place J T) (found : ℕ) (new : Place J T) : Type 0 where
     pub seen : List (Order J)
     pub sees : SeesOrders ready old.0.inward seen
     pub found_is : found ≡ old.0.inward.base + length seen + gate_bit old.0.inward.shut
-    pub one : old.0.inward.taken < length seen
-        → new ≡ (
-          with_taken old.0 seen (old.0.inward.taken + 1),
-          (outcome_slot old.0.inward.capacity old.0.inward.taken, Empty) ∷ (order_slot old.0.inward.capacity old.0.inward.taken, order_at seen old.0.inward.taken) ∷ old.1,
-        )
-    pub none : length seen ≡ old.0.inward.taken → new ≡ (with_taken old.0 seen old.0.inward.taken, old.1)
+    pub saw : new ≡ (with_taken old.0 seen old.0.inward.taken, old.1)
+
+  -- lift an order: of the orders that were seen, the slots of the next one were taken
+  pub record LiftsOrder (ready : Order J → Type 0) (old : Place J T) (found : ℕ) (new : Place J T) : Type 0 where
+    pub sees : SeesOrders ready old.0.inward old.0.inward.seen
+    pub lifted : new ≡ (
+      with_taken old.0 old.0.inward.seen (old.0.inward.taken + 1),
+      (outcome_slot old.0.inward.capacity old.0.inward.taken, Empty) ∷ (order_slot old.0.inward.capacity old.0.inward.taken, order_at old.0.inward.seen old.0.inward.taken) ∷ old.1,
+    )
 
   -- shut: all orders so far were seen, and no other will come
   pub record Closes (ready : Order J → Type 0) (old : Place J T) (found : ℕ) (new : Place J T) : Type 0 where
@@ -68,17 +71,20 @@ module _ {J T : Type 0} where
     pub few : length seen ≤ length out.sent
     pub named : AreOf fits out.base out.sent seen
 
-  -- gather: all outcomes so far were seen, and the slots of the next one were taken
+  -- gather: all outcomes so far were seen
   pub record Gathers (fits : Order J → Outcome J T → Type 0) (old : Place J T) (found : ℕ) (new : Place J T) : Type 0 where
     pub seen : List (ℕ × Outcome J T)
     pub sees : SeesOutcomes fits old.0.out seen
     pub found_is : found ≡ old.0.out.base + length seen
-    pub one : old.0.out.got < length seen
-        → new ≡ (
-          with_got old.0 seen (old.0.out.got + 1),
-          (order_slot old.0.out.capacity old.0.out.got, Empty) ∷ (outcome_slot old.0.out.capacity old.0.out.got, outcome_at seen old.0.out.got) ∷ old.1,
-        )
-    pub none : length seen ≡ old.0.out.got → new ≡ (with_got old.0 seen old.0.out.got, old.1)
+    pub saw : new ≡ (with_got old.0 seen old.0.out.got, old.1)
+
+  -- lift an outcome: of the outcomes that were seen, the slots of the next one were taken
+  pub record LiftsOutcome (fits : Order J → Outcome J T → Type 0) (old : Place J T) (found : ℕ) (new : Place J T) : Type 0 where
+    pub sees : SeesOutcomes fits old.0.out old.0.out.seen
+    pub lifted : new ≡ (
+      with_got old.0 old.0.out.seen (old.0.out.got + 1),
+      (order_slot old.0.out.capacity old.0.out.got, Empty) ∷ (outcome_slot old.0.out.capacity old.0.out.got, outcome_at old.0.out.seen old.0.out.got) ∷ old.1,
+    )
 
   -- the first gather: a seat with no slot has taken all order slots
   abbrev pub Stocks : Place J T → ℕ → Place J T → Type 0

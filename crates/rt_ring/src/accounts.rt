@@ -47,6 +47,7 @@ pub fn reunite<J: Task>(out: RingOut<J>, inward: RingIn<J>) -> Accounts
         capacity: _,
         count,
         collected,
+        seen: _,
         credited: _,
         next_order: _,
         next_outcome: _,
@@ -60,8 +61,8 @@ pub fn reunite<J: Task>(out: RingOut<J>, inward: RingIn<J>) -> Accounts
         capacity: _,
         taken,
         given,
-        gate,
-        last,
+        shut,
+        seen: last,
         next_order: _,
         next_outcome: _,
     } = inward;
@@ -76,6 +77,6 @@ pub fn reunite<J: Task>(out: RingOut<J>, inward: RingIn<J>) -> Accounts
         taken,
         given,
         collected,
-        shut: if gate == 0 { None } else { Some(last) },
+        shut: if shut { Some(last) } else { None },
     }
 }

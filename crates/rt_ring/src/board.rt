@@ -8,6 +8,8 @@
 //! **The return word.** The number before the first order, and as many more as outcomes were given. Only the receiver
 //! changes it, and it only rises.
 //!
+//! An end loads the other's word to see more, and its own to take slots out of the table: a slot goes out in a step alone.
+//!
 //! **What can't be at once.** The gate is shut and an order is accepted. The low bits of the accept word reach the top
 //! bit: the sender stops at the greatest number. The return word is above the low bits of the accept word, or behind
 //! them by more than the capacity and what was not got yet. A slot is out with both ends.
@@ -24,7 +26,12 @@ use std::sync::atomic::AtomicU64;
 pub(crate) const ACCEPT: usize = 0;
 
 /// The return word.
-pub(crate) const RETURN: usize = 1;
+pub(crate) const RETURN: usize = 16;
+
+/// Each of the two words stands at the head of 128 bytes, of which the rest is 0 and never changes.
+///
+/// Each has cache lines of its own, also where a processor fetches lines by pairs: a word that one end changes doesn't take the other's away.
+pub(crate) const WORDS: usize = 32;
 
 /// The top bit of the accept word.
 pub(crate) const GATE: u64 = 1 << 63;

@@ -6,7 +6,7 @@ ghost use Rattle.rt_ring.specs.Carried.{out_slots};
 ghost use Rattle.rt_ring.specs.Views.{first_view, out_part, inward_part};
 ghost use Rattle.rt_ring.specs.Slots.{Empty};
 
-use crate::board::{Board, Label, Place, RETURN, Slot, Terms};
+use crate::board::{ACCEPT, Board, Label, Place, RETURN, Slot, Terms, WORDS};
 use crate::plays::{Halves, Stock};
 use crate::ring_in::RingIn;
 use crate::ring_out::RingOut;
@@ -92,6 +92,7 @@ impl RingLink {
             capacity,
             count: 0,
             collected: 0,
+            seen: accepted,
             credited: 0,
             next_order: 0,
             next_outcome: 0,
@@ -105,8 +106,8 @@ impl RingLink {
             capacity,
             taken: 0,
             given: 0,
-            gate: 0,
-            last: 0,
+            shut: false,
+            seen: accepted,
             next_order: 0,
             next_outcome: 0,
         };
@@ -117,12 +118,14 @@ impl RingLink {
 // The table and its two seats, the sender's with all order slots.
 fn lay<J: Task>(alloc: Global, terms: &Terms) -> Result<(Board<J>, Place<J>, Place<J>), AllocError>
     requires { (terms.now.base < 2 ^ 63) × (terms.now.capacity < 2 ^ 16) }
-    ensures table { IfOk result (λ laid. (laid.1.table_id ≡ laid.0.shared.table_id) × (laid.2.table_id ≡ laid.0.shared.table_id) × (laid.0.shared.table_id.words ≡ 2)) }
+    ensures table { IfOk result (λ laid. (laid.1.table_id ≡ laid.0.shared.table_id) × (laid.2.table_id ≡ laid.0.shared.table_id) × (laid.0.shared.table_id.words ≡ 32)) }
     ensures sender { IfOk result (λ laid. laid.1.me ≡ (record (out_part (first_view terms.now)) { fresh = false }, out_slots terms.now.capacity 0 terms.now.capacity)) }
     ensures receiver { IfOk result (λ laid. laid.2.me ≡ (record (inward_part (first_view terms.now)) { fresh = false }, [])) }
 {
     let slots = empty_slots::<J>(alloc, 2 * terms.capacity as usize)?;
-    let words = [terms.base, terms.base];
+    let mut words = [0; WORDS];
+    words[ACCEPT] = terms.base;
+    words[RETURN] = terms.base;
     let Ok((table, mut seat)) = Table::new(alloc, &words, slots, terms) else {
         return Err(AllocError);
     };

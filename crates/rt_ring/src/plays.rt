@@ -31,6 +31,16 @@ impl<J: Task> Play<Slot<J, J::Out>, Known<J, J::Out>> for Look {
     ghost then = { λ _. Looks (HasReadyJob J.meaning) };
 }
 
+/// The receiver's load of the return word, which it alone changes, for the slots of the next order that it saw.
+pub(crate) struct LiftOrder;
+
+impl<J: Task> Play<Slot<J, J::Out>, Known<J, J::Out>> for LiftOrder {
+    ghost use Rattle.rt_jobs.specs.Ready.{HasReadyJob};
+    ghost use Rattle.rt_ring.specs.Told.{LiftsOrder};
+
+    ghost then = { λ _. LiftsOrder (HasReadyJob J.meaning) };
+}
+
 /// The receiver's setting of the top bit of the accept word.
 pub(crate) struct Shut;
 
@@ -56,6 +66,16 @@ impl<J: Task> Play<Slot<J, J::Out>, Known<J, J::Out>> for Gather {
     ghost use Rattle.rt_ring.specs.Told.{Gathers};
 
     ghost then = { λ _. Gathers (Fits J.meaning) };
+}
+
+/// The sender's load of the accept word, whose count it alone changes, for the slots of the next outcome that it saw.
+pub(crate) struct LiftOutcome;
+
+impl<J: Task> Play<Slot<J, J::Out>, Known<J, J::Out>> for LiftOutcome {
+    ghost use Rattle.rt_link.specs.Fits.{Fits};
+    ghost use Rattle.rt_ring.specs.Told.{LiftsOutcome};
+
+    ghost then = { λ _. LiftsOutcome (Fits J.meaning) };
 }
 
 /// The load of the return word at the opening, which takes all order slots.

@@ -1,11 +1,11 @@
 //! The receiver's end of a ring.
 
-ghost use Rattle.std.specs.Prelude.{◌≡◌, ◌+◌, ◌-◌, ◌%◌, ◌^◌, ◌<◌, ◌≤◌, ℕ, length, [], ◌∷◌, ◌++◌};
+ghost use Rattle.std.specs.Prelude.{◌≡◌, ◌+◌, ◌-◌, ◌%◌, ◌^◌, ◌<◌, ◌≤◌, ℕ, true, length, [], ◌∷◌, ◌++◌};
 ghost use Rattle.rt_link.specs.Calls.{MayGive};
 ghost use Rattle.rt_link.specs.Fits.{Fits};
 
-use crate::board::{ACCEPT, Board, GATE, Place};
-use crate::receiver::{close, give, look};
+use crate::board::{ACCEPT, Board, Place};
+use crate::receiver::{close, give, lift_order, seen_orders};
 use crate::turns::following;
 use rt_ids::{ActorNo, CoreNo, Envelope, JobId, Outcome};
 use rt_jobs::Task;
@@ -37,10 +37,10 @@ pub struct RingIn<J: Task> {
     pub(crate) taken: u64,
     /// How many outcomes were given.
     pub(crate) given: u64,
-    /// The top bit of the accept word, once the gate is shut; 0 before.
-    pub(crate) gate: u64,
-    /// The number of the last accepted order, once the gate is shut.
-    pub(crate) last: u64,
+    /// Whether the gate is shut.
+    pub(crate) shut: bool,
+    /// The number of the last order that this end saw; at first the number before the first.
+    pub(crate) seen: u64,
     /// The place of the next order.
     pub(crate) next_order: u64,
     /// The place of the next outcome.
@@ -57,14 +57,24 @@ impl<J: Task> Model for RingIn<J> {
 
     ghost view = { λ s. record { link = name_of s.seat.table_id; inward = s.seat.me.0.inward } };
 
-    ghost invariant = { λ s. IsInward s.seat.table_id (arc_value s.board).shared.table_id s.seat.me s.from s.to s.base s.capacity s.taken s.given s.gate s.last s.next_order s.next_outcome };
+    ghost invariant = { λ s. IsInward s.seat.table_id (arc_value s.board).shared.table_id s.seat.me s.from s.to s.base s.capacity s.taken s.given s.shut s.seen s.next_order s.next_outcome };
 }
 
 impl<J: Task> RingIn<J> {
-    /// Whether an order waits that wasn't taken. No clause says that the answer is right: who needs to know takes.
-    pub fn shows(&self) -> bool {
+    /// Whether an order waits that wasn't taken.
+    ///
+    /// Of orders that this end hasn't seen no clause says that the answer is right: who needs to know takes.
+    pub fn shows(&self) -> bool
+        ensures seen { self.now.inward.taken < length self.now.inward.seen → result ≡ true }
+        ensures shut { self.now.inward.shut ≡ true → result ≡ true → self.now.inward.taken < length self.now.inward.seen }
+        ensures room { result ≡ true → self.now.inward.taken < length self.now.inward.given + self.now.inward.capacity }
+    {
+        let taken = self.base + self.taken;
+        if self.seen != taken || self.shut {
+            return self.seen != taken;
+        }
         // step: peek. Neither end knows more by it.
-        self.board.shared.peek(ACCEPT) != self.base + self.taken + self.gate
+        self.taken - self.given < self.capacity && self.board.shared.peek(ACCEPT) != taken
     }
 }
 
@@ -74,9 +84,16 @@ impl<J: Task> InEnd<J> for RingIn<J> {
     ghost inward = { λ s. s.inward };
 
     fn take(&mut self) -> Option<Envelope<J>> {
+        let before = self.seen;
+        let taken = self.base + self.taken;
+        let seen = seen_orders(&self.board, &mut self.seat, before, taken, self.shut);
+        self.seen = seen;
+        if seen == taken {
+            return None;
+        }
         let slot = 2 * self.next_order as usize;
-        let taken = self.base + self.taken + self.gate;
-        let order = look(&self.board, &mut self.seat, slot, taken)?;
+        let lone = before == taken && seen - taken == 1;
+        let order = lift_order(&self.board, &mut self.seat, slot, lone);
         self.taken += 1;
         self.next_order = following(self.next_order, self.capacity);
         Some(Envelope {
@@ -102,20 +119,16 @@ impl<J: Task> InEnd<J> for RingIn<J> {
     }
 
     fn shut(&mut self) -> u64 {
-        if self.gate != 0 {
-            return self.last;
+        if self.shut {
+            return self.seen;
         }
         let last = close(&self.board, &mut self.seat);
-        self.gate = GATE;
-        self.last = last;
+        self.shut = true;
+        self.seen = last;
         last
     }
 
     fn final_count(&self) -> Option<u64> {
-        if self.gate == 0 {
-            None
-        } else {
-            Some(self.last)
-        }
+        if self.shut { Some(self.seen) } else { None }
     }
 }

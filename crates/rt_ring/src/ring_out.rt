@@ -1,11 +1,11 @@
 //! The sender's end of a ring.
 
-ghost use Rattle.std.specs.Prelude.{◌≡◌, ◌+◌, ◌-◌, ◌%◌, ◌^◌, ◌<◌, ◌≤◌, ℕ, length};
+ghost use Rattle.std.specs.Prelude.{◌≡◌, ◌+◌, ◌-◌, ◌%◌, ◌^◌, ◌<◌, ◌≤◌, ℕ, true, length};
 ghost use Rattle.rt_jobs.specs.Ready.{HasReadyJob};
 ghost use Rattle.rt_link.specs.Calls.{Sends};
 
 use crate::board::{Board, Place, RETURN};
-use crate::sender::{gather, is_open, offer};
+use crate::sender::{is_open, lift_outcome, offer, seen_outcomes};
 use crate::turns::following;
 use rt_ids::{Order, Outcome, SendError};
 use rt_jobs::Task;
@@ -37,6 +37,8 @@ pub struct RingOut<J: Task> {
     pub(crate) count: u64,
     /// How many outcomes were collected.
     pub(crate) collected: u64,
+    /// The return word as this end saw it last; at first the number before the first order.
+    pub(crate) seen: u64,
     pub(crate) credited: u64,
     /// The place of the next order.
     pub(crate) next_order: u64,
@@ -54,14 +56,23 @@ impl<J: Task> Model for RingOut<J> {
 
     ghost view = { λ s. record { link = name_of s.seat.table_id; out = s.seat.me.0.out; credited = s.credited } };
 
-    ghost invariant = { λ s. IsOut s.seat.table_id (arc_value s.board).shared.table_id s.seat.me s.base s.capacity s.count s.collected s.credited s.next_order s.next_outcome };
+    ghost invariant = { λ s. IsOut s.seat.table_id (arc_value s.board).shared.table_id s.seat.me s.base s.capacity s.count s.collected s.seen s.credited s.next_order s.next_outcome };
 }
 
 impl<J: Task> RingOut<J> {
-    /// Whether an outcome waits that wasn't collected. No clause says that the answer is right: who needs to know collects.
-    pub fn shows(&self) -> bool {
+    /// Whether an outcome waits that wasn't collected.
+    ///
+    /// Of outcomes that this end hasn't seen no clause says that the answer is right: who needs to know collects.
+    pub fn shows(&self) -> bool
+        ensures seen { self.now.out.got < length self.now.out.seen → result ≡ true }
+        ensures sent { result ≡ true → self.now.out.got < length self.now.out.sent }
+    {
+        let got = self.base + self.collected;
+        if self.seen != got {
+            return true;
+        }
         // step: peek. Neither end knows more by it.
-        self.board.shared.peek(RETURN) != self.base + self.collected
+        self.collected < self.count && self.board.shared.peek(RETURN) != got
     }
 }
 
@@ -101,9 +112,16 @@ impl<J: Task> OutEnd<J> for RingOut<J> {
     }
 
     fn collect(&mut self) -> Option<(u64, Outcome<J, J::Out>)> {
-        let slot = 2 * self.next_outcome as usize + 1;
+        let before = self.seen;
         let got = self.base + self.collected;
-        let found = gather(&self.board, &mut self.seat, slot, got)?;
+        let seen = seen_outcomes(&self.board, &mut self.seat, before, got);
+        self.seen = seen;
+        if seen == got {
+            return None;
+        }
+        let slot = 2 * self.next_outcome as usize + 1;
+        let lone = before == got && seen - got == 1;
+        let found = lift_outcome(&self.board, &mut self.seat, slot, lone);
         self.collected += 1;
         self.next_outcome = following(self.next_outcome, self.capacity);
         Some(found)

@@ -131,6 +131,21 @@ pub const SEEN: [(Step, Told); 15] = [
     (Step::Redeem, Told::Finished(3, 6)),
 ];
 
+/// An end that saw two goes on with the second, and then sees what came meanwhile.
+pub const SEEN_AHEAD: [(Step, Told); 11] = [
+    (Step::Send(4), Told::Sent(1)),
+    (Step::Send(5), Told::Sent(2)),
+    (Step::Serve, Told::Taken(1)),
+    (Step::Send(6), Told::Sent(3)),
+    (Step::Serve, Told::Taken(2)),
+    (Step::Redeem, Told::Finished(1, 4)),
+    (Step::Serve, Told::Taken(3)),
+    (Step::Serve, Told::Nothing),
+    (Step::Redeem, Told::Finished(2, 5)),
+    (Step::Redeem, Told::Finished(3, 6)),
+    (Step::Redeem, Told::Nothing),
+];
+
 /// The whole life of a link with two places.
 pub const WHOLE_LIFE: [(Step, Told); 17] = [
     (Step::Send(4), Told::Sent(1)),

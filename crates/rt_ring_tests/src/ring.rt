@@ -3,8 +3,8 @@
 ghost use Rattle.std.specs.Prelude.{◌≡◌, ◌^◌, ◌<◌};
 
 use crate::life::{
-    COMMANDS, LAST_NUMBERS, Link, NO_PLACE, ONE_PLACE, Ring, SEEN, Step, WHOLE_LIFE, first_wrong,
-    runs_laps,
+    COMMANDS, LAST_NUMBERS, Link, NO_PLACE, ONE_PLACE, Ring, SEEN, SEEN_AHEAD, Step, WHOLE_LIFE,
+    first_wrong, runs_laps,
 };
 use crate::numbers::{FROM, Number, TO, Told};
 use rt_ids::{Order, QueueNo};
@@ -68,6 +68,7 @@ fn lives_right(alloc: Global) -> bool {
         && rows_right(alloc, 3, 7, &COMMANDS)
         && rows_right(alloc, 4, LAST_NUMBER - 1, &LAST_NUMBERS)
         && rows_right(alloc, 0, 0, &NO_PLACE)
+        && rows_right(alloc, 3, 0, &SEEN_AHEAD)
 }
 
 #[test]

@@ -1,4 +1,4 @@
-//! What the ends of a ring show, with both ends on one thread. No clause says so.
+//! What the ends of a ring show of values that they haven't seen, with both ends on one thread. No clause says so.
 
 use crate::life::Ring;
 use crate::numbers::{FROM, Number, TO, redeem, send, serve};
@@ -19,10 +19,30 @@ fn shows_its_way(ring: Ring) -> bool {
     empty && sent && given && !ring.inward.shows() && !ring.out.shows()
 }
 
-fn ends_show(alloc: Global) -> bool {
+/// Whether the ends show the second of two jobs, and nothing between.
+fn shows_the_second(ring: Ring) -> bool {
+    let mut ring = ring;
+    send(&mut ring.out, 5);
+    send(&mut ring.out, 6);
+    serve(&mut ring.inward);
+    let first = ring.inward.shows() && ring.out.shows();
+    redeem(&mut ring.out);
+    let between = ring.inward.shows() && !ring.out.shows();
+    serve(&mut ring.inward);
+    first && between && !ring.inward.shows() && ring.out.shows()
+}
+
+fn opened(alloc: Global) -> Option<Ring> {
     match RingLink::open_after::<Number>(alloc, FROM, TO, 2, 7) {
-        Ok((out, inward)) => shows_its_way(Ring { out, inward }),
-        Err(_) => false,
+        Ok((out, inward)) => Some(Ring { out, inward }),
+        Err(_) => None,
+    }
+}
+
+fn ends_show(alloc: Global) -> bool {
+    match (opened(alloc), opened(alloc)) {
+        (Some(one), Some(other)) => shows_its_way(one) && shows_the_second(other),
+        _ => false,
     }
 }
 

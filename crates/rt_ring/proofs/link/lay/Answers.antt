@@ -1,15 +1,15 @@
-use Rattle.std.proofs.Common.{rules, ◌*◌, ◌∙◌, ap, sym, subst, arith, [], ◌∷◌}
+use Rattle.std.proofs.Common.{rules, ◌*◌, ◌∙◌, ap, sym, subst, arith}
 use Rattle.atomic_table.specs.Table.{opening}
 use Rattle.rt_jobs.specs.Ready.{HasReadyJob}
 use Rattle.rt_link.specs.Fits.{Fits}
-use Rattle.rt_ring.specs.Rule.{IsRing}
+use Rattle.rt_ring.specs.Rule.{IsRing, two_words}
 use Rattle.rt_ring.specs.Views.{first_view}
 use Rattle.rt_ring.proofs.Opening.{starts, stocks, parts}
 use Rattle.rt_ring.proofs.link.lay.Goals as goal
 
 pub new-requires : goal.new-requires
 new-requires g c = let terms = c.args.terms.now in
-    subst (λ slots. IsRing (Fits g.J.Task.meaning) (HasReadyJob g.J.Task.meaning) terms (opening (terms.base ∷ terms.base ∷ []) slots (first_view terms))) (sym c.in_ok-slots.ensures)
+    subst (λ slots. IsRing (Fits g.J.Task.meaning) (HasReadyJob g.J.Task.meaning) terms (opening (two_words terms.base terms.base) slots (first_view terms))) (sym c.in_ok-slots.ensures)
     (starts (Fits g.J.Task.meaning) (HasReadyJob g.J.Task.meaning) terms (2 * terms.capacity) (omega arith) c.requires.0)
 
 pub load-none_given-requires : goal.load-none_given-requires
