@@ -9,9 +9,8 @@ use Rattle.rt_ids.specs.Assembly.{IsPrefix}
 use Rattle.rt_link.specs.Ends.{AreOf, SoundOut}
 use Rattle.rt_link.proofs.EndFacts.{SoundOut-credit}
 use Rattle.rt_link.proofs.Lists.{slice_get-starts}
-use Rattle.rt_desk.specs.Held.{at, Removes}
+use Rattle.rt_desk.specs.Held.{at, Removes, Becomes}
 use Rattle.rt_desk.specs.Lanes.{Lane, is_collected, IsSent, IsGot, FitsSent, Stands, IsLaneOf}
-use Rattle.rt_desk.specs.Steps.{Becomes}
 use Rattle.rt_desk.specs.declared.entry.Entry.{Entry}
 use Rattle.rt_desk.proofs.Taken.{taken-get, AreOf-taken}
 use Rattle.rt_desk.specs.declared.entry.Entry.TheVariants.{Pending, Detached, Collected}
@@ -60,16 +59,16 @@ module _ {J T : Type 0} (fits : Order J → Outcome J T → Type 0) (lane : Lane
     named = l.named;
     standing = λ n. λ entry. λ there. elim (eqb_tells n number) [
       | inl same ↦
-          let entry_is : Detached ≡ entry = let e : at new.entries n ≡ Some Detached = ap (at new.entries) same.1 ∙ becomes.adds.here in cc in
-          subst (Stands out n) entry_is (l.standing n Pending (ap (at lane.entries) same.1 ∙ becomes.removes.was))
-      | inr other ↦ l.standing n entry (sym (becomes.removes.others n other.1) ∙ (sym (becomes.adds.others n other.1) ∙ there))
+          let entry_is : Detached ≡ entry = let e : at new.entries n ≡ Some Detached = ap (at new.entries) same.1 ∙ becomes.here in cc in
+          subst (Stands out n) entry_is (l.standing n Pending (ap (at lane.entries) same.1 ∙ becomes.was))
+      | inr other ↦ l.standing n entry (sym (becomes.others n other.1) ∙ there)
     ];
     gone = λ n. λ sent. λ none. elim (eqb_tells n number) [
-      | inl same ↦ absurd (let e : at new.entries n ≡ Some Detached = ap (at new.entries) same.1 ∙ becomes.adds.here in cc)
-      | inr other ↦ l.gone n sent (sym (becomes.removes.others n other.1) ∙ (sym (becomes.adds.others n other.1) ∙ none))
+      | inl same ↦ absurd (let e : at new.entries n ≡ Some Detached = ap (at new.entries) same.1 ∙ becomes.here in cc)
+      | inr other ↦ l.gone n sent (sym (becomes.others n other.1) ∙ none)
     ];
-    outstanding = omega (arith, l.outstanding, becomes.removes.tallies (λ value. true), becomes.adds.tallies (λ value. true));
-    kept = omega (arith, l.kept, becomes.removes.tallies is_collected, becomes.adds.tallies is_collected);
+    outstanding = omega (arith, l.outstanding, becomes.tallies (λ value. true));
+    kept = omega (arith, l.kept, becomes.tallies is_collected);
   }
 
   -- a collection that finds nothing may still see more
@@ -149,16 +148,16 @@ module _ {J T : Type 0} (fits : Order J → Outcome J T → Type 0) (lane : Lane
         named = AreOf-taken fits out.base out.sent seen (out.got + 1) named;
         standing = λ n. λ entry. λ there. elim (eqb_tells n number) [
           | inl same ↦
-              let entry_is : Collected outcome ≡ entry = let e : at new.entries n ≡ Some (Collected outcome) = ap (at new.entries) same.1 ∙ becomes.adds.here in cc in
+              let entry_is : Collected outcome ≡ entry = let e : at new.entries n ≡ Some (Collected outcome) = ap (at new.entries) same.1 ∙ becomes.here in cc in
               subst (Stands later n) entry_is (subst (λ m. Stands later m (Collected outcome)) (sym same.1) (next_sent, next_got))
-          | inr other ↦ others_stand n entry other.1 (l.standing n entry (sym (becomes.removes.others n other.1) ∙ (sym (becomes.adds.others n other.1) ∙ there)))
+          | inr other ↦ others_stand n entry other.1 (l.standing n entry (sym (becomes.others n other.1) ∙ there))
         ];
         gone = λ n. λ sent. λ none. elim (eqb_tells n number) [
-          | inl same ↦ absurd (let e : at new.entries n ≡ Some (Collected outcome) = ap (at new.entries) same.1 ∙ becomes.adds.here in cc)
-          | inr other ↦ let had = l.gone n sent (sym (becomes.removes.others n other.1) ∙ (sym (becomes.adds.others n other.1) ∙ none)) in (had.0, IsGot-more (out.got + 1) n had.0 (omega arith) had.1)
+          | inl same ↦ absurd (let e : at new.entries n ≡ Some (Collected outcome) = ap (at new.entries) same.1 ∙ becomes.here in cc)
+          | inr other ↦ let had = l.gone n sent (sym (becomes.others n other.1) ∙ none) in (had.0, IsGot-more (out.got + 1) n had.0 (omega arith) had.1)
         ];
-        outstanding = omega (arith, l.outstanding, becomes.removes.tallies (λ value. true), becomes.adds.tallies (λ value. true));
-        kept = omega (arith, l.kept, becomes.removes.tallies is_collected, becomes.adds.tallies is_collected);
+        outstanding = omega (arith, l.outstanding, becomes.tallies (λ value. true));
+        kept = omega (arith, l.kept, becomes.tallies is_collected);
       }
 
       pub IsLaneOf-dropped : SoundOut later credited → credited < out.got + 1 → (new : Lane J T) → Removes lane.entries new.entries number Detached

@@ -41,15 +41,15 @@ module _ {J T : Type 0} where
   -- what becomes of the other entries, of the one whose outcome is taken in, and of those that are detached
   module _ (mid new : List (ℕ × Entry J T)) (number : ℕ) (outcome : Outcome J T) (between after : ℕ) where
     Keeps-others : Keeps mid new number outcome between after → (n : ℕ) → n ≢ number → at new n ≡ at mid n
-    Keeps-others (inl kept) n other = kept.0.adds.others n other ∙ kept.0.removes.others n other
+    Keeps-others (inl kept) n other = kept.0.others n other
     Keeps-others (inr dropped) n other = dropped.0.others n other
 
     Keeps-settles : Keeps mid new number outcome between after → Settles (at mid number) outcome (at new number)
-    Keeps-settles (inl kept) = subst (λ before. Settles before outcome (at new number)) (sym kept.0.removes.was) kept.0.adds.here
+    Keeps-settles (inl kept) = subst (λ before. Settles before outcome (at new number)) (sym kept.0.was) kept.0.here
     Keeps-settles (inr dropped) = subst (λ before. Settles before outcome (at new number)) (sym dropped.0.was) dropped.0.gone
 
     Keeps-freed : Keeps mid new number outcome between after → after + tally new is_detached ≡ between + tally mid is_detached
-    Keeps-freed (inl kept) = omega (arith, kept.1, kept.0.removes.tallies is_detached, kept.0.adds.tallies is_detached)
+    Keeps-freed (inl kept) = omega (arith, kept.1, kept.0.tallies is_detached)
     Keeps-freed (inr dropped) = omega (arith, dropped.1, dropped.0.tallies is_detached)
 
   -- nothing is collected yet

@@ -5,7 +5,7 @@ use Rattle.std.proofs.Math.Nat.{mul-add-mod_self_right, mul-add-div_right, mod-e
 use Rattle.std.proofs.lemmas.Nat.{div-add-mod', mod_below, pow_below, pow_pos}
 use Rattle.std.proofs.lemmas.List.{length-set, get_or_default, get_or-set_same, get_or-set_other}
 use Rattle.std.proofs.lemmas.Bool.Decides.{eqb_tells}
-use Rattle.rt_desk.specs.Held.{one, at, tally, Adds, Removes}
+use Rattle.rt_desk.specs.Held.{one, at, tally, Adds, Removes, Becomes}
 use Rattle.rt_desk.specs.Rows.{in_place, spread}
 use Rattle.rt_desk.proofs.Digits.{at-first, at-later, at-append_left, at-append_right, tally-append}
 
@@ -133,6 +133,15 @@ module _ {V : Type 0} (count : ℕ) (trees : List (List (ℕ × V))) (are : leng
     tallies = λ test. omega (arith, tally-from count trees 0 row new test low, removes.tallies test);
   }
 
+  -- or another in its place
+  pub Becomes-row : (before after : V) → Becomes tree new (n / count) before after → Becomes (spread count 0 trees) (spread count 0 later) n before after
+  Becomes-row before after becomes = record {
+    was = at-row count trees are some n ∙ becomes.was;
+    here = here-row ∙ becomes.here;
+    others = others-row becomes.others;
+    tallies = λ test. omega (arith, tally-from count trees 0 row new test low, becomes.tallies test);
+  }
+
 -- the same of a tree that was found by a count that is worth this one
 module _ {V : Type 0} (count : ℕ) (trees : List (List (ℕ × V))) (are : length trees ≡ count) (some : 0 < count) (n k : ℕ) (same : k ≡ count) where
   module _ (tree : List (ℕ × V)) (is : tree ≡ get_or trees (n % k) tree) where
@@ -151,6 +160,12 @@ module _ {V : Type 0} (count : ℕ) (trees : List (List (ℕ × V))) (are : leng
     Removes-tree new value removes =
         subst (λ j. Removes (spread count 0 trees) (spread count 0 (set trees (n % j) new)) n value) (sym same)
         (Removes-row count trees are some n new value (subst (λ t. Removes t new (n / count) value) is_row (subst (λ j. Removes tree new (n / j) value) same removes)))
+
+    pub Becomes-tree : (new : List (ℕ × V)) (before after : V) → Becomes tree new (n / k) before after
+        → Becomes (spread count 0 trees) (spread count 0 (set trees (n % k) new)) n before after
+    Becomes-tree new before after becomes =
+        subst (λ j. Becomes (spread count 0 trees) (spread count 0 (set trees (n % j) new)) n before after) (sym same)
+        (Becomes-row count trees are some n new before after (subst (λ t. Becomes t new (n / count) before after) is_row (subst (λ j. Becomes tree new (n / j) before after) same becomes)))
 
 -- one more tree with nothing in it
 pub spread-push : {V : Type 0} (count place : ℕ) (trees : List (List (ℕ × V))) → spread count place (trees ++ [] ∷ []) ≡ spread count place trees

@@ -60,3 +60,10 @@ module _ {V : Type 0} where
     pub gone : at new number ≡ None
     pub others : (n : ℕ) → n ≢ number → at new n ≡ at old n
     pub tallies : (test : V → Bool) → tally old test ≡ one (test value) + tally new test
+
+  -- the value at this number became another
+  pub record Becomes (old new : List (ℕ × V)) (number : ℕ) (before after : V) : Type 0 where
+    pub was : at old number ≡ Some before
+    pub here : at new number ≡ Some after
+    pub others : (n : ℕ) → n ≢ number → at new n ≡ at old n
+    pub tallies : (test : V → Bool) → one (test before) + tally new test ≡ one (test after) + tally old test

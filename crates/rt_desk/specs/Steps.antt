@@ -8,7 +8,7 @@ use Rattle.rt_ids.specs.declared.names.TicketError.TheVariants as refusal
 use Rattle.rt_link.specs.declared.ends.Outward.{Outward}
 use Rattle.rt_link.specs.Calls.{Collects}
 use Rattle.rt_ids.specs.Assembly.{IsPrefix}
-use Rattle.rt_desk.specs.Held.{at, tally, Adds, Removes}
+use Rattle.rt_desk.specs.Held.{at, tally, Adds, Removes, Becomes}
 use Rattle.rt_desk.specs.Lanes.{Lane, is_detached, IsGiven, IsGone}
 use Rattle.rt_desk.specs.declared.entry.Standing.{Standing}
 use Rattle.rt_desk.specs.declared.entry.Standing.TheVariants as standing
@@ -21,12 +21,6 @@ numbered (Ok name) = Ok name.number
 numbered (Err error) = Err error
 
 module _ {J T : Type 0} where
-  -- the entry of a number became another
-  pub record Becomes (old new : List (ℕ × Entry J T)) (number : ℕ) (before after : Entry J T) : Type 0 where
-    pub between : List (ℕ × Entry J T)
-    pub removes : Removes old between number before
-    pub adds : Adds between new number after
-
   -- The outcome of a submission that waits for it is kept; of one that is detached it is dropped, and the place of the link is free.
   abbrev pub Keeps : List (ℕ × Entry J T) → List (ℕ × Entry J T) → ℕ → Outcome J T → ℕ → ℕ → Type 0
   Keeps old new number outcome credited later =

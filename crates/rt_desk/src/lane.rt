@@ -83,13 +83,13 @@ impl<J: Task> Lane<J> {
         ensures rest { self.new ≡ record self.old { entries = self.new.entries } }
         ensures keeps { Keeps self.old.entries self.new.entries number outcome (O.credited end.old) (O.credited end.new) }
     {
-        let Some(entry) = self.shelf.pull(number) else {
+        let Some(before) = self.shelf.swap(number, Entry::Collected(outcome)) else {
             unreachable!()
         };
-        match entry {
-            Entry::Pending => self.shelf.put(number, Entry::Collected(outcome)),
+        match before {
+            Entry::Pending => {}
             Entry::Detached => {
-                drop(outcome);
+                drop(self.shelf.pull(number));
                 end.credit();
             }
             Entry::Collected(_) => unreachable!(),
@@ -218,8 +218,7 @@ impl<J: Task> Lane<J> {
         match self.standing(number) {
             Standing::Nothing | Standing::Detached => Err(TicketError::Gone),
             Standing::Pending => {
-                drop(self.shelf.pull(number));
-                self.shelf.put(number, Entry::Detached);
+                drop(self.shelf.swap(number, Entry::Detached));
                 Ok(())
             }
             Standing::Collected => {

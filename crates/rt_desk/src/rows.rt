@@ -4,7 +4,7 @@
 //! than trees, and a search makes a step or two. Whichever they are, it makes at most one for each digit.
 
 ghost use Rattle.std.specs.Prelude.{◌≡◌, ◌≤◌, ℕ, [], None, length, IfOk, IfSome, IfNone, option_copied};
-ghost use Rattle.rt_desk.specs.Held.{at, Adds, Removes};
+ghost use Rattle.rt_desk.specs.Held.{at, Adds, Removes, Becomes};
 ghost use Rattle.rt_desk.specs.Nodes.{IsLoose};
 
 use crate::trie::{Node, Trie};
@@ -73,5 +73,15 @@ impl<V: Drop> Rows<V> {
     {
         let count = 1u64 << self.digits;
         self.trees[(number % count) as usize].remove(number / count)
+    }
+
+    /// Puts a value in the place of the one at a number, which comes back. If the number isn't held, nothing changes.
+    pub(crate) fn swap(&mut self, number: u64, value: V) -> Option<V>
+        ensures none { IfNone result (at self.old number ≡ None) }
+        ensures unchanged { IfNone result (self.new ≡ self.old) }
+        ensures becomes { IfSome result (λ before. Becomes self.old self.new number before value) }
+    {
+        let count = 1u64 << self.digits;
+        self.trees[(number % count) as usize].swap(number / count, value)
     }
 }

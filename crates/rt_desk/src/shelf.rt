@@ -1,7 +1,7 @@
 //! What is known of outstanding submissions, by number, in trees whose nodes are all made at the opening.
 
 ghost use Rattle.std.specs.Prelude.{◌≡◌, ◌<◌, [], None, IfOk, IfSome, IfNone, option_copied};
-ghost use Rattle.rt_desk.specs.Held.{at, count_of, Adds, Removes};
+ghost use Rattle.rt_desk.specs.Held.{at, count_of, Adds, Removes, Becomes};
 ghost use Rattle.rt_desk.specs.Nodes.{IsLoose};
 ghost use Rattle.rt_desk.specs.declared.entry.Entry.TheVariants.{Pending};
 
@@ -125,5 +125,14 @@ impl<J: Drop, T: Drop> Shelf<J, T> {
         let (slip, entry) = Slip::emptied(node);
         self.free.push_reserved(slip);
         Some(entry)
+    }
+
+    /// Puts an entry in the place of the one of a number, which comes back. If the number has none, nothing changes.
+    pub(crate) fn swap(&mut self, number: u64, entry: Entry<J, T>) -> Option<Entry<J, T>>
+        ensures none { IfNone result (at self.old.entries number ≡ None) }
+        ensures becomes { IfSome result (λ before. Becomes self.old.entries self.new.entries number before entry) }
+        ensures room { self.new.room ≡ self.old.room }
+    {
+        self.held.swap(number, entry)
     }
 }

@@ -4,7 +4,7 @@
 //! number and no other, and a search makes at most one step for each digit, however many numbers there are.
 
 ghost use Rattle.std.specs.Prelude.{◌≡◌, [], None, IfSome, IfNone, option_copied};
-ghost use Rattle.rt_desk.specs.Held.{at, Adds, Removes};
+ghost use Rattle.rt_desk.specs.Held.{at, Adds, Removes, Becomes};
 ghost use Rattle.rt_desk.specs.Nodes.{IsLoose};
 
 use std::alloc::Global;
@@ -172,5 +172,22 @@ impl<V: Drop> Trie<V> {
             Link::Top(node) => Some(node),
             Link::Empty => None,
         }
+    }
+
+    /// Puts a value in the place of the one at a number, which comes back. If the number isn't held, nothing changes.
+    pub(crate) fn swap(&mut self, number: u64, value: V) -> Option<V>
+        ensures none { IfNone result (at self.old number ≡ None) }
+        ensures unchanged { IfNone result (self.new ≡ self.old) }
+        ensures becomes { IfSome result (λ before. Becomes self.old self.new number before value) }
+    {
+        if let Link::Top(top) = &mut self.root {
+            if number == top.rest {
+                return Some(mem::replace(&mut top.value, value));
+            }
+        }
+        let mut node = self.remove(number)?;
+        let before = mem::replace(&mut node.value, value);
+        self.add(number, node);
+        Some(before)
     }
 }

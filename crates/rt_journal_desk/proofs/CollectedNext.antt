@@ -55,7 +55,7 @@ module _ {J T : Type 0} (meaning : Meaning J T) (desk : DeskView J T) (written :
   -- the number waits, detached or not
   waits : IsSent out number × IsAwaited out number
   waits = elim collects.2 [
-    | inl kept ↦ lane_of.standing number entry.Pending kept.0.removes.was
+    | inl kept ↦ lane_of.standing number entry.Pending kept.0.was
     | inr dropped ↦ lane_of.standing number entry.Detached dropped.0.was
   ]
 
@@ -106,13 +106,13 @@ module _ {J T : Type 0} (meaning : Meaning J T) (desk : DeskView J T) (written :
   pub collected_stays : StaysBeside (Fits meaning) core desk collected now after
   collected_stays = elim collects.2 [
     | inl kept ↦
-        let still = neither (is_told name_redeemed name notes) (is_told name_detached name notes) false (was_known.gone number low high ∙ ap is_let_go kept.0.removes.was) in
-        let gone_now : is_gone name (writes.Collected name told ∷ notes) ≡ is_let_go (at later.entries number) = was_known.gone number low high ∙ (ap is_let_go kept.0.removes.was ∙ ap is_let_go (sym kept.0.adds.here)) in
-        let waits_now : is_outstanding name (writes.Collected name told ∷ notes) ≡ is_some (at later.entries number) = waits_for false false still.0 still.1 ∙ ap is_some (sym kept.0.adds.here) in
-        let others : (n : ℕ) → n ≢ number → at later.entries n ≡ at lane.entries n = λ n away. kept.0.adds.others n away ∙ kept.0.removes.others n away in
+        let still = neither (is_told name_redeemed name notes) (is_told name_detached name notes) false (was_known.gone number low high ∙ ap is_let_go kept.0.was) in
+        let gone_now : is_gone name (writes.Collected name told ∷ notes) ≡ is_let_go (at later.entries number) = was_known.gone number low high ∙ (ap is_let_go kept.0.was ∙ ap is_let_go (sym kept.0.here)) in
+        let waits_now : is_outstanding name (writes.Collected name told ∷ notes) ≡ is_some (at later.entries number) = waits_for false false still.0 still.1 ∙ ap is_some (sym kept.0.here) in
+        let others : (n : ℕ) → n ≢ number → at later.entries n ≡ at lane.entries n = λ n away. kept.0.others n away in
         stays_noted desk known core number lane later there (writes.Collected name told) (collected_note name told) collects.1 others low high gone_now waits_now out credited beside now after later_of end_is behind collected_now written next_collected
         (subst (λ after. outstanding_count core (writes.Collected name told ∷ notes) + after ≡ length out.sent) (sym kept.1)
-        (as_many desk known core number lane later there (writes.Collected name told) (collected_note name told) collects.1 others low high gone_now waits_now out credited beside (ap is_some kept.0.removes.was ∙ ap is_some (sym kept.0.adds.here))))
+        (as_many desk known core number lane later there (writes.Collected name told) (collected_note name told) collects.1 others low high gone_now waits_now out credited beside (ap is_some kept.0.was ∙ ap is_some (sym kept.0.here))))
     | inr dropped ↦
         let only = detached_only (is_told name_redeemed name notes) (is_told name_detached name notes) (is_told name_collected name notes) (was_known.gone number low high ∙ ap is_let_go dropped.0.was)
         (was_known.waits number low high ∙ ap is_some dropped.0.was) unmet in

@@ -132,20 +132,20 @@ module _ {J T : Type 0} {fits : Order J → Outcome J T → Type 0} (desk : Desk
 
   module _ (done : Unit {0}) (detaches : Detaches lane later number credited after (Ok done)) where
     pub detaches_ticket : IsDetachable name notes
-    detaches_ticket = elim detaches.1 [ inl waited ↦ detachable waited.0.removes.was refl | inr had ↦ detachable had.1.was refl ]
+    detaches_ticket = elim detaches.1 [ inl waited ↦ detachable waited.0.was refl | inr had ↦ detachable had.1.was refl ]
 
     pub detached_stays : IsLaneOf fits later out after → StaysBeside fits core desk detached out after
     detached_stays later_of = elim detaches.1 [
       | inl waited ↦
-          let low = within waited.0.removes.was in
-          let still = still (was_known.gone number low.0 low.1 ∙ ap is_let_go waited.0.removes.was) in
-          let unmet = awaited desk core number lane was_known out credited beside lane_of (lane_of.standing number entry.Pending waited.0.removes.was).1 in
-          let gone_now : is_gone name (writes.Detached name ∷ notes) ≡ is_let_go (at later.entries number) = detached_gone ∙ ap is_let_go (sym waited.0.adds.here) in
-          let waits_now : is_outstanding name (writes.Detached name ∷ notes) ≡ is_some (at later.entries number) = detached_waits false still.0 unmet ∙ ap is_some (sym waited.0.adds.here) in
-          let others : (n : ℕ) → n ≢ number → at later.entries n ≡ at lane.entries n = λ n away. waited.0.adds.others n away ∙ waited.0.removes.others n away in
+          let low = within waited.0.was in
+          let still = still (was_known.gone number low.0 low.1 ∙ ap is_let_go waited.0.was) in
+          let unmet = awaited desk core number lane was_known out credited beside lane_of (lane_of.standing number entry.Pending waited.0.was).1 in
+          let gone_now : is_gone name (writes.Detached name ∷ notes) ≡ is_let_go (at later.entries number) = detached_gone ∙ ap is_let_go (sym waited.0.here) in
+          let waits_now : is_outstanding name (writes.Detached name ∷ notes) ≡ is_some (at later.entries number) = detached_waits false still.0 unmet ∙ ap is_some (sym waited.0.here) in
+          let others : (n : ℕ) → n ≢ number → at later.entries n ≡ at lane.entries n = λ n away. waited.0.others n away in
           stays_noted desk known core number lane later there (writes.Detached name) (detached_note name) detaches.0 others low.0 low.1 gone_now waits_now out credited beside out after later_of refl beside.behind beside.collected written detaches_ticket
           (subst (λ after. outstanding_count core (writes.Detached name ∷ notes) + after ≡ length out.sent) (sym waited.1)
-          (as_many desk known core number lane later there (writes.Detached name) (detached_note name) detaches.0 others low.0 low.1 gone_now waits_now out credited beside (ap is_some waited.0.removes.was ∙ ap is_some (sym waited.0.adds.here))))
+          (as_many desk known core number lane later there (writes.Detached name) (detached_note name) detaches.0 others low.0 low.1 gone_now waits_now out credited beside (ap is_some waited.0.was ∙ ap is_some (sym waited.0.here))))
       | inr had ↦
           let low = within had.1.was in
           let still = still (was_known.gone number low.0 low.1 ∙ ap is_let_go had.1.was) in
