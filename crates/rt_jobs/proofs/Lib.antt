@@ -1,3 +1,4 @@
 pub mod ExampleLemmas
 pub mod ScriptLemmas
 pub mod FillLemmas
+pub mod AskingLemmas

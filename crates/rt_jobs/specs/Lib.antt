@@ -9,6 +9,9 @@ pub mod Scripts
 pub mod ScriptMeaning
 pub mod Kept
 pub mod Bodies
+pub mod BadSteps
 pub mod Ranges
 pub mod Example
+pub mod Asking
+pub mod BadAsking
 pub mod Filling

@@ -1,5 +1,5 @@
 -- Meanings that are ready to be named, each with its laws.
-use Rattle.std.specs.Prelude.{◌↔◌, ℕ, Bool, None}
+use Rattle.std.specs.Prelude.{◌↔◌, Bool, None}
 use Rattle.rt_jobs.specs.Meanings.{Meaning, IsMeaning}
 use Rattle.rt_jobs.specs.Same.{same_answers}
 use Rattle.rt_jobs.specs.Steps.{PostsNothing}

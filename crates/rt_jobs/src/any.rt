@@ -1,9 +1,11 @@
 //! Boxed jobs whose answers lie in a range, which each box tells.
 
-ghost use Rattle.std.specs.Prelude.{◌≡◌, ℕ, ◌<◌, ◌^◌, Bool, false, Some};
+ghost use Rattle.std.specs.Prelude.{◌≡◌, ℕ, ◌<◌, ◌^◌, ◌||◌, Bool, false, Some};
 ghost use Rattle.rt_jobs.specs.Steps.{IfDone, is_done_step};
 ghost use Rattle.rt_jobs.specs.declared.boxed.Body.TheVariants.{Polled, Once};
 ghost use Rattle.rt_jobs.specs.declared.any.Range.{Range};
+ghost use Rattle.rt_jobs.specs.declared.job.Step.{Step};
+ghost use Rattle.rt_jobs.specs.declared.job.Step.TheVariants.{Done};
 ghost use Rattle.rt_jobs.specs.Ranges.{IsWithin, any_number};
 
 use crate::boxed::{BoxedJob, CalledAs, KeyAnswers, PolledAs};
@@ -34,9 +36,13 @@ pub trait Polled: Drop {
     /// Whether it has answered.
     ghost ended: { Self → Bool };
 
+    /// The steps that its next poll may come to. A box that doesn't say may come to any.
+    ghost steps: { Self → Step ℕ → Type 0 } = { λ _ _. Unit {0} };
+
     /// One poll.
     fn poll(&mut self) -> Step<u64>
         requires { ended self.old ≡ false }
+        ensures steps { steps self.old result }
         ensures answers { IfDone result (IsWithin (range self.old)) }
         ensures same { range self.new ≡ range self.old }
         ensures done { ended self.new ≡ is_done_step result };
@@ -51,7 +57,18 @@ pub trait Polled: Drop {
 }
 
 impl PolledAs<Within> for Box<dyn Polled + Send> {
-    fn poll_as(&mut self, key: &Range) -> Step<u64> {
+    // What a box has in itself can't be named here: the clauses of its poll say it.
+    ghost steps = { λ job key step. Unit {0} };
+
+    fn poll_as(&mut self, key: &Range) -> Step<u64>
+        ensures answers { IfDone result (IsWithin key.now) }
+        ensures open { IfDone result (λ _. ended self.old ≡ false) }
+        ensures meant { IfDone result (λ _. range self.old ≡ key.now) }
+        ensures own { IfDone result (λ out. steps self.old (Done out)) }
+        ensures asked { range self.old ≡ key.now → ended self.old ≡ false → steps self.old result }
+        ensures ended { ended self.new ≡ (ended self.old || is_done_step result) }
+        ensures same { range self.new ≡ range self.old }
+    {
         if (**self).is_done() || (**self).range() != *key {
             return Step::Yield;
         }
@@ -110,6 +127,8 @@ impl CalledAs<Within> for OnceBox {
 
     ghost IsFor = { λ call key. call.range ≡ key };
 
+    ghost gives = { λ once out. Call.post once.call out };
+
     fn call_as(self, key: &Range) -> Result<u64, Self> {
         if self.range == *key {
             Ok(self.run())
@@ -122,7 +141,9 @@ impl CalledAs<Within> for OnceBox {
 /// A boxed job, whose key is the range of the numbers that its box may answer.
 pub type AnyJob = BoxedJob<Box<dyn Polled + Send>, OnceBox, Within>;
 
-/// A job that polls the box, until the box is done.
+/// A job that polls the box, until the box is done. It is for work in polls whose type the program doesn't know, as a plug-in's.
+///
+/// If the kinds of work are known, an enum of them needs no box and has exact answers.
 pub fn polled_job(job: Box<dyn Polled + Send>) -> AnyJob
     requires { ended job ≡ false }
     ensures key { result.key ≡ range job }
@@ -132,7 +153,9 @@ pub fn polled_job(job: Box<dyn Polled + Send>) -> AnyJob
     BoxedJob::polled(key, job)
 }
 
-/// A job that makes the call at its first poll, and is done.
+/// A job that makes the call at its first poll, and is done. It is for closures that stand in one core with boxes of work.
+///
+/// If a core has calls alone, and their type has a name, take `OnceOf`.
 pub fn once_job(call: OnceBox) -> AnyJob
     ensures key { result.key ≡ call.range }
     ensures body { result.body ≡ Once (Some call) }

@@ -3,9 +3,11 @@
 //! A type that keeps facts of jobs can be named at boxes only where the impl of `Task` asks nothing of them but that they can be dropped.
 //! So a boxed job keeps a key beside its box, plain data that says which numbers may answer it, and each box compares that key with its own.
 
-ghost use Rattle.std.specs.Prelude.{◌≡◌, ℕ, IfOk, IfErr, Some};
-ghost use Rattle.rt_jobs.specs.Steps.{IfDone};
+ghost use Rattle.std.specs.Prelude.{◌≡◌, ℕ, false, IfOk, IfErr, Some};
+ghost use Rattle.rt_jobs.specs.Bodies.{IsStepOf, is_ended};
+ghost use Rattle.rt_jobs.specs.Steps.{IfDone, OnYield, is_done_step};
 ghost use Rattle.rt_jobs.specs.declared.boxed.Body.TheVariants.{Polled, Once};
+ghost use Rattle.rt_jobs.specs.declared.job.Step.{Step};
 
 use crate::job::{Job, Step, Task};
 use crate::post::Post;
@@ -21,9 +23,13 @@ pub trait KeyAnswers {
 
 /// Work in polls, whose answers have the meaning `M` under the key that it is polled with.
 pub trait PolledAs<M: KeyAnswers>: Drop {
+    /// The steps that its next poll may come to under that key.
+    ghost steps: { Self → M.Key → Step ℕ → Type 0 };
+
     /// One poll. It yields, and does nothing, where that isn't its key or it has answered.
     fn poll_as(&mut self, key: &M::Key) -> Step<u64>
-        ensures { IfDone result (M.answers key.now) };
+        ensures answers { IfDone result (M.answers key.now) }
+        ensures steps { steps self.old key.now result };
 }
 
 /// A call that is made once, whose answer has the meaning `M` under the key that it is called with.
@@ -31,9 +37,14 @@ pub trait CalledAs<M: KeyAnswers>: Drop {
     /// Whether it is a call for that key.
     ghost IsFor: { Self → M.Key → Type 0 };
 
+    /// The numbers that the call may give.
+    ghost gives: { Self → ℕ → Type 0 };
+
     /// Makes the call, or gives it back where it isn't for that key.
     fn call_as(self, key: &M::Key) -> Result<u64, Self>
         ensures answers { IfOk result (M.answers key.now) }
+        ensures gives { IfOk result (gives self) }
+        ensures made { IfOk result (λ _. IsFor self key.now) }
         ensures same { IfErr result (λ back. back ≡ self) }
         ensures refused { IfErr result (λ _. ¬ IsFor self key.now) };
 }
@@ -124,7 +135,14 @@ impl<B: Drop, C: Drop, M: KeyAnswers> Task for BoxedJob<B, C, M> {
 }
 
 impl<B: PolledAs<M>, C: CalledAs<M>, M: KeyAnswers> Job for BoxedJob<B, C, M> {
-    fn poll<P: Post<Self, u64>>(&mut self, _post: &mut P) -> Step<u64> {
+    fn poll<P: Post<Self, u64>>(&mut self, _post: &mut P) -> Step<u64>
+        requires { is_ended self.old.body ≡ false }
+        ensures own { IsStepOf B.steps C.IsFor C.gives self.old.key self.old.body result }
+        ensures answers { IfDone result (M.answers self.old.key) }
+        ensures same { OnYield result (self.old.key ≡ self.new.key) }
+        ensures done { is_ended self.new.body ≡ is_done_step result }
+        ensures posts { _post.new ≡ _post.old }
+    {
         match &mut self.body {
             Body::Polled(job) => {
                 let Some(inside) = job else {

@@ -21,6 +21,8 @@ pub trait Called: Drop {
 }
 
 /// A job that makes its call at its first poll, and is done. It tells no time of its own.
+///
+/// It is for a core, a link or a desk of calls that take no box and are known by what they may answer.
 #[derive(Drop)]
 pub struct OnceOf<C> {
     call: Option<C>,

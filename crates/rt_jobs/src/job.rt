@@ -39,7 +39,7 @@ pub trait Task: Drop {
 
 /// Work that is done in polls.
 pub trait Job: Task {
-    /// One poll, which may submit orders at its post. It is the one after those that the job has made, and what the later ones owe stays as it was.
+    /// One poll, which may submit orders at its post. Its number is `made`; later polls owe what they owed.
     fn poll<P: Post<Self, Self::Out>>(&mut self, post: &mut P) -> Step<Self::Out>
         requires open { Self.meaning.done self.old ≡ false }
         requires ready { Self.meaning.can_poll self.old }

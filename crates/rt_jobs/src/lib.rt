@@ -2,6 +2,7 @@
 #![tactic(auto)]
 
 pub mod any;
+pub mod asking;
 pub mod boxed;
 pub mod called;
 pub mod example;
@@ -12,6 +13,9 @@ pub mod post;
 pub mod script;
 
 pub use any::{AnyJob, OnceBox, Polled, Range, Within, once_job, polled_job};
+pub use asking::{
+    Asks, Redeemed, poll_asking, redeem_if_there, submit_and_detach, submit_and_keep,
+};
 pub use boxed::{BoxedJob, CalledAs, KeyAnswers, PolledAs};
 pub use called::{Called, OnceOf};
 pub use job::{Job, Ran, Step, Task};

@@ -7,7 +7,8 @@ use crate::post::Post;
 
 /// A job that makes its call at its first poll, and is done. It tells no time of its own.
 ///
-/// It serves functions that are generic over the job. If a type is to be named at it, as a link of such jobs, take `OnceOf`, or `AnyJob` with `OnceBox`.
+/// It is for functions that are generic over the job, as `Ran::poll`: a test or a program polls a closure there without a box.
+/// If a type is to be named at it, as a link of such jobs, take `OnceOf`, or `AnyJob` with `OnceBox`.
 #[derive(Drop)]
 pub struct Once<F> {
     call: Option<F>,

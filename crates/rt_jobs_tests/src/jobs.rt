@@ -162,9 +162,14 @@ struct Nine {
 }
 
 impl Polled for Nine {
+    ghost use Rattle.std.specs.Prelude.{◌≡◌, nat_eq, if◌then◌else◌};
+    ghost use Rattle.rt_jobs.specs.declared.job.Step.TheVariants.{Done, Yield};
+
     ghost range = { λ _. record { least = 9; greatest = 9 } };
 
     ghost ended = { λ job. job.ended };
+
+    ghost steps = { λ job step. step ≡ (if nat_eq job.yields 0 then Done 9 else Yield) };
 
     fn poll(&mut self) -> Step<u64> {
         if self.yields == 0 {
