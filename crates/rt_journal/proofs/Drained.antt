@@ -1,5 +1,5 @@
 -- A core is drained where its journal says so.
-use Rattle.rt_journal.proofs.Names.{ℕ, sym, ◌∙◌, ap, Some, false_from_ne_true, true≢false, has_work, Meaning}
+use Rattle.rt_journal.proofs.Names.{sym, ◌∙◌, ap, Some, false_from_ne_true, true≢false, has_work, Meaning}
 use Rattle.rt_journal.proofs.Names.{RecordedView, terms_at, IsRecorded}
 use Rattle.rt_ids.specs.Closing as told
 use Rattle.rt_core.specs.Closing as core

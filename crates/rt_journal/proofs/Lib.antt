@@ -12,11 +12,17 @@ pub mod KeptDeliveries
 pub mod KeptPicks
 pub mod KeptPolls
 pub mod Names
+pub mod OneBeginning
 pub mod Opened
+pub mod OwedNotes
+pub mod OwedSteps
+pub mod OwedTurns
 pub mod Places
+pub mod PollsRefused
 pub mod PostingTurn
 pub mod QuietSteps
 pub mod Received
+pub mod ScriptPolls
 pub mod SentNotes
 pub mod SettledPolls
 pub mod StatsTold

@@ -1,12 +1,17 @@
 pub mod Agreement
+pub mod BadPolls
 pub mod Deliveries
 pub mod Ends
 pub mod Figures
 pub mod Laws
 pub mod Lists
 pub mod Owed
+pub mod OwedLaws
+pub mod OwedPolls
 pub mod Polls
 pub mod Recorded
+pub mod RightAnswers
+pub mod ScriptPolls
 pub mod Settling
 pub mod Stats
 pub mod Steps

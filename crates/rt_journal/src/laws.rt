@@ -1,10 +1,15 @@
 //! Laws of cores beside their journals, and of recorded actors. Their bodies are empty: each contract is the law.
 
 ghost use Rattle.std.specs.Prelude.{ℕ};
+ghost use Rattle.rt_journal.specs.BadPolls.{OneIsOwed, PollsAreRefused};
 ghost use Rattle.rt_journal.specs.Laws.{PicksRight, RefusesAsTold, WorksAsTold};
+ghost use Rattle.rt_journal.specs.OwedLaws.{CollectionsSeeNoLess, OthersKeepOwed, TurnsKeepOwed};
+ghost use Rattle.rt_journal.specs.ScriptPolls.{ScriptPollsAreWords};
 ghost use Rattle.rt_journal.specs.Together.{TogetherAreJoined};
 
-use rt_jobs::Task;
+use rt_jobs::{ScriptJob, Task};
+use rt_link::OutEnd;
+use rt_taskqueue::Meter;
 
 /// Actors that are recorded each by itself are joined, and so they are sound together, where the ends of their links are joined.
 pub fn recorded_are_joined<J: Task<Out = u64>>()
@@ -24,4 +29,27 @@ pub fn refuses_as_told<J, T>()
 /// The head of the line that a core takes out is a right pick in the journal.
 pub fn picks_right<J, T>()
     ensures { PicksRight J T }
+{}
+
+/// A whole turn leaves each poll owed that the journal tells: the poll that it settles did what its task says.
+pub fn turns_owe_polls<J: Task<Out = u64>, O: OutEnd<J>, M: Meter>()
+    ensures { (meter : M) → TurnsKeepOwed J.meaning O.out O.credited O.untouched (M.Tells meter) }
+{}
+
+/// Each other step of a core and of its desk leaves each poll owed: it settles none. A collection leaves all that the ends have seen of their links.
+pub fn others_owe_polls<J: Task<Out = u64>, O: OutEnd<J>>()
+    ensures steps { OthersKeepOwed J.meaning O.out }
+    ensures seen { CollectionsSeeNoLess J.meaning O.out }
+{}
+
+/// Small journals with a poll that isn't owed are refused: among them one that yields for ever, one whose poll submits nothing, and one in
+/// which another time counts than was told. A journal of a job that submits once and is done isn't.
+pub fn bad_polls_are_refused()
+    ensures refused { PollsAreRefused }
+    ensures owed { OneIsOwed }
+{}
+
+/// Each poll that a script job owes is a word of its script, in their order: the word's time counts, and the job is done exactly at the last word.
+pub fn script_polls_are_words<O: OutEnd<ScriptJob>>()
+    ensures { ScriptPollsAreWords O.out }
 {}

@@ -111,7 +111,7 @@ module _ {J T : Type 0} where
       set_each world.sent sender (set (get_or world.sent sender []) core (sent_at sender core world ++ order ∷ [])) from [] (λ row. OrderNone (get_or row to []))
       (set_each (get_or world.sent sender []) core (sent_at sender core world ++ order ∷ []) to [] OrderNone last (plain.orders sender to)) (plain.orders from to)
 
-  sends : (sender core : ℕ) (order : Order J) (old new : WorldView J T) (answer : Reply J) → Sends sender core order old new answer → IsLater (IsNoCreation order) old new
+  pub sends : (sender core : ℕ) (order : Order J) (old new : WorldView J T) (answer : Reply J) → Sends sender core order old new answer → IsLater (IsNoCreation order) old new
   sends sender core order old new (reply.Sent name) happens =
       let orders = sent_at sender core old ++ order ∷ [] in
       later_longer sender (writes.Sent name (without_job order) ∷ []) (with_sent sender core order old)

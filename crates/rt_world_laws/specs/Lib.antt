@@ -1,8 +1,9 @@
 pub mod Alike
-pub mod Determined
-pub mod ScriptRuns
-pub mod Creations
-pub mod Rows
-pub mod WorkedRows
 pub mod ClosedRow
+pub mod Creations
+pub mod Determined
 pub mod Hollow
+pub mod OwedRuns
+pub mod Rows
+pub mod ScriptRuns
+pub mod WorkedRows

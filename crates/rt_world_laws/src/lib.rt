@@ -6,6 +6,7 @@ ghost use Rattle.rt_world_laws.specs.ClosedRow.{CoreCloses};
 ghost use Rattle.rt_world_laws.specs.Creations.{RunOfJobsIsDetermined};
 ghost use Rattle.rt_world_laws.specs.Determined.{AssemblyIsDetermined, OpeningIsDetermined, OwesOne, RunIsDetermined};
 ghost use Rattle.rt_world_laws.specs.Hollow.{EventsKeepLists, HollowIsRefused};
+ghost use Rattle.rt_world_laws.specs.OwedRuns.{RunsOwePolls};
 ghost use Rattle.rt_world_laws.specs.ScriptRuns.{ScriptRunIsDetermined};
 ghost use Rattle.rt_world_laws.specs.WorkedRows.{OneJob, TwoQueues, TwoSenders};
 
@@ -20,6 +21,12 @@ pub fn run_is_determined<J: Task<Out = u64>>()
 /// The same, of script jobs.
 pub fn script_run_is_determined()
     ensures { ScriptRunIsDetermined }
+{}
+
+/// Each poll that a journal of a run tells did what the order under its name says: it made the calls that its task asks for, with the
+/// answers that the journals give, and the step and the told time are those of its task.
+pub fn runs_owe_polls<J: Task<Out = u64>>()
+    ensures { RunsOwePolls J.meaning }
 {}
 
 /// A world that has no journal, or no list of orders, isn't fresh.

@@ -9,6 +9,7 @@ ghost use Rattle.rt_journal_desk.specs.Submissions.{IsWritten, terms_of_desk};
 ghost use Rattle.rt_journal.specs.Recorded.{IsRecorded, desk_of};
 ghost use Rattle.rt_journal.specs.Ends.{IsInOf, IsInOwing, Gives, LeavesOwed, told_under, IsSameSeat};
 ghost use Rattle.rt_journal.specs.Owed.{outcome_settled};
+ghost use Rattle.rt_journal.specs.OwedPolls.{HasOwedPolls, seen_by};
 ghost use Rattle.rt_journal_desk.specs.Posts.{AreOutsOf, lends};
 ghost use Rattle.rt_journal_desk.specs.Calls.{Does};
 ghost use Rattle.rt_journal_desk.specs.Spending.{left_of};
@@ -118,6 +119,7 @@ impl<J: Job<Out = u64>, A: Allocator + Clone> Recorded<J, A> {
         requires room { length self.old.journal.notes + self.old.core.cores * (3 * self.old.cap) + 3 ≤ self.old.journal.room }
         ensures turns { IsPostingTurn J.meaning (Does (Fits J.meaning) O.out O.credited O.untouched) O.out O.untouched (M.Tells meter.old)
             self.old ends.old.items next.now.name next.now.queue next.now.started result self.new ends.new.items }
+        ensures owed { HasOwedPolls J.meaning (seen_by O.out ends.old.items) self.old → HasOwedPolls J.meaning (seen_by O.out ends.new.items) self.new }
         ensures owes { (sender : ℕ) → LeavesOwed sender (told_under next.now.name (option_map outcome_note (outcome_settled {J = J} result)) sender) self.old self.new }
         ensures may_answer { MayAnswer J.meaning self.new.took next.now.name result }
         ensures outs { AreOutsOf (Fits J.meaning) O.out O.credited (desk_of self.new) ends.new.items }

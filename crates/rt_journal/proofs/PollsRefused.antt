@@ -1,0 +1,157 @@
+-- Each of the small journals has a poll that isn't owed.
+use Rattle.rt_journal.proofs.Names.{◌≡◌, ℕ, Bool, true, false, List, [], ◌∷◌, ◌++◌, length, Option, Some, Result, Ok, Err, refl, sym, ◌∙◌, ap, subst, arith}
+use Rattle.rt_journal.proofs.Names.{JobId, Note, Journal, ArePosts, poll_note, Step, SendError, Job, IfSome}
+use Rattle.rt_ids.specs.declared.note.Note.TheVariants as writes
+use Rattle.rt_ids.specs.declared.order.SendError.TheVariants as refused
+use Rattle.rt_jobs.specs.Calls.{Call}
+use Rattle.rt_jobs.specs.Calls.Call.{Submit, Detach}
+use Rattle.rt_jobs.specs.ScriptMeaning.{script_meaning}
+use Rattle.rt_jobs.specs.Scripts.{Script, SendsSmall, detach_calls, small_job}
+use Rattle.rt_jobs.specs.declared.job.Step.TheVariants as steps
+use Rattle.rt_jobs.specs.declared.poll.Poll.{Poll}
+use Rattle.rt_jobs.specs.declared.poll.Poll.TheVariants as poll
+use Rattle.rt_journal.specs.RightAnswers.{Seen, AnswersOrder, posted_notes, AreRightAnswers}
+use Rattle.rt_journal.specs.OwedPolls.{IsOwedPoll}
+use Rattle.rt_journal.specs.BadPolls.{job, sent, terms, open_links, other_orders, ordered, begun, PollsAreRefused, OneIsOwed}
+use Rattle.rt_journal.proofs.OneBeginning.{IsPollBehind, poll_behind, calls_post}
+
+abbrev script : List Poll → Script
+script polls = record { polls = polls; polled = 0 }
+
+-- the poll of the job of these polls, behind its beginning
+module _ (seen : Seen Script) (polls : List Poll) (time : ℕ) (step : Step ℕ) (posts : List (Note ℕ)) (started : Bool) (queue runtime : ℕ) (earlier : Journal ℕ) (are : ArePosts posts) where
+  its_poll : IsOwedPoll script_meaning terms seen (ordered polls) job time step (posts ++ poll_note job started ∷ writes.Pick queue runtime ∷ earlier) →
+      IsPollBehind script_meaning terms seen (script polls) job time step posts started queue runtime earlier
+  its_poll owed =
+      let task : Some (Job 0 (script polls)) ≡ Some (Job owed.queue owed.sent) = owed.task in
+      let same : owed.sent ≡ script polls = cc in
+      subst (λ sent. IsPollBehind script_meaning terms seen sent job time step posts started queue runtime earlier) same
+      (poll_behind script_meaning terms seen owed.sent job time step queue owed.queue posts started runtime earlier are owed.poll)
+
+-- where no gate is shut, the link is empty and there is such a core, nothing gives a reason to refuse
+no_reason : (error : SendError Script) → AnswersOrder {T = ℕ} terms open_links 1 (Job 0 small_job) (Err error) begun → ⊥
+no_reason (refused.Closed back final) right = right.1
+no_reason (refused.Full back) right = omega (arith, right.1)
+no_reason (refused.Spent back) right = omega (arith, right.1)
+no_reason (refused.NoCore back) right = omega (arith, right.1)
+
+-- so a small job that is submitted there writes two notes
+two_notes : (calls : List (Call Script ℕ)) (sends : SendsSmall 1 0 calls) → AreRightAnswers terms open_links calls begun → length (posted_notes calls) ≡ 2
+two_notes calls sends right = by_answer sends.answer sends.are
+  where
+    by_answer : (answer : Result JobId (SendError Script)) → calls ≡ Submit 1 (Job 0 small_job) answer ∷ detach_calls answer → length (posted_notes calls) ≡ 2
+    by_answer (Ok name) are = ap (λ calls. length (posted_notes calls)) are
+    by_answer (Err error) are = absurd (no_reason error (subst (λ calls. AreRightAnswers terms open_links calls begun) are right).0)
+
+-- the polls of the small jobs
+abbrev first : List (Note ℕ)
+first = writes.Took job 0 ∷ []
+
+abbrev ends : List Poll
+ends = poll.Done 1 7 ∷ []
+
+abbrev yields : List Poll
+yields = poll.Yield 5 ∷ ends
+
+abbrev submits : List Poll
+submits = poll.Submit 5 1 0 ∷ ends
+
+-- a poll that is settled was begun
+never_begun : (calls : List (Note ℕ)) (name : JobId) (started : Bool) (earlier : Journal ℕ) → ArePosts calls → first ≡ calls ++ poll_note name started ∷ earlier → ⊥
+never_begun [] name false earlier are same = cc
+never_begun [] name true earlier are same = cc
+never_begun (writes.Sent other order ∷ calls) name started earlier are same = cc
+never_begun (writes.Redeemed other outcome ∷ calls) name started earlier are same = cc
+never_begun (writes.Detached other ∷ calls) name started earlier are same = cc
+never_begun (_ ∷ calls) name started earlier are same = absurd are
+
+another_time : (told : Option ℕ) → told ≡ Some 5 → IfSome told (λ stated. stated ≡ 6) → ⊥
+another_time told is timed = let same : ◌≡◌ {A = ℕ} 5 6 = subst (λ told. IfSome told (λ stated. stated ≡ 6)) is timed in absurd (omega arith)
+
+-- a poll that submits writes two notes
+module _ (posts : List (Note ℕ)) (are : ArePosts posts) where
+  submits_once : IsOwedPoll script_meaning terms open_links (ordered submits) job 5 steps.Yield (posts ++ begun) → length posts ≡ 2
+  submits_once owed =
+      let its = its_poll open_links submits 5 steps.Yield posts false 0 0 first are owed in
+      ap length (sym its.wrote) ∙ two_notes its.calls its.owed.0 its.right
+
+-- what was accepted is what was sent
+another_job : (calls : List (Call Script ℕ)) → SendsSmall 1 0 calls → AreRightAnswers terms other_orders calls begun → length (posted_notes calls) ≡ 2 → ⊥
+another_job calls sends right two = by_answer sends.answer sends.are
+  where
+    by_answer : (answer : Result JobId (SendError Script)) → calls ≡ Submit 1 (Job 0 small_job) answer ∷ detach_calls answer → ⊥
+    by_answer (Ok name) are = let other : Job 0 small_job ≡ Job 0 (script (poll.Done 1 9 ∷ [])) = (subst (λ calls. AreRightAnswers terms other_orders calls begun) are right).0.2 in
+        let same : small_job ≡ script (poll.Done 1 9 ∷ []) = cc in
+        let last : poll.Done 1 0 ∷ [] ≡ poll.Done 1 9 ∷ [] = ap (λ job. job.polls) same in
+        let values : ◌≡◌ {A = ℕ} 0 9 = cc in
+        absurd (omega arith)
+    by_answer (Err error) are = let none : ◌≡◌ {A = ℕ} 0 2 = ap (λ calls. length (posted_notes calls)) (sym are) ∙ two in absurd (omega arith)
+
+pub polls_refused : PollsAreRefused
+polls_refused = record {
+  yields_for_ever = λ owed. let its = its_poll open_links ends 1 steps.Yield [] false 0 0 first tt owed.0 in absurd (let wrong = its.owed.1 in cc);
+  skips_to_its_value = λ owed. let its = its_poll open_links yields 1 (steps.Done 7) [] false 0 0 first tt owed.0 in absurd (let wrong = its.owed.1 in cc);
+  yields_once_more = λ owed. let its = its_poll open_links yields 5 steps.Yield [] true 0 5 (writes.Yield job 5 ∷ begun) tt owed.0 in absurd (let wrong = its.owed.1 in cc);
+  another_value = λ owed. let its = its_poll open_links ends 1 (steps.Done 8) [] false 0 0 first tt owed.0 in let same : ◌≡◌ {A = ℕ} 8 7 = let wrong = its.owed.1 in cc in absurd (omega arith);
+  another_time = λ owed. let its = its_poll open_links yields 6 steps.Yield [] false 0 0 first tt owed.0 in another_time its.told its.owed.2 its.timed;
+  submits_nothing = λ owed. let wrong : ◌≡◌ {A = ℕ} 0 2 = submits_once [] tt owed.0 in absurd (omega arith);
+  submits_twice = λ owed.
+      let wrong : ◌≡◌ {A = ℕ} 4 2 = submits_once (writes.Detached (sent 2) ∷ writes.Sent (sent 2) (Job 0 tt) ∷ writes.Detached (sent 1) ∷ writes.Sent (sent 1) (Job 0 tt) ∷ []) tt owed.0 in
+      absurd (omega arith);
+  keeps_its_submission = λ owed. let wrong : ◌≡◌ {A = ℕ} 1 2 = submits_once (writes.Sent (sent 1) (Job 0 tt) ∷ []) tt owed.0 in absurd (omega arith);
+  never_begun = λ owed. let its = owed.0.poll in never_begun (posted_notes its.calls) job its.was_started (writes.Pick owed.0.queue its.runtime ∷ its.earlier) (calls_post its.calls) its.stands;
+  sends_another_job = λ owed.
+      let its = its_poll other_orders submits 5 steps.Yield (writes.Detached (sent 1) ∷ writes.Sent (sent 1) (Job 0 tt) ∷ []) false 0 0 first tt owed.0 in
+      another_job its.calls its.owed.0 its.right (ap length its.wrote);
+}
+
+-- the polls of a job that submits once and is done
+pub one_is_owed : OneIsOwed
+one_is_owed = (
+  record {
+    queue = 0;
+    sent = script submits;
+    task = refl;
+    poll = record {
+      calls = [];
+      told = Some 1;
+      was_started = true;
+      runtime = 5;
+      earlier = writes.Yield job 5 ∷ writes.Detached (sent 1) ∷ writes.Sent (sent 1) (Job 0 tt) ∷ begun;
+      stands = refl;
+      right = tt;
+      owed = (refl, refl, refl);
+      answered = refl;
+      timed = refl;
+    };
+  },
+  (
+    tt,
+    (
+      tt,
+      (
+        record {
+          queue = 0;
+          sent = script submits;
+          task = refl;
+          poll = record {
+            calls = Submit 1 (Job 0 small_job) (Ok (sent 1)) ∷ Detach (sent 1) (Ok tt) ∷ [];
+            told = Some 5;
+            was_started = false;
+            runtime = 0;
+            earlier = first;
+            stands = refl;
+            right = (
+              (record { sender = refl; receiver = omega arith; next = refl; in_range = omega arith; credit = omega arith; spelled = omega arith }, refl, tt),
+              (record { order = Job 0 tt; accepted = refl; kept = refl }, tt),
+            );
+            owed = (record { answer = Ok (sent 1); are = refl }, refl, refl);
+            answered = tt;
+            timed = refl;
+          };
+        },
+        (tt, (tt, (tt, (tt, (tt, tt))))),
+      ),
+    ),
+  ),
+)

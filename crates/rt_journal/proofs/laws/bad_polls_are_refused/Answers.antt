@@ -1,0 +1,8 @@
+use Rattle.rt_journal.proofs.PollsRefused.{polls_refused, one_is_owed}
+use Rattle.rt_journal.proofs.laws.bad_polls_are_refused.Goals as goal
+
+pub returns-clause-refused : goal.returns-clause-refused
+returns-clause-refused c = polls_refused
+
+pub returns-clause-owed : goal.returns-clause-owed
+returns-clause-owed c = one_is_owed

@@ -1,0 +1,39 @@
+-- What journals tell of the polls of script jobs: each is a word of its job's script.
+use Rattle.std.specs.Prelude.{◌≡◌, ℕ, ◌+◌, ◌<◌, true, false, Some, List, length, slice_get}
+use Rattle.rt_ids.specs.Terms.{Terms}
+use Rattle.rt_ids.specs.declared.names.JobId.{JobId}
+use Rattle.rt_ids.specs.Journal.{Journal}
+use Rattle.rt_jobs.specs.ScriptMeaning.{script_meaning}
+use Rattle.rt_jobs.specs.Scripts.{Script, IsScript}
+use Rattle.rt_jobs.specs.declared.job.Step.{Step}
+use Rattle.rt_jobs.specs.declared.job.Step.TheVariants as steps
+use Rattle.rt_jobs.specs.declared.poll.Poll.{Poll}
+use Rattle.rt_jobs.specs.declared.poll.Poll.TheVariants as poll
+use Rattle.rt_journal.specs.OwedPolls.{IsPollOf, seen_by}
+use Rattle.rt_journal.specs.Polls.{polls_made}
+use Rattle.rt_link.specs.declared.ends.Outward.{Outward}
+use Rattle.rt_jobs.specs.Steps.{is_done_step}
+
+-- the note that settles a poll of this word: the word's time counts, and the job yields, or is done with the word's value
+abbrev pub SettlesWord : Poll → ℕ → Step ℕ → Type 0
+SettlesWord (poll.Yield told) time step = (time ≡ told) × (step ≡ steps.Yield)
+SettlesWord (poll.Submit told core queue) time step = (time ≡ told) × (step ≡ steps.Yield)
+SettlesWord (poll.Done told value) time step = (time ≡ told) × (step ≡ steps.Done value)
+
+-- the poll is the word of its script that stands behind those of the polls before it
+pub record IsWordOf (sent : Script) (name : JobId) (time : ℕ) (step : Step ℕ) (before : Journal ℕ) : Type 0 where
+  pub word : Poll
+  pub is : slice_get sent.polls (sent.polled + polls_made name before) ≡ Some word
+  pub settles : SettlesWord word time step
+
+-- each poll that a script job owes is a word of its script; it is done exactly at the last one
+pub record IsPolledByWords (sent : Script) (name : JobId) (time : ℕ) (step : Step ℕ) (before : Journal ℕ) : Type 0 where
+  pub word : IsWordOf sent name time step before
+  pub last : is_done_step step ≡ true → sent.polled + polls_made name before + 1 ≡ length sent.polls
+  pub early : is_done_step step ≡ false → sent.polled + polls_made name before + 1 < length sent.polls
+
+-- whatever its ends have seen
+abbrev pub ScriptPollsAreWords : {E : Type 0} → (E → Outward Script ℕ) → Type 0
+ScriptPollsAreWords {E} out =
+    (ends : List E) (terms : Terms) (queue : ℕ) (sent : Script) (name : JobId) (time : ℕ) (step : Step ℕ) (before : Journal ℕ) → IsScript sent.polls →
+    IsPollOf script_meaning terms (seen_by out ends) queue sent name time step before → IsPolledByWords sent name time step before

@@ -1,0 +1,135 @@
+-- A world with one journal longer, and perhaps one order more: what was owed is owed, and what was known of links is known.
+use Rattle.rt_world_laws.proofs.Words.{◌≡◌, ◌⊎◌, inl, inr, ⊎_elim, ℕ, ◌-◌, ◌<◌, List, [], ◌∷◌, ◌++◌, length, refl, sym, ◌∙◌, ap, subst, get_or, set}
+use Rattle.rt_world_laws.proofs.Words.{cond, none-some, get_or-set_same, Some, None, slice_get, JobId, Note, Order, Journal, Meaning, WorldView, journal_at, noted}
+use Rattle.rt_world_laws.proofs.Words.{order_under, sent_at, terms_at, accepted_orders, HasAllLists}
+use Rattle.std.proofs.lemmas.List.{set-get_or}
+use Rattle.std.proofs.lemmas.Bool.{ne_eqb}
+use Rattle.std.proofs.lemmas.Bool.Decides.{eqb_tells}
+use Rattle.rt_ids.specs.declared.note.Note.TheVariants as writes
+use Rattle.rt_ids.specs.Journal.{or_else}
+use Rattle.rt_ids.specs.Closing.{final_count}
+use Rattle.rt_journal.specs.OwedPolls.{PollsAreOwed}
+use Rattle.rt_journal.specs.RightAnswers.{SeesNoLess}
+use Rattle.rt_journal.proofs.OwedNotes.{SettleNothing, owed_longer, owed_stays}
+use Rattle.rt_world_links.proofs.Places.{set_or}
+use Rattle.rt_world_laws.proofs.StillNotes.{ShutNothing, SendNothing, final_count-longer, accepted_orders-longer}
+use Rattle.rt_world_laws.proofs.KeptLists.{later_noted}
+use Rattle.rt_world_laws.specs.OwedRuns.{seen_of, HasAllPollsOwed}
+
+-- as many orders of a link are kept as the sender's journal tells
+abbrev pub AreCounted : {J T : Type 0} → WorldView J T → Type 0
+AreCounted world = (sender core : ℕ) → length (accepted_orders core (journal_at sender world)) ≡ length (sent_at sender core world)
+
+-- one actor's journal is longer by some notes; each order stays under its name, and each gate at its number
+pub record Adds {J T : Type 0} (actor : ℕ) (notes : List (Note T)) (old new : WorldView J T) : Type 0 where
+  pub cores : new.cores ≡ old.cores
+  pub cap : new.cap ≡ old.cap
+  pub journals : new.journals ≡ set old.journals actor (notes ++ journal_at actor old)
+  pub orders : (name : JobId) (order : Order J) → order_under name old ≡ Some order → order_under name new ≡ Some order
+  pub gates : (sender core final : ℕ) → final_count sender (journal_at core old) ≡ Some final → final_count sender (journal_at core new) ≡ Some final
+  pub counted : AreCounted old → AreCounted new
+  pub lists : HasAllLists old → HasAllLists new
+
+module _ {J T : Type 0} (actor : ℕ) (notes : List (Note T)) (old new : WorldView J T) (adds : Adds actor notes old new) where
+  -- a journal is that one, or as it was
+  pub each_journal : (other : ℕ) → ((other ≡ actor) × (journal_at other new ≡ notes ++ journal_at actor old)) ⊎ (journal_at other new ≡ journal_at other old)
+  each_journal other =
+      let at = ap (λ journals. get_or journals other []) adds.journals in
+      ⊎_elim (λ here. inl (here.0, at ∙ here.1)) (λ same. inr (at ∙ same)) (set_or old.journals actor (notes ++ journal_at actor old) other [])
+
+  -- where the actor is there, its own is longer
+  pub own_journal : actor < length old.journals → journal_at actor new ≡ notes ++ journal_at actor old
+  own_journal there = ap (λ journals. get_or journals actor []) adds.journals ∙ get_or-set_same old.journals actor (notes ++ journal_at actor old) [] there
+
+  pub same_terms : (other : ℕ) → terms_at other new ≡ terms_at other old
+  same_terms other = λ i. record { actor = other; cores = adds.cores i; cap = adds.cap i }
+
+  -- no less is known of the links of any actor
+  pub sees_no_less : (other : ℕ) → SeesNoLess (seen_of other old) (seen_of other new)
+  sees_no_less other = record { shut = λ core final shut. adds.gates other core final shut; sent = adds.orders }
+
+  module _ (meaning : Meaning J T) (other : ℕ) where
+    abbrev OwedIn : Journal T → Type 0
+    OwedIn journal = PollsAreOwed meaning (terms_at other new) (seen_of other new) (λ name. order_under name new) journal
+
+    -- what was owed is owed in the world behind it
+    pub owed_now : (journal : Journal T) → PollsAreOwed meaning (terms_at other old) (seen_of other old) (λ name. order_under name old) journal → OwedIn journal
+    owed_now journal owed =
+        subst (λ terms. PollsAreOwed meaning terms (seen_of other new) (λ name. order_under name new) journal) (sym (same_terms other))
+        (owed_stays (terms_at other old) (seen_of other old) (seen_of other new) (sees_no_less other) meaning (λ name. order_under name old) (λ name. order_under name new) adds.orders journal owed)
+
+module _ {J : Type 0} (meaning : Meaning J ℕ) (actor : ℕ) (notes : List (Note ℕ)) (old new : WorldView J ℕ) (adds : Adds actor notes old new) where
+  abbrev OwedAt : ℕ → Journal ℕ → Type 0
+  OwedAt other journal = PollsAreOwed meaning (terms_at other new) (seen_of other new) (λ name. order_under name new) journal
+
+  -- notes that settle no poll leave each poll owed
+  pub all_owed : SettleNothing notes → HasAllPollsOwed meaning old → HasAllPollsOwed meaning new
+  all_owed none owed other =
+      ⊎_elim
+      (λ here. subst (OwedAt other) (sym here.1) (owed_longer meaning (terms_at other new) (seen_of other new) (λ name. order_under name new) notes (journal_at actor old) none
+      (owed_now actor notes old new adds meaning other (journal_at actor old) (subst (λ at. PollsAreOwed meaning (terms_at other old) (seen_of other old) (λ name. order_under name old) (journal_at at old)) here.0 (owed other)))))
+      (λ same. subst (OwedAt other) (sym same) (owed_now actor notes old new adds meaning other (journal_at other old) (owed other)))
+      (each_journal actor notes old new adds other)
+
+module _ {J T : Type 0} (actor : ℕ) (notes : List (Note T)) (old new : WorldView J T) where
+  -- the journals of a world with one longer
+  longer_at : new.journals ≡ set old.journals actor (notes ++ journal_at actor old) → (other : ℕ) →
+      ((other ≡ actor) × (journal_at other new ≡ notes ++ journal_at other old)) ⊎ (journal_at other new ≡ journal_at other old)
+  longer_at is other =
+      let at = ap (λ journals. get_or journals other []) is in
+      ⊎_elim (λ here. inl (here.0, at ∙ (here.1 ∙ ap (λ who. notes ++ journal_at who old) (sym here.0)))) (λ same. inr (at ∙ same))
+      (set_or old.journals actor (notes ++ journal_at actor old) other [])
+
+  pub gates_stay : ShutNothing notes → new.journals ≡ set old.journals actor (notes ++ journal_at actor old) →
+      (sender core final : ℕ) → final_count sender (journal_at core old) ≡ Some final → final_count sender (journal_at core new) ≡ Some final
+  gates_stay none is sender core final shut =
+      ⊎_elim (λ here. ap (final_count sender) here.1 ∙ (final_count-longer sender notes (journal_at core old) none ∙ shut)) (λ same. ap (final_count sender) same ∙ shut) (longer_at is core)
+
+  accepted_stay : SendNothing notes → new.journals ≡ set old.journals actor (notes ++ journal_at actor old) →
+      (sender core : ℕ) → accepted_orders core (journal_at sender new) ≡ accepted_orders core (journal_at sender old)
+  accepted_stay none is sender core =
+      ⊎_elim (λ here. ap (accepted_orders core) here.1 ∙ accepted_orders-longer core notes (journal_at sender old) none) (λ same. ap (accepted_orders core) same) (longer_at is sender)
+
+  -- notes that send nothing, where the gates stay
+  pub adds_told : ((sender core final : ℕ) → final_count sender (journal_at core old) ≡ Some final → final_count sender (journal_at core new) ≡ Some final) →
+      SendNothing notes → new ≡ noted actor notes old → Adds actor notes old new
+  adds_told gates send is =
+      let journals : new.journals ≡ set old.journals actor (notes ++ journal_at actor old) = ap (λ world. world.journals) is in
+      let sent : new.sent ≡ old.sent = ap (λ world. world.sent) is in
+      record {
+        cores = ap (λ world. world.cores) is;
+        cap = ap (λ world. world.cap) is;
+        journals = journals;
+        orders = λ name order under. ap (λ sent. slice_get (get_or (get_or sent name.from []) name.to []) (name.number - 1)) sent ∙ under;
+        gates = gates;
+        lists = (later_noted {none = ⊥} actor notes (λ none plain. absurd none) is).lists;
+        counted = λ counted sender core. ap length (accepted_stay send journals sender core) ∙ (counted sender core ∙ sym (ap (λ sent. length (get_or (get_or sent sender []) core [])) sent));
+      }
+
+  -- notes that shut nothing and send nothing
+  pub adds_noted : ShutNothing notes → SendNothing notes → new ≡ noted actor notes old → Adds actor notes old new
+  adds_noted shut send is = adds_told (gates_stay shut (ap (λ world. world.journals) is)) send is
+
+-- a gate that was open is shut
+pub adds_shut : {J T : Type 0} (core sender count : ℕ) (old new : WorldView J T) → final_count sender (journal_at core old) ≡ None →
+    new ≡ noted core (writes.Shut sender count ∷ []) old → Adds core (writes.Shut sender count ∷ []) old new
+adds_shut {J} {T} core sender count old new opened is = adds_told core (writes.Shut sender count ∷ []) old new gates ((λ at. refl), tt) is
+  where
+    at_core : (who final : ℕ) → final_count who (journal_at core old) ≡ Some final → final_count who (writes.Shut sender count ∷ journal_at core old) ≡ Some final
+    at_core who final shut = elim (eqb_tells who sender) [
+      | inl same ↦ absurd (none-some final (sym opened ∙ (ap (λ who. final_count who (journal_at core old)) (sym same.1) ∙ shut)))
+      | inr away ↦ ap (λ test. or_else (cond test (Some count) None) (final_count who (journal_at core old))) (ne_eqb who sender away.1) ∙ shut
+    ]
+
+    gates : (who at final : ℕ) → final_count who (journal_at at old) ≡ Some final → final_count who (journal_at at new) ≡ Some final
+    gates who at final shut =
+        ⊎_elim
+        (λ here. ap (final_count who) here.1
+        ∙ subst (λ at. final_count who (writes.Shut sender count ∷ journal_at at old) ≡ Some final) (sym here.0)
+        (at_core who final (subst (λ at. final_count who (journal_at at old) ≡ Some final) here.0 shut)))
+        (λ same. ap (final_count who) same ∙ shut) (longer_at core (writes.Shut sender count ∷ []) old new (ap (λ world. world.journals) is) at)
+
+module _ {J T : Type 0} (actor : ℕ) (old new : WorldView J T) where
+  -- where nothing changes, no note is added
+  pub adds_nothing : new ≡ old → Adds actor [] old new
+  adds_nothing same = adds_noted actor [] old new tt tt (same ∙ sym (ap (λ journals. record old { journals = journals }) (set-get_or old.journals actor [])))
