@@ -1,5 +1,5 @@
 -- What is written of a verdict, and what stops a reader, told as a fault of the audit.
-use Rattle.std.proofs.Common.{◌≡◌, Result, Ok, Err, OnOk, ℕ, List, [], Option, Some, None, true, refl, append-nil}
+use Rattle.std.proofs.Common.{◌≡◌, Result, Ok, Err, OnOk, OnErr, ℕ, List, [], Option, Some, None, true, refl, append-nil, ap, ◌∙◌, ◌++◌}
 use Rattle.std.specs.Option.{IfSome}
 use Rattle.std.specs.Io.KnownBytes.{Appends}
 use Rattle.rt_ids.specs.Assembly.{Assembly}
@@ -20,6 +20,7 @@ use Rattle.fairexec_report.specs.Reasons.{fault_of}
 use Rattle.rt_journal_write.specs.Pages.{AppendsFront}
 use Rattle.fairexec_report.specs.VerdictTexts.{is_sound}
 use Rattle.rt_journal_write.specs.Texts.{journal_text}
+use Rattle.rt_sink.specs.Tries.{HasFailed, HasJustFailed}
 pub use Rattle.rt_journal_write.proofs.PageLemmas.{front_of_count}
 
 pub OnOk-any : {T E P : Type 0} (result : Result T E) → P → OnOk result P
@@ -29,6 +30,15 @@ OnOk-any (Err error) p = tt
 -- all is written
 pub front_of_all : (old new : Option (List ℕ)) (text : List ℕ) → Appends old new text → AppendsFront old new text
 front_of_all old new text out = record { written = text; rest = []; appends = out; whole = append-nil text }
+
+-- the line is all that stands on its page
+pub line_of : (before page bytes text : List ℕ) → bytes ≡ page → page ≡ before ++ text → before ≡ [] → bytes ≡ text
+line_of before page bytes text same put empty = same ∙ (put ∙ ap (λ front. front ++ text) empty)
+
+-- a try that failed is the last
+pub failed_now : {S T E : Type 0} (interrupts fails : S → S → Type 0) (old new : S) (result : Result T E) → OnErr result (HasFailed interrupts fails old new) → OnErr result (HasJustFailed interrupts fails new)
+failed_now interrupts fails old new (Ok value) failed = tt
+failed_now interrupts fails old new (Err error) failed = (old, failed)
 
 -- a faulty line of the text
 pub told_of : (fact : ℕ × JournalCause → Type 0) (error : ReadError) → IfTextRead fact error → IfText fact (fault_of error)

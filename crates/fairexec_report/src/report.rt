@@ -1,22 +1,21 @@
 //! Writes what became of a run on threads: the outcomes, the journals and the statistics if they are wanted, and the verdict.
 
-ghost use Rattle.std.specs.Prelude.{◌≡◌, ◌++◌, ℕ, List, IfOk, IfErr, OnOk, OnErr, string_bytes};
+ghost use Rattle.std.specs.Prelude.{◌≡◌, ◌++◌, ℕ, List, IfOk, IfErr, OnOk, OnErr, false, string_bytes};
 ghost use Rattle.std.specs.Io.KnownBytes.{Keeps, Appends};
 ghost use Rattle.rt_ids.specs.Spelled.{IsSpelled};
 ghost use Rattle.rt_journal_write.specs.Pages.{AppendsFront};
 ghost use Rattle.fairexec_report.specs.StatTexts.{IsStatsIf};
-ghost use Rattle.fairexec_report.specs.VerdictTexts.{verdict_text};
+ghost use Rattle.rt_sink.specs.Tries.{HasJustFailed};
 ghost use Rattle.fairexec_report.specs.Writing.{IsTold, IsCutShort, IfUnwritten, IfUnjudged, journal_if};
 
 use crate::outcome_text::put_outcomes;
 use crate::stats::put_all_stats;
-use crate::verdict::{VerdictLine, is_sound};
-use rt_audit::{AuditError, Verdict, audit};
+use crate::verdict::{is_sound, put_verdict};
+use rt_audit::{AuditError, audit};
 use rt_journal_notes::Assembly;
 use rt_journal_write::write_journal;
-use rt_text::steady::{DeviceFault, flush, write_all};
+use rt_sink::{DeviceFault, Sink, flush, write_all};
 use std::alloc::{AllocError, Global};
-use std::io::Write;
 
 /// Why a run isn't told, or not all of it.
 #[derive(Clone, Copy, PartialEq, Eq)]
@@ -54,18 +53,20 @@ impl From<AuditError> for TellFault {
 ///
 /// # Errors
 ///
-/// Want of memory (`Memory`): nothing is written then. A failed write (`Write`): a first part of the text may be written.
-pub fn write_report<W: Write>(
+/// Want of memory (`Memory`): nothing is written then. A failed write (`Write`): a first part of the text may be written, and nothing is
+/// tried behind it.
+pub fn write_report<S: Sink>(
     alloc: Global,
     journal: bool,
     stats: bool,
     assembly: &Assembly,
-    sink: &mut W,
+    sink: &mut S,
 ) -> Result<bool, TellFault>
     requires { IsSpelled assembly.now }
-    ensures done { IfOk result (IsTold journal stats assembly.now (W.contents sink.old) (W.contents sink.new)) }
-    ensures unwritten { IfErr result (IfUnwritten (IsCutShort journal stats assembly.now (W.contents sink.old) (W.contents sink.new))) }
-    ensures silent { IfErr result (IfUnjudged (Keeps (W.contents sink.old) (W.contents sink.new))) }
+    ensures done { IfOk result (IsTold journal stats assembly.now (S.contents sink.old) (S.contents sink.new)) }
+    ensures unwritten { IfErr result (IfUnwritten (IsCutShort journal stats assembly.now (S.contents sink.old) (S.contents sink.new))) }
+    ensures silent { IfErr result (IfUnjudged (Keeps (S.contents sink.old) (S.contents sink.new))) }
+    ensures failed { journal ≡ false → IfErr result (IfUnwritten (HasJustFailed S.interrupts S.fails sink.new)) }
 {
     let mut front = String::new(alloc);
     put_outcomes(alloc, assembly, &mut front)?;
@@ -95,28 +96,20 @@ fn put_stats_if(
     put_all_stats(alloc, assembly, page)
 }
 
-/// Puts the line of the verdict on the page.
-fn put_verdict(verdict: &Verdict, page: &mut String) -> Result<(), AllocError>
-    ensures { OnOk result (string_bytes page.new ≡ string_bytes page.old ++ verdict_text verdict.now) }
-{
-    let line = VerdictLine(*verdict);
-    writeln!(page, "{line}")?;
-    Ok(())
-}
-
 /// Writes what comes before the journals, the journals if they are wanted, and the rest. Then it tells the writer that no more comes.
-fn write_parts<W: Write>(
+fn write_parts<S: Sink>(
     front: &[u8],
     journal: bool,
     assembly: &Assembly,
     rear: &[u8],
-    sink: &mut W,
+    sink: &mut S,
 ) -> Result<(), DeviceFault>
     requires { IsSpelled assembly.now }
-    ensures ok { OnOk result (Appends (W.contents sink.old) (W.contents sink.new)
+    ensures ok { OnOk result (Appends (S.contents sink.old) (S.contents sink.new)
         (front.now ++ (journal_if journal assembly.now ++ rear.now))) }
-    ensures err { OnErr result (AppendsFront (W.contents sink.old) (W.contents sink.new)
+    ensures err { OnErr result (AppendsFront (S.contents sink.old) (S.contents sink.new)
         (front.now ++ (journal_if journal assembly.now ++ rear.now))) }
+    ensures failed { journal ≡ false → OnErr result (HasJustFailed S.interrupts S.fails sink.new) }
 {
     write_all(sink, front)?;
     write_journal_if(journal, assembly, sink)?;
@@ -125,14 +118,15 @@ fn write_parts<W: Write>(
 }
 
 /// Writes the text of the journals, if they are wanted.
-fn write_journal_if<W: Write>(
+fn write_journal_if<S: Sink>(
     journal: bool,
     assembly: &Assembly,
-    sink: &mut W,
+    sink: &mut S,
 ) -> Result<(), DeviceFault>
     requires { IsSpelled assembly.now }
-    ensures ok { OnOk result (Appends (W.contents sink.old) (W.contents sink.new) (journal_if journal assembly.now)) }
-    ensures err { OnErr result (AppendsFront (W.contents sink.old) (W.contents sink.new) (journal_if journal assembly.now)) }
+    ensures ok { OnOk result (Appends (S.contents sink.old) (S.contents sink.new) (journal_if journal assembly.now)) }
+    ensures err { OnErr result (AppendsFront (S.contents sink.old) (S.contents sink.new) (journal_if journal assembly.now)) }
+    ensures unasked { journal ≡ false → OnErr result ⊥ }
 {
     if !journal {
         return Ok(());

@@ -1,9 +1,10 @@
 //! What is printed of a verdict.
 
-ghost use Rattle.std.specs.Prelude.{◌≡◌, Some};
+ghost use Rattle.std.specs.Prelude.{◌≡◌, ◌++◌, OnOk, Some, string_bytes};
 ghost use Rattle.fairexec_report.specs.VerdictTexts as spec;
 
 use rt_audit::Verdict;
+use std::alloc::AllocError;
 use std::fmt;
 
 /// A verdict as a line, without its line feed: `sound`, or `fault actor A note L rule R`.
@@ -22,6 +23,15 @@ impl fmt::Display for VerdictLine {
             }
         }
     }
+}
+
+/// Puts the line of the verdict on the page.
+pub(crate) fn put_verdict(verdict: &Verdict, page: &mut String) -> Result<(), AllocError>
+    ensures { OnOk result (string_bytes page.new ≡ string_bytes page.old ++ spec.verdict_text verdict.now) }
+{
+    let line = VerdictLine(*verdict);
+    writeln!(page, "{line}")?;
+    Ok(())
 }
 
 /// Whether the verdict is that the journals are sound.

@@ -5,7 +5,7 @@ use Rattle.std.proofs.lemmas.List.{append_cancel_right}
 use Rattle.std.proofs.lemmas.Option.{same_Some}
 use Rattle.rt_ids.specs.Assembly.{Assembly, journal_of}
 use Rattle.rt_jobs.specs.Scripts.{Script}
-use Rattle.fairexec_report.specs.StatTexts.{IsStatsText}
+use Rattle.fairexec_report.specs.StatTexts.{IsStatsIf, IsStatsText}
 use Rattle.fairexec_report.proofs.StatLemmas.{stats_once}
 use Rattle.rt_journal_write.specs.Texts.{journal_text}
 use Rattle.rt_world.specs.declared.event.Reply.{Reply}
@@ -28,7 +28,7 @@ use Rattle.fairexec_script.specs.declared.event.ScriptEvent.{ScriptEvent}
 use Rattle.fairexec_script.specs.Drafts.{Drafted}
 use Rattle.fairexec_script.specs.Scripts.{script_of}
 use Rattle.fairexec_run.specs.Replies.{event_of, ends_of, quiet_of}
-use Rattle.fairexec_run.specs.Printed.{IsRunText, IsFront, IsRear, IsPrinted}
+use Rattle.fairexec_run.specs.Printed.{IsRunText, IsFront, IsPrinted}
 use Rattle.fairexec_run.specs.Transcripts.{ScriptWorld, event_text, Prints, PrintsAll, with_queue, with_queues, script_room, RunsOf, IsOutput}
 use Rattle.fairexec_run.specs.OneOutput.{OutputIsDetermined, OutputOfJobsIsDetermined, TextHasOneOutput}
 
@@ -180,7 +180,7 @@ front_once script false assembly other text other_text first second =
     (events_once script text other_text first.output second.output)
 
 -- what comes behind it
-rear_once : (stats : Bool) (assembly other : Assembly ℕ) (text other_text : List ℕ) → assembly ≡ other → IsRear stats assembly text → IsRear stats other other_text → text ≡ other_text
+rear_once : (stats : Bool) (assembly other : Assembly ℕ) (text other_text : List ℕ) → assembly ≡ other → IsStatsIf stats assembly text → IsStatsIf stats other other_text → text ≡ other_text
 rear_once true assembly other text other_text same first second =
     stats_once assembly.cores (λ core. journal_of core assembly) text other_text first
     (subst (λ all. IsStatsText all.cores (λ core. journal_of core all) other_text) (sym same) second)

@@ -15,7 +15,8 @@ use Rattle.rt_world.specs.Opening.{HasAllLists}
 use Rattle.rt_world.specs.State.{assembly_of}
 use Rattle.fairexec_run.specs.Begun.{WritesFirst, IsRearPart, BreaksOff}
 use Rattle.fairexec_run.specs.Outputs.{WritesAll}
-use Rattle.fairexec_run.specs.Printed.{IsRear, IsRunText, IsPrinted}
+use Rattle.fairexec_report.specs.StatTexts.{IsStatsIf}
+use Rattle.fairexec_run.specs.Printed.{IsRunText, IsPrinted}
 use Rattle.fairexec_run.specs.Replies.{event_of}
 use Rattle.fairexec_run.specs.Rooms.{IsOpened}
 use Rattle.fairexec_run.specs.Transcripts.{ScriptWorld, PrintsAll, IsOutput, RunsOf}
@@ -57,7 +58,7 @@ module _ (script : Drafted) (cores cap : ℕ) (size : script.size ≡ Some (core
     }
 
     -- all events were printed, and then what is wanted of the statistics
-    pub events_printed : (stats : Bool) (new : Option (List ℕ)) → (text : List ℕ) × IsRear stats (assembly_of end) text × Appends now new (page ++ text) →
+    pub events_printed : (stats : Bool) (new : Option (List ℕ)) → (text : List ℕ) × IsStatsIf stats (assembly_of end) text × Appends now new (page ++ text) →
         (all : List ℕ) × IsPrinted false stats script all × Appends old new all
     unfolding output
     events_printed stats new (rear, counted, out) = (
@@ -119,7 +120,7 @@ module _ (script : Drafted) (cores cap : ℕ) (size : script.size ≡ Some (core
 
   module _ (old now : Option (List ℕ)) (told : Appends old now (journal_text assembly)) (page : List ℕ) (empty : page ≡ []) where
     -- the journals were printed, and then what is wanted of the statistics
-    pub journal_printed : (stats : Bool) (new : Option (List ℕ)) → (text : List ℕ) × IsRear stats assembly text × Appends now new (page ++ text) →
+    pub journal_printed : (stats : Bool) (new : Option (List ℕ)) → (text : List ℕ) × IsStatsIf stats assembly text × Appends now new (page ++ text) →
         (output : List ℕ) × IsPrinted true stats script output × Appends old new output
     journal_printed stats new (rear, counted, out) = (
       journal_text assembly ++ rear,

@@ -4,12 +4,12 @@ use Rattle.std.specs.Io.KnownBytes.{Appends}
 use Rattle.std.proofs.KnownBytes.{Appends-nil, Appends-trans}
 use Rattle.rt_ids.specs.Assembly.{Assembly, journal_of}
 use Rattle.rt_ids.specs.Journal.{Journal}
-use Rattle.fairexec_report.specs.StatTexts.{IsCoreText, IsTextBelow, IsStatsText}
+use Rattle.fairexec_report.specs.StatTexts.{IsCoreText, IsStatsIf, IsStatsText, IsTextBelow}
 use Rattle.fairexec_report.proofs.StatLemmas.{no_cores, after_core}
 use Rattle.rt_journal_write.specs.Pages.{Puts, AppendsFront}
 use Rattle.rt_journal_write.proofs.PageLemmas.{puts_nothing, puts_then, puts_out, front_then}
 use Rattle.fairexec_run.specs.Begun.{IsNoneOr, IsRearPart, WritesStats}
-use Rattle.fairexec_run.specs.Printed.{IsRear, PutsStats}
+use Rattle.fairexec_run.specs.Printed.{PutsStats}
 
 -- all that stands on the page, and more behind it, is written
 pub all_out : (start page : List ℕ) (old now new : Option (List ℕ)) (text more : List ℕ) → Puts start page old now text → Appends now new (page ++ more) → Appends old new (start ++ (text ++ more))
@@ -69,11 +69,11 @@ stats_whole assembly count start page old now all (text, told, puts) = record {
 }
 
 -- what is wanted of the statistics
-rear_none : (stats : Bool) (assembly : Assembly ℕ) → stats ≡ false → IsRear stats assembly []
+rear_none : (stats : Bool) (assembly : Assembly ℕ) → stats ≡ false → IsStatsIf stats assembly []
 rear_none true assembly same = cc
 rear_none false assembly same = refl
 
-rear_all : (stats : Bool) (assembly : Assembly ℕ) (text : List ℕ) → stats ≡ true → IsStatsText assembly.cores (λ core. journal_of core assembly) text → IsRear stats assembly text
+rear_all : (stats : Bool) (assembly : Assembly ℕ) (text : List ℕ) → stats ≡ true → IsStatsText assembly.cores (λ core. journal_of core assembly) text → IsStatsIf stats assembly text
 rear_all true assembly text same told = told
 rear_all false assembly text same told = cc
 
@@ -87,7 +87,7 @@ part_some false assembly text same told = cc
 
 -- the statistics stand on the page, and it is written
 module _ (stats : Bool) (assembly : Assembly ℕ) (start page : List ℕ) (old now : Option (List ℕ)) (wanted : stats ≡ true) (puts : PutsStats assembly start page old now) where
-  pub rear_out : (new : Option (List ℕ)) → Appends now new page → (text : List ℕ) × IsRear stats assembly text × Appends old new (start ++ text)
+  pub rear_out : (new : Option (List ℕ)) → Appends now new page → (text : List ℕ) × IsStatsIf stats assembly text × Appends old new (start ++ text)
   rear_out new out = (
     puts.text,
     rear_all stats assembly puts.text wanted puts.told,
@@ -107,7 +107,7 @@ pub rear_stop : (stats : Bool) (assembly : Assembly ℕ) (start : List ℕ) (old
 rear_stop stats assembly start old new wanted is = (is.text, part_some stats assembly is.text wanted is.told, is.front)
 
 -- none are wanted
-pub bare_out : (stats : Bool) (assembly : Assembly ℕ) (page : List ℕ) (old new : Option (List ℕ)) → stats ≡ false → Appends old new page → (text : List ℕ) × IsRear stats assembly text × Appends old new (page ++ text)
+pub bare_out : (stats : Bool) (assembly : Assembly ℕ) (page : List ℕ) (old new : Option (List ℕ)) → stats ≡ false → Appends old new page → (text : List ℕ) × IsStatsIf stats assembly text × Appends old new (page ++ text)
 bare_out stats assembly page old new none out = ([], rear_none stats assembly none, subst (Appends old new) (sym (append-nil page)) out)
 
 pub bare_front : (stats : Bool) (assembly : Assembly ℕ) (page : List ℕ) (old new : Option (List ℕ)) → stats ≡ false → AppendsFront old new page → (text : List ℕ) × IsRearPart stats assembly text × AppendsFront old new (page ++ text)

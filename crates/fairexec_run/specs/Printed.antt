@@ -4,7 +4,7 @@ use Rattle.rt_ids.specs.Assembly.{Assembly, journal_of}
 use Rattle.rt_ids.specs.Joining.{AreJoined}
 use Rattle.rt_ids.specs.Sound.{IsSound}
 use Rattle.rt_ids.specs.Spelled.{IsSpelled}
-use Rattle.fairexec_report.specs.StatTexts.{IsStatsText}
+use Rattle.fairexec_report.specs.StatTexts.{IsStatsIf, IsStatsText}
 use Rattle.fairexec_script.specs.Drafts.{Drafted}
 use Rattle.rt_journal_write.specs.Pages.{Puts}
 use Rattle.rt_journal_write.specs.Texts.{journal_text}
@@ -36,22 +36,17 @@ abbrev pub IsFront : Bool → Drafted → Assembly ℕ → List ℕ → Type 0
 IsFront true script assembly text = IsRunText script assembly text
 IsFront false script assembly text = IsEventText script assembly text
 
--- what comes behind it: the statistics, if they are wanted
-abbrev pub IsRear : Bool → Assembly ℕ → List ℕ → Type 0
-IsRear true assembly text = IsStatsText assembly.cores (λ core. journal_of core assembly) text
-IsRear false assembly text = text ≡ []
-
 -- the statistics of all cores are put behind what the page had; a first part of the page may be written already
 pub record PutsStats (assembly : Assembly ℕ) (page_old page_new : List ℕ) (sink_old sink_new : Option (List ℕ)) : Type 0 where
   pub text : List ℕ
   pub told : IsStatsText assembly.cores (λ core. journal_of core assembly) text
   pub puts : Puts page_old page_new sink_old sink_new text
 
--- all that is printed of a script
+-- all that is printed of a script: behind its front the statistics, if they are wanted
 pub record IsPrinted (journal stats : Bool) (script : Drafted) (output : List ℕ) : Type 0 where
   pub assembly : Assembly ℕ
   pub front : List ℕ
   pub rear : List ℕ
   pub printed : IsFront journal script assembly front
-  pub counted : IsRear stats assembly rear
+  pub counted : IsStatsIf stats assembly rear
   pub whole : output ≡ front ++ rear

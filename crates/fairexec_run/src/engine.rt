@@ -10,6 +10,7 @@ ghost use Rattle.fairexec_script.specs.ScriptFaults.{IfText};
 ghost use Rattle.fairexec_script.specs.Scripts.{script_of};
 ghost use Rattle.fairexec_script.specs.Taking.{IsPrompt};
 ghost use Rattle.fairexec_script.specs.Whole.{drafted};
+ghost use Rattle.rt_sink.specs.Tries.{HasJustFailed};
 ghost use Rattle.fairexec_run.specs.Begun.{BreaksOff, IsCutShort};
 ghost use Rattle.fairexec_run.specs.Outputs.{IsDone, IfUnread, TellsScript, IfUnwritten, IfEnded};
 ghost use Rattle.fairexec_run.specs.Rooms.{MayMake, IsOpened};
@@ -21,11 +22,12 @@ use crate::print::{FULL_PAGE, LONGEST_PRINT, Model, print_events};
 use fairexec_script::{Script, read_script};
 use rt_ids::CoreNo;
 use rt_shares::Shares;
+use rt_sink::Sink;
 use rt_taskqueue::CreateError;
 use rt_text::EngineFault;
 use rt_world::{World, WorldError};
 use std::alloc::Global;
-use std::io::{Read, Write};
+use std::io::Read;
 
 /// Runs the script that the source tells, and prints each event's notes, or one line if it made none.
 ///
@@ -34,22 +36,24 @@ use std::io::{Read, Write};
 /// # Errors
 ///
 /// A faulty line of the script (`Text`), a failed read (`Read`) or write (`Write`), want of memory (`Memory`). Nothing is printed
-/// before the whole script is judged. After a failed write or for want of memory, a beginning of what is printed may be written.
-pub fn run_script<R: Read, W: Write>(
+/// before the whole script is judged. After a failed write or for want of memory, a beginning of what is printed may be written. Nothing
+/// is tried behind a failed write.
+pub fn run_script<R: Read, S: Sink>(
     alloc: Global,
     journal: bool,
     stats: bool,
     source: &mut R,
-    sink: &mut W,
+    sink: &mut S,
 ) -> Result<bool, EngineFault>
     ensures done { IfOk result (λ done. (done ≡ true)
-        × IsDone journal stats (R.remaining source.old) (W.contents sink.old) (W.contents sink.new)) }
+        × IsDone journal stats (R.remaining source.old) (S.contents sink.old) (S.contents sink.new)) }
     ensures faulty { IfErr result (IfText (λ fault.
         IfSome (R.remaining source.old) (λ text. script_of text ≡ Err fault))) }
     ensures prompt { IfErr result (IsPrompt (R.remaining source.old) (R.remaining source.new)) }
-    ensures silent { IfErr result (IfUnread (Keeps (W.contents sink.old) (W.contents sink.new))) }
+    ensures silent { IfErr result (IfUnread (Keeps (S.contents sink.old) (S.contents sink.new))) }
     ensures judged { IfErr result (IfUnwritten (TellsScript (R.remaining source.old))) }
-    ensures begun { IfErr result (IfEnded (IsCutShort journal stats (R.remaining source.old) (W.contents sink.old) (W.contents sink.new))) }
+    ensures begun { IfErr result (IfEnded (IsCutShort journal stats (R.remaining source.old) (S.contents sink.old) (S.contents sink.new))) }
+    ensures failed { journal ≡ false → IfErr result (IfUnwritten (HasJustFailed S.interrupts S.fails sink.new)) }
 {
     let script = read_script(alloc, source)?;
     play(alloc, journal, stats, script, sink)?;
@@ -57,17 +61,18 @@ pub fn run_script<R: Read, W: Write>(
 }
 
 /// Runs a whole script, prints what is wanted of it, and tells the sink that no more comes.
-fn play<W: Write>(
+fn play<S: Sink>(
     alloc: Global,
     journal: bool,
     stats: bool,
     script: Script,
-    sink: &mut W,
+    sink: &mut S,
 ) -> Result<(), EngineFault>
     ensures ok { OnOk result ((output : List ℕ) × IsPrinted journal stats (drafted script) output
-        × Appends (W.contents sink.old) (W.contents sink.new) output) }
-    ensures err { OnErr result (BreaksOff journal stats (drafted script) (W.contents sink.old) (W.contents sink.new)) }
+        × Appends (S.contents sink.old) (S.contents sink.new) output) }
+    ensures err { OnErr result (BreaksOff journal stats (drafted script) (S.contents sink.old) (S.contents sink.new)) }
     ensures device { IfErr result (IfUnread ⊥) }
+    ensures failed { journal ≡ false → IfErr result (IfUnwritten (HasJustFailed S.interrupts S.fails sink.new)) }
 {
     if journal {
         play_journal(alloc, stats, script, sink)
@@ -77,16 +82,17 @@ fn play<W: Write>(
 }
 
 /// Prints the events, and the statistics if they are wanted.
-fn play_events<W: Write>(
+fn play_events<S: Sink>(
     alloc: Global,
     stats: bool,
     script: Script,
-    sink: &mut W,
+    sink: &mut S,
 ) -> Result<(), EngineFault>
     ensures ok { OnOk result ((output : List ℕ) × IsPrinted false stats (drafted script) output
-        × Appends (W.contents sink.old) (W.contents sink.new) output) }
-    ensures err { OnErr result (BreaksOff false stats (drafted script) (W.contents sink.old) (W.contents sink.new)) }
+        × Appends (S.contents sink.old) (S.contents sink.new) output) }
+    ensures err { OnErr result (BreaksOff false stats (drafted script) (S.contents sink.old) (S.contents sink.new)) }
     ensures device { IfErr result (IfUnread ⊥) }
+    ensures failed { IfErr result (IfUnwritten (HasJustFailed S.interrupts S.fails sink.new)) }
 {
     let Script {
         cores,
@@ -104,15 +110,15 @@ fn play_events<W: Write>(
 }
 
 /// Prints the journals, and the statistics if they are wanted.
-fn play_journal<W: Write>(
+fn play_journal<S: Sink>(
     alloc: Global,
     stats: bool,
     script: Script,
-    sink: &mut W,
+    sink: &mut S,
 ) -> Result<(), EngineFault>
     ensures ok { OnOk result ((output : List ℕ) × IsPrinted true stats (drafted script) output
-        × Appends (W.contents sink.old) (W.contents sink.new) output) }
-    ensures err { OnErr result (BreaksOff true stats (drafted script) (W.contents sink.old) (W.contents sink.new)) }
+        × Appends (S.contents sink.old) (S.contents sink.new) output) }
+    ensures err { OnErr result (BreaksOff true stats (drafted script) (S.contents sink.old) (S.contents sink.new)) }
     ensures device { IfErr result (IfUnread ⊥) }
 {
     let Script {
@@ -141,6 +147,7 @@ fn open_model(
     requires placed { ArePlaced (Some (cores, cap)) queues.now }
     ensures ok { IfOk result (IsOpened cores cap queues.now) }
     ensures device { IfErr result (IfUnread ⊥) }
+    ensures quiet { IfErr result (IfUnwritten ⊥) }
 {
     let mut model = empty_model(alloc, cores, cap)?;
     create_queues(&mut model, queues)?;
@@ -152,6 +159,7 @@ fn empty_model(alloc: Global, cores: u8, cap: u16) -> Result<Model, EngineFault>
     requires { IsSize cores cap }
     ensures ok { IfOk result (IsFresh cores cap (script_room cores cap)) }
     ensures device { IfErr result (IfUnread ⊥) }
+    ensures quiet { IfErr result (IfUnwritten ⊥) }
 {
     let room = 32768 + 3 * u32::from(cores) * u32::from(cap) + 4;
     match World::try_new(alloc, alloc, cores, cap, room) {
@@ -169,6 +177,7 @@ fn create_queues(model: &mut Model, queues: &[(CoreNo, Shares)]) -> Result<(), E
     ensures ok { OnOk result (model.new ≡ with_queues queues.now model.old) }
     ensures after { OnOk result (MayMake [] model.new) }
     ensures device { IfErr result (IfUnread ⊥) }
+    ensures quiet { IfErr result (IfUnwritten ⊥) }
 {
     for queue in queues {
         create_queue(model, queue.0, queue.1)?;
@@ -184,6 +193,7 @@ fn create_queue(model: &mut Model, core: CoreNo, shares: Shares) -> Result<(), E
     requires few { created_count (journal_at core model.old) < 255 }
     ensures ok { OnOk result (model.new ≡ with_queue (core, shares) model.old) }
     ensures device { IfErr result (IfUnread ⊥) }
+    ensures quiet { IfErr result (IfUnwritten ⊥) }
 {
     match model.create(core, shares) {
         Ok(_) => Ok(()),

@@ -3,13 +3,14 @@
 ghost use Rattle.std.specs.Prelude.{◌≡◌, ◌++◌, ℕ, List, map, IfOk, IfErr, OnOk, OnErr, string_bytes};
 ghost use Rattle.std.specs.Io.KnownBytes.{Appends};
 ghost use Rattle.rt_ids.specs.Spelled.{IsSpelled};
-ghost use Rattle.fairexec_report.specs.StatTexts.{IsCoreText};
+ghost use Rattle.fairexec_report.specs.StatTexts.{IsCoreText, IsStatsIf};
 ghost use Rattle.rt_journal_write.specs.Pages.{Puts, AppendsFront};
 ghost use Rattle.rt_journal_write.specs.Texts.{journal_text};
 ghost use Rattle.rt_world.specs.State.{assembly_of};
 ghost use Rattle.fairexec_run.specs.Begun.{IsRearPart, IsNoneOr, WritesStats};
-ghost use Rattle.fairexec_run.specs.Outputs.{IfUnread};
-ghost use Rattle.fairexec_run.specs.Printed.{IsRear, PutsStats};
+ghost use Rattle.rt_sink.specs.Tries.{HasJustFailed};
+ghost use Rattle.fairexec_run.specs.Outputs.{IfUnread, IfUnwritten};
+ghost use Rattle.fairexec_run.specs.Printed.{PutsStats};
 ghost use Rattle.fairexec_run.specs.Replies as replies;
 
 use crate::print::{FULL_PAGE, Model, print_page};
@@ -20,11 +21,10 @@ use rt_ids::{ActorNo, CoreNo};
 use rt_jobs::ScriptJob;
 use rt_journal_notes::Journal;
 use rt_journal_write::write_journal;
+use rt_sink::{Sink, flush};
 use rt_text::EngineFault;
-use rt_text::steady::flush;
 use rt_world::{Assembly, Event};
 use std::alloc::Global;
-use std::io::Write;
 
 /// The events of a script as events of the model, in their order.
 pub(crate) fn events_of(
@@ -33,6 +33,7 @@ pub(crate) fn events_of(
 ) -> Result<Vec<Event<ScriptJob>>, EngineFault>
     ensures ok { IfOk result (λ all. all.items ≡ map replies.event_of events.items) }
     ensures device { IfErr result (IfUnread ⊥) }
+    ensures quiet { IfErr result (IfUnwritten ⊥) }
 {
     let mut all = Vec::with_capacity(alloc, events.len())?;
     for event in events {
@@ -42,10 +43,10 @@ pub(crate) fn events_of(
 }
 
 /// Prints the text of the journals.
-pub(crate) fn print_journal<W: Write>(assembly: &Assembly, sink: &mut W) -> Result<(), EngineFault>
+pub(crate) fn print_journal<S: Sink>(assembly: &Assembly, sink: &mut S) -> Result<(), EngineFault>
     requires { IsSpelled assembly.now }
-    ensures ok { OnOk result (Appends (W.contents sink.old) (W.contents sink.new) (journal_text assembly.now)) }
-    ensures err { OnErr result (AppendsFront (W.contents sink.old) (W.contents sink.new) (journal_text assembly.now)) }
+    ensures ok { OnOk result (Appends (S.contents sink.old) (S.contents sink.new) (journal_text assembly.now)) }
+    ensures err { OnErr result (AppendsFront (S.contents sink.old) (S.contents sink.new) (journal_text assembly.now)) }
     ensures device { IfErr result (IfUnread ⊥) }
 {
     match write_journal(assembly, sink) {
@@ -55,18 +56,19 @@ pub(crate) fn print_journal<W: Write>(assembly: &Assembly, sink: &mut W) -> Resu
 }
 
 /// Prints the page, and behind it the statistics of a world if they are wanted. Then it tells the sink that no more comes.
-pub(crate) fn print_rear<W: Write>(
+pub(crate) fn print_rear<S: Sink>(
     alloc: Global,
     stats: bool,
     model: &Model,
     page: &mut String,
-    sink: &mut W,
+    sink: &mut S,
 ) -> Result<(), EngineFault>
-    ensures ok { OnOk result ((text : List ℕ) × IsRear stats (assembly_of model.now) text
-        × Appends (W.contents sink.old) (W.contents sink.new) (string_bytes page.old ++ text)) }
+    ensures ok { OnOk result ((text : List ℕ) × IsStatsIf stats (assembly_of model.now) text
+        × Appends (S.contents sink.old) (S.contents sink.new) (string_bytes page.old ++ text)) }
     ensures err { OnErr result ((text : List ℕ) × IsRearPart stats (assembly_of model.now) text
-        × AppendsFront (W.contents sink.old) (W.contents sink.new) (string_bytes page.old ++ text)) }
+        × AppendsFront (S.contents sink.old) (S.contents sink.new) (string_bytes page.old ++ text)) }
     ensures device { IfErr result (IfUnread ⊥) }
+    ensures failed { IfErr result (IfUnwritten (HasJustFailed S.interrupts S.fails sink.new)) }
 {
     if !stats {
         return print_last(page, sink);
@@ -76,18 +78,19 @@ pub(crate) fn print_rear<W: Write>(
 }
 
 /// The same, of the cores whose journals these are.
-pub(crate) fn print_journal_rear<W: Write>(
+pub(crate) fn print_journal_rear<S: Sink>(
     alloc: Global,
     stats: bool,
     assembly: &Assembly,
     page: &mut String,
-    sink: &mut W,
+    sink: &mut S,
 ) -> Result<(), EngineFault>
-    ensures ok { OnOk result ((text : List ℕ) × IsRear stats assembly.now text
-        × Appends (W.contents sink.old) (W.contents sink.new) (string_bytes page.old ++ text)) }
+    ensures ok { OnOk result ((text : List ℕ) × IsStatsIf stats assembly.now text
+        × Appends (S.contents sink.old) (S.contents sink.new) (string_bytes page.old ++ text)) }
     ensures err { OnErr result ((text : List ℕ) × IsRearPart stats assembly.now text
-        × AppendsFront (W.contents sink.old) (W.contents sink.new) (string_bytes page.old ++ text)) }
+        × AppendsFront (S.contents sink.old) (S.contents sink.new) (string_bytes page.old ++ text)) }
     ensures device { IfErr result (IfUnread ⊥) }
+    ensures failed { IfErr result (IfUnwritten (HasJustFailed S.interrupts S.fails sink.new)) }
 {
     if !stats {
         return print_last(page, sink);
@@ -97,15 +100,16 @@ pub(crate) fn print_journal_rear<W: Write>(
 }
 
 /// Puts the statistics of all cores of a world on the page. A full page is written to the sink at once.
-fn print_stats<W: Write>(
+fn print_stats<S: Sink>(
     alloc: Global,
     model: &Model,
     page: &mut String,
-    sink: &mut W,
+    sink: &mut S,
 ) -> Result<(), EngineFault>
-    ensures ok { OnOk result (PutsStats (assembly_of model.now) (string_bytes page.old) (string_bytes page.new) (W.contents sink.old) (W.contents sink.new)) }
-    ensures err { OnErr result (WritesStats (assembly_of model.now) (string_bytes page.old) (W.contents sink.old) (W.contents sink.new)) }
+    ensures ok { OnOk result (PutsStats (assembly_of model.now) (string_bytes page.old) (string_bytes page.new) (S.contents sink.old) (S.contents sink.new)) }
+    ensures err { OnErr result (WritesStats (assembly_of model.now) (string_bytes page.old) (S.contents sink.old) (S.contents sink.new)) }
     ensures device { IfErr result (IfUnread ⊥) }
+    ensures failed { IfErr result (IfUnwritten (HasJustFailed S.interrupts S.fails sink.new)) }
 {
     let cores = model.cores();
     for core in 0..cores {
@@ -122,15 +126,16 @@ fn print_stats<W: Write>(
 }
 
 /// The same, of the cores whose journals these are.
-fn print_journal_stats<W: Write>(
+fn print_journal_stats<S: Sink>(
     alloc: Global,
     assembly: &Assembly,
     page: &mut String,
-    sink: &mut W,
+    sink: &mut S,
 ) -> Result<(), EngineFault>
-    ensures ok { OnOk result (PutsStats assembly.now (string_bytes page.old) (string_bytes page.new) (W.contents sink.old) (W.contents sink.new)) }
-    ensures err { OnErr result (WritesStats assembly.now (string_bytes page.old) (W.contents sink.old) (W.contents sink.new)) }
+    ensures ok { OnOk result (PutsStats assembly.now (string_bytes page.old) (string_bytes page.new) (S.contents sink.old) (S.contents sink.new)) }
+    ensures err { OnErr result (WritesStats assembly.now (string_bytes page.old) (S.contents sink.old) (S.contents sink.new)) }
     ensures device { IfErr result (IfUnread ⊥) }
+    ensures failed { IfErr result (IfUnwritten (HasJustFailed S.interrupts S.fails sink.new)) }
 {
     let cores = assembly.cores();
     for core in 0..cores {
@@ -147,19 +152,20 @@ fn print_journal_stats<W: Write>(
 }
 
 /// Puts the statistics of one core on the page, and writes the page if it is full.
-fn print_core<W: Write>(
+fn print_core<S: Sink>(
     alloc: Global,
     core: CoreNo,
     cores: u8,
     journal: &Journal<u64>,
     page: &mut String,
-    sink: &mut W,
+    sink: &mut S,
 ) -> Result<(), EngineFault>
     ensures ok { OnOk result ((text : List ℕ) × IsCoreText core cores journal.now.notes text
-        × Puts (string_bytes page.old) (string_bytes page.new) (W.contents sink.old) (W.contents sink.new) text) }
+        × Puts (string_bytes page.old) (string_bytes page.new) (S.contents sink.old) (S.contents sink.new) text) }
     ensures err { OnErr result ((text : List ℕ) × IsNoneOr (IsCoreText core cores journal.now.notes) text
-        × AppendsFront (W.contents sink.old) (W.contents sink.new) (string_bytes page.old ++ text)) }
+        × AppendsFront (S.contents sink.old) (S.contents sink.new) (string_bytes page.old ++ text)) }
     ensures device { IfErr result (IfUnread ⊥) }
+    ensures failed { IfErr result (IfUnwritten (HasJustFailed S.interrupts S.fails sink.new)) }
 {
     put_stats(alloc, core, cores, journal, page)?;
     if page.len() < FULL_PAGE {
@@ -169,10 +175,11 @@ fn print_core<W: Write>(
 }
 
 /// Prints the last page, and tells the sink that no more comes.
-fn print_last<W: Write>(page: &mut String, sink: &mut W) -> Result<(), EngineFault>
-    ensures ok { OnOk result (Appends (W.contents sink.old) (W.contents sink.new) (string_bytes page.old)) }
-    ensures err { OnErr result (AppendsFront (W.contents sink.old) (W.contents sink.new) (string_bytes page.old)) }
+fn print_last<S: Sink>(page: &mut String, sink: &mut S) -> Result<(), EngineFault>
+    ensures ok { OnOk result (Appends (S.contents sink.old) (S.contents sink.new) (string_bytes page.old)) }
+    ensures err { OnErr result (AppendsFront (S.contents sink.old) (S.contents sink.new) (string_bytes page.old)) }
     ensures device { IfErr result (IfUnread ⊥) }
+    ensures failed { OnErr result (HasJustFailed S.interrupts S.fails sink.new) }
 {
     print_page(page, sink)?;
     match flush(sink) {

@@ -4,8 +4,9 @@ ghost use Rattle.std.specs.Prelude.{◌≡◌, ◌≤◌, ◌++◌, [], ℕ, Lis
 ghost use Rattle.std.specs.Io.KnownBytes.{Appends};
 ghost use Rattle.fairexec_script.specs.Limits.{AreEventsOf, IsEventOf};
 ghost use Rattle.rt_journal_write.specs.Pages.{AppendsFront};
+ghost use Rattle.rt_sink.specs.Tries.{HasJustFailed};
 ghost use Rattle.fairexec_run.specs.Begun.{WritesFirst};
-ghost use Rattle.fairexec_run.specs.Outputs.{WritesAll, IfUnread};
+ghost use Rattle.fairexec_run.specs.Outputs.{WritesAll, IfUnread, IfUnwritten};
 ghost use Rattle.fairexec_run.specs.Rooms.{IsRoomy};
 ghost use Rattle.fairexec_run.specs.Transcripts.{Prints, note_lines};
 
@@ -13,11 +14,10 @@ use crate::reply::{ends_of, event_of, quiet_of};
 use fairexec_script::ScriptEvent;
 use rt_ids::ActorNo;
 use rt_jobs::ScriptJob;
-use rt_text::steady::write_all;
+use rt_sink::{Sink, write_all};
 use rt_text::{EngineFault, NoteLine, ReplyLine};
 use rt_world::{Journal, World};
 use std::alloc::Global;
-use std::io::Write;
 
 /// A world of script jobs.
 pub(crate) type Model = World<ScriptJob, Global>;
@@ -30,19 +30,20 @@ pub(crate) const FULL_PAGE: usize = 16384;
 pub(crate) const LONGEST_PRINT: usize = 1024;
 
 /// Lets the events happen, one after another. A full page is written to the sink at once.
-pub(crate) fn print_events<W: Write>(
+pub(crate) fn print_events<S: Sink>(
     model: &mut Model,
     events: Vec<ScriptEvent>,
     page: &mut String,
-    sink: &mut W,
+    sink: &mut S,
 ) -> Result<(), EngineFault>
     requires roomy { IsRoomy model.old.cores model.old.cap 510 model.old }
     requires there { AreEventsOf (Some (model.old.cores, model.old.cap)) events.items }
     requires short { length events.items ≤ 4096 }
     ensures ok { OnOk result (WritesAll events.items model.old model.new (string_bytes page.old) (string_bytes page.new)
-        (W.contents sink.old) (W.contents sink.new)) }
-    ensures err { OnErr result (WritesFirst events.items model.old (string_bytes page.old) (W.contents sink.old) (W.contents sink.new)) }
+        (S.contents sink.old) (S.contents sink.new)) }
+    ensures err { OnErr result (WritesFirst events.items model.old (string_bytes page.old) (S.contents sink.old) (S.contents sink.new)) }
     ensures device { IfErr result (IfUnread ⊥) }
+    ensures failed { IfErr result (IfUnwritten (HasJustFailed S.interrupts S.fails sink.new)) }
 {
     for event in events {
         print_event(model, event, page)?;
@@ -60,6 +61,7 @@ fn print_event(model: &mut Model, event: ScriptEvent, page: &mut String) -> Resu
     ensures ok { OnOk result ((text : List ℕ) × Prints event model.old model.new text
         × (string_bytes page.new ≡ string_bytes page.old ++ text)) }
     ensures device { IfErr result (IfUnread ⊥) }
+    ensures quiet { IfErr result (IfUnwritten ⊥) }
 {
     // Lawful journals have no more collected outcomes than submissions, so the event has room.
     model.joined();
@@ -88,6 +90,7 @@ fn print_notes(
     ensures ok { OnOk result (string_bytes page.new
         ≡ string_bytes page.old ++ note_lines actor (drop first (reverse journal.now.notes))) }
     ensures device { IfErr result (IfUnread ⊥) }
+    ensures quiet { IfErr result (IfUnwritten ⊥) }
 {
     for place in first..journal.len() {
         if let Some(note) = journal.get(place) {
@@ -99,11 +102,12 @@ fn print_notes(
 }
 
 /// Prints the page, and empties it.
-pub(crate) fn print_page<W: Write>(page: &mut String, sink: &mut W) -> Result<(), EngineFault>
-    ensures ok { OnOk result (Appends (W.contents sink.old) (W.contents sink.new) (string_bytes page.old)) }
+pub(crate) fn print_page<S: Sink>(page: &mut String, sink: &mut S) -> Result<(), EngineFault>
+    ensures ok { OnOk result (Appends (S.contents sink.old) (S.contents sink.new) (string_bytes page.old)) }
     ensures empty { OnOk result (string_bytes page.new ≡ []) }
-    ensures err { OnErr result (AppendsFront (W.contents sink.old) (W.contents sink.new) (string_bytes page.old)) }
+    ensures err { OnErr result (AppendsFront (S.contents sink.old) (S.contents sink.new) (string_bytes page.old)) }
     ensures device { IfErr result (IfUnread ⊥) }
+    ensures failed { OnErr result (HasJustFailed S.interrupts S.fails sink.new) }
 {
     match write_all(sink, page.as_bytes()) {
         Ok(()) => {

@@ -8,12 +8,14 @@ use Rattle.rt_ids.specs.declared.note.OutcomeNote.{OutcomeNote}
 use Rattle.rt_ids.specs.declared.order.Order.{Order}
 use Rattle.rt_ids.specs.declared.order.SendError.{SendError}
 use Rattle.rt_ids.specs.Assembly.{Assembly, outcome_of}
+use Rattle.rt_jobs.specs.ScriptMeaning.{script_meaning}
 use Rattle.rt_jobs.specs.Scripts.{Script}
 use Rattle.rt_ids.proofs.Prefixes.{IsPrefix-along}
 use Rattle.rt_link.proofs.Lists.{slice_get-seen}
 use Rattle.rt_ids.specs.Assembly.{IsPrefix}
 use Rattle.rt_journal_desk.specs.Submissions.{DeskView, Submits}
 use Rattle.rt_runtime.specs.Calls.{IsStarted, HasFinished}
+use Rattle.rt_runtime.proofs.WrongAnswers.{the_callers}
 use Rattle.rt_runtime.specs.Outcomes.{FitsItsOrder}
 use Rattle.rt_runtime.specs.Sends.{SendsTo, accepted}
 use Rattle.rt_runtime.specs.State.{RuntimeView, submitted, submitted_under}
@@ -41,16 +43,13 @@ all_before [] old new same to = ([], ap (λ (view : View). submitted to view) sa
 all_before (told ∷ rest) old new (between, one, others) to =
     IsPrefix-along (submitted to old) (submitted to between) (submitted to new) (sent_before told.0 told.1 old one.answer between one.sends to) (all_before rest between new others to)
 
-one_order : (a b : Order Script) → Some a ≡ Some b → a ≡ b
-one_order a b same = cc
-
-module _ (ended : View) (assembly : Assembly ℕ) (finishes : HasFinished FitsScript ended assembly) where
+module _ (ended : View) (assembly : Assembly ℕ) (finishes : HasFinished script_meaning ended assembly) where
   -- what is told under a name is what the order asks that was submitted under it
-  asked : (name : JobId) (order : Order Script) → name.from ≡ ended.desk.cores → submitted_under name ended ≡ Some order → (found : Option (OutcomeNote ℕ)) →
-      IfSome found (FitsItsOrder FitsScript ended assembly name) → IfSome found (IsAskedBy order)
-  asked name order from under None fits = tt
-  asked name order from under (Some told) fits =
-      let is : fits.order ≡ order = one_order fits.order order (sym (fits.by_caller from) ∙ under) in
+  asked : (name : JobId) (order : Order Script) → name.from ≡ ended.desk.cores → name.to < ended.desk.cores → submitted_under name ended ≡ Some order → (found : Option (OutcomeNote ℕ)) →
+      IfSome found (FitsItsOrder FitsScript finishes.orders name) → IfSome found (IsAskedBy order)
+  asked name order from there under None fits = tt
+  asked name order from there under (Some told) fits =
+      let is : fits.order ≡ order = the_callers ended assembly finishes.orders finishes.orders_are name from there fits.order order fits.under under in
       record { outcome = fits.outcome; as_told = fits.as_told; fit = subst (λ order. FitsScript order fits.outcome) is fits.fit }
 
   by_answer : (told : Told) (rest : List Told) (old between : View) → old.desk.actor ≡ ended.desk.cores → old.desk.cores ≡ ended.desk.cores → OffersAll rest between ended →
@@ -62,7 +61,7 @@ module _ (ended : View) (assembly : Assembly ℕ) (finishes : HasFinished FitsSc
       let known : name.from ≤ ended.desk.cores = omega (arith, from) in
       let receiver = submits.0.receiver in
       let there : name.to < ended.desk.cores = omega (arith, receiver, cores) in
-      asked name told.1 from
+      asked name told.1 from there
       (slice_get-seen (submitted name.to ended) (submitted name.to between) (all_before rest between ended others name.to) (name.number - 1) told.1 named)
       (outcome_of name assembly) (finishes.fitting name known there)
 
@@ -76,7 +75,7 @@ module _ (ended : View) (assembly : Assembly ℕ) (finishes : HasFinished FitsSc
 
 -- what the journals of a run tell of its orders is what these ask
 pub answered : (cores cap : ℕ) (queues : List Entry) (orders : List Told) (started ended : View) (assembly : Assembly ℕ) → IsStarted cores cap (room_of cores cap) queues started → (offers : OffersAll orders started ended) →
-    HasFinished FitsScript ended assembly → AreAnswered orders started ended offers assembly
+    HasFinished script_meaning ended assembly → AreAnswered orders started ended offers assembly
 answered cores cap queues orders started ended assembly starts offers finishes =
     let more = (grows orders started ended offers).cores in
     all_answered ended assembly finishes orders started offers

@@ -6,3 +6,7 @@ pub mod Running
 pub mod Ready
 pub mod Opened
 pub mod Answered
+pub mod Suffixes
+pub mod Heard
+pub mod Walked
+pub mod OpenCores

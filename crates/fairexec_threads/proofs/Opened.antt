@@ -1,6 +1,7 @@
 -- The journal of each core begins with the creation of its queues.
 use Rattle.std.proofs.Common.{◌≡◌, ◌<◌, ◌∙◌, ℕ, List, ap}
 use Rattle.rt_ids.specs.Assembly.{Assembly, journal_of}
+use Rattle.rt_jobs.specs.ScriptMeaning.{script_meaning}
 use Rattle.rt_jobs.specs.Scripts.{Script}
 use Rattle.rt_runtime.specs.Calls.{IsStarted, HasFinished}
 use Rattle.rt_runtime.specs.State.{RuntimeView}
@@ -11,11 +12,10 @@ use Rattle.rt_runtime_worker.specs.Linked.{LinkedView}
 use Rattle.rt_runtime_worker.specs.Queues.{creations, opening_of}
 use Rattle.rt_runtime_worker.specs.Together.{worker_at}
 use Rattle.fairexec_threads.specs.Offers.{OffersAll}
-use Rattle.fairexec_threads.specs.Outcomes.{FitsScript}
 use Rattle.fairexec_threads.specs.Rooms.{room_of}
 use Rattle.fairexec_threads.proofs.Sending.{grows}
 
-pub opened : (cores cap : ℕ) (queues : List Entry) (orders : List Told) (started ended : RuntimeView Script ℕ) (assembly : Assembly ℕ) → IsStarted cores cap (room_of cores cap) queues started → OffersAll orders started ended → HasFinished FitsScript ended assembly →
+pub opened : (cores cap : ℕ) (queues : List Entry) (orders : List Told) (started ended : RuntimeView Script ℕ) (assembly : Assembly ℕ) → IsStarted cores cap (room_of cores cap) queues started → OffersAll orders started ended → HasFinished script_meaning ended assembly →
     (core : ℕ) → core < cores → opening_of (journal_of core assembly) ≡ creations core queues
 opened cores cap queues orders started ended assembly starts offers finishes core there =
     let more = grows orders started ended offers in

@@ -33,20 +33,20 @@ abbrev View : Type 0
 View = RuntimeView Script ℕ
 
 -- a send to a core with a place is accepted, or the core is closed
-of_error : (core : ℕ) (order : Order Script) (old : View) (error : SendError Script) (new : View) → HasPlace core old → SendsTo core order old (Err error) new → Offers (core, order) old new
-of_error core order old (Closed back final) new place sends = record { answer = Err (Closed back final); taken = tt; sends = sends }
-of_error core order old (Full back) new place sends =
+of_error : (core : ℕ) (order : Order Script) (old : View) (error : SendError Script) (new : View) → core < old.desk.cores → HasPlace core old → SendsTo core order old (Err error) new → Offers (core, order) old new
+of_error core order old (Closed back final) new there place sends = record { there = there; answer = Err (Closed back final); taken = tt; sends = sends }
+of_error core order old (Full back) new there place sends =
     let full = sends.submits.1 in let few = outstanding_few core old.desk.journal.notes in let here = place.here in
     absurd (omega (arith, full, few, here))
-of_error core order old (Spent back) new place sends =
+of_error core order old (Spent back) new there place sends =
     let spent = sends.submits.2 in let here = place.here in let small = place.of_script.small_cap in
     absurd (omega (arith, spent, here, small))
-of_error core order old (NoCore back) new place sends = absurd sends.submits
+of_error core order old (NoCore back) new there place sends = absurd sends.submits
 
 pub offered : (each core : ℕ) (order : Order Script) (old : View) (answer : Result JobId (SubmitError Script)) (new : View) → each ≤ 3 → core < old.desk.cores → HasPlace core old → SubmitsTo each core order old answer new → Offers (core, order) old new
-offered each core order old (Ok name) new some there place submits = record { answer = Ok name; taken = tt; sends = submits.1.there there }
+offered each core order old (Ok name) new some there place submits = record { there = there; answer = Ok name; taken = tt; sends = submits.1.there there }
 offered each core order old (Err (JournalFull back)) new some there place submits = let full = submits.0 in let room = has_room each core old some place in absurd (omega (arith, full, room))
-offered each core order old (Err (Send error)) new some there place submits = of_error core order old error new place (submits.1.there there)
+offered each core order old (Err (Send error)) new some there place submits = of_error core order old error new there place (submits.1.there there)
 
 -- one more at the end, if it is told
 last_length : {A : Type 0} (told : Bool) (xs : List A) (x : A) → length (with_last xs (cond told (Some x) None)) ≡ length xs + cond told 1 0
@@ -89,6 +89,7 @@ pub record Grows (orders : List Told) (old new : View) : Type 0 where
   pub cap : new.desk.cap ≡ old.desk.cap
   pub room : new.desk.journal.room ≡ old.desk.journal.room
   pub closings : length new.closing ≡ length old.closing
+  pub spare : new.room ≡ old.room
   pub workers : new.workers ≡ old.workers
   pub notes : length new.desk.journal.notes ≤ length old.desk.journal.notes + length orders
   pub each : (core : ℕ) → sent_to core new ≤ sent_to core old + orders_to core orders
@@ -100,6 +101,7 @@ grows [] old new same = record {
   room = ap (λ (view : View). view.desk.journal.room) same;
   closings = ap (λ (view : View). length view.closing) same;
   workers = ap (λ (view : View). view.workers) same;
+  spare = ap (λ (view : View). view.room) same;
   notes = let e = ap (λ (view : View). length view.desk.journal.notes) same in omega (arith, e);
   each = λ core. let e = ap (λ (view : View). sent_to core view) same in omega (arith, e);
 }
@@ -112,6 +114,7 @@ grows (told ∷ rest) old new (between, one, others) =
       cap = later.cap ∙ ap (λ (desk : DeskView Script ℕ). desk.cap) sends.stays.desk;
       room = later.room ∙ ap (λ (desk : DeskView Script ℕ). desk.journal.room) sends.stays.desk;
       workers = later.workers ∙ sends.stays.workers;
+      spare = later.spare ∙ sends.stays.room;
       closings = later.closings ∙ (ap length sends.closing ∙ length-set old.closing told.0 _);
       notes = let a = first.notes in let b = later.notes in omega (arith, a, b);
       each = λ core. let a = first.each core in let b = later.each core in let c = sum_by-cons (λ t. cond (t.0 == core) 1 0) told rest in omega (arith, a, b, c);

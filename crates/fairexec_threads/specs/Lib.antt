@@ -3,4 +3,6 @@ pub mod Starting
 pub mod Offers
 pub mod Counting
 pub mod Outcomes
+pub mod Accepted
 pub mod Runs
+pub mod Laws

@@ -1,5 +1,5 @@
 -- The orders that a script's outside actor sends, one after another.
-use Rattle.std.specs.Prelude.{◌≡◌, ℕ, zero, suc, ◌++◌, List, [], ◌∷◌, Result, Ok, Err}
+use Rattle.std.specs.Prelude.{◌≡◌, ℕ, zero, suc, ◌<◌, ◌++◌, List, [], ◌∷◌, Result, Ok, Err}
 use Rattle.rt_ids.specs.declared.names.JobId.{JobId}
 use Rattle.rt_ids.specs.declared.order.Mode.TheVariants.{Finish}
 use Rattle.rt_ids.specs.declared.order.Order.TheVariants.{CloseCore}
@@ -16,8 +16,9 @@ IsTaken (Ok name) = Unit {0}
 IsTaken (Err (Closed back final)) = Unit {0}
 IsTaken (Err _) = ⊥
 
--- one order is sent to its core: it is accepted, unless the core closed by itself before
+-- one order is sent to its core: it is accepted, unless its gate is found shut
 pub record Offers (told : Told) (old new : RuntimeView Script ℕ) : Type 0 where
+  pub there : told.0 < old.desk.cores
   pub answer : Result JobId (SendError Script)
   pub taken : IsTaken answer
   pub sends : SendsTo told.0 told.1 old answer new

@@ -2,6 +2,7 @@
 use Rattle.std.specs.Prelude.{◌≡◌, ◌<◌, ◌++◌, ℕ, Bool, List, Option, Some, Ok}
 use Rattle.std.specs.Option.{IfSome}
 use Rattle.rt_ids.specs.Assembly.{Assembly, journal_of}
+use Rattle.rt_jobs.specs.ScriptMeaning.{script_meaning}
 use Rattle.rt_jobs.specs.Scripts.{Script}
 use Rattle.fairexec_report.specs.Writing as writing
 use Rattle.rt_runtime.specs.Calls.{IsStarted, HasFinished}
@@ -11,20 +12,23 @@ use Rattle.fairexec_threads_script.specs.declared.fault.ThreadsFault.{ThreadsFau
 use Rattle.fairexec_threads_script.specs.declared.fault.ThreadsFault.TheVariants.{Write}
 use Rattle.fairexec_threads_script.specs.Drafts.{Drafted, Told}
 use Rattle.fairexec_threads_script.specs.Scripts.{threads_script_of}
+use Rattle.fairexec_threads.specs.Accepted.{AreHeard}
 use Rattle.fairexec_threads.specs.Offers.{OffersAll, closings}
-use Rattle.fairexec_threads.specs.Outcomes.{AreAnswered, FitsScript}
+use Rattle.fairexec_threads.specs.Outcomes.{AreAnswered}
 use Rattle.fairexec_threads.specs.Rooms.{room_of}
 use Rattle.rt_runtime_worker.specs.Queues.{creations, opening_of}
 
 -- A runtime of these numbers and queues is started, the orders are sent, each core is closed from 0 upwards, and the runtime is finished. The
--- journal of each core begins with the creation of its queues, and what the journals tell of an order is what it asks.
+-- journal of each core begins with the creation of its queues. Each order is accepted, unless its core has closed. What the journals tell of an
+-- order is what it asks.
 pub record RunsOrders (cores cap : ℕ) (queues : List Entry) (orders : List Told) (assembly : Assembly ℕ) : Type 0 where
   pub started : RuntimeView Script ℕ
   pub ended : RuntimeView Script ℕ
   pub starts : IsStarted cores cap (room_of cores cap) queues started
   pub offers : OffersAll (orders ++ closings cores) started ended
-  pub finishes : HasFinished FitsScript ended assembly
+  pub finishes : HasFinished script_meaning ended assembly
   pub opened : (core : ℕ) → core < cores → opening_of (journal_of core assembly) ≡ creations core queues
+  pub heard : AreHeard (orders ++ closings cores) started ended offers assembly
   pub answered : AreAnswered (orders ++ closings cores) started ended offers assembly
 
 -- the same of a script that told its size

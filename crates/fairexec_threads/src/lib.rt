@@ -4,6 +4,7 @@
 pub mod calls;
 mod clock;
 pub mod house;
+pub mod laws;
 pub mod run;
 
 pub use run::threads_script;

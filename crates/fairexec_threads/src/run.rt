@@ -1,10 +1,11 @@
 //! Runs a script on threads, and tells what became of its orders.
 
-ghost use Rattle.std.specs.Prelude.{◌≡◌, Err, IfOk, IfErr, IfSome, true};
+ghost use Rattle.std.specs.Prelude.{◌≡◌, Err, IfOk, IfErr, IfSome, false, true};
 ghost use Rattle.std.specs.Io.KnownBytes.{Keeps};
 ghost use Rattle.fairexec_threads_script.specs.ScriptFaults.{IfText};
 ghost use Rattle.fairexec_threads_script.specs.Scripts.{threads_script_of};
 ghost use Rattle.fairexec_threads_script.specs.Taking.{IsPrompt};
+ghost use Rattle.rt_sink.specs.Tries.{HasJustFailed};
 ghost use Rattle.fairexec_threads.specs.Runs.{RunsOrders, IsRun, IsCutShort, IfUnwritten, IfUntold};
 ghost use Rattle.fairexec_threads.specs.Starting.{IsOfStart};
 
@@ -14,8 +15,9 @@ use fairexec_report::{TellFault, write_report};
 use fairexec_threads_script::{ThreadsFault, ThreadsScript, read_threads_script};
 use rt_journal_notes::Assembly;
 use rt_runtime::FinishError;
+use rt_sink::Sink;
 use std::alloc::Global;
-use std::io::{Read, Write};
+use std::io::Read;
 use std::sync::Wait;
 use std::thread::Threads;
 
@@ -49,24 +51,26 @@ where
 /// # Errors
 ///
 /// A faulty line of the script (`Text`), a failed read (`Read`) or write (`Write`), want of memory (`Memory`), a thread that can't be made
-/// (`Thread`). After a failed write a first part of the text may be written, and before each other fault nothing is.
-pub fn threads_script<H, R: Read, W: Write>(
+/// (`Thread`). After a failed write a first part of the text may be written, and nothing is tried behind it. Before each other fault nothing
+/// is written.
+pub fn threads_script<H, R: Read, S: Sink>(
     rt: H,
     alloc: Global,
     journal: bool,
     stats: bool,
     source: &mut R,
-    sink: &mut W,
+    sink: &mut S,
 ) -> Result<bool, ThreadsFault>
 where
     H: Threads + Wait + Copy + Drop + Send + 'static,
-    ensures done { IfOk result (IsRun journal stats (R.remaining source.old) (W.contents sink.old) (W.contents sink.new)) }
+    ensures done { IfOk result (IsRun journal stats (R.remaining source.old) (S.contents sink.old) (S.contents sink.new)) }
     ensures sound { IfOk result (λ sound. sound ≡ true) }
     ensures faulty { IfErr result (IfText (λ fault.
         IfSome (R.remaining source.old) (λ text. threads_script_of text ≡ Err fault))) }
     ensures prompt { IfErr result (IsPrompt (R.remaining source.old) (R.remaining source.new)) }
-    ensures silent { IfErr result (IfUntold (Keeps (W.contents sink.old) (W.contents sink.new))) }
-    ensures unwritten { IfErr result (IfUnwritten (IsCutShort journal stats (R.remaining source.old) (W.contents sink.old) (W.contents sink.new))) }
+    ensures silent { IfErr result (IfUntold (Keeps (S.contents sink.old) (S.contents sink.new))) }
+    ensures unwritten { IfErr result (IfUnwritten (IsCutShort journal stats (R.remaining source.old) (S.contents sink.old) (S.contents sink.new))) }
+    ensures failed { journal ≡ false → IfErr result (IfUnwritten (HasJustFailed S.interrupts S.fails sink.new)) }
 {
     let script = read_threads_script(alloc, source)?;
     let assembly = run_orders(rt, alloc, script)?;

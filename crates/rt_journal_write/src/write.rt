@@ -10,8 +10,8 @@ ghost use Rattle.rt_journal_write.specs.Texts as spec;
 use arrayvec::ArrayVec;
 use rt_ids::{ActorNo, Note};
 use rt_journal_notes::{Assembly, Journal};
+use rt_sink::{Sink, write_all};
 use rt_text::NoteLine;
-use rt_text::steady::write_all;
 use std::io::Write;
 
 /// The bytes of a page.
@@ -28,10 +28,10 @@ pub struct WriteError;
 type Page = ArrayVec<u8, PAGE>;
 
 /// Writes the text of the journals, a page at a time. After a fault a first part of the text is written.
-pub fn write_journal<W: Write>(assembly: &Assembly, sink: &mut W) -> Result<(), WriteError>
+pub fn write_journal<S: Sink>(assembly: &Assembly, sink: &mut S) -> Result<(), WriteError>
     requires { IsSpelled assembly.now }
-    ensures ok { OnOk result (Appends (W.contents sink.old) (W.contents sink.new) (spec.journal_text assembly.now)) }
-    ensures err { OnErr result (AppendsFront (W.contents sink.old) (W.contents sink.new) (spec.journal_text assembly.now)) }
+    ensures ok { OnOk result (Appends (S.contents sink.old) (S.contents sink.new) (spec.journal_text assembly.now)) }
+    ensures err { OnErr result (AppendsFront (S.contents sink.old) (S.contents sink.new) (spec.journal_text assembly.now)) }
 {
     let mut page = Page::new();
     put_head(assembly, &mut page)?;
@@ -63,15 +63,15 @@ fn put_end(page: &mut Page) -> Result<(), WriteError>
 }
 
 /// Puts the notes of all actors, actor after actor.
-fn put_journals<W: Write>(
+fn put_journals<S: Sink>(
     assembly: &Assembly,
     page: &mut Page,
-    sink: &mut W,
+    sink: &mut S,
 ) -> Result<(), WriteError>
     requires { IsSpelled assembly.now }
-    ensures ok { OnOk result (Puts page.old.items page.new.items (W.contents sink.old) (W.contents sink.new)
+    ensures ok { OnOk result (Puts page.old.items page.new.items (S.contents sink.old) (S.contents sink.new)
         (spec.text_of (spec.journal_lines 0 assembly.now.journals))) }
-    ensures err { OnErr result (AppendsFront (W.contents sink.old) (W.contents sink.new)
+    ensures err { OnErr result (AppendsFront (S.contents sink.old) (S.contents sink.new)
         (page.old.items ++ spec.text_of (spec.journal_lines 0 assembly.now.journals))) }
 {
     for actor in 0..assembly.cores() + 1 {
@@ -82,15 +82,15 @@ fn put_journals<W: Write>(
 }
 
 /// Puts the notes of one actor, the oldest first.
-fn put_notes<W: Write>(
+fn put_notes<S: Sink>(
     actor: ActorNo,
     journal: &Journal<u64>,
     page: &mut Page,
-    sink: &mut W,
+    sink: &mut S,
 ) -> Result<(), WriteError>
-    ensures ok { OnOk result (Puts page.old.items page.new.items (W.contents sink.old) (W.contents sink.new)
+    ensures ok { OnOk result (Puts page.old.items page.new.items (S.contents sink.old) (S.contents sink.new)
         (spec.text_of (spec.actor_lines actor journal.now.notes))) }
-    ensures err { OnErr result (AppendsFront (W.contents sink.old) (W.contents sink.new)
+    ensures err { OnErr result (AppendsFront (S.contents sink.old) (S.contents sink.new)
         (page.old.items ++ spec.text_of (spec.actor_lines actor journal.now.notes))) }
 {
     for note in journal.as_slice() {
@@ -114,10 +114,10 @@ fn put_note(actor: ActorNo, note: Note<u64>, page: &mut Page) -> Result<(), Writ
 }
 
 /// Writes the page, and empties it.
-fn write_page<W: Write>(page: &mut Page, sink: &mut W) -> Result<(), WriteError>
-    ensures ok { OnOk result (Appends (W.contents sink.old) (W.contents sink.new) page.old.items) }
+fn write_page<S: Sink>(page: &mut Page, sink: &mut S) -> Result<(), WriteError>
+    ensures ok { OnOk result (Appends (S.contents sink.old) (S.contents sink.new) page.old.items) }
     ensures empty { OnOk result (page.new.items ≡ []) }
-    ensures err { OnErr result (AppendsFront (W.contents sink.old) (W.contents sink.new) page.old.items) }
+    ensures err { OnErr result (AppendsFront (S.contents sink.old) (S.contents sink.new) page.old.items) }
 {
     match write_all(sink, page.as_slice()) {
         Ok(()) => {

@@ -28,6 +28,8 @@ use Rattle.rt_runtime.specs.State.{RuntimeView, IsRuntime, outside_of, closing_a
 use Rattle.rt_runtime.specs.Calls.{HasFinished, IsFirstOpen}
 use Rattle.rt_runtime.specs.Finishing.{IsFirstOpenOf, Parts}
 use Rattle.rt_runtime.proofs.Fitting.{all_fit}
+use Rattle.rt_runtime.proofs.Orders.{are_its_orders, its_orders}
+use Rattle.rt_runtime.proofs.Polled.{all_owed}
 use Rattle.rt_link.specs.Fits.{Fits}
 
 -- two lists that belong together, at each place
@@ -138,7 +140,7 @@ module _ {J : Type 0} (meaning : Meaning J ℕ) (view : RuntimeView J ℕ) (is :
       reunited = reunited;
     }
 
-    pub finished : AreReunited (Fits meaning) view.desk.cores (all_ends ended (outside_of view)) → EndedAreJoined meaning → JoiningIsSound → JoinedAreSpelled → ((core : ℕ) → core < length view.closing → closing_at core view ≡ true) → HasFinished (Fits meaning) view assembly
+    pub finished : AreReunited (Fits meaning) view.desk.cores (all_ends ended (outside_of view)) → EndedAreJoined meaning → JoiningIsSound → JoinedAreSpelled → ((core : ℕ) → core < length view.closing → closing_at core view ≡ true) → HasFinished meaning view assembly
     finished reunited joined_law sound_law spelled_law closed =
         let have = have_ended reunited in
         let law = joined_law view.desk.cores view.desk.cap ended (outside_of view) assembly have is_assembly in
@@ -153,18 +155,21 @@ module _ {J : Type 0} (meaning : Meaning J ℕ) (view : RuntimeView J ℕ) (is :
           drained = law.1;
           acts = acts_here;
           openings = λ core low. ap opening_of (here core low) ∙ (stays core low).opening;
+          orders = its_orders view ended have assembly is_assembly;
+          orders_are = are_its_orders view ended have assembly is_assembly;
           fitting = all_fit view ended have assembly is_assembly;
+          polls = all_owed view ended have assembly is_assembly;
         }
 
     -- the same of the assembly as the code has it
     pub finished_as : (cores cap : ℕ) (ends : List (EndsView J ℕ)) (journals : List (JournalView ℕ)) → cores ≡ view.desk.cores → cap ≡ view.desk.cap →
         ends ≡ all_ends ended (outside_of view) → journals ≡ map (λ worker. worker.recorded.journal) ended ++ view.desk.journal ∷ [] → AreReunited (Fits meaning) cores ends → EndedAreJoined meaning →
         JoiningIsSound → JoinedAreSpelled → ((core : ℕ) → core < length view.closing → closing_at core view ≡ true) →
-        HasFinished (Fits meaning) view (record { cores = cores; cap = cap; journals = map (λ journal. journal.notes) journals })
+        HasFinished meaning view (record { cores = cores; cap = cap; journals = map (λ journal. journal.notes) journals })
     finished_as cores cap ends journals same_cores same_cap ends_are journals_are reunited joined_law sound_law spelled_law closed =
-        subst (λ cores. HasFinished (Fits meaning) view (record { cores = cores; cap = cap; journals = map (λ (journal : JournalView ℕ). journal.notes) journals })) (sym same_cores)
-        (subst (λ cap. HasFinished (Fits meaning) view (record { cores = view.desk.cores; cap = cap; journals = map (λ (journal : JournalView ℕ). journal.notes) journals })) (sym same_cap)
-        (subst (λ journals. HasFinished (Fits meaning) view (record { cores = view.desk.cores; cap = view.desk.cap; journals = map (λ (journal : JournalView ℕ). journal.notes) journals })) (sym journals_are)
+        subst (λ cores. HasFinished meaning view (record { cores = cores; cap = cap; journals = map (λ (journal : JournalView ℕ). journal.notes) journals })) (sym same_cores)
+        (subst (λ cap. HasFinished meaning view (record { cores = view.desk.cores; cap = cap; journals = map (λ (journal : JournalView ℕ). journal.notes) journals })) (sym same_cap)
+        (subst (λ journals. HasFinished meaning view (record { cores = view.desk.cores; cap = view.desk.cap; journals = map (λ (journal : JournalView ℕ). journal.notes) journals })) (sym journals_are)
         (finished (subst (λ cores. AreReunited (Fits meaning) cores (all_ends ended (outside_of view))) same_cores (subst (AreReunited (Fits meaning) cores) ends_are reunited)) joined_law sound_law spelled_law closed)))
 
 -- how many ends and journals there are

@@ -6,7 +6,7 @@ use Rattle.rt_ids.specs.declared.note.OutcomeNote.{OutcomeNote}
 use Rattle.rt_ids.specs.declared.order.Order.{Order}
 use Rattle.rt_ids.specs.declared.order.Outcome.{Outcome}
 use Rattle.rt_ids.specs.Assembly.{Assembly, first_under, journal_of, outcome_of}
-use Rattle.rt_ids.specs.Filters.{accepted_orders, given_outcomes}
+use Rattle.rt_ids.specs.Filters.{given_outcomes}
 use Rattle.rt_ids.specs.Names.{same_name}
 use Rattle.rt_ids.specs.Outcomes.{outcome_note}
 use Rattle.rt_ids.proofs.NameLemmas.{one_name}
@@ -14,19 +14,18 @@ use Rattle.rt_jobs.specs.Meanings.{Meaning}
 use Rattle.rt_link.specs.Ends.{AreOf}
 use Rattle.rt_ring.proofs.Fronts.{slice_get-there}
 use Rattle.rt_journal_desk.specs.Ends.{name_of, named_outcomes}
-use Rattle.rt_journal_desk.specs.Orders.{numbered_orders}
-use Rattle.rt_journal_desk.proofs.NumberedOrders.{first_under-numbered}
 use Rattle.rt_journal.specs.Together.{IsAssemblyOf}
 use Rattle.rt_ids.proofs.Prefixes.{IsPrefix-take}
 use Rattle.rt_link.proofs.Lists.{slice_get-seen}
 use Rattle.rt_ring.specs.declared.ring_out.Sending.{Sending}
 use Rattle.rt_ring.specs.declared.ring_in.Receiving.{Receiving}
-use Rattle.rt_ring_mesh.specs.Ends.{in_at, out_at}
-use Rattle.rt_ring_mesh.specs.Grid.{ends_at, no_ends}
+use Rattle.rt_ring_mesh.specs.Ends.{in_at}
+use Rattle.rt_ring_mesh.specs.Grid.{ends_at}
 use Rattle.rt_runtime_worker.specs.Linked.{LinkedView}
-use Rattle.rt_runtime_worker.specs.Together.{HaveEnded, all_ends, desk_among, no_linked}
-use Rattle.rt_runtime_worker.proofs.Ending.{at_last, ended_together}
-use Rattle.rt_runtime.specs.Outcomes.{AllFitTheirOrders, FitsItsOrder}
+use Rattle.rt_runtime_worker.specs.Together.{HaveEnded, all_ends, desk_among}
+use Rattle.rt_runtime_worker.proofs.Ending.{ended_together}
+use Rattle.rt_runtime.specs.Outcomes.{AllFitTheirOrders, FitsItsOrder, Orders}
+use Rattle.rt_runtime.proofs.Orders.{at_number, at_number_is, its_orders, out_under}
 use Rattle.rt_runtime.specs.State.{RuntimeView, outside_of}
 use Rattle.rt_link.specs.Fits.{Fits}
 
@@ -72,9 +71,12 @@ has_order {fits = fits} base taken sent given none are place outcome at =
 module _ {J : Type 0} {meaning : Meaning J ℕ} (view : RuntimeView J ℕ) (ended : List (LinkedView J ℕ))
     (have : HaveEnded meaning view.desk.cores view.desk.cap ended (outside_of view)) (assembly : Assembly ℕ)
     (is : IsAssemblyOf view.desk.cores view.desk.cap (desk_among ended (outside_of view)) assembly) where
+  abbrev orders : Orders J
+  orders = its_orders view ended have assembly is
+
   module _ (name : JobId) (from : name.from ≤ view.desk.cores) (to : name.to < view.desk.cores) where
     abbrev out : Sending J ℕ
-    out = out_at name.to (ends_at name.from (all_ends ended (outside_of view)))
+    out = out_under view ended have assembly is name
 
     abbrev inward : Receiving J ℕ
     inward = in_at name.from (ends_at name.to (all_ends ended (outside_of view)))
@@ -85,40 +87,22 @@ module _ {J : Type 0} {meaning : Meaning J ℕ} (view : RuntimeView J ℕ) (ende
         ap (given_outcomes name.from) (is.each name.to (omega (arith, to)) ∙ ap (λ desk. desk.journal.notes) (are.desks name.to to))
         ∙ ((are.ins name.from name.to from to).given ∙ ap (λ core. named_outcomes name.from core inward.inward.given) (ap (λ terms. terms.actor) (have.seats name.to to)))
 
-    sent_are : accepted_orders name.to (journal_of name.from assembly) ≡ numbered_orders name.from name.to 0 out.out.sent
-    sent_are =
-        let are = ended_together have in
-        ap (accepted_orders name.to) (is.each name.from from)
-        ∙ ((are.outs name.from name.to from to).accepted ∙ ap (λ actor. numbered_orders actor name.to 0 out.out.sent) (ap (λ terms. terms.actor) (are.actors name.from from)))
-
-    outside_ends : name.from ≡ view.desk.cores → ends_at name.from (all_ends ended (outside_of view)) ≡ view.ends
-    outside_ends is_outside =
-        ap (λ actor. ends_at actor (all_ends ended (outside_of view))) is_outside
-        ∙ at_last (λ (worker : LinkedView J ℕ). worker.ends) ended view.ends no_ends no_linked view.desk.cores have.count
-
-    fits_its_order : (told : OutcomeNote ℕ) → outcome_of name assembly ≡ Some told → FitsItsOrder (Fits meaning) view assembly name told
+    fits_its_order : (told : OutcomeNote ℕ) → outcome_of name assembly ≡ Some told → FitsItsOrder (Fits meaning) orders name told
     fits_its_order told found =
         let first = first_named name.from name.to name inward.inward.given told (ap (first_under name) (sym given_are) ∙ found) in
         let has = has_order out.out.base inward.inward.taken out.out.sent inward.inward.given ((ended_together have).outs name.from name.to from to).base
         (have.reunited name.from name.to from to).outcomes first.place first.outcome first.at in
-        let number : first.outcome.0 ≡ 0 + (first.outcome.0 - 1) + 1 = omega (arith, has.above) in
-        let named : name ≡ name_of name.from name.to (0 + (first.outcome.0 - 1) + 1) = first.named ∙ ap (name_of name.from name.to) number in
         record {
           order = has.order;
-          sent = ap (first_under name) sent_are
-              ∙ (ap (λ named. first_under named (numbered_orders name.from name.to 0 out.out.sent)) named
-              ∙ first_under-numbered name.from name.to 0 out.out.sent (first.outcome.0 - 1) has.order has.at);
-          by_caller = λ is_outside.
-              ap (λ ends. slice_get (out_at name.to ends).out.sent (name.number - 1)) (sym (outside_ends is_outside))
-              ∙ (ap (λ named. slice_get out.out.sent (named.number - 1)) first.named ∙ has.at);
+          under = ap (λ named. at_number out.out.sent named.number) first.named ∙ at_number_is out.out.sent first.outcome.0 has.order has.above has.at;
           outcome = first.outcome.1;
           as_told = first.as_told;
           fit = has.fit;
         }
 
-    by_told : (found : Option (OutcomeNote ℕ)) → outcome_of name assembly ≡ found → IfSome found (FitsItsOrder (Fits meaning) view assembly name)
+    by_told : (found : Option (OutcomeNote ℕ)) → outcome_of name assembly ≡ found → IfSome found (FitsItsOrder (Fits meaning) orders name)
     by_told None at = tt
     by_told (Some told) at = fits_its_order told at
 
-  pub all_fit : AllFitTheirOrders (Fits meaning) view assembly
+  pub all_fit : AllFitTheirOrders view assembly orders (Fits meaning)
   all_fit name from to = by_told name from to (outcome_of name assembly) refl

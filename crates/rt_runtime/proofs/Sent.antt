@@ -113,8 +113,8 @@ module _ {J T : Type 0} where
     same_links : SameEnds view.ends put
     same_links = out_used view.ends core later there link
 
-    runtime_put : (closing : List Bool) → length closing ≡ view.desk.cores → booked desk ≤ desk.journal.room → IsRuntime fits (record { desk = desk; ends = put; closing = closing; workers = view.workers; room = view.room })
-    runtime_put closing count room = record {
+    runtime_put : (closing : List Bool) → length closing ≡ view.desk.cores → (rung : List ℕ) → length rung ≡ view.desk.cores → booked desk ≤ desk.journal.room → IsRuntime fits (record { desk = desk; ends = put; closing = closing; workers = view.workers; room = view.room; rung = rung })
+    runtime_put closing count rung bells room = record {
       count = is.count ∙ sym cores;
       each = subst (λ cores. (core : ℕ) → core < cores → IsWorkerOf core cores desk.cap view.room (worker_at core view.workers)) (sym cores)
           (subst (λ cap. (core : ℕ) → core < view.desk.cores → IsWorkerOf core view.desk.cores cap view.room (worker_at core view.workers)) (sym cap) is.each);
@@ -126,6 +126,7 @@ module _ {J T : Type 0} where
       };
       grid = subst (λ cores. IsGrid cores (map (λ worker. worker.ends) view.workers ++ put ∷ [])) (sym cores) (grid_kept view.desk.cores _ _ (same_last view.workers view.ends put same_links) is.grid);
       closings = count ∙ sym cores;
+      bells = bells ∙ sym cores;
       lanes = lanes_now;
       lanes_are = stays.known.cores_are;
       room_is = room;
@@ -133,25 +134,24 @@ module _ {J T : Type 0} where
     }
 
     -- the same, over the ends as the code has them
-    pub runtime_on : (ends : EndsView J T) → ends ≡ put → (closing : List Bool) → length closing ≡ view.desk.cores → booked desk ≤ view.desk.journal.room →
-        IsRuntime fits (record { desk = desk; ends = ends; closing = closing; workers = view.workers; room = view.room })
-    runtime_on ends is_put closing count room =
-        subst (λ ends. IsRuntime fits (record { desk = desk; ends = ends; closing = closing; workers = view.workers; room = view.room })) (sym is_put)
-        (runtime_put closing count (omega (arith, room, ap (λ desk. desk.journal.room) stays.rest)))
+    pub runtime_on : (ends : EndsView J T) → ends ≡ put → (closing : List Bool) → length closing ≡ view.desk.cores → (rung : List ℕ) → length rung ≡ view.desk.cores → booked desk ≤ view.desk.journal.room →
+        IsRuntime fits (record { desk = desk; ends = ends; closing = closing; workers = view.workers; room = view.room; rung = rung })
+    runtime_on ends is_put closing count rung bells room =
+        subst (λ ends. IsRuntime fits (record { desk = desk; ends = ends; closing = closing; workers = view.workers; room = view.room; rung = rung })) (sym is_put)
+        (runtime_put closing count rung bells (omega (arith, room, ap (λ desk. desk.journal.room) stays.rest)))
 
-    pub stored_on : {cores_are cap_is bells room_ends room_journals : ℕ} (ends : EndsView J T) (closing : List Bool) → IsStored view cores_are cap_is bells room_ends room_journals →
-        IsStored (record { desk = desk; ends = ends; closing = closing; workers = view.workers; room = view.room }) cores_are cap_is bells room_ends room_journals
-    stored_on ends closing stored = record {
+    pub stored_on : {cores_are cap_is room_ends room_journals : ℕ} (ends : EndsView J T) (closing : List Bool) (rung : List ℕ) → IsStored view cores_are cap_is room_ends room_journals →
+        IsStored (record { desk = desk; ends = ends; closing = closing; workers = view.workers; room = view.room; rung = rung }) cores_are cap_is room_ends room_journals
+    stored_on ends closing rung stored = record {
       cores_are = stored.cores_are ∙ sym cores;
       cap_is = stored.cap_is ∙ sym cap;
-      bells_are = stored.bells_are;
       room_ends = stored.room_ends;
       room_journals = stored.room_journals;
     }
 
     -- nothing was submitted, where this end has sent what it had sent and heard of no gate
     pub nothing_on : (ends : EndsView J T) → ends ≡ put → later.out.sent ≡ submitted core view → later.out.closed ≡ is_told_shut core view →
-        SubmitsNothing view (record { desk = desk; ends = ends; closing = view.closing; workers = view.workers; room = view.room })
+        SubmitsNothing view (record { desk = desk; ends = ends; closing = view.closing; workers = view.workers; room = view.room; rung = view.rung })
     nothing_on ends is_put sent gate = record {
       orders = λ to. ⊎_elim
           (λ (same : to ≡ core). rw same (ap (λ ends. (out_at core ends).out.sent) is_put ∙ (ap (λ (end : Sending J T). end.out.sent) put_is ∙ sent)))
@@ -162,6 +162,7 @@ module _ {J T : Type 0} where
           (λ (away : to ≢ core). ap (λ ends. (out_at to ends).out.closed) is_put ∙ ap (λ (end : Sending J T). end.out.closed) (put_other to away))
           (cases_eq to core);
       closing = refl;
+      rung = refl;
       stays = record { desk = stays.rest; workers = refl; room = refl };
     }
 

@@ -92,7 +92,7 @@ module _ {J T : Type 0} (cores cap room : ℕ) (queues : List Entry) where
 
   -- a runtime in which nothing has happened
   module _ (workers : List (LinkedView J T)) (ends : EndsView J T) (desk : DeskView J T) (closing : List Bool) (house : IsHouse cores cap room queues workers ends) (opened : desk ≡ opened_desk cores cores cap room)
-      (written : IsWritten (terms_of_desk desk) desk.journal.notes) (none : closing ≡ replicate cores false) (limits : IsWithinLimits cores cap) where
+      (written : IsWritten (terms_of_desk desk) desk.journal.notes) (none : closing ≡ replicate cores false) (rung : List ℕ) (silent : rung ≡ replicate cores 0) (limits : IsWithinLimits cores cap) where
     outs_opened : (core : ℕ) → core < cores → IsOutOf core (opened_desk cores cores cap room) (out_at core ends).out (out_at core ends).credited
     outs_opened core low =
         let is = house.fresh.outs core (omega (arith, low, house.outs)) in
@@ -117,7 +117,7 @@ module _ {J T : Type 0} (cores cap room : ℕ) (queues : List Entry) where
     none_due : sum_by due_of (replicate cores (fresh_lane {J = J} {T = T} cap)) ≡ 0
     none_due = sum_by-replicate due_of cores (fresh_lane cap) ∙ omega arith
 
-    pub started : (fits : Order J → Outcome J T → Type 0) → IsRuntime fits (record { desk = desk; ends = ends; closing = closing; workers = workers; room = room })
+    pub started : (fits : Order J → Outcome J T → Type 0) → IsRuntime fits (record { desk = desk; ends = ends; closing = closing; workers = workers; room = room; rung = rung })
     started fits = record {
       lanes = subst (λ (desk : DeskView J T). (core : ℕ) → core < desk.cores → HasLane fits core desk (out_at core ends).out (out_at core ends).credited) (sym opened) (lanes_opened fits);
       count = house.count ∙ ap (λ desk. desk.cores) (sym opened);
@@ -125,6 +125,7 @@ module _ {J T : Type 0} (cores cap room : ℕ) (queues : List Entry) where
       actor = ap (λ desk. desk.actor) opened ∙ ap (λ desk. desk.cores) (sym opened);
       outside = outside_opened;
       grid = subst (λ (desk : DeskView J T). IsGrid desk.cores (map (λ worker. worker.ends) workers ++ ends ∷ [])) (sym opened) house.grid;
+      bells = ap length silent ∙ (length-replicate cores 0 ∙ ap (λ desk. desk.cores) (sym opened));
       closings = ap length none ∙ (length-replicate cores false ∙ ap (λ desk. desk.cores) (sym opened));
       lanes_are = ap (λ desk. length desk.lanes) opened ∙ (length-replicate cores (fresh_lane cap) ∙ ap (λ desk. desk.cores) (sym opened));
       room_is = subst (λ (desk : DeskView J T). booked desk ≤ desk.journal.room) (sym opened) (omega (arith, none_due));

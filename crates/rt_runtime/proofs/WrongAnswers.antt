@@ -1,5 +1,5 @@
 -- A finish tells no answer of a job that isn't one of its task.
-use Rattle.std.proofs.Common.{◌≡◌, ℕ, ◌≤◌, sym, ◌∙◌, subst, arith}
+use Rattle.std.proofs.Common.{◌≡◌, ℕ, ◌<◌, ◌≤◌, sym, ◌∙◌, subst, arith}
 use Rattle.std.specs.Prelude.{Some, IfSome}
 use Rattle.rt_ids.specs.declared.names.JobId.{JobId}
 use Rattle.rt_ids.specs.declared.note.OutcomeNote.TheVariants as notes
@@ -12,12 +12,19 @@ use Rattle.rt_ids.specs.Outcomes.{outcome_note}
 use Rattle.rt_link.specs.Fits.{Fits}
 use Rattle.rt_runtime.specs.Calls.{HasFinished}
 use Rattle.rt_runtime.specs.Laws.{TellsAnswer, WrongAnswersAreRefused}
-use Rattle.rt_runtime.specs.Outcomes.{FitsItsOrder}
-use Rattle.rt_runtime.specs.State.{RuntimeView}
+use Rattle.rt_runtime.specs.Outcomes.{AreItsOrders, FitsItsOrder, Orders}
+use Rattle.rt_runtime.specs.State.{RuntimeView, submitted_under}
 use Rattle.rt_jobs.specs.Meanings.{Meaning}
 
 one_order : {J : Type 0} (a b : Order J) → Some a ≡ Some b → a ≡ b
 one_order a b same = cc
+
+-- the order under a name of the outside actor is the one that the caller submitted
+pub the_callers : {J T : Type 0} (view : RuntimeView J T) (assembly : Assembly T) (orders : Orders J) → AreItsOrders view assembly orders → (name : JobId) → name.from ≡ view.desk.cores → name.to < view.desk.cores →
+    (order submitted : Order J) → orders name ≡ Some order → submitted_under name view ≡ Some submitted → order ≡ submitted
+the_callers view assembly orders are name from there order submitted under is =
+    let same = subst (λ found. IfSome found (λ order. submitted_under name view ≡ Some order)) under (are.by_caller name from there) in
+    one_order order submitted (sym same ∙ is)
 
 module _ {J : Type 0} (meaning : Meaning J ℕ) where
   -- the only outcome that is told as finished with this answer is that
@@ -27,11 +34,11 @@ module _ {J : Type 0} (meaning : Meaning J ℕ) where
   answer_of queue job (outcomes.Answered what) answer told fit = absurd cc
 
   -- what a finish tells of a job that was submitted is an answer of its task
-  pub right_answer : (view : RuntimeView J ℕ) (assembly : Assembly ℕ) (name : JobId) (job : J) (answer : ℕ) → TellsAnswer view assembly name job answer → HasFinished (Fits meaning) view assembly → meaning.answers job answer
+  pub right_answer : (view : RuntimeView J ℕ) (assembly : Assembly ℕ) (name : JobId) (job : J) (answer : ℕ) → TellsAnswer view assembly name job answer → HasFinished meaning view assembly → meaning.answers job answer
   right_answer view assembly name job answer tells finished =
       let known : name.from ≤ view.desk.cores = omega (arith, tells.caller) in
-      let fits = subst (λ found. IfSome found (FitsItsOrder (Fits meaning) view assembly name)) tells.told (finished.fitting name known tells.there) in
-      let is : fits.order ≡ Job tells.queue job = one_order fits.order (Job tells.queue job) (sym (fits.by_caller tells.caller) ∙ tells.submitted) in
+      let fits = subst (λ found. IfSome found (FitsItsOrder (Fits meaning) finished.orders name)) tells.told (finished.fitting name known tells.there) in
+      let is : fits.order ≡ Job tells.queue job = the_callers view assembly finished.orders finished.orders_are name tells.caller tells.there fits.order (Job tells.queue job) fits.under tells.submitted in
       answer_of tells.queue job fits.outcome answer fits.as_told (subst (λ order. Fits meaning order fits.outcome) is fits.fit)
 
   pub wrong_answers_refused : WrongAnswersAreRefused meaning

@@ -6,8 +6,8 @@ use Rattle.rt_ids.specs.Journal.{EachNote}
 use Rattle.rt_ids.specs.Joining.{AreJoined}
 use Rattle.rt_ids.specs.Sound.{IsSound}
 use Rattle.rt_ids.specs.Spelled.{IsSpelled}
-use Rattle.rt_ids.specs.declared.order.Order.{Order}
-use Rattle.rt_ids.specs.declared.order.Outcome.{Outcome}
+use Rattle.rt_jobs.specs.Meanings.{Meaning}
+use Rattle.rt_link.specs.Fits.{Fits}
 use Rattle.rt_journal_desk.specs.Submissions.{opened_desk}
 use Rattle.rt_ring_mesh.specs.Ends.{AreFresh}
 use Rattle.rt_runtime_worker.specs.Queues.{opening_of}
@@ -18,7 +18,7 @@ use Rattle.rt_runtime.specs.declared.error.FinishError.TheVariants.{NotClosed}
 use Rattle.rt_runtime.specs.declared.error.StartError.{StartError}
 use Rattle.rt_runtime.specs.declared.error.StartError.TheVariants.{BadConfig, Memory, Thread}
 use Rattle.rt_runtime_config.specs.Configs.{Entry, IsGood}
-use Rattle.rt_runtime.specs.Outcomes.{AllFitTheirOrders}
+use Rattle.rt_runtime.specs.Outcomes.{AllFitTheirOrders, AllPollsAreOwed, AreItsOrders, Orders}
 use Rattle.rt_runtime.specs.Starting.{HaveQueues}
 use Rattle.rt_runtime.specs.State.{RuntimeView, closing_at, submitted}
 
@@ -28,6 +28,7 @@ module _ {J T : Type 0} where
   pub record IsStarted (cores cap room : ℕ) (queues : List Entry) (view : RuntimeView J T) : Type 0 where
     pub desk : view.desk ≡ opened_desk cores cores cap room
     pub closing : view.closing ≡ replicate cores false
+    pub rung : view.rung ≡ replicate cores 0
     pub room_is : view.room ≡ room
     pub count : length view.workers ≡ cores
     pub ends : length view.ends.outs ≡ cores
@@ -54,10 +55,11 @@ module _ {J T : Type 0} where
   Starts cores cap room queues clocks gates (Err Memory) = IsGood cores cap room queues clocks gates
   Starts cores cap room queues clocks gates (Err Thread) = IsGood cores cap room queues clocks gates
 
-module _ {J : Type 0} (fits : Order J → Outcome J ℕ → Type 0) where
+module _ {J : Type 0} (meaning : Meaning J ℕ) where
   -- The journals are joined, so they are sound, and they have a text. The outside journal is that of the caller's calls. Each core is drained.
   -- It closed by itself only where its journal was short, and it sent, redeemed and let go only while one of its jobs was polled. Its journal begins
-  -- with what its worker began with. What it tells of an order is what the order asks.
+  -- with what its worker began with. There is one order for each name, as it was sent: what the journals tell of it is what it asks,
+  -- and each of its polls is one that it owes.
   pub record HasFinished (view : RuntimeView J ℕ) (assembly : Assembly ℕ) : Type 0 where
     pub closed : (core : ℕ) → core < view.desk.cores → closing_at core view ≡ true
     pub cores : assembly.cores ≡ view.desk.cores
@@ -69,7 +71,10 @@ module _ {J : Type 0} (fits : Order J → Outcome J ℕ → Type 0) where
     pub drained : (core : ℕ) → core < view.desk.cores → IsDrained view.desk.cores (journal_of core assembly)
     pub acts : (core : ℕ) → core < view.desk.cores → EachNote (MayAct (least_free view.desk.cores view.desk.cap) view.room) (journal_of core assembly)
     pub openings : (core : ℕ) → core < view.desk.cores → opening_of (journal_of core assembly) ≡ opening_of (worker_at core view.workers).recorded.journal.notes
-    pub fitting : AllFitTheirOrders fits view assembly
+    pub orders : Orders J
+    pub orders_are : AreItsOrders view assembly orders
+    pub fitting : AllFitTheirOrders view assembly orders (Fits meaning)
+    pub polls : AllPollsAreOwed view assembly orders meaning
 
   -- a finish: a core is still open and the runtime comes back, or all workers have ended
   abbrev pub Finishes : RuntimeView J ℕ → Result (Assembly ℕ) (FinishError (RuntimeView J ℕ)) → Type 0

@@ -1,16 +1,23 @@
 -- Laws over the definitions alone.
-use Rattle.std.specs.Prelude.{◌≡◌, ℕ, ◌<◌, true, Some, Result, Ok, Err}
+use Rattle.std.specs.Prelude.{◌≡◌, ℕ, ◌+◌, ◌<◌, true, List, ◌∷◌, ◌++◌, Option, Some, Result, Ok, Err}
 use Rattle.rt_ids.specs.declared.names.JobId.{JobId}
 use Rattle.rt_ids.specs.declared.note.OutcomeNote.TheVariants.{Finished}
 use Rattle.rt_ids.specs.declared.order.Order.{Order}
 use Rattle.rt_ids.specs.declared.order.Order.TheVariants.{Job}
 use Rattle.rt_ids.specs.declared.order.SendError.{SendError}
 use Rattle.rt_ids.specs.declared.order.SendError.TheVariants.{Closed}
-use Rattle.rt_ids.specs.Assembly.{Assembly, outcome_of}
+use Rattle.rt_ids.specs.Assembly.{Assembly, journal_of, outcome_of}
+use Rattle.rt_ids.specs.Journal.{Journal}
+use Rattle.rt_jobs.specs.Calls.{Call}
 use Rattle.rt_jobs.specs.Meanings.{Meaning}
-use Rattle.rt_link.specs.Fits.{Fits}
+use Rattle.rt_jobs.specs.declared.job.Step.{Step}
+use Rattle.rt_journal.specs.OwedPolls.{IsPollOf}
+use Rattle.rt_journal.specs.Polls.{polls_made, settle_note}
 use Rattle.rt_runtime.specs.Calls.{HasFinished}
-use Rattle.rt_runtime.specs.Sends.{SendsTo}
+use Rattle.rt_runtime.specs.declared.error.SubmitError.{SubmitError}
+use Rattle.rt_runtime.specs.Errors.{refused_order}
+use Rattle.rt_runtime.specs.Outcomes.{seen_at_end}
+use Rattle.rt_runtime.specs.Sends.{SendsTo, SubmitsTo}
 use Rattle.rt_runtime.specs.State.{RuntimeView, is_told_shut, submitted_under}
 
 module _ {J : Type 0} where
@@ -22,11 +29,34 @@ module _ {J : Type 0} where
     pub submitted : submitted_under name view ≡ Some (Job queue job)
     pub told : outcome_of name assembly ≡ Some (Finished answer)
 
+  -- the caller submitted this job under this name, and the journal of its core tells, behind these notes, that a poll of it came to this step
+  pub record TellsPoll (view : RuntimeView J ℕ) (assembly : Assembly ℕ) (name : JobId) (job : J) (step : Step ℕ) : Type 0 where
+    pub queue : ℕ
+    pub caller : name.from ≡ view.desk.cores
+    pub there : name.to < view.desk.cores
+    pub submitted : submitted_under name view ≡ Some (Job queue job)
+    pub time : ℕ
+    pub before : Journal ℕ
+    pub later : Journal ℕ
+    pub told : journal_of name.to assembly ≡ later ++ settle_note name time step ∷ before
+
+  -- each poll that a finish tells of a submitted job is one that this job owes
+  abbrev pub ToldPollsAreOwed : Meaning J ℕ → Type 0
+  ToldPollsAreOwed meaning =
+      (view : RuntimeView J ℕ) (assembly : Assembly ℕ) (name : JobId) (job : J) (step : Step ℕ) (tells : TellsPoll view assembly name job step) (finished : HasFinished meaning view assembly) →
+      IsPollOf meaning (record { actor = name.to; cores = view.desk.cores; cap = view.desk.cap }) (seen_at_end assembly finished.orders name.to) tells.queue job name tells.time step tells.before
+
+  -- a finish tells no poll of a submitted job that its task doesn't owe behind as many polls
+  abbrev pub UnowedPollsAreRefused : Meaning J ℕ → Type 0
+  UnowedPollsAreRefused meaning =
+      (view : RuntimeView J ℕ) (assembly : Assembly ℕ) (name : JobId) (job : J) (step : Step ℕ) (tells : TellsPoll view assembly name job step) →
+      ((calls : List (Call J ℕ)) (told : Option ℕ) → meaning.polls job (meaning.made job + polls_made name tells.before) calls step told → ⊥) → HasFinished meaning view assembly → ⊥
+
   -- a finish tells no answer of a job that isn't one of its task
   abbrev pub WrongAnswersAreRefused : Meaning J ℕ → Type 0
   WrongAnswersAreRefused meaning =
       (view : RuntimeView J ℕ) (assembly : Assembly ℕ) (name : JobId) (job : J) (answer : ℕ) →
-      TellsAnswer view assembly name job answer → (meaning.answers job answer → ⊥) → HasFinished (Fits meaning) view assembly → ⊥
+      TellsAnswer view assembly name job answer → (meaning.answers job answer → ⊥) → HasFinished meaning view assembly → ⊥
 
   -- the answer is that the core is closed
   abbrev pub IsClosed : Result JobId (SendError J) → Type 0
@@ -39,3 +69,9 @@ abbrev pub ClosedStaysClosed : Type 0 → Type 0
 ClosedStaysClosed J =
     (core : ℕ) (order : Order J) (old : RuntimeView J ℕ) (answer : Result JobId (SendError J)) (new : RuntimeView J ℕ) → SendsTo core order old answer new →
     (IsClosed answer → is_told_shut core new ≡ true) × (is_told_shut core old ≡ true → IsClosed answer × (is_told_shut core new ≡ true))
+
+-- a submission that is refused gives back the order that was handed in
+abbrev pub RefusedOrdersComeBack : Type 0 → Type 0
+RefusedOrdersComeBack J =
+    (each core : ℕ) (order : Order J) (old : RuntimeView J ℕ) (error : SubmitError J) (new : RuntimeView J ℕ) → SubmitsTo each core order old (Err error) new →
+    refused_order error ≡ order

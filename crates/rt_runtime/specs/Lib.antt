@@ -4,5 +4,6 @@ pub mod Sends
 pub mod Tickets
 pub mod Outcomes
 pub mod Calls
+pub mod Errors
 pub mod Finishing
 pub mod Laws

@@ -1,26 +1,53 @@
--- What the journals of a runtime that has finished tell of its submissions.
-use Rattle.std.specs.Prelude.{◌≡◌, ◌<◌, ◌≤◌, Some, IfSome}
+-- The orders of a house whose runtime has finished, and what its journals tell of them.
+use Rattle.std.specs.Prelude.{◌≡◌, ℕ, ◌<◌, ◌≤◌, Option, Some, IfSome}
+use Rattle.std.specs.Option.{option_map}
 use Rattle.rt_ids.specs.declared.names.JobId.{JobId}
 use Rattle.rt_ids.specs.declared.note.OutcomeNote.{OutcomeNote}
 use Rattle.rt_ids.specs.declared.order.Order.{Order}
 use Rattle.rt_ids.specs.declared.order.Outcome.{Outcome}
-use Rattle.rt_ids.specs.Assembly.{Assembly, order_of, outcome_of}
+use Rattle.rt_ids.specs.Assembly.{Assembly, journal_of, order_of, outcome_of}
+use Rattle.rt_ids.specs.Closing.{final_count}
 use Rattle.rt_ids.specs.Orders.{without_job}
 use Rattle.rt_ids.specs.Outcomes.{outcome_note}
+use Rattle.rt_jobs.specs.Meanings.{Meaning}
+use Rattle.rt_journal.specs.OwedPolls.{PollsAreOwed}
+use Rattle.rt_journal.specs.RightAnswers.{Seen}
 use Rattle.rt_runtime.specs.State.{RuntimeView, submitted_under}
 
-module _ {J T : Type 0} (fits : Order J → Outcome J T → Type 0) where
-  -- What is told under a name is an outcome that fits an order. It is the order that the sender's journal tells under this name, and under a name of the
-  -- outside actor it is the one that the caller submitted, with its job.
-  pub record FitsItsOrder (view : RuntimeView J T) (assembly : Assembly T) (name : JobId) (told : OutcomeNote T) : Type 0 where
-    pub order : Order J
-    pub sent : order_of name assembly ≡ Some (without_job order)
-    pub by_caller : name.from ≡ view.desk.cores → submitted_under name view ≡ Some order
-    pub outcome : Outcome J T
-    pub as_told : outcome_note outcome ≡ told
-    pub fit : fits order outcome
+-- which order stands under a name, with its job
+abbrev pub Orders : Type 0 → Type 0
+Orders J = JobId → Option (Order J)
+
+-- what is told under a name is an outcome that fits the order of that name
+pub record FitsItsOrder {J T : Type 0} (fits : Order J → Outcome J T → Type 0) (orders : Orders J) (name : JobId) (told : OutcomeNote T) : Type 0 where
+  pub order : Order J
+  pub under : orders name ≡ Some order
+  pub outcome : Outcome J T
+  pub as_told : outcome_note outcome ≡ told
+  pub fit : fits order outcome
+
+-- What is known at the end of the links on which a core sent: at which number another core tells that its gate was shut, and which order was sent under a name.
+abbrev pub seen_at_end : {J T : Type 0} → Assembly T → Orders J → ℕ → Seen J
+seen_at_end assembly orders core =
+    record {
+      shut = λ other final. final_count core (journal_of other assembly) ≡ Some final;
+      sent = λ name order. name.from ≡ core → orders name ≡ Some order;
+    }
+
+module _ {J T : Type 0} (view : RuntimeView J T) (assembly : Assembly T) (orders : Orders J) where
+  -- These are the orders that were sent. The sender's journal tells each of them without its job, and no other. Under a name of the outside actor
+  -- stands the one that the caller submitted, with its job.
+  pub record AreItsOrders : Type 0 where
+    pub sent : (name : JobId) → name.from ≤ view.desk.cores → name.to < view.desk.cores → order_of name assembly ≡ option_map without_job (orders name)
+    pub by_caller : (name : JobId) → name.from ≡ view.desk.cores → name.to < view.desk.cores → IfSome (orders name) (λ order. submitted_under name view ≡ Some order)
 
   -- each outcome that the journals tell of a submission is one that its order asks
-  abbrev pub AllFitTheirOrders : RuntimeView J T → Assembly T → Type 0
-  AllFitTheirOrders view assembly =
-      (name : JobId) → name.from ≤ view.desk.cores → name.to < view.desk.cores → IfSome (outcome_of name assembly) (FitsItsOrder view assembly name)
+  abbrev pub AllFitTheirOrders : (Order J → Outcome J T → Type 0) → Type 0
+  AllFitTheirOrders fits =
+      (name : JobId) → name.from ≤ view.desk.cores → name.to < view.desk.cores → IfSome (outcome_of name assembly) (FitsItsOrder fits orders name)
+
+  -- Each poll that the journals tell is one that the job under its name owes: what it posted and was answered, its step, and the time that it states.
+  abbrev pub AllPollsAreOwed : Meaning J T → Type 0
+  AllPollsAreOwed meaning =
+      (core : ℕ) → core < view.desk.cores →
+      PollsAreOwed meaning (record { actor = core; cores = view.desk.cores; cap = view.desk.cap }) (seen_at_end assembly orders core) orders (journal_of core assembly)

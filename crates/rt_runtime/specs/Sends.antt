@@ -11,6 +11,7 @@ use Rattle.rt_link.specs.Calls as link
 use Rattle.rt_journal_notes.specs.Journals.{free_notes}
 use Rattle.rt_journal_desk.specs.Submissions.{Submits, numbered}
 use Rattle.rt_ring_mesh.specs.Ends.{out_at}
+use Rattle.rt_runtime_worker.specs.Bells.{rung_at}
 use Rattle.rt_runtime.specs.declared.error.SubmitError.{SubmitError}
 use Rattle.rt_runtime.specs.declared.error.SubmitError.TheVariants.{JournalFull, Send}
 use Rattle.rt_runtime.specs.State.{RuntimeView, StaysRunning, closing_at, is_told_shut, submitted, submitted_under}
@@ -44,7 +45,7 @@ module _ {J T : Type 0} where
 
   -- A send to a core that there is: its link answers. So `Closed` comes only from a gate that was found shut, and then at each later send; `Full`
   -- and an acceptance come only where no send found it shut. An order that was accepted stands under its name, and what the caller knows of the
-  -- core's closing goes on.
+  -- core's closing goes on. The bell of this core is rung.
   pub record SendsTo (core : ℕ) (order : Order J) (old : RuntimeView J T) (answer : Result JobId (SendError J)) (new : RuntimeView J T) : Type 0 where
     pub submits : Submits core order old.desk answer new.desk
     pub link : link.Sends (out_at core old.ends).out (out_at core old.ends).credited order (out_at core new.ends).out (numbered answer)
@@ -53,6 +54,7 @@ module _ {J T : Type 0} where
     pub others : (other : ℕ) → other ≢ core → submitted other new ≡ submitted other old
     pub gates : (other : ℕ) → other ≢ core → is_told_shut other new ≡ is_told_shut other old
     pub named : IfOk answer (λ name. submitted_under name new ≡ Some order)
+    pub rings : new.rung ≡ rung_at core old.rung
     pub stays : StaysRunning old new
 
   -- a send: the same, or there is no such core

@@ -14,13 +14,14 @@ use Rattle.rt_runtime_worker.specs.Opening.{IsWorkerOf}
 use Rattle.rt_runtime_worker.specs.Together.{OutsideView, IsOutside, worker_at, all_ends}
 
 -- The outside actor's journal and ends, and for each core whether the caller closed it: an order to close it was accepted, or a send to it was
--- answered `Closed`. The workers are as they began, with room for so many notes each.
+-- answered `Closed`. The workers are as they began, with room for so many notes each. How often the caller rang the bell of each core.
 pub record RuntimeView (J T : Type 0) : Type 0 where
   pub desk : DeskView J T
   pub ends : EndsView J T
   pub closing : List Bool
   pub workers : List (LinkedView J T)
   pub room : ℕ
+  pub rung : List ℕ
 
 module _ {J T : Type 0} where
   -- the outside actor
@@ -49,15 +50,16 @@ module _ {J T : Type 0} where
     pub workers : new.workers ≡ old.workers
     pub room : new.room ≡ old.room
 
-  -- nothing was submitted, and nothing was heard of a gate
+  -- nothing was submitted, nothing was heard of a gate, and no bell was rung
   pub record SubmitsNothing (old new : RuntimeView J T) : Type 0 where
     pub orders : (core : ℕ) → submitted core new ≡ submitted core old
     pub gates : (core : ℕ) → is_told_shut core new ≡ is_told_shut core old
     pub closing : new.closing ≡ old.closing
+    pub rung : new.rung ≡ old.rung
     pub stays : StaysRunning old new
 
 module _ {J T : Type 0} (fits : Order J → Outcome J T → Type 0) where
-  -- Each core has its worker, all links of the house are there, and the outside actor's journal is written by the rules and beside its ends.
+  -- Each core has its worker and its bell, all links of the house are there, and the outside actor's journal is written by the rules and beside its ends.
   -- It has room for each note that is due of its submissions.
   pub record IsRuntime (view : RuntimeView J T) : Type 0 where
     pub count : length view.workers ≡ view.desk.cores
@@ -66,15 +68,15 @@ module _ {J T : Type 0} (fits : Order J → Outcome J T → Type 0) where
     pub outside : IsOutside (outside_of view)
     pub grid : IsGrid view.desk.cores (all_ends view.workers (outside_of view))
     pub closings : length view.closing ≡ view.desk.cores
+    pub bells : length view.rung ≡ view.desk.cores
     pub lanes : (core : ℕ) → core < view.desk.cores → HasLane fits core view.desk (out_at core view.ends).out (out_at core view.ends).credited
     pub lanes_are : length view.desk.lanes ≡ view.desk.cores
     pub room_is : booked view.desk ≤ view.desk.journal.room
     pub limits : IsWithinLimits view.desk.cores view.desk.cap
 
--- what stands in a runtime beside what a caller sees: its numbers, a bell for each worker, and room for what the workers give back
-pub record IsStored {J T : Type 0} (view : RuntimeView J T) (cores cap bells ends journals : ℕ) : Type 0 where
+-- what stands in a runtime beside what a caller sees: its numbers, and room for what the workers give back
+pub record IsStored {J T : Type 0} (view : RuntimeView J T) (cores cap ends journals : ℕ) : Type 0 where
   pub cores_are : cores ≡ view.desk.cores
   pub cap_is : cap ≡ view.desk.cap
-  pub bells_are : bells ≡ cores
   pub room_ends : cores + 1 ≤ ends
   pub room_journals : cores + 1 ≤ journals

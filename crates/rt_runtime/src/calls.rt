@@ -21,7 +21,6 @@ use rt_jobs::Task;
 use rt_journal::RecordedDesk;
 use rt_link::OutEnd;
 use rt_ring_mesh::Ends;
-use rt_runtime_worker::ring;
 
 /// Whether the order closes the core.
 fn closes<J>(order: &Order<J>) -> bool
@@ -122,7 +121,7 @@ impl<J: Task<Out = u64>, C: Drop, G: Drop> Runtime<J, C, G> {
         let closing = closes(&order);
         let answer = send_on(&mut self.desk, &mut self.ends, to, order);
         mark(&mut self.closing, core, tells(closing, &answer));
-        ring(&self.bells[core]);
+        self.bells.ring(to);
         answer
     }
 

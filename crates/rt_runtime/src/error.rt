@@ -1,6 +1,11 @@
 //! Why a call of a runtime was refused.
 
+ghost use Rattle.std.specs.Prelude.{◌≡◌, Some};
+ghost use Rattle.rt_runtime.specs.Errors.{finish_text, refused_order, start_text, submit_text, tells_closed, tells_full};
+
 use rt_ids::{CoreNo, Order, SendError};
+use std::error::Error;
+use std::fmt;
 
 /// Why a submission was refused, tried in this order. The order comes back.
 #[derive(Drop)]
@@ -10,6 +15,59 @@ pub enum SubmitError<J> {
     /// There is no such core, or the link to it refused.
     Send(SendError<J>),
 }
+
+impl<J> SubmitError<J> {
+    /// The order that was submitted.
+    pub fn into_order(self) -> Order<J>
+        ensures { result ≡ refused_order self }
+    {
+        match self {
+            SubmitError::JournalFull(order) => order,
+            SubmitError::Send(SendError::Closed(order, _)) => order,
+            SubmitError::Send(SendError::Full(order)) => order,
+            SubmitError::Send(SendError::Spent(order)) => order,
+            SubmitError::Send(SendError::NoCore(order)) => order,
+        }
+    }
+
+    /// Whether as many submissions to the core are outstanding as the link may have. There is room again when one of them was redeemed or
+    /// let go. A full journal is not told here: it may stay so.
+    pub fn is_full(&self) -> bool
+        ensures { result ≡ tells_full self.now }
+    {
+        matches!(self, SubmitError::Send(SendError::Full(_)))
+    }
+
+    /// Whether the core is closed. Each later submission to it is answered so, too.
+    pub fn is_closed(&self) -> bool
+        ensures { result ≡ tells_closed self.now }
+    {
+        matches!(self, SubmitError::Send(SendError::Closed(_, _)))
+    }
+}
+
+impl<J> fmt::Display for SubmitError<J> {
+    ghost output = { λ error. Some (submit_text error) };
+
+    fn fmt<W: fmt::Write>(&self, f: &mut fmt::Formatter<W>) -> fmt::Result {
+        match self {
+            SubmitError::JournalFull(_) => f.write_str("the outside journal is full"),
+            SubmitError::Send(SendError::Closed(_, _)) => f.write_str("the core is closed"),
+            SubmitError::Send(SendError::Full(_)) => f.write_str("the link is full"),
+            SubmitError::Send(SendError::Spent(_)) => f.write_str("the link has no number left"),
+            SubmitError::Send(SendError::NoCore(_)) => f.write_str("no such core"),
+        }
+    }
+}
+
+/// The text without the order, which may be of any type.
+impl<J> fmt::Debug for SubmitError<J> {
+    fn fmt<W: fmt::Write>(&self, f: &mut fmt::Formatter<W>) -> fmt::Result {
+        fmt::Display::fmt(self, f)
+    }
+}
+
+impl<J: Drop> Error for SubmitError<J> {}
 
 /// Why no runtime was started, tried in this order.
 #[derive(Clone, Copy, PartialEq, Eq, Debug, Drop)]
@@ -22,9 +80,45 @@ pub enum StartError {
     Thread,
 }
 
+impl fmt::Display for StartError {
+    ghost output = { λ error. Some (start_text error) };
+
+    fn fmt<W: fmt::Write>(&self, f: &mut fmt::Formatter<W>) -> fmt::Result {
+        match self {
+            StartError::BadConfig => f.write_str("the configuration is out of range"),
+            StartError::Memory => f.write_str("out of memory"),
+            StartError::Thread => f.write_str("a thread could not be made"),
+        }
+    }
+}
+
+impl Error for StartError {}
+
 /// Why a runtime did not finish. It comes back.
 #[derive(Drop)]
 pub enum FinishError<R> {
     /// This is the first core that the caller didn't close.
     NotClosed(CoreNo, R),
 }
+
+impl<R> fmt::Display for FinishError<R> {
+    ghost output = { λ error. Some (finish_text error) };
+
+    fn fmt<W: fmt::Write>(&self, f: &mut fmt::Formatter<W>) -> fmt::Result {
+        match self {
+            FinishError::NotClosed(core, _) => {
+                let core = core.0;
+                write!(f, "core {core} is not closed")
+            }
+        }
+    }
+}
+
+/// The text without the runtime.
+impl<R> fmt::Debug for FinishError<R> {
+    fn fmt<W: fmt::Write>(&self, f: &mut fmt::Formatter<W>) -> fmt::Result {
+        fmt::Display::fmt(self, f)
+    }
+}
+
+impl<R: Drop> Error for FinishError<R> {}

@@ -89,7 +89,7 @@ impl<J: Job + Task<Out = u64>, C: Clock + Drop, G: Gate + Drop> Runtime<J, C, G>
     /// Waits until all workers have ended.
     fn end<R: Threads + Wait>(self, rt: &R) -> Assembly
         requires { (core : ℕ) → core < length self.closing → closing_at core self ≡ true }
-        ensures { HasFinished (Fits J.meaning) self result }
+        ensures { HasFinished J.meaning self result }
     {
         let Runtime {
             cores,
@@ -118,7 +118,7 @@ impl<J: Job + Task<Out = u64>, C: Clock + Drop, G: Gate + Drop> Runtime<J, C, G>
     ///
     /// `NotClosed` for the first core that the caller didn't close: its worker would not end. The runtime comes back.
     pub fn finish<R: Threads + Wait>(self, rt: &R) -> Result<Assembly, FinishError<Self>>
-        ensures { Finishes (Fits J.meaning) self result }
+        ensures { Finishes J.meaning self result }
     {
         match first_open(self.cores, &self.closing) {
             Some(core) => Err(FinishError::NotClosed(CoreNo(core), self)),

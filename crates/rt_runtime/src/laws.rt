@@ -1,6 +1,6 @@
 //! Laws over the definitions alone. Their bodies are empty: each contract is the law.
 
-ghost use Rattle.rt_runtime.specs.Laws.{ClosedStaysClosed, WrongAnswersAreRefused};
+ghost use Rattle.rt_runtime.specs.Laws.{ClosedStaysClosed, RefusedOrdersComeBack, ToldPollsAreOwed, UnowedPollsAreRefused, WrongAnswersAreRefused};
 
 use rt_jobs::Task;
 
@@ -12,4 +12,19 @@ pub fn wrong_answers_are_refused<J: Task<Out = u64>>()
 /// A send is answered `Closed` only where the gate was found shut, and from then on each send to that core is.
 pub fn closed_stays_closed<J: Task<Out = u64>>()
     ensures { ClosedStaysClosed J }
+{}
+
+/// A submission that is refused gives its order back, whatever the reason: what `into_order` answers is what was handed in.
+pub fn refused_orders_come_back<J: Task<Out = u64>>()
+    ensures { RefusedOrdersComeBack J }
+{}
+
+/// Each poll that a finish tells of a submitted job is one that this job owes: what it posted and was answered, its step, and the time that it states.
+pub fn told_polls_are_owed<J: Task<Out = u64>>()
+    ensures { ToldPollsAreOwed J.meaning }
+{}
+
+/// No finish tells of a submitted job a poll that its task doesn't owe, such as a yield that it never makes.
+pub fn unowed_polls_are_refused<J: Task<Out = u64>>()
+    ensures { UnowedPollsAreRefused J.meaning }
 {}

@@ -10,4 +10,6 @@ mod starting;
 mod tickets;
 
 pub use error::{FinishError, StartError, SubmitError};
+pub use rt_runtime_config::{Clock, Config, Gate, NoGate, SystemClock};
+pub use rt_runtime_worker::{Ended, Worker};
 pub use runtime::Runtime;

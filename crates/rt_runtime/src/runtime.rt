@@ -6,7 +6,7 @@ use rt_jobs::Task;
 use rt_journal::{Journal, RecordedDesk};
 use rt_ring_mesh::Ends;
 use rt_runtime_team::Team;
-use rt_runtime_worker::{Bell, Worker};
+use rt_runtime_worker::{Bells, Worker};
 use std::marker::Model;
 
 /// A worker on a thread of its own for each core, and the outside actor, whose calls the caller makes.
@@ -18,8 +18,8 @@ pub struct Runtime<J: Task<Out = u64>, C: Drop, G: Drop> {
     /// The outside actor's journal, and its end to each core.
     pub(crate) desk: RecordedDesk<J>,
     pub(crate) ends: Ends<J>,
-    /// The bell of each worker.
-    pub(crate) bells: Vec<Bell>,
+    /// The bell of each core.
+    pub(crate) bells: Bells,
     /// For each core whether the caller closed it: an order to close it was accepted, or a send to it was answered `Closed`.
     pub(crate) closing: Vec<bool>,
     pub(crate) team: Team<Worker<J, C, G>>,
@@ -34,16 +34,16 @@ impl<J: Task<Out = u64>, C: Drop, G: Drop> Model for Runtime<J, C, G> {
 
     ghost Value = { RuntimeView J ℕ };
 
-    ghost use Rattle.std.specs.Prelude.{◌≡◌, [], length, vec_capacity};
+    ghost use Rattle.std.specs.Prelude.{◌≡◌, [], vec_capacity};
     ghost use Rattle.rt_link.specs.Fits.{Fits};
     ghost use Rattle.rt_runtime.specs.State.{IsRuntime, IsStored};
 
-    ghost view = { λ r. record { desk = r.desk; ends = r.ends; closing = r.closing.items; workers = r.team; room = r.room } };
+    ghost view = { λ r. record { desk = r.desk; ends = r.ends; closing = r.closing.items; workers = r.team; room = r.room; rung = r.bells } };
 
     ghost invariant = { λ r.
-        IsRuntime (Fits J.meaning) (record { desk = r.desk; ends = r.ends; closing = r.closing.items; workers = r.team; room = r.room })
-        × IsStored (record { desk = r.desk; ends = r.ends; closing = r.closing.items; workers = r.team; room = r.room })
-        r.cores r.cap (length r.bells.items) (vec_capacity r.spare_ends) (vec_capacity r.spare_journals)
+        IsRuntime (Fits J.meaning) (record { desk = r.desk; ends = r.ends; closing = r.closing.items; workers = r.team; room = r.room; rung = r.bells })
+        × IsStored (record { desk = r.desk; ends = r.ends; closing = r.closing.items; workers = r.team; room = r.room; rung = r.bells })
+        r.cores r.cap (vec_capacity r.spare_ends) (vec_capacity r.spare_journals)
         × (r.spare_ends.items ≡ []) × (r.spare_journals.items ≡ []) };
 }
 

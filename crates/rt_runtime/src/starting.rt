@@ -1,13 +1,11 @@
 //! How a runtime is started.
 
-ghost use Rattle.std.specs.Prelude.{◌≡◌, ◌+◌, ◌≤◌, All, false, IfOk, length, replicate};
+ghost use Rattle.std.specs.Prelude.{◌≡◌, ◌+◌, ◌≤◌, All, false, IfOk, length, map, replicate};
 ghost use Rattle.rt_runtime_config.specs.Configs.{IsGood};
 ghost use Rattle.rt_runtime_team.specs.Works.{Together};
-ghost use Rattle.rt_runtime_worker.specs.Opening.{AreEndsOf, IsOpenedOver};
-ghost use Rattle.rt_runtime_worker.specs.Queues.{creations};
 ghost use Rattle.rt_journal_desk.specs.Submissions.{IsWritten, opened_desk, terms_of_desk};
 ghost use Rattle.rt_runtime.specs.Calls.{Begins, Starts};
-ghost use Rattle.rt_runtime.specs.Starting.{AreOpening, IsHouse, IsOpenedWith, IsRoomFor};
+ghost use Rattle.rt_runtime.specs.Starting.{AreOpening, IsHouse, IsOpenedWith};
 
 use crate::error::StartError;
 use crate::runtime::Runtime;
@@ -17,60 +15,66 @@ use rt_journal::RecordedDesk;
 use rt_ring_mesh::{Ends, open_all};
 use rt_runtime_config::{Clock, Config, Gate, is_good};
 use rt_runtime_team::{NotStarted, Team};
-use rt_runtime_worker::{Bell, Worker};
+use rt_runtime_worker::{Bells, Worker};
 use std::alloc::{AllocError, Global};
-use std::sync::atomic::AtomicU64;
-use std::sync::{Arc, Wait};
+use std::sync::Wait;
 use std::thread::Threads;
 
-/// Opens a bell for each worker.
-fn open_bells(alloc: Global, cores: u8) -> Result<Vec<Bell>, AllocError>
-    ensures { IfOk result (λ bells. length bells.items ≡ cores) }
-{
-    let mut bells = Vec::with_capacity(alloc, cores as usize)?;
-    for _ in 0..cores {
-        bells.push_reserved(Arc::new(alloc, AtomicU64::new(0))?);
-    }
-    Ok(bells)
-}
-
-/// The same bells, for one more who rings them.
-fn share_bells(alloc: Global, bells: &[Bell]) -> Result<Vec<Bell>, AllocError> {
-    let mut shared = Vec::with_capacity(alloc, bells.len())?;
-    for bell in bells.iter() {
-        shared.push(Arc::try_clone(bell)?)?;
-    }
-    Ok(shared)
-}
-
-/// Opens one worker, which parks on its own bell and rings those of the others.
-fn open_worker<J: Task<Out = u64>, C: Drop, G: Drop>(
-    alloc: Global,
-    config: &Config,
+/// What a worker is opened with: its ends, and the clock and the gate of its number.
+#[derive(Drop)]
+struct Seat<J: Task<Out = u64>, C: Drop, G: Drop> {
     ends: Ends<J>,
-    bells: &[Bell],
     clock: C,
     gate: G,
-) -> Result<Worker<J, C, G>, AllocError>
-    requires ends { AreEndsOf config.now.cores config.now.cap ends }
-    requires room { IsRoomFor config.now.cores config.now.cap config.now.room config.now.queues.items ends.number }
-    requires bells { length bells.now ≡ config.now.cores }
-    ensures over { IfOk result (λ worker. IsOpenedOver config.now.cores config.now.cap config.now.room ends worker) }
-    ensures queues { IfOk result (λ worker. worker.recorded.journal.notes ≡ creations ends.number config.now.queues.items) }
-{
-    let number = ends.number;
-    let its_own = Arc::try_clone(&bells[number.0 as usize])?;
-    let shared = share_bells(alloc, bells)?;
-    let worker = Worker::open(alloc, config, ends, clock, gate, its_own)?;
-    Ok(worker.with_bells(shared))
 }
 
-/// Opens the workers of a house.
+/// Deals the clocks and the gates: the actor at each place gets those of its place.
+fn deal<J: Task<Out = u64>, C: Drop, G: Drop>(
+    alloc: Global,
+    all: Vec<Ends<J>>,
+    clocks: Vec<C>,
+    gates: Vec<G>,
+) -> Result<Vec<Seat<J, C, G>>, AllocError>
+    requires clocks { length clocks.items ≡ length all.items }
+    requires gates { length gates.items ≡ length all.items }
+    ensures ends { IfOk result (λ seats. map (λ seat. seat.ends) seats.items ≡ all.items) }
+    ensures clocks { IfOk result (λ seats. map (λ seat. seat.clock) seats.items ≡ clocks.items) }
+    ensures gates { IfOk result (λ seats. map (λ seat. seat.gate) seats.items ≡ gates.items) }
+{
+    let mut seats = Vec::with_capacity(alloc, all.len())?;
+    let (mut clocks, mut gates) = (clocks, gates);
+    for ends in all {
+        let (clock, gate) = (clocks.remove(0), gates.remove(0));
+        seats.push_reserved(Seat { ends, clock, gate });
+    }
+    Ok(seats)
+}
+
+/// Opens a worker of each seat.
+fn open_seats<J: Task<Out = u64>, C: Drop, G: Drop>(
+    alloc: Global,
+    config: &Config,
+    seats: Vec<Seat<J, C, G>>,
+    bells: &Bells,
+) -> Result<Vec<Worker<J, C, G>>, AllocError>
+    requires each { All (λ seat. AreOpening config.now.cores config.now.cap config.now.room config.now.queues.items seat.ends) seats.items }
+    requires bells { length bells.now ≡ config.now.cores }
+    ensures { IfOk result (λ opened. Together (λ seat worker. IsOpenedWith config.now.cores config.now.cap config.now.room config.now.queues.items seat.ends worker) seats.items opened.items) }
+{
+    let mut workers = Vec::with_capacity(alloc, seats.len())?;
+    for seat in seats {
+        let Seat { ends, clock, gate } = seat;
+        workers.push_reserved(Worker::open(alloc, config, ends, clock, gate, bells)?);
+    }
+    Ok(workers)
+}
+
+/// Opens the workers of a house, each with the clock and the gate of its number.
 fn open_workers<J: Task<Out = u64>, C: Drop, G: Drop>(
     alloc: Global,
     config: &Config,
     all: Vec<Ends<J>>,
-    bells: &[Bell],
+    bells: &Bells,
     clocks: Vec<C>,
     gates: Vec<G>,
 ) -> Result<Vec<Worker<J, C, G>>, AllocError>
@@ -80,13 +84,8 @@ fn open_workers<J: Task<Out = u64>, C: Drop, G: Drop>(
     requires gates { length gates.items ≡ length all.items }
     ensures { IfOk result (λ opened. Together (IsOpenedWith config.now.cores config.now.cap config.now.room config.now.queues.items) all.items opened.items) }
 {
-    let mut workers = Vec::with_capacity(alloc, all.len())?;
-    let (mut clocks, mut gates) = (clocks, gates);
-    for ends in all {
-        let (clock, gate) = (clocks.remove(0), gates.remove(0));
-        workers.push_reserved(open_worker(alloc, config, ends, bells, clock, gate)?);
-    }
-    Ok(workers)
+    let seats = deal(alloc, all, clocks, gates)?;
+    open_seats(alloc, config, seats, bells)
 }
 
 /// What a house has before its threads are there: its workers, their bells, and the outside actor's ends.
@@ -95,12 +94,12 @@ fn open_house<J: Task<Out = u64>, C: Drop, G: Drop>(
     config: &Config,
     clocks: Vec<C>,
     gates: Vec<G>,
-) -> Result<(Vec<Worker<J, C, G>>, Vec<Bell>, Ends<J>), AllocError>
+) -> Result<(Vec<Worker<J, C, G>>, Bells, Ends<J>), AllocError>
     requires { IsGood config.now.cores config.now.cap config.now.room config.now.queues.items (length clocks.items) (length gates.items) }
     ensures house { IfOk result (λ house. IsHouse config.now.cores config.now.cap config.now.room config.now.queues.items house.0.items house.2) }
-    ensures bells { IfOk result (λ house. length house.1.items ≡ config.now.cores) }
+    ensures bells { IfOk result (λ house. house.1 ≡ replicate config.now.cores 0) }
 {
-    let bells = open_bells(alloc, config.cores)?;
+    let bells = Bells::open(alloc, config.cores)?;
     let Ok(mut all) = open_all::<J>(alloc, config.cores, config.cap) else {
         return Err(AllocError);
     };

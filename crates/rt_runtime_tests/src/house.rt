@@ -3,8 +3,7 @@
 use rt_ids::{ActorNo, CoreNo, JobId, Note};
 use rt_jobs::{Job, Task};
 use rt_journal::Journal;
-use rt_runtime::{Runtime, StartError};
-use rt_runtime_config::{Clock, Config, Gate};
+use rt_runtime::{Clock, Config, Gate, Runtime, StartError};
 use rt_shares::Shares;
 use std::alloc::{AllocError, Global};
 use std::sync::atomic::{AtomicU64, Ordering};

@@ -8,6 +8,12 @@ mod calls;
 #[cfg(test)]
 mod closing;
 #[cfg(test)]
+mod errors;
+#[cfg(test)]
 mod house;
 #[cfg(test)]
 mod meeting;
+#[cfg(test)]
+mod waking;
+#[cfg(test)]
+mod wiring;

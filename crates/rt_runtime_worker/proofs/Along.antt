@@ -1,11 +1,20 @@
 -- Steps one after another.
-use Rattle.std.proofs.Common.{ℕ, refl, ◌∙◌}
+use Rattle.std.proofs.Common.{ℕ, [], ◌++◌, refl, sym, ◌∙◌, ap}
+use Rattle.std.proofs.lemmas.List.{append_assoc}
+use Rattle.rt_ids.specs.Journal.{Journal}
 use Rattle.rt_journal.specs.Recorded.{RecordedView}
 use Rattle.rt_journal.specs.Ends.{IsSameSeat, KeepsIn}
 use Rattle.rt_journal_desk.specs.Ends.{KeepsOuts}
 use Rattle.rt_journal_desk.specs.Submissions.{DeskView}
 use Rattle.rt_ring_mesh.proofs.Using.{ends_same, ends_along}
-use Rattle.rt_runtime_worker.specs.Linked.{LinkedView, StaysLinked}
+use Rattle.rt_runtime_worker.specs.Linked.{LinkedView, Grows, StaysLinked}
+
+module _ {T : Type 0} where
+  pub grows_same : (notes : Journal T) → Grows notes notes
+  grows_same notes = ([], refl)
+
+  pub grows_along : (old middle new : Journal T) → Grows old middle → Grows middle new → Grows old new
+  grows_along old middle new one two = (two.0 ++ one.0, two.1 ∙ (ap (λ notes. two.0 ++ notes) one.1 ∙ sym (append_assoc two.0 one.0 old)))
 
 module _ {J T : Type 0} where
   pub ins_along : (old middle new : RecordedView J T) (sender : ℕ) → KeepsIn sender old middle → KeepsIn sender middle new → KeepsIn sender old new
@@ -26,11 +35,12 @@ module _ {J T : Type 0} where
   seat_same view = record { number = refl; cores = refl; cap = refl; room = refl }
 
   pub stays_same : (view : LinkedView J T) → StaysLinked view view
-  stays_same view = record { seat = seat_same view.recorded; ends = ends_same view.ends; opening = refl }
+  stays_same view = record { seat = seat_same view.recorded; ends = ends_same view.ends; opening = refl; grows = grows_same view.recorded.journal.notes }
 
   pub stays_along : (old middle new : LinkedView J T) → StaysLinked old middle → StaysLinked middle new → StaysLinked old new
   stays_along old middle new one two = record {
     seat = seat_along old.recorded middle.recorded new.recorded one.seat two.seat;
     ends = ends_along old.ends middle.ends new.ends one.ends two.ends;
     opening = two.opening ∙ one.opening;
+    grows = grows_along old.recorded.journal.notes middle.recorded.journal.notes new.recorded.journal.notes one.grows two.grows;
   }

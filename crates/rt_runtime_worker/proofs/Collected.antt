@@ -1,11 +1,9 @@
 -- A core and its ends after the outcomes of one link were collected.
-use Rattle.std.proofs.Common.{◌≡◌, inl, inr, ℕ, ◌+◌, ◌<◌, ◌≤◌, get_or, length, set, get_or-set_same, length-set, refl, sym, ◌∙◌, ap, subst, arith}
+use Rattle.std.proofs.Common.{◌≡◌, inl, inr, ℕ, ◌+◌, ◌<◌, ◌≤◌, get_or, length, set, get_or-set_same, get_or-set_other, length-set, refl, sym, ◌∙◌, ap, subst, arith}
 use Rattle.std.specs.Prelude.{Some, slice_get}
 use Rattle.std.proofs.lemmas.Bool.Decides.{eqb_tells}
 use Rattle.std.proofs.lemmas.List.{get_or_default, length-append}
 use Rattle.std.proofs.lemmas.Option.{slice_get-get_or}
-use Rattle.rt_ids.specs.declared.order.Order.{Order}
-use Rattle.rt_ids.specs.declared.order.Outcome.{Outcome}
 use Rattle.rt_desk.proofs.Cores.{changed, unchanged}
 use Rattle.rt_jobs.specs.Meanings.{Meaning}
 use Rattle.rt_ring.specs.declared.ring_out.Sending.{Sending}
@@ -16,9 +14,12 @@ use Rattle.rt_journal_desk.specs.Posts.{AreOutsOf}
 use Rattle.rt_journal_desk.specs.Tickets.{HasLane, StaysBeside, CollectsFrom, GetsAll}
 use Rattle.rt_ring_mesh.specs.Ends.{EndsView, out_at, no_out, SameEnds}
 use Rattle.rt_ring_mesh.proofs.Using.{out_used}
-use Rattle.rt_runtime_worker.specs.Linked.{AreBeside, IsLinked}
+use Rattle.rt_runtime_worker.specs.Linked.{AreBeside, IsLinked, PollsAsOwed}
 use Rattle.rt_runtime_worker.specs.Steps.{CollectsOf}
 use Rattle.rt_journal_notes.specs.Journals.{JournalView}
+use Rattle.rt_journal.specs.OwedPolls.{seen_by}
+use Rattle.rt_journal.proofs.OwedSteps.{collects_keep, sees_more_owed}
+use Rattle.rt_journal.proofs.OwedTurns.{seen_got}
 use Rattle.rt_runtime_worker.specs.Queues.{opening_of}
 use Rattle.rt_runtime_worker.proofs.Openings.{opening_collected}
 use Rattle.rt_runtime_worker.proofs.Stepping.{Opens}
@@ -69,13 +70,22 @@ module _ {J T : Type 0} (meaning : Meaning J T) (core : ℕ) (recorded : Recorde
       collected_beside ins seat =
           subst (AreBeside (Fits meaning) now) put_seen (resent_beside recorded now ends ends refl (set ends.outs core after) beside ins seat outs_now)
 
+      -- each poll is owed as before, where an end has seen more
+      collected_polls : (count : ℕ) → CollectsFrom core (desk_of recorded) count (desk_of now) → GetsAll before.out after.out → now ≡ record recorded { journal = now.journal; lanes = now.lanes } →
+          PollsAsOwed meaning recorded ends → PollsAsOwed meaning now (record inside { outs = set inside.outs at after })
+      collected_polls count collects all rest polls =
+          subst (λ (ends : EndsView J T). PollsAsOwed meaning now ends) put_seen
+          (sees_more_owed meaning (seen_by (λ (end : Sending J T). end.out) ends.outs) (seen_by (λ (end : Sending J T). end.out) (set ends.outs core after)) (seen_got (λ (end : Sending J T). end.out) ends.outs core before after out_there all) now
+          (collects_keep meaning (seen_by (λ (end : Sending J T). end.out) ends.outs) recorded now rest core count collects polls))
+
       module _ (linked : IsLinked meaning (record { recorded = recorded; ends = ends }))
           (rest : now ≡ record recorded { journal = now.journal; lanes = now.lanes }) (ins : (sender : ℕ) → KeepsIn sender recorded now) (seat : IsSameSeat recorded now) where
-        pub collected_linked : IsRecorded meaning now → IsLinked meaning (record { recorded = now; ends = record inside { outs = set inside.outs at after } })
-        collected_linked sound = record {
+        pub collected_linked : IsRecorded meaning now → (count : ℕ) → CollectsFrom core (desk_of recorded) count (desk_of now) → GetsAll before.out after.out → IsLinked meaning (record { recorded = now; ends = record inside { outs = set inside.outs at after } })
+        collected_linked sound count collects all = record {
           recorded = sound;
           at_rest = ap (λ view. view.core.out) rest ∙ linked.at_rest;
           beside = collected_beside ins seat;
+          owed = collected_polls count collects all rest linked.owed;
         }
 
     pub collected_does : (count : ℕ) → CollectsFrom core (desk_of recorded) count (desk_of now) → GetsAll before.out after.out → now ≡ record recorded { journal = now.journal; lanes = now.lanes } →
@@ -87,11 +97,13 @@ module _ {J T : Type 0} (meaning : Meaning J T) (core : ℕ) (recorded : Recorde
           subst (λ (ends' : EndsView J T). GetsAll (out_at core ends).out (out_at core ends').out) put_seen
           (subst (λ (end : Sending J T). GetsAll end.out (get_or (set ends.outs core after) core no_out).out) out_here
           (subst (λ (end : Sending J T). GetsAll before.out end.out) (sym (get_or-set_same ends.outs core after no_out out_in_place)) all));
+      others = λ other away. subst (λ (now : EndsView J T). out_at other now ≡ out_at other ends) put_seen (get_or-set_other ends.outs core other after no_out away);
       few = omega (arith, few, collects.2, ap (λ journal. length journal.notes) collects.3, length-append collects.0 recorded.journal.notes);
       rest = rest;
       stays = record {
         seat = seat;
         ends = subst (SameEnds ends) put_seen (out_used ends core after out_in_place (link ∙ ap (λ (end : Sending J T). end.link) out_here));
         opening = ap (λ (journal : JournalView T). opening_of journal.notes) collects.3 ∙ opening_collected core collects.0 recorded.journal.notes collects.1;
+        grows = (collects.0, ap (λ (journal : JournalView T). journal.notes) collects.3);
       };
     }

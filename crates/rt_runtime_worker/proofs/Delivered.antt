@@ -1,21 +1,24 @@
 -- A core and its ends after an order was delivered, a gate shut, or a poll settled, on the end of one sender.
 use Rattle.std.proofs.Common.{◌≡◌, ◌≢◌, ℕ, ◌≤◌, None, sym, subst, ◌∙◌, ap}
-use Rattle.std.specs.Prelude.{Bool, true, false}
-use Rattle.rt_ids.specs.declared.order.Outcome.{Outcome}
-use Rattle.rt_ids.specs.declared.order.Order.{Order}
+use Rattle.std.specs.Prelude.{Bool, true, false, [], ◌∷◌}
+use Rattle.rt_ids.specs.declared.note.Note.TheVariants.{Shut}
 use Rattle.rt_jobs.specs.Meanings.{Meaning}
 use Rattle.rt_link.specs.Calls.{Shuts}
 use Rattle.rt_ring.specs.declared.ring_in.Receiving.{Receiving}
+use Rattle.rt_ring.specs.declared.ring_out.Sending.{Sending}
 use Rattle.rt_journal.specs.Recorded.{RecordedView, IsRecorded, desk_of}
 use Rattle.rt_journal.specs.Ends.{IsInOf, IsSameSeat, KeepsIn}
 use Rattle.rt_journal_desk.specs.Ends.{KeepsOuts}
+use Rattle.rt_journal.specs.OwedPolls.{seen_by}
+use Rattle.rt_journal.proofs.OwedSteps.{delivers_keep, shuts_keep}
 use Rattle.rt_journal.specs.Steps.{Delivers, TellsShut}
 use Rattle.rt_ring_mesh.specs.Ends.{EndsView, in_at}
-use Rattle.rt_runtime_worker.specs.Linked.{IsLinked, StaysLinked}
+use Rattle.rt_runtime_worker.specs.Linked.{Grows, IsLinked, PollsAsOwed, StaysLinked}
 use Rattle.rt_runtime_worker.specs.Steps.{ShutsGate, DeliversFrom}
 use Rattle.rt_runtime_worker.specs.Queues.{opening_of}
 use Rattle.rt_runtime_worker.proofs.Openings.{opening_delivers, opening_shut}
-use Rattle.rt_runtime_worker.proofs.Stepping.{StepsOn, Opens, lent, lent_beside, lent_here, put_back, same_ends, put_beside, end_put}
+use Rattle.rt_runtime_worker.proofs.Growing.{grows_delivers}
+use Rattle.rt_runtime_worker.proofs.Stepping.{StepsOn, Opens, lent, lent_beside, lent_here, put_back, same_ends, put_beside, others_put, end_put}
 use Rattle.rt_link.specs.Fits.{Fits}
 
 module _ {J T : Type 0} {meaning : Meaning J T} where
@@ -28,8 +31,8 @@ module _ {J T : Type 0} {meaning : Meaning J T} where
     from_is = (lent_beside sender recorded ends at inside before opens linked.beside known is).from
 
     stepped : IsInOf sender now after.inward → ((other : ℕ) → other ≢ sender → KeepsIn other recorded now) → KeepsOuts (desk_of recorded) (desk_of now) → now.lanes ≡ recorded.lanes → IsSameSeat recorded now →
-        after.link ≡ before.link → opening_of now.journal.notes ≡ opening_of recorded.journal.notes → StepsOn (Fits meaning) sender recorded now ends after
-    stepped its_own others outs lanes seat link opening = record {
+        after.link ≡ before.link → opening_of now.journal.notes ≡ opening_of recorded.journal.notes → Grows recorded.journal.notes now.journal.notes → StepsOn (Fits meaning) sender recorded now ends after
+    stepped its_own others outs lanes seat link opening grows = record {
       beside = linked.beside;
       known = known;
       seat = seat;
@@ -39,14 +42,20 @@ module _ {J T : Type 0} {meaning : Meaning J T} where
       lanes = lanes;
       link = link ∙ ap (λ end. end.link) before_is;
       opening = opening;
+      grows = grows;
     }
 
     module _ (step : StepsOn (Fits meaning) sender recorded now ends after) where
-      pub linked_here : now.core.out ≡ None → IsRecorded meaning now → IsLinked meaning (record { recorded = now; ends = put_back at inside after })
-      linked_here at_rest sound = record { recorded = sound; at_rest = at_rest; beside = put_beside sender recorded now ends at inside after opens step }
+      pub linked_here : now.core.out ≡ None → IsRecorded meaning now → PollsAsOwed meaning now ends → IsLinked meaning (record { recorded = now; ends = put_back at inside after })
+      linked_here at_rest sound polls = record {
+        recorded = sound;
+        at_rest = at_rest;
+        beside = put_beside sender recorded now ends at inside after opens step;
+        owed = subst (λ (ends : EndsView J T). PollsAsOwed meaning now ends) (sym opens.seen) polls;
+      }
 
       pub stays_here : StaysLinked (record { recorded = recorded; ends = ends }) (record { recorded = now; ends = put_back at inside after })
-      stays_here = record { seat = step.seat; ends = same_ends sender recorded now ends at inside after opens step; opening = step.opening }
+      stays_here = record { seat = step.seat; ends = same_ends sender recorded now ends at inside after opens step; opening = step.opening; grows = step.grows }
 
     at_rest_after : (found : Bool) → Delivers recorded before.inward now after.inward found → now.core.out ≡ None
     at_rest_after true does = does.2.out ∙ linked.at_rest
@@ -57,26 +66,29 @@ module _ {J T : Type 0} {meaning : Meaning J T} where
       delivered_step : StepsOn (Fits meaning) sender recorded now ends after
       delivered_step =
           stepped (subst (λ from. IsInOf from now after.inward) from_is its_own) (λ other away. others other (λ one. away (one ∙ from_is))) outs lanes seat link
-          (opening_delivers recorded now before.inward after.inward found does)
+          (opening_delivers recorded now before.inward after.inward found does) (grows_delivers recorded now before.inward after.inward found does)
 
       pub delivers_linked : IsRecorded meaning now → IsLinked meaning (record { recorded = now; ends = put_back at inside after })
-      delivers_linked sound = linked_here delivered_step (at_rest_after found does) sound
+      delivers_linked sound =
+          linked_here delivered_step (at_rest_after found does) sound (delivers_keep meaning (seen_by (λ (end : Sending J T). end.out) ends.outs) recorded now seat before.inward after.inward found does linked.owed)
 
       pub delivers_does : DeliversFrom sender (record { recorded = recorded; ends = ends }) found (record { recorded = now; ends = put_back at inside after })
       delivers_does = record {
         delivers =
             subst (λ end. Delivers recorded end.inward now (in_at sender (put_back at inside after)).inward found) before_is
             (subst (λ end. Delivers recorded before.inward now end.inward found) (sym (end_put sender recorded now ends at inside after opens delivered_step)) does);
+        others = others_put sender recorded now ends at inside after opens delivered_step;
         stays = stays_here delivered_step;
       }
 
     module _ (count : ℕ) (shuts : Shuts before.inward after.inward count) (tells : TellsShut recorded sender count now) (its_own : IsInOf sender now after.inward)
         (others : (other : ℕ) → other ≢ sender → KeepsIn other recorded now) (outs : KeepsOuts (desk_of recorded) (desk_of now)) (lanes : now.lanes ≡ recorded.lanes) (seat : IsSameSeat recorded now) (link : after.link ≡ before.link) where
       shut_step : StepsOn (Fits meaning) sender recorded now ends after
-      shut_step = stepped its_own others outs lanes seat link (opening_shut recorded now sender count tells)
+      shut_step = stepped its_own others outs lanes seat link (opening_shut recorded now sender count tells) (Shut sender count ∷ [], ap (λ journal. journal.notes) tells.journal)
 
       pub shuts_linked : IsRecorded meaning now → IsLinked meaning (record { recorded = now; ends = put_back at inside after })
-      shuts_linked sound = linked_here shut_step (tells.out ∙ linked.at_rest) sound
+      shuts_linked sound =
+          linked_here shut_step (tells.out ∙ linked.at_rest) sound (shuts_keep meaning (seen_by (λ (end : Sending J T). end.out) ends.outs) recorded now seat sender count tells linked.owed)
 
       pub shuts_does : ShutsGate sender (record { recorded = recorded; ends = ends }) (record { recorded = now; ends = put_back at inside after })
       shuts_does = record {
@@ -85,5 +97,6 @@ module _ {J T : Type 0} {meaning : Meaning J T} where
         shuts =
             subst (λ end. Shuts end.inward (in_at sender (put_back at inside after)).inward count) before_is
             (subst (λ end. Shuts before.inward end.inward count) (sym (end_put sender recorded now ends at inside after opens shut_step)) shuts);
+        others = others_put sender recorded now ends at inside after opens shut_step;
         stays = stays_here shut_step;
       }

@@ -1,10 +1,8 @@
 -- Gates that are shut one after another, and the room that is left behind.
-use Rattle.std.proofs.Common.{◌≡◌, ◌≢◌, inl, inr, ℕ, suc, ◌+◌, ◌*◌, ◌≤◌, cond, ◌∷◌, length, refl, sym, ◌∙◌, ap, subst, arith, ⊎_elim}
+use Rattle.std.proofs.Common.{◌≡◌, ◌≢◌, inl, inr, ℕ, suc, ◌+◌, ◌*◌, ◌≤◌, cond, [], ◌∷◌, length, refl, sym, ◌∙◌, ap, subst, arith, ⊎_elim}
 use Rattle.std.specs.Prelude.{Bool, true, false, Option, Some, None, unwrap_or, is_some, IsSome}
 use Rattle.std.proofs.lemmas.Bool.{cases_eq, eq-eqb, ne_eqb}
-use Rattle.rt_ids.specs.declared.order.Outcome.{Outcome}
-use Rattle.rt_ids.specs.declared.order.Order.{Order}
-use Rattle.rt_ids.specs.declared.note.Note.TheVariants.{Shut}
+use Rattle.rt_ids.specs.declared.note.Note.TheVariants.{CoreClosed, Shut}
 use Rattle.rt_ids.specs.declared.order.Mode.{Mode}
 use Rattle.rt_ids.specs.declared.order.Mode.TheVariants.{Finish, Return}
 use Rattle.rt_ids.specs.Journal.{Journal, EachNote, or_else}
@@ -20,11 +18,14 @@ use Rattle.rt_journal_desk.specs.Ends.{KeepsOuts, name_of}
 use Rattle.rt_ring_mesh.specs.Ends.{EndsView, in_at}
 use Rattle.rt_ring_mesh.proofs.Using.{ends_same}
 use Rattle.rt_ids.specs.Outcomes.{outcome_note}
+use Rattle.rt_journal.specs.OwedPolls.{seen_by}
+use Rattle.rt_journal.proofs.OwedSteps.{closes_keep}
+use Rattle.rt_ring.specs.declared.ring_out.Sending.{Sending}
 use Rattle.rt_journal.specs.Steps.{ClosesItself}
 use Rattle.rt_runtime_worker.specs.Linked.{LinkedView, IsLinked, StaysLinked}
 use Rattle.rt_runtime_worker.specs.Queues.{opening_of}
 use Rattle.rt_runtime_worker.specs.Steps.{ShutsGate}
-use Rattle.rt_runtime_worker.specs.Gates.{WritesShut, WritesReturn, IsShutWithin, LeavesShut, LeavesReturning, ShutsFirst}
+use Rattle.rt_runtime_worker.specs.Gates.{WritesShut, WritesReturn, IsShutWithin, LeavesShut, LeavesReturning, ShutsFirst, KeepsTaken}
 use Rattle.rt_runtime_worker.specs.Rooms.{last_through, least_free, MayAct, ActsAsItMay, HasSpare, IsShort, IsEnding}
 use Rattle.rt_runtime_worker.proofs.Along.{stays_along, stays_same}
 use Rattle.rt_runtime_worker.proofs.Stepping.{sends_kept}
@@ -88,6 +89,7 @@ module _ {J T : Type 0} where
     longer = omega arith;
     acts = λ least each. each;
     stays = stays_same old;
+    taken = λ sender. refl;
   }
 
   -- the next one is shut
@@ -109,6 +111,7 @@ module _ {J T : Type 0} where
     longer = omega (arith, first.longer, one_longer count middle.recorded.journal new.recorded.journal next.wrote);
     acts = λ least each. shut_acts count least old.recorded.journal.room middle.recorded.journal new.recorded.journal next.wrote (first.acts least each);
     stays = stays_along old middle new first.stays next.stays;
+    taken = λ sender. next.taken sender ∙ first.taken sender;
   }
 
   module _ {meaning : Meaning J T} (old middle new : LinkedView J T) (linked : IsLinked meaning old) (spare : HasSpare old.recorded)
@@ -162,7 +165,7 @@ module _ {J T : Type 0} where
   pub returned_linked : {meaning : Meaning J T} (old new : RecordedView J T) (ends : EndsView J T) → IsLinked meaning (record { recorded = old; ends = ends }) →
       (did : Bool) → ClosesItself old Return did new → ((sender : ℕ) → KeepsIn sender old new) → KeepsOuts (desk_of old) (desk_of new) → new.lanes ≡ old.lanes → IsSameSeat old new → IsRecorded meaning new →
       IsLinked meaning (record { recorded = new; ends = ends })
-  returned_linked old new ends linked did closes ins outs lanes seat sound = record {
+  returned_linked {meaning = meaning} old new ends linked did closes ins outs lanes seat sound = record {
     recorded = sound;
     at_rest = still did closes;
     beside = record {
@@ -171,6 +174,7 @@ module _ {J T : Type 0} where
       outs = sends_kept old new ends outs lanes seat linked.beside.outs;
       ins = λ sender known. (ins sender).each _ (linked.beside.ins sender (omega (arith, known, seat.cores)));
     };
+    owed = closes_keep meaning (seen_by (λ (end : Sending J T). end.out) ends.outs) old new seat Return did closes linked.owed;
   }
     where
       still : (did : Bool) → ClosesItself old Return did new → new.core.out ≡ None
@@ -182,12 +186,12 @@ module _ {J T : Type 0} where
   returned_leaves old new ends true closes seat = record {
     wrote = inr closes.1;
     returning = ap (λ journal. core_mode journal.notes) closes.1;
-    stays = record { seat = seat; ends = ends_same ends; opening = ap (λ journal. opening_of journal.notes) closes.1 };
+    stays = record { seat = seat; ends = ends_same ends; opening = ap (λ journal. opening_of journal.notes) closes.1; grows = (CoreClosed Return ∷ [], ap (λ journal. journal.notes) closes.1) };
   }
   returned_leaves old new ends false closes seat = record {
     wrote = inl (ap (λ view. view.journal) closes.1);
     returning = ap (λ view. core_mode view.journal.notes) closes.1 ∙ was_returning (core_mode old.journal.notes) closes.0;
-    stays = record { seat = seat; ends = ends_same ends; opening = ap (λ view. opening_of view.journal.notes) closes.1 };
+    stays = record { seat = seat; ends = ends_same ends; opening = ap (λ view. opening_of view.journal.notes) closes.1; grows = ([], ap (λ view. view.journal.notes) closes.1) };
   }
 
   -- a gate that was shut just now
@@ -198,28 +202,38 @@ module _ {J T : Type 0} where
         ∙ ap (λ test. is_some (or_else (cond test (Some did.count) None) (final_count sender old.recorded.journal.notes))) (eq-eqb sender sender refl),
   )
 
+  -- no order is delivered by it
+  taken_same : (sender : ℕ) (old new : LinkedView J T) → ShutsGate sender old new → KeepsTaken old new
+  taken_same sender old new did other =
+      ⊎_elim
+      (λ (is : other ≡ sender). subst (λ one. (in_at one new.ends).inward.taken ≡ (in_at one old.ends).inward.taken) (sym is) (ap (λ inward. inward.taken) did.shuts.0))
+      (λ (away : other ≢ sender). ap (λ end. end.inward.taken) (did.others other away))
+      (cases_eq other sender)
+
   -- the gate is shut, whether it was so before or not
-  pub leaves_shut : {meaning : Meaning J T} (sender : ℕ) (old new : LinkedView J T) → WritesShut sender old.recorded.journal new.recorded.journal → StaysLinked old new →
+  pub leaves_shut : {meaning : Meaning J T} (sender : ℕ) (old new : LinkedView J T) → WritesShut sender old.recorded.journal new.recorded.journal → StaysLinked old new → KeepsTaken old new →
       IsSome (final_count sender new.recorded.journal.notes) → sender ≤ old.recorded.core.cores → IsLinked meaning new → SoundIn (in_at sender new.ends).inward → LeavesShut sender old new
-  leaves_shut sender old new wrote stays some known linked sound = record {
+  leaves_shut sender old new wrote stays taken some known linked sound = record {
     wrote = wrote;
     shut = shut_within sender new.recorded (in_at sender new.ends).inward (linked.beside.ins sender (omega (arith, known, stays.seat.cores))) sound some;
     stays = stays;
+    taken = taken;
   }
 
   module _ {meaning : Meaning J T} (sender : ℕ) (old new inside : LinkedView J T) (seen : inside ≡ new) (known : sender ≤ old.recorded.core.cores)
       (linked : IsLinked meaning inside) (sound : SoundIn (in_at sender inside.ends).inward) where
-    leaves_here : WritesShut sender old.recorded.journal new.recorded.journal → StaysLinked old new → IsSome (final_count sender new.recorded.journal.notes) → LeavesShut sender old new
-    leaves_here wrote stays some =
-        leaves_shut sender old new wrote stays some known (subst (IsLinked meaning) seen linked) (subst (λ (view : LinkedView J T). SoundIn (in_at sender view.ends).inward) seen sound)
+    leaves_here : WritesShut sender old.recorded.journal new.recorded.journal → StaysLinked old new → KeepsTaken old new → IsSome (final_count sender new.recorded.journal.notes) → LeavesShut sender old new
+    leaves_here wrote stays taken some =
+        leaves_shut sender old new wrote stays taken some known (subst (IsLinked meaning) seen linked) (subst (λ (view : LinkedView J T). SoundIn (in_at sender view.ends).inward) seen sound)
 
     -- it was shut just now
     pub leaves_then : (did : LinkedView J T) → new ≡ did → ShutsGate sender old did → LeavesShut sender old new
     leaves_then did is shuts =
         let now = shut_now sender old new (subst (ShutsGate sender old) (sym is) shuts) in
-        leaves_here now.0 (subst (ShutsGate sender old) (sym is) shuts).stays now.1
+        leaves_here now.0 (subst (ShutsGate sender old) (sym is) shuts).stays (taken_same sender old new (subst (ShutsGate sender old) (sym is) shuts)) now.1
 
     -- it was shut before
     pub leaves_else : new ≡ old → IsSome (final_count sender old.recorded.journal.notes) → LeavesShut sender old new
     leaves_else is some =
-        leaves_here (inl (ap (λ view. view.recorded.journal) is)) (subst (StaysLinked old) (sym is) (stays_same old)) (subst (λ (view : LinkedView J T). IsSome (final_count sender view.recorded.journal.notes)) (sym is) some)
+        leaves_here (inl (ap (λ view. view.recorded.journal) is)) (subst (StaysLinked old) (sym is) (stays_same old)) (λ other. ap (λ view. (in_at other view.ends).inward.taken) is)
+        (subst (λ (view : LinkedView J T). IsSome (final_count sender view.recorded.journal.notes)) (sym is) some)

@@ -78,11 +78,10 @@ module _ {J T : Type 0} where
       IsPostingTurn meaning (Does (Fits meaning) (λ (end : Sending J T). end.out) (λ (end : Sending J T). end.credited) (λ (end : Sending J T). end.link)) (λ (end : Sending J T). end.out) (λ (end : Sending J T). end.link) tells
       old inside.outs name queue started settled new later →
       length new.journal.notes ≤ length old.journal.notes + old.core.cores * (3 * old.cap) + 3 →
-      PollsOne meaning tells (record { recorded = old; ends = ends }) (record { recorded = new; ends = record inside { outs = later } })
+      PollsOne meaning tells name (record { recorded = old; ends = ends }) (record { recorded = new; ends = record inside { outs = later } })
   turn_polls {meaning = meaning} {tells = tells} old new ends inside seen later name queue started settled turn few =
-      subst (λ ends. PollsOne meaning tells (record { recorded = old; ends = ends }) (record { recorded = new; ends = record inside { outs = later } })) seen
+      subst (λ ends. PollsOne meaning tells name (record { recorded = old; ends = ends }) (record { recorded = new; ends = record inside { outs = later } })) seen
       (record {
-        name = name;
         queue = queue;
         was_started = started;
         picked = turn.picked;

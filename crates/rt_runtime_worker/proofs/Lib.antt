@@ -1,5 +1,7 @@
 pub mod Along
+pub mod Growing
 pub mod Openings
+pub mod Rung
 mod QueuesRefused
 mod ActsRefused
 pub mod Stepping
@@ -13,6 +15,8 @@ pub mod Acting
 pub mod Spare
 pub mod Gated
 pub mod Serving
+pub mod Telling
+pub mod Heard
 pub mod Opened
 pub mod Creating
 pub mod Ending

@@ -1,7 +1,9 @@
 -- A core that was just opened, over ends of links that were just opened.
 use Rattle.std.proofs.Common.{◌≡◌, ℕ, ◌+◌, ◌*◌, ◌<◌, ◌≤◌, [], ◌∷◌, length, refl, sym, ◌∙◌, ap, subst, arith}
-use Rattle.std.specs.Prelude.{Ok, Some, slice_get}
+use Rattle.std.specs.Prelude.{Ok, Option, Some, slice_get}
 use Rattle.std.proofs.lemmas.Option.{slice_get_within, get_or_from_slice_get}
+use Rattle.rt_ids.specs.Terms.{Terms}
+use Rattle.rt_ids.specs.declared.names.JobId.{JobId}
 use Rattle.rt_ids.specs.declared.order.Outcome.{Outcome}
 use Rattle.rt_ids.specs.declared.order.Order.{Order}
 use Rattle.rt_ids.specs.declared.note.Note.TheVariants.{Created}
@@ -13,7 +15,9 @@ use Rattle.rt_desk.proofs.Cores.{IsUnused-fresh}
 use Rattle.rt_ring.specs.declared.ring_out.Sending.{Sending}
 use Rattle.rt_link.specs.Fits.{Fits}
 use Rattle.rt_link.specs.Whole.{fresh, out_of, inward_of}
-use Rattle.rt_journal.specs.Recorded.{RecordedView, IsRecorded, desk_of, terms_at}
+use Rattle.rt_journal.specs.OwedPolls.{PollsAreOwed, seen_by}
+use Rattle.rt_journal.specs.RightAnswers.{Seen}
+use Rattle.rt_journal.specs.Recorded.{RecordedView, IsRecorded, desk_of, order_taken, terms_at}
 use Rattle.rt_journal.specs.Ends.{IsInOf, IsSameSeat, KeepsIn}
 use Rattle.rt_journal_desk.specs.Ends.{IsOutOf, KeepsOuts}
 use Rattle.rt_journal.specs.Steps.{opened_beside, CreatesQueue}
@@ -33,6 +37,13 @@ module _ {T : Type 0} where
   opening_acts least room [] opening = tt
   opening_acts least room (Created queue weight ∷ before) opening = (tt, opening_acts least room before opening)
   opening_acts least room (_ ∷ before) opening = absurd opening
+
+module _ {J T : Type 0} (meaning : Meaning J T) (terms : Terms) (seen : Seen J) (under : JobId → Option (Order J)) where
+  -- a creation settles no poll
+  opening_owed : (notes : Journal T) → IsOpening notes → PollsAreOwed meaning terms seen under notes
+  opening_owed [] opening = tt
+  opening_owed (Created queue weight ∷ before) opening = (tt, opening_owed before opening)
+  opening_owed (_ ∷ before) opening = absurd opening
 
 module _ {J T : Type 0} where
   -- a fresh end to a core, and one from an actor
@@ -142,6 +153,7 @@ module _ {J T : Type 0} where
           outs = record { count = are.outs ∙ sym created.seat.cores; beside = opened_out; lanes = opened_lane (Fits meaning) };
           ins = opened_in;
         };
+        owed = opening_owed meaning (terms_at recorded) (seen_by (λ (end : Sending J T). end.out) ends.outs) (order_taken recorded.took) recorded.journal.notes created.opening;
       }
 
       pub opened_spare : least_room cores cap + count ≤ room → HasSpare recorded

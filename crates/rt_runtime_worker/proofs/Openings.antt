@@ -6,7 +6,6 @@ use Rattle.rt_ids.specs.declared.note.Note.{Note}
 use Rattle.rt_ids.specs.declared.note.Note.TheVariants as writes
 use Rattle.rt_ids.specs.declared.order.Order.{Order}
 use Rattle.rt_ids.specs.declared.order.Order.TheVariants.{Job, Create, SetShares, Close, CloseCore}
-use Rattle.rt_ids.specs.declared.order.Outcome.{Outcome}
 use Rattle.rt_ids.specs.declared.order.Reason.{Reason}
 use Rattle.rt_ids.specs.declared.order.Answer.{Answer}
 use Rattle.rt_ids.specs.declared.order.Answer.TheVariants as answers
@@ -47,7 +46,7 @@ module _ {T : Type 0} where
       by_test true = is
       by_test false = is
 
-  creations_behind : (core : ℕ) (entries : List Entry) (before : Journal T) → is_opening before ≡ true → is_opening (behind_entries core entries before) ≡ true
+  pub creations_behind : (core : ℕ) (entries : List Entry) (before : Journal T) → is_opening before ≡ true → is_opening (behind_entries core entries before) ≡ true
   creations_behind core [] before is = is
   creations_behind core (entry ∷ entries) before is = creations_behind core entries (behind_entry core entry before) (creation_behind core entry before is)
 
@@ -127,9 +126,9 @@ module _ {J T : Type 0} where
         by_step step.Yield = refl
         by_step (step.Done out) = refl
 
-    pub opening_polled : {tells : ℕ → Type 0} (old new : LinkedView J T) → PollsOne meaning tells old new →
+    pub opening_polled : {tells : ℕ → Type 0} {name : JobId} (old new : LinkedView J T) → PollsOne meaning tells name old new →
         opening_of new.recorded.journal.notes ≡ opening_of old.recorded.journal.notes
-    opening_polled old new did =
+    opening_polled {name = name} old new did =
         opening_settled did.left new.recorded did.ran did.spent did.settled did.settles
         ∙ (opening_posts did.picked did.left old.ends.outs new.ends.outs did.posted
-        ∙ opening_picked old.recorded did.picked did.name did.queue did.was_started did.ran.before did.picks)
+        ∙ opening_picked old.recorded did.picked name did.queue did.was_started did.ran.before did.picks)

@@ -1,6 +1,7 @@
 -- A core and its ends after a poll that submitted, redeemed and detached on them.
 use Rattle.std.proofs.Common.{◌≡◌, ℕ, suc, ◌+◌, List, [], ◌∷◌, length, map, Some, refl, sym, ◌∙◌, ap, subst, arith}
 use Rattle.std.specs.Prelude.{slice_get}
+use Rattle.rt_ids.specs.declared.names.JobId.{JobId}
 use Rattle.rt_ids.specs.declared.order.Order.{Order}
 use Rattle.rt_ids.specs.declared.order.Outcome.{Outcome}
 use Rattle.rt_jobs.specs.Meanings.{Meaning}
@@ -52,10 +53,9 @@ module _ {J T : Type 0} where
       })
 
   module _ {meaning : Meaning J T} {tells : ℕ → Type 0} where
-    pub polls_again : (old : LinkedView J T) (new : RecordedView J T) (ends later : EndsView J T) → later.outs ≡ ends.outs → PollsOne meaning tells old (record { recorded = new; ends = ends }) →
-        PollsOne meaning tells old (record { recorded = new; ends = later })
-    polls_again old new ends later same one = record {
-      name = one.name;
+    pub polls_again : (old : LinkedView J T) (new : RecordedView J T) (ends later : EndsView J T) (name : JobId) → later.outs ≡ ends.outs → PollsOne meaning tells name old (record { recorded = new; ends = ends }) →
+        PollsOne meaning tells name old (record { recorded = new; ends = later })
+    polls_again old new ends later name same one = record {
       queue = one.queue;
       was_started = one.was_started;
       picked = one.picked;

@@ -2,8 +2,7 @@
 use Rattle.std.proofs.Common.{◌≡◌, inr, ℕ, suc, ◌+◌, ◌*◌, ◌≤◌, ◌∷◌, ◌++◌, length, sym, ◌∙◌, ap, subst, arith}
 use Rattle.std.specs.Prelude.{◌==◌, Bool, true, false, Some, unwrap_or, IsSome}
 use Rattle.std.proofs.lemmas.List.{length-append}
-use Rattle.rt_ids.specs.declared.order.Outcome.{Outcome}
-use Rattle.rt_ids.specs.declared.order.Order.{Order}
+use Rattle.rt_ids.specs.declared.names.JobId.{JobId}
 use Rattle.rt_ids.specs.declared.note.Note.TheVariants as writes
 use Rattle.rt_ids.specs.declared.order.Mode.TheVariants.{Return}
 use Rattle.rt_ids.specs.Filters.{given_outcomes}
@@ -159,8 +158,8 @@ module _ {J T : Type 0} where
 
     module _ (old new : LinkedView J T) (was : IsLinked meaning old) (now : IsLinked meaning new) (seat : IsSameSeat old.recorded new.recorded) where
       -- a poll
-      module _ {tells : ℕ → Type 0} (did : PollsOne meaning tells old new) where
-        picked_notes : did.picked.journal.notes ≡ poll_note did.name did.was_started ∷ writes.Pick did.queue did.picks.runtime ∷ old.recorded.journal.notes
+      module _ {tells : ℕ → Type 0} {name : JobId} (did : PollsOne meaning tells name old new) where
+        picked_notes : did.picked.journal.notes ≡ poll_note name did.was_started ∷ writes.Pick did.queue did.picks.runtime ∷ old.recorded.journal.notes
         picked_notes = ap (λ journal. journal.notes) did.picks.journal
 
         posted_notes : did.left.journal.notes ≡ did.posted.notes ++ did.picked.journal.notes
@@ -175,9 +174,9 @@ module _ {J T : Type 0} where
             subst (EachNote (MayAct (least_free old.recorded.core.cores old.recorded.cap) old.recorded.journal.room)) (sym settled_notes)
             (settles_act _ _ _ _ did.ran.step did.left.journal.notes
             (subst (EachNote (MayAct (least_free old.recorded.core.cores old.recorded.cap) old.recorded.journal.room)) (sym posted_notes)
-            (posts_act _ _ did.posted.notes did.picked.journal.notes did.posted.posts (subst IsPolling (sym picked_notes) (begins_poll did.name did.was_started (writes.Pick did.queue did.picks.runtime ∷ old.recorded.journal.notes)))
+            (posts_act _ _ did.posted.notes did.picked.journal.notes did.posted.posts (subst IsPolling (sym picked_notes) (begins_poll name did.was_started (writes.Pick did.queue did.picks.runtime ∷ old.recorded.journal.notes)))
             (subst (EachNote (MayAct (least_free old.recorded.core.cores old.recorded.cap) old.recorded.journal.room)) (sym picked_notes)
-            (picks_act _ _ did.name did.was_started did.queue did.picks.runtime old.recorded.journal.notes acts)))))
+            (picks_act _ _ name did.was_started did.queue did.picks.runtime old.recorded.journal.notes acts)))))
 
         polled_provided : (ending : Bool) → IsReady ending old.recorded → IsProvided ending new.recorded
         polled_provided false ready = spare_after old.recorded new.recorded (old.recorded.core.cores * (3 * old.recorded.cap) + 3) seat ready (omega (arith, did.few)) (posts_few old.recorded.core.cores old.recorded.cap)
@@ -222,9 +221,9 @@ module _ {J T : Type 0} where
         }
 
       -- whatever a turn came to
-      pub turned_served : (tells : ℕ → Type 0) (came_to : Made) (ending : Bool) → MakesTurn meaning tells old came_to new → IsReady ending old.recorded →
+      pub turned_served : (tells : ℕ → Type 0) (asked : ℕ → JobId → Type 0) (unasked : Type 0) (came_to : Made) (ending : Bool) → MakesTurn meaning tells asked unasked old came_to new → IsReady ending old.recorded →
           ActsAsItMay old.recorded.core.cores old.recorded.cap old.recorded.journal → IsServed meaning (record { linked = new; ending = ending })
-      turned_served tells came.Polled ending did ready acts = polled_served did ending ready acts
-      turned_served tells came.Returned ending did ready acts = returned_served did ending ready acts
-      turned_served tells came.Idle ending did ready acts = unmoved ending old new now ready did.1 acts
-      turned_served tells came.Spent ending did ready acts = unmoved ending old new now ready did.2 acts
+      turned_served tells asked unasked came.Polled ending did ready acts = polled_served did.1 ending ready acts
+      turned_served tells asked unasked came.Returned ending did ready acts = returned_served did.0 ending ready acts
+      turned_served tells asked unasked came.Idle ending did ready acts = unmoved ending old new now ready did.1 acts
+      turned_served tells asked unasked came.Spent ending did ready acts = unmoved ending old new now ready did.2 acts

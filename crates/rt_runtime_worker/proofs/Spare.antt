@@ -2,8 +2,6 @@
 use Rattle.std.proofs.Common.{◌≡◌, ℕ, zero, suc, ◌+◌, ◌*◌, ◌≤◌, [], ◌∷◌, ◌++◌, length, ap, subst, arith}
 use Rattle.std.proofs.Math.Nat.{add-mul, mul-add, suc-mul, mul_left_comm}
 use Rattle.std.specs.Prelude.{Some, unwrap_or, IsSome, Bool, true, false}
-use Rattle.rt_ids.specs.declared.order.Outcome.{Outcome}
-use Rattle.rt_ids.specs.declared.order.Order.{Order}
 use Rattle.rt_ids.specs.Terms.{Terms}
 use Rattle.rt_ids.specs.declared.order.Mode.TheVariants.{Return}
 use Rattle.rt_ids.specs.Journal.{Journal, EachNote}

@@ -13,7 +13,7 @@ use Rattle.rt_journal.specs.Ends.{IsInOf, IsInOwing, IsSameSeat, KeepsIn}
 use Rattle.rt_journal_desk.specs.Ends.{KeepsOuts}
 use Rattle.rt_ring_mesh.specs.Ends.{EndsView, in_at, no_in, SameEnds}
 use Rattle.rt_ring_mesh.proofs.Using.{in_used}
-use Rattle.rt_runtime_worker.specs.Linked.{AreBeside, AreOwing, SendsOn}
+use Rattle.rt_runtime_worker.specs.Linked.{AreBeside, AreOwing, Grows, SendsOn}
 use Rattle.rt_runtime_worker.specs.Queues.{opening_of}
 
 module _ {J T : Type 0} where
@@ -55,6 +55,7 @@ module _ {J T : Type 0} (fits : Order J → Outcome J T → Type 0) where
     pub lanes : now.lanes ≡ recorded.lanes
     pub link : end.link ≡ (in_at sender ends).link
     pub opening : opening_of now.journal.notes ≡ opening_of recorded.journal.notes
+    pub grows : Grows recorded.journal.notes now.journal.notes
 
 module _ {J T : Type 0} {fits : Order J → Outcome J T → Type 0} where
   -- a step that leaves the ends on which the actor sends, and their lanes
@@ -112,6 +113,10 @@ module _ {J T : Type 0} {fits : Order J → Outcome J T → Type 0} where
 
     pub put_beside : AreBeside fits now (put_back at inside end)
     put_beside = subst (AreBeside fits now) (put_seen sender ends at inside end opens) beside_now
+
+    -- each other end is as it was, and so are those on which the actor sends
+    pub others_put : (other : ℕ) → other ≢ sender → in_at other (put_back at inside end) ≡ in_at other ends
+    others_put other away = subst (λ now. in_at other now ≡ in_at other ends) (put_seen sender ends at inside end opens) (get_or-set_other ends.ins sender other end no_in away)
 
     pub end_put : in_at sender (put_back at inside end) ≡ end
     end_put = subst (λ ends. in_at sender ends ≡ end) (put_seen sender ends at inside end opens) end_now

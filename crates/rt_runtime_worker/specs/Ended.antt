@@ -1,8 +1,6 @@
 -- What a worker keeps, and what it gives back.
-use Rattle.std.specs.Prelude.{ℕ, Bool}
+use Rattle.std.specs.Prelude.{Bool}
 use Rattle.rt_ids.specs.Closing.{IsDrained}
-use Rattle.rt_ids.specs.declared.order.Order.{Order}
-use Rattle.rt_ids.specs.declared.order.Outcome.{Outcome}
 use Rattle.rt_jobs.specs.Meanings.{Meaning}
 use Rattle.rt_runtime_worker.specs.Linked.{LinkedView, IsLinked}
 use Rattle.rt_runtime_worker.specs.Rooms.{ActsAsItMay, IsProvided}

@@ -7,6 +7,7 @@ use Rattle.rt_ids.specs.Closing.{core_mode, final_count}
 use Rattle.rt_journal_notes.specs.Journals.{JournalView}
 use Rattle.rt_journal.specs.Recorded.{RecordedView, given_count}
 use Rattle.rt_journal.specs.Steps.{with_notes}
+use Rattle.rt_ring_mesh.specs.Ends.{in_at}
 use Rattle.rt_runtime_worker.specs.Linked.{LinkedView, StaysLinked}
 use Rattle.rt_runtime_worker.specs.Rooms.{last_through, MayAct}
 
@@ -21,6 +22,10 @@ module _ {T : Type 0} where
   WritesReturn old new = (new ≡ old) ⊎ (new ≡ with_notes (CoreClosed Return ∷ []) old)
 
 module _ {J T : Type 0} where
+  -- as many orders of each sender were delivered as before
+  abbrev pub KeepsTaken : LinkedView J T → LinkedView J T → Type 0
+  KeepsTaken old new = (sender : ℕ) → (in_at sender new.ends).inward.taken ≡ (in_at sender old.ends).inward.taken
+
   -- the gate of this sender is shut, and at most as many orders came through as have an outcome and a link holds more
   pub record IsShutWithin (sender : ℕ) (view : RecordedView J T) : Type 0 where
     pub gate : IsSome (final_count sender view.journal.notes)
@@ -30,6 +35,7 @@ module _ {J T : Type 0} where
   pub record LeavesShut (sender : ℕ) (old new : LinkedView J T) : Type 0 where
     pub wrote : WritesShut sender old.recorded.journal new.recorded.journal
     pub shut : IsShutWithin sender new.recorded
+    pub taken : KeepsTaken old new
     pub stays : StaysLinked old new
 
   -- the core is closed in mode `Return`, if it wasn't
@@ -45,4 +51,5 @@ module _ {J T : Type 0} where
     pub longer : length new.recorded.journal.notes ≤ length old.recorded.journal.notes + count
     pub acts : (least : ℕ) → EachNote (MayAct least old.recorded.journal.room) old.recorded.journal.notes
         → EachNote (MayAct least old.recorded.journal.room) new.recorded.journal.notes
+    pub taken : KeepsTaken old new
     pub stays : StaysLinked old new

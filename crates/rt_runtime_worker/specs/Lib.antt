@@ -4,6 +4,9 @@ pub mod Steps
 pub mod Rooms
 pub mod Gates
 pub mod Ended
+pub mod Bells
+pub mod Rounds
+pub mod Looks
 pub mod Opening
 pub mod Together
 pub mod Readings

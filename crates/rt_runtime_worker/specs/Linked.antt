@@ -1,5 +1,6 @@
 -- A core beside its journal, with its actor's ends of the links.
-use Rattle.std.specs.Prelude.{◌≡◌, ◌≢◌, ℕ, ◌+◌, ◌≤◌, Option, None, length}
+use Rattle.std.specs.Prelude.{◌≡◌, ◌≢◌, ℕ, ◌+◌, ◌≤◌, Option, None, length, ◌++◌}
+use Rattle.rt_ids.specs.Journal.{Journal}
 use Rattle.rt_ids.specs.declared.names.JobId.{JobId}
 use Rattle.rt_ids.specs.declared.order.Order.{Order}
 use Rattle.rt_ids.specs.declared.order.Outcome.{Outcome}
@@ -7,6 +8,7 @@ use Rattle.rt_ids.specs.declared.note.OutcomeNote.{OutcomeNote}
 use Rattle.rt_jobs.specs.Meanings.{Meaning}
 use Rattle.rt_journal.specs.Recorded.{RecordedView, IsRecorded, desk_of}
 use Rattle.rt_journal.specs.Ends.{IsInOf, IsInOwing, IsSameSeat}
+use Rattle.rt_journal.specs.OwedPolls.{HasOwedPolls, seen_by}
 use Rattle.rt_journal_desk.specs.Posts.{AreOutsOf}
 use Rattle.rt_ring_mesh.specs.Ends.{EndsView, in_at, SameEnds}
 use Rattle.rt_runtime_worker.specs.Queues.{opening_of}
@@ -37,16 +39,26 @@ module _ {J T : Type 0} (fits : Order J → Outcome J T → Type 0) where
     pub owed : IsInOwing from owing recorded (in_at from ends).inward
     pub ins : (sender : ℕ) → sender ≤ recorded.core.cores → sender ≢ from → IsInOf sender recorded (in_at sender ends).inward
 
+-- the same notes, behind newer ones if there are any
+abbrev pub Grows : {T : Type 0} → Journal T → Journal T → Type 0
+Grows {T} old new = (newer : Journal T) × (new ≡ newer ++ old)
+
 module _ {J T : Type 0} where
-  -- what no step changes: whose core it is, which links its ends are of, and what was created at its opening
+  -- what no step changes: whose core it is, which links its ends are of, what was created at its opening, and each note that stands in its journal
   pub record StaysLinked (old new : LinkedView J T) : Type 0 where
     pub seat : IsSameSeat old.recorded new.recorded
     pub ends : SameEnds old.ends new.ends
     pub opening : opening_of new.recorded.journal.notes ≡ opening_of old.recorded.journal.notes
+    pub grows : Grows old.recorded.journal.notes new.recorded.journal.notes
 
 module _ {J T : Type 0} (meaning : Meaning J T) where
-  -- the core is recorded and no job is out, and the ends are beside it
+  -- each poll that the journal tells did what the order under its name says, as far as the ends on which the actor sends have seen the links
+  abbrev pub PollsAsOwed : RecordedView J T → EndsView J T → Type 0
+  PollsAsOwed recorded ends = HasOwedPolls meaning (seen_by (λ end. end.out) ends.outs) recorded
+
+  -- the core is recorded and no job is out, the ends are beside it, and each poll was one that is owed
   pub record IsLinked (view : LinkedView J T) : Type 0 where
     pub recorded : IsRecorded meaning view.recorded
     pub at_rest : view.recorded.core.out ≡ None
     pub beside : AreBeside (Fits meaning) view.recorded view.ends
+    pub owed : PollsAsOwed view.recorded view.ends

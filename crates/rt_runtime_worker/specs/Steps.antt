@@ -1,8 +1,7 @@
 -- What the steps of a worker do: a gate is shut, an order is delivered, a turn is made, outcomes are collected.
-use Rattle.std.specs.Prelude.{◌≡◌, ℕ, ◌+◌, ◌*◌, ◌-◌, ◌^◌, ◌≤◌, Bool, true, false, length}
+use Rattle.std.specs.Prelude.{◌≡◌, ◌≢◌, ℕ, ◌+◌, ◌*◌, ◌-◌, ◌^◌, ◌≤◌, Bool, true, false, length}
 use Rattle.rt_ids.specs.declared.names.JobId.{JobId}
 use Rattle.rt_ids.specs.declared.order.Order.{Order}
-use Rattle.rt_ids.specs.declared.order.Outcome.{Outcome}
 use Rattle.rt_ids.specs.declared.order.Reason.{Reason}
 use Rattle.rt_ids.specs.Picks.{turns}
 use Rattle.rt_ids.specs.Work.{has_work}
@@ -29,17 +28,20 @@ module _ {J T : Type 0} where
     pub count : ℕ
     pub tells : TellsShut old.recorded sender count new.recorded
     pub shuts : Shuts (in_at sender old.ends).inward (in_at sender new.ends).inward count
+    pub others : (other : ℕ) → other ≢ sender → in_at other new.ends ≡ in_at other old.ends
     pub stays : StaysLinked old new
 
   -- the next order of this sender is delivered, or none shows
   pub record DeliversFrom (sender : ℕ) (old : LinkedView J T) (found : Bool) (new : LinkedView J T) : Type 0 where
     pub delivers : Delivers old.recorded (in_at sender old.ends).inward new.recorded (in_at sender new.ends).inward found
+    pub others : (other : ℕ) → other ≢ sender → in_at other new.ends ≡ in_at other old.ends
     pub stays : StaysLinked old new
 
   -- all outcomes that the end to this core shows are collected, at most as many as the link has places
   pub record CollectsOf (core : ℕ) (old : LinkedView J T) (count : ℕ) (new : LinkedView J T) : Type 0 where
     pub collects : CollectsFrom core (desk_of old.recorded) count (desk_of new.recorded)
     pub all : GetsAll (out_at core old.ends).out (out_at core new.ends).out
+    pub others : (other : ℕ) → other ≢ core → out_at other new.ends ≡ out_at other old.ends
     pub few : count ≤ old.recorded.cap
     pub rest : new.recorded ≡ record old.recorded { journal = new.recorded.journal; lanes = new.recorded.lanes }
     pub stays : StaysLinked old new
@@ -53,9 +55,8 @@ module _ {J T : Type 0} (meaning : Meaning J T) where
     pub did : IsHandBack meaning old name reason order new
 
 module _ {J T : Type 0} (meaning : Meaning J T) (tells : ℕ → Type 0) where
-  -- the first job of the right pick is polled once, its post is this actor's desk over its own ends, and its poll is settled, with a time that may be told
-  pub record PollsOne (old new : LinkedView J T) : Type 0 where
-    pub name : JobId
+  -- the first job of the right pick, which has this name, is polled once, its post is this actor's desk over its own ends, and its poll is settled, with a time that may be told
+  pub record PollsOne (name : JobId) (old new : LinkedView J T) : Type 0 where
     pub queue : ℕ
     pub was_started : Bool
     pub picked : RecordedView J T
@@ -70,10 +71,10 @@ module _ {J T : Type 0} (meaning : Meaning J T) (tells : ℕ → Type 0) where
     pub settles : Settles meaning left ran spent settled new.recorded
     pub few : length new.recorded.journal.notes ≤ length old.recorded.journal.notes + old.recorded.core.cores * (3 * old.recorded.cap) + 3
 
-module _ {J T : Type 0} (meaning : Meaning J T) (tells : ℕ → Type 0) where
-  -- what a turn came to: a poll, a job that is handed back, no work, or no turn that is left
+module _ {J T : Type 0} (meaning : Meaning J T) (tells : ℕ → Type 0) (asked : ℕ → JobId → Type 0) (unasked : Type 0) where
+  -- what a turn came to: a poll for which the gate was asked with its core and its name, a job that is handed back, no work, or no turn that is left
   abbrev pub MakesTurn : LinkedView J T → Made → LinkedView J T → Type 0
-  MakesTurn old Polled new = PollsOne meaning tells old new
-  MakesTurn old Returned new = HandsBack meaning old.recorded new.recorded
-  MakesTurn old Idle new = ((queue : ℕ) → has_work queue old.recorded.journal.notes ≡ false) × (new.recorded ≡ old.recorded)
-  MakesTurn old Spent new = (turns old.recorded.journal.notes ≡ 2 ^ 64 - 1) × ((queue : ℕ) × (has_work queue old.recorded.journal.notes ≡ true)) × (new.recorded ≡ old.recorded)
+  MakesTurn old Polled new = (name : JobId) × PollsOne meaning tells name old new × asked old.recorded.core.core name
+  MakesTurn old Returned new = HandsBack meaning old.recorded new.recorded × unasked
+  MakesTurn old Idle new = ((queue : ℕ) → has_work queue old.recorded.journal.notes ≡ false) × (new.recorded ≡ old.recorded) × unasked
+  MakesTurn old Spent new = (turns old.recorded.journal.notes ≡ 2 ^ 64 - 1) × ((queue : ℕ) × (has_work queue old.recorded.journal.notes ≡ true)) × (new.recorded ≡ old.recorded) × unasked

@@ -1,69 +1,73 @@
-//! The word that an idle worker parks on, and how it is woken.
+//! The bells by which idle workers are woken.
 
-use rt_ids::Note;
-use std::alloc::Global;
-use std::sync::atomic::{AtomicU64, Ordering};
-use std::sync::{Arc, Wait};
+ghost use Rattle.std.specs.Prelude.{◌≡◌, IfOk, length, replicate};
+ghost use Rattle.rt_runtime_worker.specs.Bells.{AreInPlace, once_more, rung_at, rung_for, told_by};
 
-/// The worker is at work, or it was rung since it lay down.
-const AWAKE: u64 = 0;
+use crossbeam_utils::sync::{EventCount, Key};
+use rt_ids::{CoreNo, Note};
+use std::alloc::{AllocError, Global};
+use std::marker::Model;
+use std::sync::Arc;
 
-/// The worker is parked, or it looks a last time before it parks.
-const ASLEEP: u64 = 1;
+/// The bell of one core, in the hands of one who rings it or parks on it. Contracts see whose it is, and how often it was rung here.
+#[derive(Drop)]
+pub struct Bell {
+    core: u8,
+    rings: u64,
+    event: Arc<EventCount, Global>,
+}
 
-/// The word that an idle worker parks on. Whoever has something for it rings. That changes the word only if the worker lay down.
-pub type Bell = Arc<AtomicU64, Global>;
+impl Model for Bell {
+    ghost use Rattle.rt_runtime_worker.specs.Bells.{BellView};
 
-/// Tells a worker that there is something for it. The bell of a worker that is awake is only read, and no system call is made.
-pub fn ring(bell: &Bell) {
-    // step: ring. A load and, if the worker lay down, a swap: of all who find it asleep, the one that changes the word wakes it.
-    if bell.load(Ordering::SeqCst) == ASLEEP && bell.swap(AWAKE, Ordering::SeqCst) == ASLEEP {
-        bell.wake_one();
+    ghost Value = { BellView };
+
+    ghost view = { λ b. record { core = b.core; rings = b.rings } };
+}
+
+impl Bell {
+    /// A bell for this core.
+    ///
+    /// # Errors
+    ///
+    /// If there is no memory.
+    pub fn open(alloc: Global, core: CoreNo) -> Result<Self, AllocError>
+        ensures { IfOk result (λ bell. bell ≡ record { core = core; rings = 0 }) }
+    {
+        Ok(Bell {
+            core: core.0,
+            rings: 0,
+            event: Arc::new(alloc, EventCount::new())?,
+        })
     }
-}
 
-/// From here on a ring ends the sleep. What came before it is seen by the look that follows.
-pub(crate) fn lie_down(bell: &Bell) {
-    // step: lie down
-    bell.store(ASLEEP, Ordering::SeqCst);
-}
-
-/// Parks until this bell rings. It doesn't if it has rung since the worker lay down.
-pub(crate) fn sleep<R: Wait>(rt: &R, bell: &Bell) {
-    // step: park, which looks at the word once more
-    bell.park(rt, ASLEEP as u32);
-}
-
-/// Nobody needs to ring from here on.
-pub(crate) fn get_up(bell: &Bell) {
-    // step: get up
-    bell.store(AWAKE, Ordering::SeqCst);
-}
-
-/// Rings the bell at this place, if there is one.
-fn ring_at(bells: &[Bell], place: u8) {
-    if (place as usize) < bells.len() {
-        ring(&bells[place as usize]);
+    /// The same bell, in other hands.
+    ///
+    /// # Errors
+    ///
+    /// If it is in too many.
+    pub fn again(&self) -> Result<Self, AllocError>
+        ensures { IfOk result (λ bell. bell ≡ record { core = self.now.core; rings = 0 }) }
+    {
+        Ok(Bell {
+            core: self.core,
+            rings: 0,
+            event: Arc::try_clone(&self.event)?,
+        })
     }
-}
 
-/// Who has something from this note: the receiver of an order that was sent, or the sender of a job or command that has its outcome.
-fn told(note: &Note<u64>) -> Option<u8> {
-    match note {
-        Note::Sent(name, _) => Some(name.to.0),
-        Note::Answered(name, _) => Some(name.from.0),
-        Note::Back(name, _) => Some(name.from.0),
-        Note::Returned(name, _) => Some(name.from.0),
-        Note::Done(name, _, _) => Some(name.from.0),
-        _ => None,
+    /// Tells the core's worker that there is something for it. The bell of a worker that is awake is only read, and no system call is made.
+    pub fn ring(&mut self)
+        ensures { self.new ≡ record self.old { rings = once_more self.old.rings } }
+    {
+        self.rings = self.rings.saturating_add(1);
+        // step: ring. A load and, if the worker lay down, an addition to the word on which it parks.
+        self.event.notify_one();
     }
-}
 
-/// Rings the bell of each core that has something from these notes. The bell of a core stands at its number.
-pub(crate) fn ring_for(bells: &[Bell], notes: &[Note<u64>]) {
-    for note in notes {
-        if let Some(core) = told(note) {
-            ring_at(bells, core);
-        }
+    /// From here on a ring ends the sleep. What came before it is seen by the look that follows. Whoever drops the key gets up.
+    pub(crate) fn lie_down(&self) -> Key<'_> {
+        // step: lie down
+        self.event.prepare_wait()
     }
 }

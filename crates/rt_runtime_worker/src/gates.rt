@@ -5,6 +5,7 @@ ghost use Rattle.rt_ids.specs.Closing.{core_mode};
 ghost use Rattle.rt_runtime_worker.specs.Linked.{IsLinked, StaysLinked};
 ghost use Rattle.rt_runtime_worker.specs.Gates.{LeavesShut, LeavesReturning, ShutsFirst};
 ghost use Rattle.rt_runtime_worker.specs.Rooms.{ActsAsItMay, HasSpare, IsEnding, IsShort};
+ghost use Rattle.rt_runtime_worker.specs.Rounds.{TellsNotes};
 
 use crate::lent::look_at;
 use crate::linked::Linked;
@@ -18,6 +19,7 @@ impl<J: Task<Out = u64>> Linked<J> {
         requires closed { IsSome (core_mode self.old.recorded.journal.notes) }
         requires room { length self.old.recorded.journal.notes < self.old.recorded.journal.room }
         ensures leaves { LeavesShut sender self.old self.new }
+        ensures tells { TellsNotes result self.old.recorded.journal.notes self.new.recorded.journal.notes }
         ensures linked { IsLinked J.meaning self.new }
     {
         let shut = self.is_shut(sender);
@@ -34,6 +36,7 @@ impl<J: Task<Out = u64>> Linked<J> {
         requires closed { IsSome (core_mode self.old.recorded.journal.notes) }
         requires room { length self.old.recorded.journal.notes + self.old.recorded.core.cores + 1 ≤ self.old.recorded.journal.room }
         ensures shuts { ShutsFirst (self.old.recorded.core.cores + 1) self.old self.new }
+        ensures tells { TellsNotes result self.old.recorded.journal.notes self.new.recorded.journal.notes }
         ensures linked { IsLinked J.meaning self.new }
     {
         let mut some = false;

@@ -10,7 +10,7 @@ ghost use Rattle.rt_journal.specs.Recorded.{IsRecorded};
 ghost use Rattle.rt_journal.specs.Owed.{IsSentUnder};
 ghost use Rattle.rt_journal.specs.Turns.{IsBack};
 ghost use Rattle.rt_ring_mesh.specs.Ends.{SameEnds};
-ghost use Rattle.rt_runtime_worker.specs.Linked.{AreOwing, IsLinked, StaysLinked};
+ghost use Rattle.rt_runtime_worker.specs.Linked.{AreOwing, IsLinked, PollsAsOwed, StaysLinked};
 ghost use Rattle.rt_runtime_worker.specs.Steps.{HandsBack};
 
 use rt_core::{PickError, Turn};
@@ -41,6 +41,7 @@ fn give_on<J: Task<Out = u64>>(
     requires known { name.from ≤ recorded.now.core.cores }
     requires rest { recorded.now.core.out ≡ None }
     requires sound { IsRecorded J.meaning recorded.now }
+    requires polls { PollsAsOwed J.meaning recorded.now ends.old }
     requires sent { IsSentUnder J.meaning recorded.now.took name order }
     requires owing { AreOwing (Fits J.meaning) name.from (Some (name, Returned reason)) recorded.now ends.old }
     ensures linked { IsLinked J.meaning (record { recorded = recorded.now; ends = ends.new }) }

@@ -2,6 +2,7 @@
 #![tactic(auto)]
 
 pub mod bell;
+pub mod bells;
 pub mod ended;
 mod gates;
 mod handing;
@@ -10,12 +11,15 @@ mod lent;
 pub mod linked;
 mod opening;
 mod posting;
+mod quiet;
+mod rounds;
 pub mod served;
 pub mod stopwatch;
 pub mod turn;
 pub mod worker;
 
-pub use bell::{Bell, ring};
+pub use bell::Bell;
+pub use bells::Bells;
 pub use ended::Ended;
 pub use linked::Linked;
 pub use served::Served;

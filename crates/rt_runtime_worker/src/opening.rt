@@ -9,7 +9,7 @@ ghost use Rattle.rt_journal.specs.Steps.{opened_beside};
 ghost use Rattle.rt_runtime_worker.specs.Opening.{AreEndsOf, CreatesSince, IsOpenedOver};
 ghost use Rattle.rt_runtime_worker.specs.Queues.{behind_entries, creations};
 
-use crate::bell::Bell;
+use crate::bells::Bells;
 use crate::linked::Linked;
 use crate::served::Served;
 use crate::worker::Worker;
@@ -112,14 +112,18 @@ impl<J: Task<Out = u64>, C: Drop, G: Drop> Worker<J, C, G> {
         ends: Ends<J>,
         clock: C,
         gate: G,
-        bell: Bell,
+        bells: &Bells,
     ) -> Result<Self, AllocError>
         requires ends { AreEndsOf config.now.cores config.now.cap ends }
         requires room { least_room config.now.cores config.now.cap + queues_of ends.number config.now.queues.items ≤ config.now.room }
+        requires bells { length bells.now ≡ config.now.cores }
         ensures over { IfOk result (λ worker. IsOpenedOver config.now.cores config.now.cap config.now.room ends worker) }
         ensures queues { IfOk result (λ worker. worker.recorded.journal.notes ≡ creations ends.number config.now.queues.items) }
     {
+        let number = ends.number;
         let served = serve_core(alloc, config, ends)?;
-        Ok(Worker::of(alloc, served, clock, gate, bell))
+        let own = bells.bell_of(CoreNo(number.0))?;
+        let all = bells.again(alloc)?;
+        Ok(Worker::of(alloc, served, clock, gate, own, all))
     }
 }

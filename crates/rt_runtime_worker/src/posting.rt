@@ -10,7 +10,7 @@ ghost use Rattle.rt_journal.specs.Ends.{told_under, IsSameSeat};
 ghost use Rattle.rt_journal.specs.Owed.{outcome_settled};
 ghost use Rattle.rt_journal.specs.Whole.{MayAnswer};
 ghost use Rattle.rt_ring_mesh.specs.Ends.{SameEnds};
-ghost use Rattle.rt_runtime_worker.specs.Linked.{AreBeside, AreOwing, IsLinked, StaysLinked};
+ghost use Rattle.rt_runtime_worker.specs.Linked.{AreBeside, AreOwing, IsLinked, PollsAsOwed, StaysLinked};
 ghost use Rattle.rt_runtime_worker.specs.Rooms.{HasPollRoom};
 ghost use Rattle.rt_runtime_worker.specs.Steps.{PollsOne};
 
@@ -34,7 +34,8 @@ fn post_turn<J: Job + Task<Out = u64>, M: Meter>(
     requires known { next.now.name.from ≤ recorded.old.core.cores }
     requires beside { AreBeside (Fits J.meaning) recorded.old ends.old }
     requires room { HasPollRoom recorded.old }
-    ensures polls { PollsOne J.meaning (M.Tells meter.old) (record { recorded = recorded.old; ends = ends.old }) (record { recorded = recorded.new; ends = ends.new }) }
+    ensures polls { PollsOne J.meaning (M.Tells meter.old) next.now.name (record { recorded = recorded.old; ends = ends.old }) (record { recorded = recorded.new; ends = ends.new }) }
+    ensures owed { PollsAsOwed J.meaning recorded.old ends.old → PollsAsOwed J.meaning recorded.new ends.new }
     ensures owing { AreOwing (Fits J.meaning) next.now.name.from (told_under next.now.name (option_map outcome_note (outcome_settled {J = J} result)) next.now.name.from) recorded.new ends.new }
     ensures may_answer { MayAnswer J.meaning recorded.new.took next.now.name result }
     ensures rest { recorded.new.core.out ≡ None }
@@ -55,6 +56,7 @@ fn done_on<J: Job + Task<Out = u64>>(
     requires known { name.from ≤ recorded.now.core.cores }
     requires rest { recorded.now.core.out ≡ None }
     requires sound { IsRecorded J.meaning recorded.now }
+    requires polls { PollsAsOwed J.meaning recorded.now ends.old }
     requires may_answer { MayAnswer J.meaning recorded.now.took name settled.now }
     requires owing { AreOwing (Fits J.meaning) name.from (told_under name (option_map outcome_note (outcome_settled {J = J} settled.now)) name.from) recorded.now ends.old }
     ensures linked { IsLinked J.meaning (record { recorded = recorded.now; ends = ends.new }) }
@@ -75,8 +77,9 @@ pub(crate) fn turn_on<J: Job + Task<Out = u64>, M: Meter>(
     requires ahead { IsAhead recorded.old.core next.now.queue next.now.vr next.now.name next.now.started }
     requires known { next.now.name.from ≤ recorded.old.core.cores }
     requires beside { AreBeside (Fits J.meaning) recorded.old ends.old }
+    requires owed { PollsAsOwed J.meaning recorded.old ends.old }
     requires room { HasPollRoom recorded.old }
-    ensures polls { PollsOne J.meaning (M.Tells meter.old) (record { recorded = recorded.old; ends = ends.old }) (record { recorded = recorded.new; ends = ends.new }) }
+    ensures polls { PollsOne J.meaning (M.Tells meter.old) next.now.name (record { recorded = recorded.old; ends = ends.old }) (record { recorded = recorded.new; ends = ends.new }) }
     ensures linked { IsLinked J.meaning (record { recorded = recorded.new; ends = ends.new }) }
     ensures stays { StaysLinked (record { recorded = recorded.old; ends = ends.old }) (record { recorded = recorded.new; ends = ends.new }) }
 {

@@ -1,10 +1,12 @@
 //! A linked core that keeps room for its end: each of its steps is one of a worker's round.
 
-ghost use Rattle.std.specs.Prelude.{◌≡◌, ◌<◌, ◌≤◌, ◌↔◌, IsTrue, false};
+ghost use Rattle.std.specs.Prelude.{◌≡◌, ◌+◌, ◌<◌, ◌≤◌, ◌↔◌, IsTrue, false};
 ghost use Rattle.rt_ids.specs.Closing.{IsDrained};
 ghost use Rattle.rt_runtime_worker.specs.Ended.{HasEnded};
 ghost use Rattle.rt_runtime_worker.specs.Linked.{StaysLinked};
+ghost use Rattle.rt_runtime_worker.specs.Gates.{KeepsTaken};
 ghost use Rattle.rt_runtime_worker.specs.Rooms.{ActsAsItMay, HasSpare, IsReady};
+ghost use Rattle.rt_runtime_worker.specs.Rounds.{CollectsFirst, CollectsNext, HasShutGates, HearsFirst, HearsOne, HearsSome, LooksAtRoom, StepsServed, TakesTurn, is_turn};
 
 use crate::ended::Ended;
 use crate::linked::Linked;
@@ -16,6 +18,16 @@ use rt_runtime_config::Gate;
 use rt_taskqueue::Meter;
 use std::alloc::Global;
 use std::marker::Model;
+
+/// Whether there was work for a turn.
+fn is_work(made: Made) -> bool
+    ensures { result ≡ is_turn made }
+{
+    match made {
+        Made::Polled | Made::Returned => true,
+        Made::Idle | Made::Spent => false,
+    }
+}
 
 /// A linked core, and whether its worker is at its end: then each gate is shut, and nothing is polled any more.
 #[derive(Drop)]
@@ -77,6 +89,7 @@ impl<J: Task<Out = u64>> Served<J> {
     /// Looks at the room before a step: a journal that is short is at its end.
     fn look(&mut self)
         ensures stays { StaysLinked self.old.linked self.new.linked }
+        ensures looks { LooksAtRoom self.old self.new }
         ensures ready { IsReady self.new.ending self.new.linked.recorded }
     {
         if !self.ending && self.linked.is_short() {
@@ -88,7 +101,8 @@ impl<J: Task<Out = u64>> Served<J> {
     /// Delivers the next order of this sender, if one shows. Whether there was one.
     fn deliver_one(&mut self, sender: ActorNo) -> bool
         requires { sender ≤ self.old.linked.recorded.core.cores }
-        ensures { StaysLinked self.old.linked self.new.linked }
+        ensures steps { StepsServed self.old result self.new }
+        ensures hears { self.new.ending ≡ self.old.ending → HearsOne sender self.old.linked result self.new.linked }
     {
         self.look();
         self.linked.deliver_from(sender)
@@ -97,19 +111,22 @@ impl<J: Task<Out = u64>> Served<J> {
     /// Delivers at most as many orders of this sender as its link holds. Whether there was one.
     fn deliver_some(&mut self, sender: ActorNo) -> bool
         requires { sender ≤ self.old.linked.recorded.core.cores }
-        ensures { StaysLinked self.old.linked self.new.linked }
+        ensures steps { StepsServed self.old result self.new }
+        ensures hears { HearsSome sender self.old self.new }
     {
-        for count in 0..self.linked.recorded.cap() {
+        let cap = self.linked.recorded.cap();
+        for count in 0..cap {
             if !self.deliver_one(sender) {
                 return count > 0;
             }
         }
-        true
+        cap > 0
     }
 
     /// Delivers what shows of each sender. Whether there was anything.
     pub(crate) fn deliver_all(&mut self) -> bool
-        ensures { StaysLinked self.old.linked self.new.linked }
+        ensures steps { StepsServed self.old result self.new }
+        ensures hears { HearsFirst (self.old.linked.recorded.core.cores + 1) self.old self.new }
     {
         let mut some = false;
         for sender in 0..self.linked.cores as usize + 1 {
@@ -123,7 +140,8 @@ impl<J: Task<Out = u64>> Served<J> {
     /// Collects what the link to this core shows. Whether there was anything. A worker at its end leaves it.
     fn collect_one(&mut self, core: CoreNo) -> bool
         requires { core < self.old.linked.recorded.core.cores }
-        ensures { StaysLinked self.old.linked self.new.linked }
+        ensures steps { StepsServed self.old result self.new }
+        ensures collects { CollectsNext core self.old self.new }
     {
         self.look();
         if self.ending {
@@ -134,7 +152,8 @@ impl<J: Task<Out = u64>> Served<J> {
 
     /// Collects what the links to all cores show. Whether there was anything.
     pub(crate) fn collect_all(&mut self) -> bool
-        ensures { StaysLinked self.old.linked self.new.linked }
+        ensures steps { StepsServed self.old result self.new }
+        ensures collects { CollectsFirst self.old.linked.recorded.core.cores self.new }
     {
         let mut some = false;
         for core in 0..self.linked.cores {
@@ -159,7 +178,9 @@ impl<J: Task<Out = u64>> Served<J> {
 
     /// Shuts the open gates of a core that was closed. Whether there was one.
     pub(crate) fn close_gates(&mut self) -> bool
-        ensures { StaysLinked self.old.linked self.new.linked }
+        ensures steps { StepsServed self.old result self.new }
+        ensures shuts { HasShutGates self.new.linked }
+        ensures taken { self.new.ending ≡ self.old.ending → KeepsTaken self.old.linked self.new.linked }
     {
         self.look();
         // At its end each gate is shut already.
@@ -181,12 +202,10 @@ impl<J: Job + Task<Out = u64>> Served<J> {
         meter: &mut M,
         gate: &mut G,
     ) -> bool
-        ensures { StaysLinked self.old.linked self.new.linked }
+        ensures steps { StepsServed self.old result self.new }
+        ensures takes { TakesTurn J.meaning (M.Tells meter.old) (λ core name. G.Asked gate.old core name gate.new) (gate.new ≡ gate.old) self.old result self.new }
     {
         self.look();
-        match self.linked.turn(alloc, meter, gate) {
-            Made::Polled | Made::Returned => true,
-            Made::Idle | Made::Spent => false,
-        }
+        is_work(self.linked.turn(alloc, meter, gate))
     }
 }

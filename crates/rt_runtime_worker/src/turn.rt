@@ -1,5 +1,6 @@
 //! One turn of a core: a poll of its next job, or a job that is handed back.
 
+ghost use Rattle.std.specs.Prelude.{◌≡◌};
 ghost use Rattle.rt_runtime_worker.specs.Linked.{IsLinked, StaysLinked};
 ghost use Rattle.rt_runtime_worker.specs.Rooms.{HasTurnRoom};
 ghost use Rattle.rt_runtime_worker.specs.Steps.{MakesTurn};
@@ -8,8 +9,9 @@ use crate::handing::hand_back;
 use crate::linked::Linked;
 use crate::posting::turn_on;
 use rt_core::{Ahead, PickError};
-use rt_ids::JobId;
+use rt_ids::{CoreNo, JobId};
 use rt_jobs::{Job, Task};
+use rt_ring_mesh::Ends;
 use rt_runtime_config::Gate;
 use rt_taskqueue::Meter;
 use std::alloc::Global;
@@ -27,9 +29,18 @@ pub enum Made {
     Spent,
 }
 
-// Asks the gate, just before a poll.
-fn ask<G: Gate>(gate: &mut G, name: &JobId) {
-    gate.before_poll(name.to, *name);
+// The number of the core that has these ends.
+fn number_of<J: Task<Out = u64>>(ends: &Ends<J>) -> u8
+    ensures { result ≡ ends.now.number }
+{
+    ends.number.0
+}
+
+// Asks the gate of the core of this number, just before a poll.
+fn ask<G: Gate>(gate: &mut G, core: u8, name: &JobId)
+    ensures { G.Asked gate.old core name.now gate.new }
+{
+    gate.before_poll(CoreNo(core), *name);
 }
 
 impl<J: Job + Task<Out = u64>> Linked<J> {
@@ -39,13 +50,14 @@ impl<J: Job + Task<Out = u64>> Linked<J> {
     /// the poll begins, and asked how long it took. `alloc` gives no memory: what is lent leaves an empty list of it behind.
     pub fn turn<M: Meter, G: Gate>(&mut self, alloc: Global, meter: &mut M, gate: &mut G) -> Made
         requires room { HasTurnRoom self.old.recorded }
-        ensures makes { MakesTurn J.meaning (M.Tells meter.old) self.old result self.new }
+        ensures makes { MakesTurn J.meaning (M.Tells meter.old) (λ core name. G.Asked gate.old core name gate.new) (gate.new ≡ gate.old) self.old result self.new }
         ensures stays { StaysLinked self.old self.new }
         ensures linked { IsLinked J.meaning self.new }
     {
         match self.recorded.ahead() {
             Ok(Ahead::Job(next)) => {
-                ask(gate, &next.name);
+                let core = number_of(&self.ends);
+                ask(gate, core, &next.name);
                 turn_on(alloc, &mut self.recorded, &mut self.ends, &next, meter);
                 Made::Polled
             }

@@ -1,6 +1,6 @@
 //! One worker alone: what is sent to it before it begins, and what its journal says when its core is drained.
 
-ghost use Rattle.std.specs.Prelude.{IfOk, ◌<◌, ◌^◌};
+ghost use Rattle.std.specs.Prelude.{◌≡◌, ◌<◌, ◌^◌, IfOk, replicate};
 ghost use Rattle.rt_ring_mesh.specs.Grid.{IsGrid, AreAllFresh};
 ghost use Rattle.rt_jobs.specs.Ready.{HasReadyJob};
 ghost use Rattle.rt_runtime_worker.specs.Opening.{AreEndsOf};
@@ -13,7 +13,7 @@ use rt_ring::OpenError;
 use rt_ring_mesh::{Ends, open_all};
 use rt_runtime_config::{Clock, Config, Gate};
 use rt_runtime_team::Work;
-use rt_runtime_worker::{Bell, Worker};
+use rt_runtime_worker::{Bells, Worker};
 use std::alloc::{AllocError, Global};
 use std::process::Abort;
 use std::sync::atomic::{AtomicU64, Ordering};
@@ -47,57 +47,51 @@ impl Clock for Still {
     }
 }
 
-/// What a bell says whose worker sleeps. A ring changes it.
-const ASLEEP: u64 = 1;
-
-/// A gate that counts how often it is asked, and how often it finds the bell rung. It lays the bell's worker to sleep again, so that the
-/// next ring is seen, too.
+/// A gate that knows which core it is. It counts how often it is asked for a job of that core, and how often for another.
 #[derive(Drop)]
 struct Counter {
+    core: CoreNo,
     asked: Arc<AtomicU64, Global>,
-    rung: Bell,
-    rings: Arc<AtomicU64, Global>,
+    wrong: Arc<AtomicU64, Global>,
 }
 
 impl Gate for Counter {
-    fn before_poll(&mut self, _core: CoreNo, _job: JobId) {
-        self.asked.fetch_add(1, Ordering::SeqCst);
-        if self.rung.swap(ASLEEP, Ordering::SeqCst) != ASLEEP {
-            self.rings.fetch_add(1, Ordering::SeqCst);
+    fn before_poll(&mut self, core: CoreNo, job: JobId) {
+        if core == self.core && job.to == self.core {
+            self.asked.fetch_add(1, Ordering::SeqCst);
+        } else {
+            self.wrong.fetch_add(1, Ordering::SeqCst);
         }
     }
 }
 
-/// What a worker shares with its test: the bell that it parks on, the one that it rings, and what its clock and its gate counted.
+/// What a worker shares with its test: the bells of its house, and what its clock and its gate counted.
 #[derive(Drop)]
 struct Shared {
-    bell: Bell,
-    rung: Bell,
-    rings: Arc<AtomicU64, Global>,
+    bells: Bells,
     readings: Arc<AtomicU64, Global>,
     asked: Arc<AtomicU64, Global>,
+    wrong: Arc<AtomicU64, Global>,
 }
 
 impl Shared {
-    fn new(alloc: Global) -> Result<Self, AllocError> {
+    fn new(alloc: Global) -> Result<Self, AllocError>
+        ensures { IfOk result (λ shared. shared.bells ≡ replicate 1 0) }
+    {
         Ok(Shared {
-            bell: Arc::new(alloc, AtomicU64::new(0))?,
-            rung: Arc::new(alloc, AtomicU64::new(ASLEEP))?,
-            rings: Arc::new(alloc, AtomicU64::new(0))?,
+            bells: Bells::open(alloc, 1)?,
             readings: Arc::new(alloc, AtomicU64::new(0))?,
             asked: Arc::new(alloc, AtomicU64::new(0))?,
+            wrong: Arc::new(alloc, AtomicU64::new(0))?,
         })
     }
 
-    /// Behind how many turns the bell was rung, and how often the clock was read and the gate asked.
+    /// How often the clock was read, and the gate asked for a job of its core and for another.
     fn counts(&self) -> (u64, u64, u64) {
-        let rings = self.rings.load(Ordering::SeqCst);
-        // No gate looked behind the last turn.
-        let is_rung = self.rung.load(Ordering::SeqCst) != ASLEEP;
         (
-            rings.saturating_add(is_rung as u64),
             self.readings.load(Ordering::SeqCst),
             self.asked.load(Ordering::SeqCst),
+            self.wrong.load(Ordering::SeqCst),
         )
     }
 }
@@ -160,13 +154,14 @@ fn send(outside: &mut Ends<ScriptJob>, order: Order<ScriptJob>) -> bool
     }
 }
 
-/// A worker over these ends. The bell that it rings for its core isn't the one that it parks on.
+/// A worker over these ends, which parks after each round in which nothing was done.
 fn open(
     alloc: Global,
     own: Ends<ScriptJob>,
     shared: &Shared,
 ) -> Result<Worker<ScriptJob, Still, Counter>, AllocError>
-    requires { AreEndsOf 1 4 own }
+    requires own { AreEndsOf 1 4 own }
+    requires bells { shared.now.bells ≡ replicate 1 0 }
 {
     let config = Config {
         cores: 1,
@@ -174,19 +169,16 @@ fn open(
         room: ROOM,
         queues: Vec::new(alloc),
     };
-    let mut bells = Vec::new(alloc);
-    bells.push(Arc::try_clone(&shared.rung)?)?;
     let clock = Still {
         readings: Arc::try_clone(&shared.readings)?,
     };
     let gate = Counter {
+        core: CORE,
         asked: Arc::try_clone(&shared.asked)?,
-        rung: Arc::try_clone(&shared.rung)?,
-        rings: Arc::try_clone(&shared.rings)?,
+        wrong: Arc::try_clone(&shared.wrong)?,
     };
-    let bell = Arc::try_clone(&shared.bell)?;
-    let worker = Worker::open(alloc, &config, own, clock, gate, bell)?;
-    Ok(worker.with_bells(bells).with_tries(0))
+    let worker = Worker::open(alloc, &config, own, clock, gate, &shared.bells)?;
+    Ok(worker.with_tries(0))
 }
 
 /// What a worker over these ends notes until its core is drained.
@@ -196,7 +188,8 @@ fn serve<R: Wait>(
     own: Ends<ScriptJob>,
     shared: &Shared,
 ) -> Result<Journal<u64>, AllocError>
-    requires { AreEndsOf 1 4 own }
+    requires own { AreEndsOf 1 4 own }
+    requires bells { shared.now.bells ≡ replicate 1 0 }
 {
     let worker = open(alloc, own, shared)?;
     let (recorded, _ends) = worker.run(rt).into_linked().into_parts();
@@ -250,8 +243,8 @@ fn an_order_closes_a_worker(rt: HostRuntime) -> Result<(), Fail> {
         Note::Shut(OUTSIDE, 2),
     ];
     assert!(rt; sent && journal.len() == notes.len() && begins(&journal, &notes));
-    // No bell rang, and there was one poll.
-    assert!(rt; shared.counts() == (0, 2, 1));
+    // There was one poll.
+    assert!(rt; shared.counts() == (2, 1, 0));
     Ok(())
 }
 
@@ -282,8 +275,8 @@ fn a_job_submits_until_the_journal_is_short(rt: HostRuntime) -> Result<(), Fail>
     let closed = says(&journal, Note::CoreClosed(Mode::Return));
     let returned = says(&journal, Note::Returned(long, Reason::CoreReturned));
     assert!(rt; sent && begins(&journal, &notes) && closed && returned);
-    // It rang once for the order, and once for the outcome. The clock is read twice a poll.
+    // The clock is read twice a poll, and the gate is asked once.
     let polls = count_polls(&journal);
-    assert!(rt; shared.counts() == (2, 2 * polls, polls));
+    assert!(rt; shared.counts() == (2 * polls, polls, 0));
     Ok(())
 }

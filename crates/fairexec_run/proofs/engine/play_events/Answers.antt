@@ -13,10 +13,10 @@ pub open_model-requires-clause-few : goal.open_model-requires-clause-few
 open_model-requires-clause-few g c = subst HasFewQueues (sym c.as_slice.ensures.value) c.args.script.few
 
 pub returns-in_err-model-clause-err : goal.returns-in_err-model-clause-err
-returns-in_err-model-clause-err g c = OnErr-any c.from_residual.result (inl (Keeps-refl (g.W.Write.contents c.args.sink.now)))
+returns-in_err-model-clause-err g c = OnErr-any c.from_residual.result (inl (Keeps-refl (g.S.Sink.contents c.args.sink.now)))
 
 pub returns-in_err-page-clause-err : goal.returns-in_err-page-clause-err
-returns-in_err-page-clause-err g c = OnErr-any c.from_residual-in_err-page.result (inl (Keeps-refl (g.W.Write.contents c.args.sink.now)))
+returns-in_err-page-clause-err g c = OnErr-any c.from_residual-in_err-page.result (inl (Keeps-refl (g.S.Sink.contents c.args.sink.now)))
 
 pub print_events-requires-clause-roomy : goal.print_events-requires-clause-roomy
 print_events-requires-clause-roomy g c = opened_roomy _ _ c.as_slice.result.now c.in_ok-model.model c.in_ok-model.ensures.ok
@@ -35,8 +35,8 @@ returns-clause-ok g c =
     let opened = subst (λ queues. IsOpened c.args.script.cores c.args.script.cap queues c.in_ok-model.model) c.as_slice.ensures.value c.in_ok-model.ensures.ok in
     on_ok_weaker c.print_rear.result
     (
-    events_printed (drafted c.args.script) _ _ refl c.in_ok-model.model opened _ c.in_ok-page.ensures.bytes (g.W.Write.contents c.args.sink.now) c.print_events.new.model _ _ c.in_ok-print_events.ensures.ok c.complete.ensures c.joined.ensures c.sound.ensures
-    c.args.stats (g.W.Write.contents c.print_rear.new.sink)
+    events_printed (drafted c.args.script) _ _ refl c.in_ok-model.model opened _ c.in_ok-page.ensures.bytes (g.S.Sink.contents c.args.sink.now) c.print_events.new.model _ _ c.in_ok-print_events.ensures.ok c.complete.ensures c.joined.ensures c.sound.ensures
+    c.args.stats (g.S.Sink.contents c.print_rear.new.sink)
     )
     c.print_rear.ensures.ok
 
@@ -45,7 +45,7 @@ returns-clause-err g c =
     let opened = subst (λ queues. IsOpened c.args.script.cores c.args.script.cap queues c.in_ok-model.model) c.as_slice.ensures.value c.in_ok-model.ensures.ok in
     on_err_weaker c.print_rear.result
     (
-    events_begun (drafted c.args.script) _ _ refl c.in_ok-model.model opened _ c.in_ok-page.ensures.bytes (g.W.Write.contents c.args.sink.now) c.print_events.new.model _ _ c.in_ok-print_events.ensures.ok c.complete.ensures c.joined.ensures c.sound.ensures
-    c.args.stats (g.W.Write.contents c.print_rear.new.sink)
+    events_begun (drafted c.args.script) _ _ refl c.in_ok-model.model opened _ c.in_ok-page.ensures.bytes (g.S.Sink.contents c.args.sink.now) c.print_events.new.model _ _ c.in_ok-print_events.ensures.ok c.complete.ensures c.joined.ensures c.sound.ensures
+    c.args.stats (g.S.Sink.contents c.print_rear.new.sink)
     )
     c.print_rear.ensures.err

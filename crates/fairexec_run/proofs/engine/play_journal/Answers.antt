@@ -15,13 +15,13 @@ pub open_model-requires-clause-few : goal.open_model-requires-clause-few
 open_model-requires-clause-few g c = subst HasFewQueues (sym c.as_slice.ensures.value) c.args.script.few
 
 pub returns-in_err-model-clause-err : goal.returns-in_err-model-clause-err
-returns-in_err-model-clause-err g c = OnErr-any c.from_residual.result (inl (Keeps-refl (g.W.Write.contents c.args.sink.now)))
+returns-in_err-model-clause-err g c = OnErr-any c.from_residual.result (inl (Keeps-refl (g.S.Sink.contents c.args.sink.now)))
 
 pub returns-in_err-events-clause-err : goal.returns-in_err-events-clause-err
-returns-in_err-events-clause-err g c = OnErr-any c.from_residual-in_err-events.result (inl (Keeps-refl (g.W.Write.contents c.args.sink.now)))
+returns-in_err-events-clause-err g c = OnErr-any c.from_residual-in_err-events.result (inl (Keeps-refl (g.S.Sink.contents c.args.sink.now)))
 
 pub returns-in_err-page-clause-err : goal.returns-in_err-page-clause-err
-returns-in_err-page-clause-err g c = OnErr-any c.from_residual-in_err-page.result (inl (Keeps-refl (g.W.Write.contents c.args.sink.now)))
+returns-in_err-page-clause-err g c = OnErr-any c.from_residual-in_err-page.result (inl (Keeps-refl (g.S.Sink.contents c.args.sink.now)))
 
 pub run-assembly-requires-clause-unbegun : goal.run-assembly-requires-clause-unbegun
 run-assembly-requires-clause-unbegun g c = c.in_ok-model.ensures.ok.may.unbegun
@@ -48,7 +48,7 @@ returns-clause-ok g c =
     on_ok_weaker c.print_journal_rear.result
     (
     journal_printed (drafted c.args.script) _ _ refl c.in_ok-model.model opened c.run-assembly.result runs spelled c.run-assembly.ensures.joined c.run-assembly.ensures.sound
-    (g.W.Write.contents c.args.sink.now) _ c.in_ok-print_journal.ensures.ok _ c.in_ok-page.ensures.bytes c.args.stats (g.W.Write.contents c.print_journal_rear.new.sink)
+    (g.S.Sink.contents c.args.sink.now) _ c.in_ok-print_journal.ensures.ok _ c.in_ok-page.ensures.bytes c.args.stats (g.S.Sink.contents c.print_journal_rear.new.sink)
     )
     c.print_journal_rear.ensures.ok
 
@@ -60,6 +60,6 @@ returns-clause-err g c =
     on_err_weaker c.print_journal_rear.result
     (
     journal_begun (drafted c.args.script) _ _ refl c.in_ok-model.model opened c.run-assembly.result runs spelled c.run-assembly.ensures.joined c.run-assembly.ensures.sound
-    (g.W.Write.contents c.args.sink.now) _ c.in_ok-print_journal.ensures.ok _ c.in_ok-page.ensures.bytes c.args.stats (g.W.Write.contents c.print_journal_rear.new.sink)
+    (g.S.Sink.contents c.args.sink.now) _ c.in_ok-print_journal.ensures.ok _ c.in_ok-page.ensures.bytes c.args.stats (g.S.Sink.contents c.print_journal_rear.new.sink)
     )
     c.print_journal_rear.ensures.err

@@ -4,7 +4,7 @@ use Rattle.fairexec_run.proofs.RearLemmas.{no_stats, stats_more, stats_stop, sta
 use Rattle.fairexec_run.proofs.journal.print_journal_stats.Goals as goal
 
 pub loop-core-init : goal.loop-core-init
-loop-core-init g c = no_stats (c.args.assembly.now) (string_bytes c.args.page.now) (g.W.Write.contents c.args.sink.now)
+loop-core-init g c = no_stats (c.args.assembly.now) (string_bytes c.args.page.now) (g.S.Sink.contents c.args.sink.now)
 
 pub loop-core-preserved : goal.loop-core-preserved
 loop-core-preserved g c = stats_more (c.args.assembly.now) c.loop-core.core _ c.cores-cores.ensures.value _ c.journal.ensures _ _ _ _ c.loop-core.invariant _ _ c.in_ok-print_core.ensures.ok

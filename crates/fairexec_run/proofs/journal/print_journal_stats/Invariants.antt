@@ -5,4 +5,4 @@ use Rattle.fairexec_run.proofs.journal.print_journal_stats.Given as goal
 
 abbrev pub invariant-loop-core : goal.invariant-loop-core
 invariant-loop-core g l =
-    HasStats l.assembly l.core (string_bytes l.initial.page) (string_bytes l.page) (g.W.Write.contents l.initial.sink) (g.W.Write.contents l.sink)
+    HasStats l.assembly l.core (string_bytes l.initial.page) (string_bytes l.page) (g.S.Sink.contents l.initial.sink) (g.S.Sink.contents l.sink)

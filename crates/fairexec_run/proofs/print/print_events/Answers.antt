@@ -42,7 +42,7 @@ pub returns-clause-ok : goal.returns-clause-ok
 returns-clause-ok g c =
     let all = YieldsList-from_vec {s = c.into_iter-event-iterator.result} c.args.events.items c.into_iter-event-iterator.ensures.into_iter_gives.0 (c.into_iter-event-iterator.ensures.into_iter_gives.1 ∙ c.args.events.ok.0) in
     let end = YieldsList-end all c.loop-event.yielded c.loop-event.event-iterator c.loop-event.yielded_by _ c.next.new.self c.in-None.is c.next.ensures.steps in
-    subst (λ events. WritesAll events c.args.model.now c.loop-event.model (string_bytes c.args.page.now) (string_bytes c.loop-event.page) (g.W.Write.contents c.args.sink.now) (g.W.Write.contents c.loop-event.sink)) (sym (map-id c.loop-event.yielded) ∙ end.0) c.loop-event.invariant.writes
+    subst (λ events. WritesAll events c.args.model.now c.loop-event.model (string_bytes c.args.page.now) (string_bytes c.loop-event.page) (g.S.Sink.contents c.args.sink.now) (g.S.Sink.contents c.loop-event.sink)) (sym (map-id c.loop-event.yielded) ∙ end.0) c.loop-event.invariant.writes
 
 pub returns-in_err-print_event-clause-err : goal.returns-in_err-print_event-clause-err
 returns-in_err-print_event-clause-err g c =

@@ -6,6 +6,6 @@ use Rattle.fairexec_run.proofs.print.print_events.Given as goal
 
 abbrev pub invariant-loop-event : goal.invariant-loop-event
 invariant-loop-event g l = record {
-  writes : WritesAll l.yielded l.initial.model l.model (string_bytes l.initial.page) (string_bytes l.page) (g.W.Write.contents l.initial.sink) (g.W.Write.contents l.sink);
+  writes : WritesAll l.yielded l.initial.model l.model (string_bytes l.initial.page) (string_bytes l.page) (g.S.Sink.contents l.initial.sink) (g.S.Sink.contents l.sink);
   roomy : IsRoomy l.initial.model.cores l.initial.model.cap (510 + 6 * length l.yielded) l.model;
 }

@@ -1,10 +1,10 @@
 use Rattle.std.proofs.Common.{◌∙◌, ap, Some}
-use Rattle.fairexec_script.specs.Limits.{IsSize}
 use Rattle.fairexec_threads_script.specs.Limits.{AreTold, HasSpare}
 use Rattle.fairexec_threads.proofs.Answered.{answered}
 use Rattle.fairexec_threads.proofs.Opened.{opened}
 use Rattle.fairexec_threads.proofs.Running.{own}
 use Rattle.fairexec_threads.proofs.Sending.{offers_both, grows, started_of}
+use Rattle.fairexec_threads.proofs.Walked.{heard}
 use Rattle.fairexec_threads.proofs.run.run_orders.Goals as goal
 
 pub offer_all-requires : goal.offer_all-requires
@@ -38,5 +38,6 @@ returns-clause-ok g c =
       offers = offers;
       finishes = c.in-Ok.ensures;
       opened = opened script.cores script.cap script.queues.items _ c.in_ok-house.house c.close_all.new.house _ c.in_ok-house.ensures.ok offers c.in-Ok.ensures;
+      heard = heard script.cores script.cap script.queues.items _ c.in_ok-house.house c.close_all.new.house _ c.in_ok-house.ensures.ok offers c.in-Ok.ensures;
       answered = answered script.cores script.cap script.queues.items _ c.in_ok-house.house c.close_all.new.house _ c.in_ok-house.ensures.ok offers c.in-Ok.ensures;
     }

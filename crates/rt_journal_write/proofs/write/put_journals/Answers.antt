@@ -20,6 +20,6 @@ loop-actor-preserved g c =
 pub returns-clause-ok : goal.returns-clause-ok
 returns-clause-ok g c =
     let count = c.cores-actor-end.ensures in
-    subst (Puts c.args.page.now.items c.loop-actor.page.items (g.W.Write.contents c.args.sink.now) (g.W.Write.contents c.loop-actor.sink))
+    subst (Puts c.args.page.now.items c.loop-actor.page.items (g.S.Sink.contents c.args.sink.now) (g.S.Sink.contents c.loop-actor.sink))
     (journals_text_whole c.args.assembly.now.journals c.loop-actor.actor (omega arith))
     c.loop-actor.invariant

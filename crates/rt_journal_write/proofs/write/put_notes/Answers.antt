@@ -29,15 +29,15 @@ loop-note-preserved g c =
     let text = front_text c.args.actor notes (c.loop-note.note-index + 1) in
     elim c.if-len-ge-FULL.branch [
       | then-len-ge-FULL+in_ok-write_page w ↦
-          subst (λ sink. Put c.if-len-ge-FULL.page.items (g.W.Write.contents c.args.sink.now) (g.W.Write.contents sink) text) (sym w.sink-is)
+          subst (λ sink. Put c.if-len-ge-FULL.page.items (g.S.Sink.contents c.args.sink.now) (g.S.Sink.contents sink) text) (sym w.sink-is)
           (puts_out _ _ c.if-len-ge-FULL.page.items _ _ _ _ puts w.in_ok-write_page.ensures.ok (ap (λ page. page.items) w.page-is ∙ w.in_ok-write_page.ensures.empty))
       | else-len-ge-FULL w ↦
-          subst (λ sink. Put c.if-len-ge-FULL.page.items (g.W.Write.contents c.args.sink.now) (g.W.Write.contents sink) text) (sym w.sink-is)
-          (subst (λ page. Put page.items (g.W.Write.contents c.args.sink.now) (g.W.Write.contents c.loop-note.sink) text) (sym w.page-is) puts)
+          subst (λ sink. Put c.if-len-ge-FULL.page.items (g.S.Sink.contents c.args.sink.now) (g.S.Sink.contents sink) text) (sym w.sink-is)
+          (subst (λ page. Put page.items (g.S.Sink.contents c.args.sink.now) (g.S.Sink.contents c.loop-note.sink) text) (sym w.page-is) puts)
     ]
 
 pub returns-clause-ok : goal.returns-clause-ok
 returns-clause-ok g c =
-    subst (Puts c.args.page.now.items c.loop-note.page.items (g.W.Write.contents c.args.sink.now) (g.W.Write.contents c.loop-note.sink))
+    subst (Puts c.args.page.now.items c.loop-note.page.items (g.S.Sink.contents c.args.sink.now) (g.S.Sink.contents c.loop-note.sink))
     (actor_text_whole c.args.actor c.args.journal.now.notes c.as_slice-note-items.result.now c.loop-note.note-index c.as_slice-note-items.ensures c.loop-note-test.false)
     c.loop-note.invariant

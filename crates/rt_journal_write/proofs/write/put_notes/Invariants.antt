@@ -4,4 +4,4 @@ use Rattle.rt_journal_write.proofs.LineLemmas.{front_text}
 use Rattle.rt_journal_write.proofs.write.put_notes.Given as goal
 
 abbrev pub invariant-loop-note : goal.invariant-loop-note
-invariant-loop-note g l = Puts l.initial.page.items l.page.items (g.W.Write.contents l.initial.sink) (g.W.Write.contents l.sink) (front_text l.actor l.note-items l.note-index)
+invariant-loop-note g l = Puts l.initial.page.items l.page.items (g.S.Sink.contents l.initial.sink) (g.S.Sink.contents l.sink) (front_text l.actor l.note-items l.note-index)

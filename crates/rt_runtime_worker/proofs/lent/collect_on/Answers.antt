@@ -20,6 +20,7 @@ pub returns-clause-linked : goal.returns-clause-linked
 returns-clause-linked g c =
     collected_linked g.J.Task.meaning c.args.core c.args.recorded.now c.args.ends.now c.requires.known c.core.inside.0 _ (record { number = c.core.view_is; seen = c.ends.view_is }) c.index_mut.result.now c.index_mut.ensures.value c.requires.linked.beside
     c.collect_from.new.self c.collect_from.new.end c.collect_from.ensures.stays c.requires.linked c.collect_from.ensures.rest c.collect_from.ensures.ins c.collect_from.ensures.seat c.collect_from.ensures.sound
+    c.collect_from.result c.collect_from.ensures.collects c.collect_from.ensures.end
 
 pub returns-clause-does : goal.returns-clause-does
 returns-clause-does g c =

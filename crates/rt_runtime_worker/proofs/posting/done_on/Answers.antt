@@ -1,4 +1,6 @@
-use Rattle.std.proofs.Common.{◌∙◌, ap}
+use Rattle.std.proofs.Common.{sym, ◌∙◌, ap, subst}
+use Rattle.rt_ring_mesh.specs.Ends.{EndsView}
+use Rattle.rt_runtime_worker.specs.Linked.{PollsAsOwed}
 use Rattle.rt_runtime_worker.proofs.Stepping.{owing_here, owing_end, given_beside, given_ends}
 use Rattle.rt_runtime_worker.proofs.posting.done_on.Goals as goal
 
@@ -13,6 +15,7 @@ returns-clause-linked g c = record {
   beside =
       given_beside c.args.name.from _ c.args.recorded.now c.args.ends.now c.name.inside.0.0.0 _ (record { number = ap (λ name. name.from) c.name.view_is; seen = c.ends.view_is }) c.requires.owing c.requires.known c.give_done.new.end c.give_done.ensures.beside
       (c.give_done.ensures.untouched ∙ ap (λ end. end.link) (owing_here c.args.name.from _ c.args.recorded.now c.args.ends.now c.name.inside.0.0.0 _ (record { number = ap (λ name. name.from) c.name.view_is; seen = c.ends.view_is }) c.requires.owing c.requires.known c.index_mut.result.now c.index_mut.ensures.value));
+  owed = subst (λ (ends : EndsView _ _). PollsAsOwed g.J.Task.meaning c.args.recorded.now ends) (sym c.ends.view_is) c.requires.polls;
 }
 
 pub returns-clause-outs : goal.returns-clause-outs

@@ -26,7 +26,7 @@ invariant_of-result g c =
     let numbers = c.requires.numbers in (
       started c.args.config.now.cores c.args.config.now.cap c.args.config.now.room c.args.config.now.queues.items c.in-Ok-start.team c.in-Ok.ends c.in-Ok-open_outside.desk c.in-Ok-open_outside.closing.items
           (subst (λ workers. IsHouse c.args.config.now.cores c.args.config.now.cap c.args.config.now.room c.args.config.now.queues.items workers c.in-Ok.ends) (sym c.in-Ok-start.ensures.ok) c.in-Ok.ensures.house) desk
-          c.in-Ok-open_outside.ensures.written c.in-Ok-open_outside.ensures.closing
+          c.in-Ok-open_outside.ensures.written c.in-Ok-open_outside.ensures.closing c.in-Ok.bells c.in-Ok.ensures.bells
           (record {
             some_core = omega (arith, numbers.some_core);
             few_cores = numbers.cores_most;
@@ -37,7 +37,6 @@ invariant_of-result g c =
       (record {
         cores_are = sym (ap (λ desk. desk.cores) desk);
         cap_is = sym (ap (λ desk. desk.cap) desk);
-        bells_are = c.in-Ok.ensures.bells;
         room_ends = omega (arith, c.in-Ok-with_capacity.ensures.capacity);
         room_journals = omega (arith, c.in-Ok-with_capacity-2.ensures.capacity);
       }),
@@ -49,6 +48,7 @@ pub returns-in-Ok-start : goal.returns-in-Ok-start
 returns-in-Ok-start g c = record {
   desk = c.in-Ok-open_outside.ensures.desk;
   closing = c.in-Ok-open_outside.ensures.closing;
+  rung = c.in-Ok.ensures.bells;
   room_is = refl;
   count = ap length c.in-Ok-start.ensures.ok ∙ c.in-Ok.ensures.house.count;
   ends = c.in-Ok.ensures.house.outs;

@@ -12,8 +12,8 @@ invariant_of-self g c =
     let got = c.collect_on.ensures in
     let low : c.args.core < c.self.inside.desk.cores = omega (arith, c.if-core-self.false, c.core.view_is, c.self.invariant.1.cores_are) in (
       runtime_on _ c.self.invariant.0 c.args.core low c.collect_on.new.desk (out_at c.args.core c.collect_on.new.ends) got.stays got.link c.collect_on.new.ends got.ends c.self.inside.closing.items
-          c.self.invariant.0.closings (omega (arith, got.books, c.self.invariant.0.room_is)),
-      stored_on _ c.self.invariant.0 c.args.core low c.collect_on.new.desk (out_at c.args.core c.collect_on.new.ends) got.stays got.link c.collect_on.new.ends c.self.inside.closing.items c.self.invariant.1,
+          c.self.invariant.0.closings c.self.inside.bells c.self.invariant.0.bells (omega (arith, got.books, c.self.invariant.0.room_is)),
+      stored_on _ c.self.invariant.0 c.args.core low c.collect_on.new.desk (out_at c.args.core c.collect_on.new.ends) got.stays got.link c.collect_on.new.ends c.self.inside.closing.items c.self.inside.bells c.self.invariant.1,
       c.self.invariant.2,
       c.self.invariant.3,
     )

@@ -14,8 +14,8 @@ invariant_of-self g c =
     let low : c.args.ticket.to < c.self.inside.desk.cores = (c.knows.ensures.knows.0 c.if-not-knows.false).1 in
     let books = books_detached c.args.ticket c.self.inside.desk c.detach_on.new.desk c.detach_on.result did.detaches did.spends in (
       runtime_on _ c.self.invariant.0 c.args.ticket.to low c.detach_on.new.desk (out_at c.args.ticket.to c.detach_on.new.ends) did.stays did.link c.detach_on.new.ends did.ends c.self.inside.closing.items
-          c.self.invariant.0.closings (omega (arith, books, c.self.invariant.0.room_is)),
-      stored_on _ c.self.invariant.0 c.args.ticket.to low c.detach_on.new.desk (out_at c.args.ticket.to c.detach_on.new.ends) did.stays did.link c.detach_on.new.ends c.self.inside.closing.items c.self.invariant.1,
+          c.self.invariant.0.closings c.self.inside.bells c.self.invariant.0.bells (omega (arith, books, c.self.invariant.0.room_is)),
+      stored_on _ c.self.invariant.0 c.args.ticket.to low c.detach_on.new.desk (out_at c.args.ticket.to c.detach_on.new.ends) did.stays did.link c.detach_on.new.ends c.self.inside.closing.items c.self.inside.bells c.self.invariant.1,
       c.self.invariant.2,
       c.self.invariant.3,
     )

@@ -1,7 +1,6 @@
 use Rattle.std.proofs.Common.{◌≡◌, ◌<◌, ℕ, ◌∙◌, [], ◌∷◌, ◌++◌, ap, sym, subst, length, arith}
 use Rattle.std.specs.Prelude.{true}
 use Rattle.rt_ring_mesh.specs.Grid.{IsGrid}
-use Rattle.rt_link.specs.Fits.{Fits}
 use Rattle.rt_runtime.specs.Calls.{HasFinished}
 use Rattle.rt_runtime.specs.State.{closing_at}
 use Rattle.rt_runtime.proofs.Finished.{count, finished_as, finished_grid, part_counts}
@@ -38,8 +37,8 @@ assemble-assembly-requires-clause-count g c =
 
 pub returns : goal.returns
 returns g c =
-    subst (λ view. HasFinished (Fits g.J.Task.meaning) view c.assemble-assembly.result) c.self.view_is
-    (subst (HasFinished (Fits g.J.Task.meaning) _) (sym c.assemble-assembly.ensures.assembly)
+    subst (λ view. HasFinished g.J.Task.meaning view c.assemble-assembly.result) c.self.view_is
+    (subst (HasFinished g.J.Task.meaning _) (sym c.assemble-assembly.ensures.assembly)
     (finished_as g.J.Task.meaning _ c.self.invariant.0 c.join.result.items c.join.ensures c.part_all-all.ensures.parts.ended c.self.inside.cores c.self.inside.cap c.push_reserved.new.self.items c.push_reserved-2.new.self.items
     c.self.invariant.1.cores_are c.self.invariant.1.cap_is (c.push_reserved.ensures.items ∙ ap (λ ends. ends ++ c.self.inside.ends ∷ []) c.part_all-all.ensures.parts.ends_are)
     (c.push_reserved-2.ensures.items ∙ (ap (λ journal. c.part_all-all.result.1.items ++ journal ∷ []) c.into_journal.ensures ∙ ap (λ journals. journals ++ c.self.inside.desk.journal ∷ []) c.part_all-all.ensures.parts.journals_are))

@@ -1,5 +1,4 @@
 use Rattle.std.proofs.Common.{subst}
-use Rattle.rt_link.specs.Fits.{Fits}
 use Rattle.rt_runtime_worker.specs.Ended.{HasEnded}
 use Rattle.rt_runtime_worker.proofs.ended.Ended.into_linked.Goals as goal
 

@@ -1,5 +1,4 @@
 use Rattle.std.proofs.Common.{subst}
-use Rattle.rt_link.specs.Fits.{Fits}
 use Rattle.rt_runtime_worker.specs.Linked.{IsLinked}
 use Rattle.rt_runtime_worker.proofs.linked.Linked.into_parts.Goals as goal
 

@@ -1,5 +1,4 @@
 use Rattle.std.proofs.Common.{sym, subst, ◌∙◌}
-use Rattle.rt_link.specs.Fits.{Fits}
 use Rattle.rt_runtime_worker.specs.Linked.{IsLinked}
 use Rattle.rt_runtime_worker.proofs.Gated.{leaves_then, leaves_else}
 use Rattle.rt_runtime_worker.proofs.linked.Linked.shut_if_open.Goals.{then-not-shut, else-not-shut}

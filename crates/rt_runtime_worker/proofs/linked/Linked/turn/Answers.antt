@@ -1,11 +1,11 @@
-use Rattle.std.proofs.Common.{◌≡◌, ℕ, ◌-◌, ◌^◌, false, true, refl, sym, subst}
+use Rattle.std.proofs.Common.{◌≡◌, ℕ, ◌-◌, ◌^◌, false, true, refl, sym, ◌∙◌, subst}
 use Rattle.std.specs.Prelude.{Ok, Err}
+use Rattle.rt_ids.specs.declared.names.JobId.{JobId}
 use Rattle.rt_ids.specs.Picks.{turns}
 use Rattle.rt_ids.specs.Work.{has_work}
 use Rattle.rt_core.specs.declared.turn.Ahead.{Ahead}
 use Rattle.rt_core.specs.declared.turn.PickError.{PickError}
 use Rattle.rt_core.specs.Whole.{TellsAhead}
-use Rattle.rt_link.specs.Fits.{Fits}
 use Rattle.rt_runtime_worker.specs.Linked.{LinkedView, IsLinked, StaysLinked}
 use Rattle.rt_journal.proofs.Ahead.{idle, all_used}
 use Rattle.rt_runtime_worker.specs.Steps.{HandsBack, PollsOne}
@@ -20,6 +20,9 @@ turn_on-requires-clause-ahead g c = rw c.in-Ok-Job.field-0-is at c.in-Ok-Job.ens
 pub turn_on-requires-clause-beside : goal.turn_on-requires-clause-beside
 turn_on-requires-clause-beside g c = c.self.invariant.0.beside
 
+pub turn_on-requires-clause-owed : goal.turn_on-requires-clause-owed
+turn_on-requires-clause-owed g c = c.self.invariant.0.owed
+
 pub turn_on-requires-clause-known : goal.turn_on-requires-clause-known
 turn_on-requires-clause-known g c =
     let next = c.in-Ok-Job.next in
@@ -33,8 +36,8 @@ turn_on-requires-clause-room g c =
 
 pub returns-in-Ok-Job-clause-makes : goal.returns-in-Ok-Job-clause-makes
 returns-in-Ok-Job-clause-makes g c =
-    subst (λ (old : LinkedView _ _). PollsOne g.J.Task.meaning (g.M.Meter.Tells c.args.meter.now) old (record { recorded = c.turn_on.new.recorded; ends = c.turn_on.new.ends })) c.self.view_is
-    c.turn_on.ensures.polls
+    subst (λ (old : LinkedView _ _). (name : JobId) × PollsOne g.J.Task.meaning (g.M.Meter.Tells c.args.meter.now) name old (record { recorded = c.turn_on.new.recorded; ends = c.turn_on.new.ends }) × g.G.Gate.Asked c.args.gate.now old.recorded.core.core name c.ask.new.gate) c.self.view_is
+    (c.in-Ok-Job.next.name, c.turn_on.ensures.polls, subst (λ core. g.G.Gate.Asked c.args.gate.now core c.in-Ok-Job.next.name c.ask.new.gate) (c.number_of-core.ensures ∙ c.self.invariant.0.beside.number) c.ask.ensures)
 
 pub returns-in-Ok-Job-clause-stays : goal.returns-in-Ok-Job-clause-stays
 returns-in-Ok-Job-clause-stays g c = subst (λ (old : LinkedView _ _). StaysLinked old (record { recorded = c.turn_on.new.recorded; ends = c.turn_on.new.ends })) c.self.view_is c.turn_on.ensures.stays
@@ -52,7 +55,7 @@ pub hand_back-requires-clause-room : goal.hand_back-requires-clause-room
 hand_back-requires-clause-room g c = (subst (λ (view : LinkedView _ _). HasTurnRoom view.recorded) (sym c.self.view_is) c.requires.room).back
 
 pub returns-in-Ok-Back-clause-makes : goal.returns-in-Ok-Back-clause-makes
-returns-in-Ok-Back-clause-makes g c = subst (λ (old : LinkedView _ _). HandsBack g.J.Task.meaning old.recorded c.hand_back.new.recorded) c.self.view_is c.hand_back.ensures.hands
+returns-in-Ok-Back-clause-makes g c = subst (λ (old : LinkedView _ _). HandsBack g.J.Task.meaning old.recorded c.hand_back.new.recorded × (c.args.gate.now ≡ c.args.gate.now)) c.self.view_is (c.hand_back.ensures.hands, refl)
 
 pub returns-in-Ok-Back-clause-stays : goal.returns-in-Ok-Back-clause-stays
 returns-in-Ok-Back-clause-stays g c = subst (λ (old : LinkedView _ _). StaysLinked old (record { recorded = c.hand_back.new.recorded; ends = c.hand_back.new.ends })) c.self.view_is c.hand_back.ensures.stays
@@ -64,6 +67,7 @@ pub returns-in-Ok-Idle-clause-makes : goal.returns-in-Ok-Idle-clause-makes
 returns-in-Ok-Idle-clause-makes g c =
     let told = subst (λ (one : Ahead). TellsAhead c.self.inside.recorded.core (Ok one)) c.in-Ok-Idle.field-0-is c.in-Ok-Idle.ensures in (
       subst (λ (view : LinkedView _ _). (queue : ℕ) → has_work queue view.recorded.journal.notes ≡ false) c.self.view_is (idle c.self.inside.recorded c.self.invariant.0.recorded told.0 told.1),
+      refl,
       refl,
     )
 
@@ -78,7 +82,7 @@ returns-in-Err-Spent-clause-makes g c =
     let told = subst (λ (one : PickError). TellsAhead c.self.inside.recorded.core (Err one)) c.in-Err-Spent.field-0-is c.in-Err-Spent.ensures in
     let used = subst (λ (view : LinkedView _ _). (turns view.recorded.journal.notes ≡ 2 ^ 64 - 1) × ((queue : ℕ) × (has_work queue view.recorded.journal.notes ≡ true))) c.self.view_is
     (all_used c.self.inside.recorded c.self.invariant.0.recorded told) in
-    (used.0, used.1, refl)
+    (used.0, used.1, refl, refl)
 
 pub returns-in-Err-Spent-clause-stays : goal.returns-in-Err-Spent-clause-stays
 returns-in-Err-Spent-clause-stays g c = stays_same c.args.self.now

@@ -1,5 +1,4 @@
-use Rattle.std.proofs.Common.{sym, subst}
-use Rattle.rt_link.specs.Fits.{Fits}
+use Rattle.std.proofs.Common.{sym, subst, arith}
 use Rattle.rt_runtime_worker.specs.Rooms.{IsReady}
 use Rattle.rt_runtime_worker.specs.Ended.{IsServed}
 use Rattle.rt_runtime_worker.proofs.Serving.{shuts_served}
@@ -11,3 +10,6 @@ invariant_of-self g c =
     (shuts_served c.self.inside.linked c.shut_gates.new.self c.shut_gates.ensures.linked c.shut_gates.ensures.shuts
     (subst (λ ending. IsReady ending c.self.inside.linked.recorded) c.if-self.false (subst (λ view. IsReady view.ending view.linked.recorded) (sym c.self.view_is) c.look.ensures.ready))
     c.self.invariant.acts)
+
+pub returns-clause-shuts : goal.returns-clause-shuts
+returns-clause-shuts g c = λ some sender known. (c.shut_gates.ensures.shuts.shut sender (omega (arith, known, c.shut_gates.ensures.shuts.stays.seat.cores))).gate

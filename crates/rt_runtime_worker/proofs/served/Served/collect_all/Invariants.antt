@@ -1,9 +1,10 @@
 use Rattle.std.proofs.Common.{◌≡◌}
-use Rattle.rt_runtime_worker.specs.Linked.{StaysLinked}
+use Rattle.rt_runtime_worker.specs.Rounds.{CollectsFirst, StepsServed}
 use Rattle.rt_runtime_worker.proofs.served.Served.collect_all.Given as goal
 
 abbrev pub invariant-loop-core : goal.invariant-loop-core
 invariant-loop-core g l = record {
-  stays : StaysLinked l.fn.self.linked l.self.linked;
+  steps : StepsServed l.fn.self l.some l.self;
+  collects : CollectsFirst l.core l.self;
   end : l.core-end ≡ l.fn.self.linked.recorded.core.cores;
 }

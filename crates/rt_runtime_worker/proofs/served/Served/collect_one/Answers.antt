@@ -1,9 +1,11 @@
-use Rattle.std.proofs.Common.{sym, subst, arith}
-use Rattle.rt_link.specs.Fits.{Fits}
+use Rattle.std.proofs.Common.{sym, ◌∙◌, ap, subst, arith}
+use Rattle.std.specs.Prelude.{nat_lt}
 use Rattle.rt_runtime_worker.specs.Rooms.{IsReady}
 use Rattle.rt_runtime_worker.specs.Ended.{IsServed}
 use Rattle.rt_runtime_worker.proofs.Spare.{places_few}
 use Rattle.rt_runtime_worker.proofs.Serving.{collects_served}
+use Rattle.rt_runtime_worker.proofs.Telling.{looked_steps, looked_alone, collected_tells}
+use Rattle.rt_runtime_worker.proofs.Heard.{looked_collects, ended_collects}
 use Rattle.rt_runtime_worker.proofs.served.Served.collect_one.Goals as goal
 
 pub collect_from-requires-clause-room : goal.collect_from-requires-clause-room
@@ -17,3 +19,19 @@ invariant_of-self g c =
     (collects_served c.args.core c.collect_from.result c.self.inside.linked c.collect_from.new.self c.collect_from.ensures.linked c.collect_from.ensures.collects
     (subst (λ ending. IsReady ending c.self.inside.linked.recorded) c.if-self.false (subst (λ view. IsReady view.ending view.linked.recorded) (sym c.self.view_is) c.look.ensures.ready))
     c.self.invariant.acts)
+
+pub returns-then-self-clause-steps : goal.returns-then-self-clause-steps
+returns-then-self-clause-steps g c = looked_alone c.args.self.now c.look.new.self c.look.ensures.looks c.look.ensures.stays
+
+pub returns-then-self-clause-collects : goal.returns-then-self-clause-collects
+returns-then-self-clause-collects g c = ended_collects c.args.core c.args.self.now c.look.new.self (sym (ap (λ view. view.ending) c.self.view_is) ∙ c.if-self.true)
+
+pub returns-clause-steps : goal.returns-clause-steps
+returns-clause-steps g c =
+    looked_steps c.args.self.now c.look.new.self (record { linked = c.self.inside.linked; ending = c.self.inside.ending }) c.collect_from.new.self (nat_lt 0 c.collect_from.result) c.self.view_is c.look.ensures.looks c.look.ensures.stays
+    c.collect_from.ensures.collects.stays (collected_tells c.args.core c.collect_from.result c.self.inside.linked c.collect_from.new.self c.collect_from.ensures.collects)
+
+pub returns-clause-collects : goal.returns-clause-collects
+returns-clause-collects g c =
+    looked_collects c.args.core c.collect_from.result c.args.self.now c.look.new.self (record { linked = c.self.inside.linked; ending = c.self.inside.ending }) c.collect_from.new.self c.self.view_is c.look.ensures.looks
+    c.collect_from.ensures.collects

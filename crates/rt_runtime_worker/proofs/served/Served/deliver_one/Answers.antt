@@ -2,6 +2,8 @@ use Rattle.std.proofs.Common.{sym, subst, ap, arith}
 use Rattle.rt_runtime_worker.specs.Rooms.{IsReady}
 use Rattle.rt_runtime_worker.proofs.Spare.{ready_room}
 use Rattle.rt_runtime_worker.proofs.Serving.{delivers_served}
+use Rattle.rt_runtime_worker.proofs.Telling.{looked_steps, delivered_tells}
+use Rattle.rt_runtime_worker.proofs.Heard.{looked_hears}
 use Rattle.rt_runtime_worker.proofs.served.Served.deliver_one.Goals as goal
 
 pub deliver_from-requires-clause-room : goal.deliver_from-requires-clause-room
@@ -13,3 +15,12 @@ invariant_of-self g c =
     delivers_served c.args.sender c.deliver_from.result c.self.inside.ending c.self.inside.linked c.deliver_from.new.self c.self.invariant.linked c.deliver_from.ensures.linked
     (omega (arith, c.requires, c.look.ensures.stays.seat.cores, ap (λ view. view.linked.recorded.core.cores) c.self.view_is)) c.deliver_from.ensures.delivers
     (subst (λ view. IsReady view.ending view.linked.recorded) (sym c.self.view_is) c.look.ensures.ready) c.self.invariant.acts
+
+pub returns-clause-steps : goal.returns-clause-steps
+returns-clause-steps g c =
+    looked_steps c.args.self.now c.look.new.self (record { linked = c.self.inside.linked; ending = c.self.inside.ending }) c.deliver_from.new.self c.deliver_from.result c.self.view_is c.look.ensures.looks c.look.ensures.stays c.deliver_from.ensures.delivers.stays
+    (delivered_tells c.args.sender c.self.inside.linked c.deliver_from.new.self c.deliver_from.result c.deliver_from.ensures.delivers)
+
+pub returns-clause-hears : goal.returns-clause-hears
+returns-clause-hears g c same =
+    looked_hears c.args.sender c.deliver_from.result c.args.self.now c.look.new.self (record { linked = c.self.inside.linked; ending = c.self.inside.ending }) c.deliver_from.new.self c.self.view_is c.look.ensures.looks c.deliver_from.ensures.delivers same

@@ -1,7 +1,11 @@
-use Rattle.std.proofs.Common.{sym, subst}
+use Rattle.std.proofs.Common.{◌≡◌, sym, subst}
 use Rattle.rt_runtime_worker.specs.Rooms.{IsReady}
 use Rattle.rt_runtime_worker.proofs.Spare.{turn_room}
 use Rattle.rt_runtime_worker.proofs.Serving.{turned_served}
+use Rattle.rt_runtime_worker.specs.Ended.{ServedView}
+use Rattle.rt_runtime_worker.specs.Steps.{MakesTurn}
+use Rattle.rt_runtime_worker.specs.Rounds.{StepsServed, is_turn}
+use Rattle.rt_runtime_worker.proofs.Telling.{looked_steps, turned_tells}
 use Rattle.rt_runtime_worker.proofs.served.Served.take_turn.Goals as goal
 
 pub turn-requires : goal.turn-requires
@@ -11,5 +15,22 @@ turn-requires g c = record {
 
 pub invariant_of-self : goal.invariant_of-self
 invariant_of-self g c =
-    turned_served c.self.inside.linked c.turn.new.self c.self.invariant.linked c.turn.ensures.linked c.turn.ensures.stays.seat _ c.turn.result c.self.inside.ending c.turn.ensures.makes
+    turned_served c.self.inside.linked c.turn.new.self c.self.invariant.linked c.turn.ensures.linked c.turn.ensures.stays.seat (g.M.Meter.Tells c.args.meter.now) (λ core name. g.G.Gate.Asked c.args.gate.now core name c.turn.new.gate) (c.turn.new.gate ≡ c.args.gate.now) c.turn.result c.self.inside.ending c.turn.ensures.makes
     (subst (λ view. IsReady view.ending view.linked.recorded) (sym c.self.view_is) c.look.ensures.ready) c.self.invariant.acts
+
+pub returns-clause-steps : goal.returns-clause-steps
+returns-clause-steps g c =
+    subst (λ some. StepsServed c.args.self.now some (record { linked = c.turn.new.self; ending = c.self.inside.ending })) (sym c.is_work.ensures)
+    (looked_steps c.args.self.now c.look.new.self (record { linked = c.self.inside.linked; ending = c.self.inside.ending }) c.turn.new.self (is_turn c.turn.result) c.self.view_is c.look.ensures.looks c.look.ensures.stays c.turn.ensures.stays
+    (turned_tells g.J.Task.meaning c.self.inside.linked c.turn.new.self (g.M.Meter.Tells c.args.meter.now) (λ core name. g.G.Gate.Asked c.args.gate.now core name c.turn.new.gate) (c.turn.new.gate ≡ c.args.gate.now) c.turn.result c.turn.ensures.makes))
+
+pub returns-clause-takes : goal.returns-clause-takes
+returns-clause-takes g c = record {
+  before = c.look.new.self;
+  looks = c.look.ensures.looks;
+  made = c.turn.result;
+  makes =
+      subst (λ (view : ServedView _ _). MakesTurn g.J.Task.meaning (g.M.Meter.Tells c.args.meter.now) (λ core name. g.G.Gate.Asked c.args.gate.now core name c.turn.new.gate) (c.turn.new.gate ≡ c.args.gate.now) view.linked c.turn.result c.turn.new.self)
+      c.self.view_is c.turn.ensures.makes;
+  answer = c.is_work.ensures;
+}

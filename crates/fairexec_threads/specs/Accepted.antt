@@ -1,0 +1,60 @@
+-- Which orders of a script were accepted, and why another was not.
+use Rattle.std.specs.Prelude.{◌≡◌, ◌⊎◌, ℕ, ◌-◌, ◌<◌, ◌≤◌, ◌++◌, List, [], ◌∷◌, Some, Result, Ok, Err, length}
+use Rattle.rt_ids.specs.declared.names.JobId.{JobId}
+use Rattle.rt_ids.specs.declared.note.Note.TheVariants.{Sent, CoreClosed, Shut}
+use Rattle.rt_ids.specs.declared.order.Mode.{Mode}
+use Rattle.rt_ids.specs.declared.order.Mode.TheVariants.{Return}
+use Rattle.rt_ids.specs.declared.order.Order.TheVariants.{CloseCore}
+use Rattle.rt_ids.specs.declared.order.SendError.{SendError}
+use Rattle.rt_ids.specs.declared.order.SendError.TheVariants.{Closed}
+use Rattle.rt_ids.specs.Assembly.{Assembly, journal_of, order_of}
+use Rattle.rt_ids.specs.Filters.{accepted_orders}
+use Rattle.rt_ids.specs.Journal.{Journal}
+use Rattle.rt_ids.specs.Orders.{without_job}
+use Rattle.rt_jobs.specs.Scripts.{Script}
+use Rattle.rt_runtime.specs.State.{RuntimeView}
+use Rattle.rt_runtime_worker.specs.Rooms.{least_free}
+use Rattle.fairexec_threads_script.specs.Drafts.{Told}
+use Rattle.fairexec_threads.specs.Offers.{OffersAll}
+use Rattle.fairexec_threads.specs.Rooms.{room_of}
+
+-- the outside actor's journal tells that this order was sent under this name
+pub record IsSent (told : Told) (name : JobId) (assembly : Assembly ℕ) : Type 0 where
+  pub to : name.to ≡ told.0
+  pub later : Journal ℕ
+  pub before : Journal ℕ
+  pub notes : journal_of assembly.cores assembly ≡ later ++ Sent name (without_job told.1) ∷ before
+
+-- a core closed by itself behind these notes: in mode `Return`, and its journal was short
+pub record ClosesItself (mode : Mode) (before : Journal ℕ) (assembly : Assembly ℕ) : Type 0 where
+  pub returning : mode ≡ Return
+  pub short : room_of assembly.cores assembly.cap - length before < least_free assembly.cores assembly.cap
+
+-- an actor had sent the core an order to close it; where that was the outside actor, it is one of its first orders, up to this number
+pub record IsToldToClose (core final : ℕ) (mode : Mode) (assembly : Assembly ℕ) : Type 0 where
+  pub name : JobId
+  pub to : name.to ≡ core
+  pub order : order_of name assembly ≡ Some (CloseCore mode)
+  pub early : name.from ≡ assembly.cores → name.number ≤ final
+
+-- The core closed, by itself or by an order sent before, and then shut the gate of the outside actor. So many orders of this actor were accepted
+-- before, and none behind.
+pub record HasClosed (core final : ℕ) (assembly : Assembly ℕ) : Type 0 where
+  pub mode : Mode
+  pub later : Journal ℕ
+  pub between : Journal ℕ
+  pub before : Journal ℕ
+  pub notes : journal_of core assembly ≡ later ++ Shut assembly.cores final ∷ (between ++ CoreClosed mode ∷ before)
+  pub why : ClosesItself mode before assembly ⊎ IsToldToClose core final mode assembly
+  pub accepted : length (accepted_orders core (journal_of assembly.cores assembly)) ≡ final
+
+-- an order is accepted, unless its core has closed
+abbrev pub IsHeard : Assembly ℕ → Told → Result JobId (SendError Script) → Type 0
+IsHeard assembly told (Ok name) = IsSent told name assembly
+IsHeard assembly told (Err (Closed back final)) = HasClosed told.0 final assembly
+IsHeard assembly told (Err _) = ⊥
+
+-- so is each of these orders
+abbrev pub AreHeard : (orders : List Told) (old new : RuntimeView Script ℕ) → OffersAll orders old new → Assembly ℕ → Type 0
+AreHeard [] old new offers assembly = Unit {0}
+AreHeard (told ∷ rest) old new offers assembly = IsHeard assembly told offers.1.answer × AreHeard rest offers.0 new offers.2 assembly

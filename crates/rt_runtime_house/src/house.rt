@@ -1,0 +1,187 @@
+//! A house that is planned before its threads are there.
+
+ghost use Rattle.std.specs.Prelude.{◌≡◌, ◌+◌, ◌≤◌, IfOk, length, min};
+ghost use Rattle.rt_ids.specs.Limits.{most_notes};
+ghost use Rattle.rt_runtime_config.specs.Configs.{least_room, queues_of};
+ghost use Rattle.rt_runtime_house.specs.Plans.{fresh_plan, PlansQueue, StartsPlan};
+
+use crate::names::QueueNames;
+use rt_ids::{CoreNo, MOST_NOTES, MOST_QUEUES, QueueNo};
+use rt_jobs::{Job, Task};
+use rt_runtime::{Runtime, StartError};
+use rt_runtime_config::{Config, NoGate, SystemClock, is_good};
+use rt_shares::Shares;
+use std::alloc::{AllocError, Global};
+use std::marker::Model;
+use std::sync::Wait;
+use std::thread::Threads;
+use std::time;
+
+/// How many notes a journal has room for, beside those that a worker keeps free.
+pub const SPARE_NOTES: usize = 65_536;
+
+/// Why a queue wasn't planned, tried in this order.
+#[derive(Clone, Copy, PartialEq, Eq, Debug)]
+pub enum PlanError {
+    /// There is no such core.
+    NoCore,
+    /// The core has 256 queues, queue 0 among them.
+    TooMany,
+    /// There is no memory for one more.
+    Memory,
+}
+
+/// How many queues were planned for this core.
+#[tactic(auto, using(rt_runtime_config::proofs::Counts::queues_here, rt_runtime_config::proofs::Counts::queues_away, rt_runtime_config::proofs::Counts::queues_none))]
+fn planned_of(core: CoreNo, queues: &[(CoreNo, Shares)]) -> usize
+    ensures is { result ≡ queues_of core queues.now }
+    ensures few { result ≤ length queues.now }
+{
+    let mut count = 0;
+    for index in 0..queues.len() {
+        let of = queues[index].0;
+        if of.0 == core.0 {
+            count += 1;
+        }
+    }
+    count
+}
+
+/// A system's clock for each core.
+fn clocks<R: Copy + Drop>(
+    rt: R,
+    alloc: Global,
+    cores: u8,
+) -> Result<Vec<SystemClock<R>>, AllocError>
+    ensures { IfOk result (λ clocks. length clocks.items ≡ cores) }
+{
+    let mut clocks = Vec::with_capacity(alloc, cores as usize)?;
+    for _ in 0..cores {
+        clocks.push_reserved(SystemClock::new(rt));
+    }
+    Ok(clocks)
+}
+
+/// A gate for each core, which does nothing.
+fn gates(alloc: Global, cores: u8) -> Result<Vec<NoGate>, AllocError>
+    ensures { IfOk result (λ gates. length gates.items ≡ cores) }
+{
+    let mut gates = Vec::with_capacity(alloc, cores as usize)?;
+    for _ in 0..cores {
+        gates.push_reserved(NoGate);
+    }
+    Ok(gates)
+}
+
+/// The threads of a house whose cores read the system's clock round each poll, and ask nobody before it.
+pub type Node<J, R> = Runtime<J, SystemClock<R>, NoGate>;
+
+/// A house before its threads are there: how many cores it has, and which queues, by name.
+#[derive(Drop)]
+pub struct House {
+    config: Config,
+    names: QueueNames,
+}
+
+impl Model for House {
+    ghost use Rattle.rt_runtime_house.specs.Plans.{Plan};
+
+    ghost Value = { Plan };
+
+    ghost view = { λ h. record {
+      cores = h.config.cores;
+      cap = h.config.cap;
+      room = h.config.room;
+      queues = h.config.queues.items;
+      names = h.names;
+    } };
+}
+
+impl House {
+    /// A house of so many cores, with so many submissions outstanding on a link at most. Each core has queue 0, with 1000 shares.
+    ///
+    /// A journal has room for 65,536 notes beside those that a worker keeps free, or for 2^24 in all if that is less.
+    pub fn new(alloc: Global, cores: u8, cap: u16) -> Self
+        ensures { result ≡ fresh_plan cores cap (min (least_room cores cap + 65536) most_notes) }
+    {
+        let least = 16 * ((cores as usize + 1) * (cap as usize + 1));
+        let room = (least + SPARE_NOTES).min(MOST_NOTES);
+        House {
+            config: Config {
+                cores,
+                cap,
+                room: room as u32,
+                queues: Vec::new(alloc),
+            },
+            names: QueueNames::new(alloc),
+        }
+    }
+
+    /// The same house, with room for so many notes in each journal. A poll makes three, and a job that comes and goes four more.
+    pub fn with_notes(self, notes: u32) -> Self
+        ensures { result ≡ record self { room = notes } }
+    {
+        let mut house = self;
+        house.config.room = notes;
+        house
+    }
+
+    /// Plans the next queue of a core, with a name and shares from 1 to 10,000, and answers its number. The first of a core is queue 1.
+    ///
+    /// # Errors
+    ///
+    /// `NoCore`, `TooMany` or `Memory`, tried in this order. Nothing was planned then.
+    pub fn queue(&mut self, core: CoreNo, name: &str, shares: Shares) -> Result<QueueNo, PlanError>
+        ensures { PlansQueue core shares name.now self.old result self.new }
+    {
+        if core.0 >= self.config.cores {
+            return Err(PlanError::NoCore);
+        }
+        let count = planned_of(core, &self.config.queues);
+        if count + 1 >= MOST_QUEUES {
+            return Err(PlanError::TooMany);
+        }
+        if self.config.queues.try_reserve(1).is_err() {
+            return Err(PlanError::Memory);
+        }
+        let queue = QueueNo(count as u8 + 1);
+        let Ok(()) = self.names.add(core.0, queue.0, name) else {
+            return Err(PlanError::Memory);
+        };
+        self.config.queues.push_reserved((core, shares));
+        Ok(queue)
+    }
+
+    /// The names of the queues that are planned.
+    pub fn names(&self) -> &QueueNames
+        ensures { result.now ≡ self.now.names }
+    {
+        &self.names
+    }
+
+    /// Starts a thread for each core, which reads the system's clock and asks no gate. The names of the queues come back beside it.
+    ///
+    /// # Errors
+    ///
+    /// Those of `Runtime::start`.
+    pub fn start<J, R>(self, rt: R, alloc: Global) -> Result<(Node<J, R>, QueueNames), StartError>
+    where
+        J: Job + Task<Out = u64> + Send + 'static,
+        R: Threads + Wait + time::Clock + Copy + Drop + Send + 'static,
+        ensures { StartsPlan self result }
+    {
+        let House { config, names } = self;
+        let cores = config.cores;
+        if !is_good(&config, cores as usize, cores as usize) {
+            return Err(StartError::BadConfig);
+        }
+        let Ok(clocks) = clocks(rt, alloc, cores) else {
+            return Err(StartError::Memory);
+        };
+        let Ok(gates) = gates(alloc, cores) else {
+            return Err(StartError::Memory);
+        };
+        let runtime = Runtime::start(rt, alloc, config, clocks, gates)?;
+        Ok((runtime, names))
+    }
+}

@@ -1,0 +1,101 @@
+-- Bells in their places, and rings one after another.
+use Rattle.std.proofs.Common.{◌≡◌, ◌≢◌, ℕ, ◌+◌, ◌<◌, List, [], ◌∷◌, ◌++◌, length, map, replicate, get_or, set, get_or-set_same, get_or-set_other, length-set, length-append, refl, sym, ◌∙◌, ap, subst, arith, ⊎_elim, drop}
+use Rattle.std.proofs.lemmas.Bool.{cases_eq}
+use Rattle.std.proofs.lemmas.List.{get_or_append_left, get_or_default, get_or-map, map-append, map-set, length-reverse, replicate-append-replicate, reverse-append}
+use Rattle.std.proofs.Math.Seq.{drop-append_seam, get_or-append_seam}
+use Rattle.std.specs.Prelude.{Bool, true, reverse}
+use Rattle.rt_ids.specs.declared.note.Note.{Note}
+use Rattle.rt_ids.specs.declared.note.Note.TheVariants.{Created}
+use Rattle.rt_ids.specs.Journal.{Journal}
+use Rattle.rt_runtime_worker.specs.Bells.{BellView, no_bell, AreInPlace, once_more, rung_at, rung_at_some, told_by, rung_for, HasRung, AreRung}
+use Rattle.rt_runtime_worker.specs.Ended.{ServedView}
+use Rattle.rt_runtime_worker.specs.Linked.{Grows}
+use Rattle.rt_runtime_worker.specs.Queues.{creations, is_opening}
+use Rattle.rt_runtime_worker.proofs.Openings.{creations_behind}
+use Rattle.rt_runtime_config.specs.Configs.{Entry}
+use Rattle.rt_runtime_worker.specs.Rounds.{StepsServed}
+
+-- no bell is anywhere
+pub none_in_place : AreInPlace []
+none_in_place core low = absurd (omega (arith, low))
+
+-- one more bell behind the others
+pub one_more_in_place : (bells : List BellView) (bell : BellView) → AreInPlace bells → bell.core ≡ length bells → AreInPlace (bells ++ bell ∷ [])
+one_more_in_place bells bell are is core low =
+    ⊎_elim
+    (λ (one : core ≡ length bells). ap (λ place. (get_or (bells ++ bell ∷ []) place no_bell).core) one ∙ (ap (λ (bell : BellView). bell.core) (get_or-append_seam bells bell [] no_bell) ∙ (is ∙ sym one)))
+    (λ (away : core ≢ length bells).
+    let before : core < length bells = omega (arith, low, away, length-append bells (bell ∷ [])) in
+    ap (λ (bell : BellView). bell.core) (get_or_append_left bells (bell ∷ []) no_bell core before) ∙ are core before)
+    (cases_eq core (length bells))
+
+-- none of them was rung
+pub one_more_unrung : (bells : List BellView) (bell : BellView) (count : ℕ) → map (λ bell. bell.rings) bells ≡ replicate count 0 → bell.rings ≡ 0 → map (λ bell. bell.rings) (bells ++ bell ∷ []) ≡ replicate (count + 1) 0
+one_more_unrung bells bell count are is =
+    map-append (λ (bell : BellView). bell.rings) bells (bell ∷ []) ∙ (ap (λ rung. rung ++ bell.rings ∷ []) are ∙ (ap (λ rings. replicate count 0 ++ rings ∷ []) is ∙ replicate-append-replicate count 1 0))
+
+module _ (bells : List BellView) (core : ℕ) (bell new : BellView) (low : core < length bells) (is : bell ≡ get_or bells core bell) (rung : new ≡ record bell { rings = once_more bell.rings }) where
+  its_bell : bell ≡ get_or bells core no_bell
+  its_bell = is ∙ get_or_default bells core bell no_bell low
+
+  -- the bell of a core is rung
+  pub bell_rung : map (λ bell. bell.rings) (set bells core new) ≡ rung_at core (map (λ bell. bell.rings) bells)
+  bell_rung =
+      map-set (λ (bell : BellView). bell.rings) bells core new
+      ∙ ap (set (map (λ (bell : BellView). bell.rings) bells) core)
+      (ap (λ (bell : BellView). bell.rings) rung ∙ (ap (λ (bell : BellView). once_more bell.rings) its_bell ∙ ap once_more (sym (get_or-map (λ (bell : BellView). bell.rings) bells core no_bell 0 low))))
+
+  pub still_in_place : AreInPlace bells → AreInPlace (set bells core new)
+  still_in_place are other there =
+      ⊎_elim
+      (λ (one : other ≡ core).
+      ap (λ place. (get_or (set bells core new) place no_bell).core) one
+      ∙ (ap (λ (bell : BellView). bell.core) (get_or-set_same bells core new no_bell low ∙ rung) ∙ (ap (λ (bell : BellView). bell.core) its_bell ∙ (are core low ∙ sym one))))
+      (λ (away : other ≢ core).
+      ap (λ (bell : BellView). bell.core) (get_or-set_other bells core other new no_bell away) ∙ are other (omega (arith, there, length-set bells core new)))
+      (cases_eq other core)
+
+module _ {T : Type 0} where
+  -- rings for some notes, and then for others
+  pub rung_along : (notes later : List (Note T)) (rung : List ℕ) → rung_for (notes ++ later) rung ≡ rung_for later (rung_for notes rung)
+  rung_along [] later rung = refl
+  rung_along (note ∷ notes) later rung = rung_along notes later (rung_at_some (told_by note) rung)
+
+  -- a journal that has grown, after the rings for its new notes
+  pub rung_since : (cores : ℕ) (old newer new : Journal T) (before after : List ℕ) → HasRung cores old before → new ≡ newer ++ old → after ≡ rung_for (reverse newer) before → HasRung cores new after
+  rung_since cores old newer new before after has grew rings =
+      rings
+      ∙ (ap (rung_for (reverse newer)) has
+      ∙ (sym (rung_along (reverse old) (reverse newer) (replicate cores 0)) ∙ ap (λ notes. rung_for notes (replicate cores 0)) (sym (ap reverse grew ∙ reverse-append newer old))))
+
+  -- the same, where the rings are for the notes behind the old ones
+  pub rung_behind : (cores : ℕ) (old new : Journal T) (before after : List ℕ) → HasRung cores old before → Grows old new → after ≡ rung_for (drop (length old) (reverse new)) before → HasRung cores new after
+  rung_behind cores old new before after has grows rings =
+      let split : drop (length old) (reverse old ++ reverse grows.0) ≡ reverse grows.0 = ap (λ count. drop count (reverse old ++ reverse grows.0)) (sym (length-reverse old)) ∙ drop-append_seam (reverse old) (reverse grows.0) in
+      rung_since cores old grows.0 new before after has grows.1
+      (rings ∙ ap (λ notes. rung_for notes before) (ap (λ notes. drop (length old) (reverse notes)) grows.1 ∙ (ap (drop (length old)) (reverse-append grows.0 old) ∙ split)))
+
+-- a step of a worker, after the rings for its notes
+pub are_rung : {J T : Type 0} {some : Bool} (old new : ServedView J T) (before after : List ℕ) → StepsServed old some new → AreRung old before →
+    after ≡ rung_for (drop (length old.linked.recorded.journal.notes) (reverse new.linked.recorded.journal.notes)) before → AreRung new after
+are_rung old new before after steps has rings =
+    subst (λ cores. HasRung cores new.linked.recorded.journal.notes after) (sym steps.stays.seat.cores)
+    (rung_behind old.linked.recorded.core.cores old.linked.recorded.journal.notes new.linked.recorded.journal.notes before after has steps.stays.grows rings)
+
+module _ {T : Type 0} where
+  -- a creation is for nobody
+  opening_rung : (notes : Journal T) → is_opening notes ≡ true → (rung : List ℕ) → rung_for (reverse notes) rung ≡ rung
+  opening_rung [] is rung = refl
+  opening_rung (Created queue weight ∷ before) is rung =
+      ap (λ notes. rung_for notes rung) (reverse-append (Created queue weight ∷ []) before)
+      ∙ (rung_along (reverse before) (Created queue weight ∷ []) rung ∙ opening_rung before is rung)
+  opening_rung (_ ∷ before) is rung = cc
+
+-- a worker that was just opened has rung nobody
+pub opened_rung : {J T : Type 0} (served : ServedView J T) (core cores : ℕ) (entries : List Entry) (rung : List ℕ) (count : ℕ) → served.linked.recorded.journal.notes ≡ creations core entries →
+    served.linked.recorded.core.cores ≡ cores → count ≡ cores → rung ≡ replicate count 0 → AreRung served rung
+opened_rung served core cores entries rung count are same counted none =
+    none
+    ∙ (ap (λ count. replicate count 0) (counted ∙ sym same)
+    ∙ (sym (opening_rung (creations core entries) (creations_behind core entries [] refl) (replicate served.linked.recorded.core.cores 0))
+    ∙ ap (λ notes. rung_for (reverse notes) (replicate served.linked.recorded.core.cores 0)) (sym are)))

@@ -1,0 +1,11 @@
+use Rattle.std.proofs.Common.{◌≡◌, length, map, replicate, vec_capacity}
+use Rattle.rt_runtime_worker.specs.Bells.{AreInPlace}
+use Rattle.rt_runtime_worker.proofs.bells.Bells.again.Given as goal
+
+abbrev pub invariant-loop-place : goal.invariant-loop-place
+invariant-loop-place l = record {
+  count : length l.bells.items ≡ l.place;
+  capacity : vec_capacity l.bells ≡ length l.self-inside.bells.items;
+  unrung : map (λ bell. bell.rings) l.bells.items ≡ replicate l.place 0;
+  in_place : AreInPlace l.bells.items;
+}

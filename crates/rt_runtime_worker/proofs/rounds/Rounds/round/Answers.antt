@@ -1,0 +1,25 @@
+use Rattle.std.proofs.Common.{inl, inr, refl, subst}
+use Rattle.std.specs.Prelude.{false}
+use Rattle.rt_runtime_worker.specs.Rounds.{StepsServed}
+use Rattle.rt_runtime_worker.proofs.Telling.{steps_more}
+use Rattle.rt_runtime_worker.proofs.rounds.Rounds.round.Goals as goal
+
+pub returns-then-turn_alone-clause-steps : goal.returns-then-turn_alone-clause-steps
+returns-then-turn_alone-clause-steps g c = subst (λ some. StepsServed c.args.self.now.served some c.turn_alone.new.self.served) c.if-turn_alone.true c.turn_alone.ensures.steps
+
+pub returns-then-turn_alone-clause-makes : goal.returns-then-turn_alone-clause-makes
+returns-then-turn_alone-clause-makes g c = inl (c.turn_alone.ensures.passes c.if-turn_alone.true)
+
+pub returns-then-has_nothing-clause-steps : goal.returns-then-has_nothing-clause-steps
+returns-then-has_nothing-clause-steps g c = subst (λ some. StepsServed c.args.self.now.served some c.turn_alone.new.self.served) c.if-turn_alone.false c.turn_alone.ensures.steps
+
+pub returns-then-has_nothing-clause-makes : goal.returns-then-has_nothing-clause-makes
+returns-then-has_nothing-clause-makes g c = inr (inr (c.has_nothing.ensures c.if-has_nothing.true, refl))
+
+pub returns-clause-steps : goal.returns-clause-steps
+returns-clause-steps g c =
+    steps_more false c.look.result c.args.self.now.served c.turn_alone.new.self.served c.look.new.self.served
+    (subst (λ some. StepsServed c.args.self.now.served some c.turn_alone.new.self.served) c.if-turn_alone.false c.turn_alone.ensures.steps) c.look.ensures.steps
+
+pub returns-clause-makes : goal.returns-clause-makes
+returns-clause-makes g c = inr (inl (c.turn_alone.new.self.served, c.look.ensures.looks))

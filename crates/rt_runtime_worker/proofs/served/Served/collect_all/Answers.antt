@@ -1,0 +1,22 @@
+use Rattle.std.proofs.Common.{sym, subst}
+use Rattle.rt_runtime_worker.specs.Rounds.{StepsServed}
+use Rattle.rt_runtime_worker.proofs.Telling.{steps_found, steps_same}
+use Rattle.rt_runtime_worker.proofs.Heard.{next_collected}
+use Rattle.rt_runtime_worker.proofs.served.Served.collect_all.Goals.{then-collect_one, else-collect_one}
+use Rattle.rt_runtime_worker.proofs.served.Served.collect_all.Goals as goal
+
+pub loop-core-preserved : goal.loop-core-preserved
+loop-core-preserved g c = record {
+  steps = elim c.if-collect_one.branch [
+    | then-collect_one w ↦
+        subst (λ some. StepsServed c.args.self.now some c.collect_one.new.self) (sym w.some-is)
+        (steps_found c.loop-core.some c.args.self.now c.loop-core.self c.collect_one.new.self c.loop-core.invariant.steps
+        (subst (λ found. StepsServed c.loop-core.self found c.collect_one.new.self) w.if-collect_one.true c.collect_one.ensures.steps))
+    | else-collect_one w ↦
+        subst (λ some. StepsServed c.args.self.now some c.collect_one.new.self) (sym w.some-is)
+        (steps_same c.loop-core.some c.args.self.now c.loop-core.self c.collect_one.new.self c.loop-core.invariant.steps
+        (subst (λ found. StepsServed c.loop-core.self found c.collect_one.new.self) w.if-collect_one.false c.collect_one.ensures.steps))
+  ];
+  collects = next_collected c.loop-core.core c.loop-core.self c.collect_one.new.self c.collect_one.ensures.steps c.loop-core.invariant.collects c.collect_one.ensures.collects;
+  end = c.loop-core.invariant.end;
+}

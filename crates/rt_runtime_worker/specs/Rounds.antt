@@ -1,0 +1,92 @@
+-- What the steps of a round do, and what they tell of it.
+use Rattle.std.specs.Prelude.{◌≡◌, ◌≢◌, ◌⊎◌, ℕ, ◌+◌, ◌<◌, ◌≤◌, Bool, true, false, length, IsSome}
+use Rattle.rt_ids.specs.declared.names.JobId.{JobId}
+use Rattle.rt_ids.specs.Journal.{Journal}
+use Rattle.rt_ids.specs.Closing.{core_mode, final_count}
+use Rattle.rt_jobs.specs.Meanings.{Meaning}
+use Rattle.rt_ring_mesh.specs.Ends.{in_at, out_at}
+use Rattle.rt_runtime_worker.specs.Linked.{LinkedView, StaysLinked}
+use Rattle.rt_runtime_worker.specs.Ended.{ServedView}
+use Rattle.rt_runtime_worker.specs.Steps.{MakesTurn}
+use Rattle.rt_runtime_worker.specs.declared.turn.Made.{Made}
+use Rattle.rt_runtime_worker.specs.declared.turn.Made.TheVariants.{Polled, Returned, Idle, Spent}
+
+-- a step that did something wrote notes, and one that did nothing wrote none
+abbrev pub TellsNotes : {T : Type 0} → Bool → Journal T → Journal T → Type 0
+TellsNotes true old new = length old < length new
+TellsNotes false old new = new ≡ old
+
+-- whether a turn took a job out of its queue
+abbrev pub is_turn : Made → Bool
+is_turn Polled = true
+is_turn Returned = true
+is_turn Idle = false
+is_turn Spent = false
+
+module _ {J T : Type 0} where
+  -- every order of this sender that its end has seen was delivered
+  abbrev pub IsAllTaken : ℕ → LinkedView J T → Type 0
+  IsAllTaken sender view = (in_at sender view.ends).inward.taken ≡ length (in_at sender view.ends).inward.seen
+
+  -- every outcome of this core that its end has seen was collected
+  abbrev pub IsAllGot : ℕ → LinkedView J T → Type 0
+  IsAllGot core view = (out_at core view.ends).out.got ≡ length (out_at core view.ends).out.seen
+
+  -- every order of this sender that its end has seen was delivered, or as many more as a link holds
+  abbrev pub IsHeard : ℕ → LinkedView J T → LinkedView J T → Type 0
+  IsHeard sender old new =
+      IsAllTaken sender new ⊎ ((in_at sender old.ends).inward.taken + old.recorded.cap ≤ (in_at sender new.ends).inward.taken)
+
+  -- each open gate of a core that is closed was shut
+  abbrev pub HasShutGates : LinkedView J T → Type 0
+  HasShutGates view =
+      IsSome (core_mode view.recorded.journal.notes) → (sender : ℕ) → sender ≤ view.recorded.core.cores → IsSome (final_count sender view.recorded.journal.notes)
+
+  -- A worker at its end stays there. One that isn't at its end did nothing before the step.
+  pub record LooksAtRoom (old new : ServedView J T) : Type 0 where
+    pub ended : old.ending ≡ true → new.ending ≡ true
+    pub same : new.ending ≡ old.ending → new ≡ old
+
+  -- what each step keeps, and that it tells whether it did anything, unless its worker came to its end meanwhile
+  pub record StepsServed (old : ServedView J T) (some : Bool) (new : ServedView J T) : Type 0 where
+    pub stays : StaysLinked old.linked new.linked
+    pub ended : old.ending ≡ true → new.ending ≡ true
+    pub tells : new.ending ≡ old.ending → TellsNotes some old.linked.recorded.journal.notes new.linked.recorded.journal.notes
+
+  -- one more order of this sender was delivered, or all that its end has seen were; no other end was touched
+  pub record HearsOne (sender : ℕ) (old : LinkedView J T) (found : Bool) (new : LinkedView J T) : Type 0 where
+    pub one : found ≡ true → (in_at sender new.ends).inward.taken ≡ (in_at sender old.ends).inward.taken + 1
+    pub all : found ≡ false → IsAllTaken sender new
+    pub others : (other : ℕ) → other ≢ sender → in_at other new.ends ≡ in_at other old.ends
+
+  -- a sender was heard, unless the worker came to its end meanwhile; no other end was touched
+  pub record HearsSome (sender : ℕ) (old new : ServedView J T) : Type 0 where
+    pub heard : new.ending ≡ old.ending → IsHeard sender old.linked new.linked
+    pub others : new.ending ≡ old.ending → (other : ℕ) → other ≢ sender → in_at other new.linked.ends ≡ in_at other old.linked.ends
+
+  -- each of the first senders was heard, unless the worker came to its end meanwhile; the ends of the others are as they were
+  pub record HearsFirst (count : ℕ) (old new : ServedView J T) : Type 0 where
+    pub each : new.ending ≡ old.ending → (sender : ℕ) → sender < count → IsHeard sender old.linked new.linked
+    pub rest : new.ending ≡ old.ending → (sender : ℕ) → count ≤ sender → in_at sender new.linked.ends ≡ in_at sender old.linked.ends
+
+  -- each of the first senders was heard, unless the worker came to its end meanwhile
+  abbrev pub HearsAll : ℕ → ServedView J T → ServedView J T → Type 0
+  HearsAll count old new = new.ending ≡ old.ending → (sender : ℕ) → sender < count → IsHeard sender old.linked new.linked
+
+  -- of this core every outcome was collected, unless the worker is at its end; no other end was touched
+  pub record CollectsNext (core : ℕ) (old new : ServedView J T) : Type 0 where
+    pub all : new.ending ≡ false → IsAllGot core new.linked
+    pub others : new.ending ≡ false → (other : ℕ) → other ≢ core → out_at other new.linked.ends ≡ out_at other old.linked.ends
+
+  -- of each of the first cores every outcome was collected, unless the worker is at its end
+  abbrev pub CollectsFirst : ℕ → ServedView J T → Type 0
+  CollectsFirst count new = new.ending ≡ false → (core : ℕ) → core < count → IsAllGot core new.linked
+
+module _ {J T : Type 0} (meaning : Meaning J T) (tells : ℕ → Type 0) (asked : ℕ → JobId → Type 0) (unasked : Type 0) where
+  -- the room is looked at, and then one turn is made; it tells whether there was work
+  pub record TakesTurn (old : ServedView J T) (some : Bool) (new : ServedView J T) : Type 0 where
+    pub before : ServedView J T
+    pub looks : LooksAtRoom old before
+    pub made : Made
+    pub makes : MakesTurn meaning tells asked unasked before.linked made new.linked
+    pub answer : some ≡ is_turn made

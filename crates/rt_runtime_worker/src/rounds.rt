@@ -1,0 +1,212 @@
+//! What a worker does round by round. Each step rings the bells of those who have something from its notes.
+
+ghost use Rattle.std.specs.Prelude.{◌≡◌, ◌||◌, ◌+◌, ◌≤◌, ◌↔◌, IsTrue, drop, length, reverse, true};
+ghost use Rattle.rt_ids.specs.Closing.{IsDrained};
+ghost use Rattle.rt_runtime_worker.specs.Bells.{AreRung, rung_for};
+ghost use Rattle.rt_runtime_worker.specs.Readings.{BeginsNext};
+ghost use Rattle.rt_runtime_worker.specs.Looks.{LooksAtAll, MakesRound, PassesLinks, turns_after};
+ghost use Rattle.rt_runtime_worker.specs.Rounds.{CollectsFirst, HearsAll, StepsServed, TakesTurn};
+
+use crate::bells::Bells;
+use crate::ended::Ended;
+use crate::served::Served;
+use crate::stopwatch::Stopwatch;
+use rt_jobs::{Job, Task};
+use rt_journal_notes::Journal;
+use rt_runtime_config::{Clock, Gate};
+use std::alloc::Global;
+
+/// How many turns a worker makes at most before it looks at its links again, if they had nothing.
+const MOST_TURNS: u32 = 16;
+
+/// It looks again at once after polls that took so many nanoseconds together.
+const MOST_TIME: u64 = 2_000;
+
+/// Whether one of two steps did anything.
+fn either(one: bool, two: bool) -> bool
+    ensures { result ≡ (one || two) }
+{
+    one || two
+}
+
+/// Wakes the workers that have something from the notes behind the first `count`.
+fn ring_since(bells: &mut Bells, journal: &Journal<u64>, count: usize)
+    requires { count ≤ length journal.now.notes }
+    ensures { bells.new ≡ rung_for (drop count (reverse journal.now.notes)) bells.old }
+{
+    let notes = journal.as_slice();
+    bells.ring_for(&notes[count..]);
+}
+
+/// A core beside its journal, over its actor's ends of the links, with a clock and a gate of its own, and the bells of all cores.
+#[derive(Drop)]
+pub(crate) struct Rounds<J: Task<Out = u64>, C: Drop, G: Drop> {
+    alloc: Global,
+    served: Served<J>,
+    watch: Stopwatch<C>,
+    gate: G,
+    bells: Bells,
+    /// How many turns may be made before the next look at the links.
+    turns: u32,
+}
+
+impl<J: Task<Out = u64>, C: Drop, G: Drop> Rounds<J, C, G> {
+    /// Before the first round.
+    pub(crate) fn of(alloc: Global, served: Served<J>, clock: C, gate: G, bells: Bells) -> Self
+        ensures served { result.served ≡ served }
+        ensures bells { result.bells ≡ bells }
+    {
+        Rounds {
+            alloc,
+            served,
+            watch: Stopwatch::new(clock),
+            gate,
+            bells,
+            turns: 0,
+        }
+    }
+
+    /// Writes to the memory of all notes that there may be. Nothing is noted.
+    pub(crate) fn prefault(&mut self)
+        ensures { self.new ≡ self.old }
+    {
+        self.served.prefault();
+    }
+
+    /// Whether every gate is shut, all behind it was delivered, and no queue has work.
+    pub(crate) fn is_drained(&self) -> bool
+        ensures { IsTrue result ↔ IsDrained self.now.served.linked.recorded.core.cores self.now.served.linked.recorded.journal.notes }
+    {
+        self.served.is_drained()
+    }
+
+    /// What a drained core leaves.
+    pub(crate) fn into_ended(self) -> Ended<J>
+        requires { IsDrained self.served.linked.recorded.core.cores self.served.linked.recorded.journal.notes }
+        ensures { result ≡ self.served.linked }
+    {
+        let Rounds { served, .. } = self;
+        served.into_ended()
+    }
+
+    /// Plans the turns until the next look at the links: some if the links had nothing while there was work, else none.
+    fn plan(&mut self, quiet: bool)
+        ensures { self.new ≡ record self.old { turns = turns_after quiet; watch = record self.old.watch { taken = 0 } } }
+    {
+        self.watch.forget();
+        self.turns = if quiet { MOST_TURNS } else { 0 };
+    }
+
+    /// Whether no link shows anything, behind a round in which nothing was done.
+    fn has_nothing(&self, was_idle: bool) -> bool
+        ensures { result ≡ true → was_idle ≡ true }
+    {
+        was_idle && !self.served.shows()
+    }
+
+    /// Whether a turn is made without a look at the links. It counts as made.
+    fn passes_links(&mut self) -> bool
+        ensures passes { PassesLinks self.old.watch.taken self.old.turns result self.new.turns }
+        ensures rest { self.new ≡ record self.old { turns = self.new.turns } }
+    {
+        if self.turns == 0 || self.watch.taken() >= MOST_TIME {
+            return false;
+        }
+        self.turns -= 1;
+        true
+    }
+
+    /// Shuts the gates of a closed core, and delivers what shows. Whether anything was done.
+    fn take_in(&mut self) -> bool
+        requires rung { AreRung self.old.served self.old.bells }
+        ensures steps { StepsServed self.old.served result self.new.served }
+        ensures hears { HearsAll (self.old.served.linked.recorded.core.cores + 1) self.old.served self.new.served }
+        ensures rung { AreRung self.new.served self.new.bells }
+        ensures rest { self.new ≡ record self.old { served = self.new.served; bells = self.new.bells } }
+    {
+        let before = self.served.journal().len();
+        let shut = self.served.close_gates();
+        let delivered = self.served.deliver_all();
+        ring_since(&mut self.bells, self.served.journal(), before);
+        either(shut, delivered)
+    }
+}
+
+impl<J: Task<Out = u64>, C: Drop, G: Drop> Rounds<J, C, G> {
+    /// Collects what came back. Whether anything was done.
+    fn gather(&mut self) -> bool
+        requires rung { AreRung self.old.served self.old.bells }
+        ensures steps { StepsServed self.old.served result self.new.served }
+        ensures collects { CollectsFirst self.old.served.linked.recorded.core.cores self.new.served }
+        ensures rung { AreRung self.new.served self.new.bells }
+        ensures rest { self.new ≡ record self.old { served = self.new.served; bells = self.new.bells } }
+    {
+        let before = self.served.journal().len();
+        let collected = self.served.collect_all();
+        ring_since(&mut self.bells, self.served.journal(), before);
+        collected
+    }
+}
+
+impl<J: Job + Task<Out = u64>, C: Clock + Drop, G: Gate + Drop> Rounds<J, C, G> {
+    /// Makes one turn. Whether there was work.
+    fn take_turn(&mut self) -> bool
+        requires rung { AreRung self.old.served self.old.bells }
+        ensures steps { StepsServed self.old.served result self.new.served }
+        ensures takes { TakesTurn J.meaning (BeginsNext C.Reads self.old.watch.clock) (λ core name. G.Asked self.old.gate core name self.new.gate) (self.new.gate ≡ self.old.gate) self.old.served result self.new.served }
+        ensures rung { AreRung self.new.served self.new.bells }
+        ensures turns { self.new.turns ≡ self.old.turns }
+    {
+        let before = self.served.journal().len();
+        let turned = self
+            .served
+            .take_turn(self.alloc, &mut self.watch, &mut self.gate);
+        ring_since(&mut self.bells, self.served.journal(), before);
+        turned
+    }
+
+    /// A look at all links, and one turn: gates, deliveries, the turn, outcomes. Whether anything was done.
+    pub(crate) fn look(&mut self) -> bool
+        requires rung { AreRung self.old.served self.old.bells }
+        ensures steps { StepsServed self.old.served result self.new.served }
+        ensures looks { LooksAtAll self.old.served self.new.served }
+        ensures rung { AreRung self.new.served self.new.bells }
+    {
+        let taken = self.take_in();
+        let turned = self.take_turn();
+        let collected = self.gather();
+        let came = either(taken, collected);
+        self.plan(turned && !came);
+        either(turned, came)
+    }
+
+    /// Makes a turn without a look at the links, if they had nothing a moment ago. Whether there was work.
+    fn turn_alone(&mut self) -> bool
+        requires rung { AreRung self.old.served self.old.bells }
+        ensures steps { StepsServed self.old.served result self.new.served }
+        ensures passes { result ≡ true → PassesLinks self.old.watch.taken self.old.turns true self.new.turns }
+        ensures rung { AreRung self.new.served self.new.bells }
+    {
+        if !self.passes_links() {
+            return false;
+        }
+        self.take_turn()
+    }
+
+    /// One round: a turn alone if the links had nothing a moment ago and there is work, else a look at all links and a turn. Whether
+    /// anything was done. After a round in which nothing was done there is something to do only where a link shows it.
+    pub(crate) fn round(&mut self, was_idle: bool) -> bool
+        requires rung { AreRung self.old.served self.old.bells }
+        ensures steps { StepsServed self.old.served result self.new.served }
+        ensures makes { MakesRound was_idle self.old.watch.taken self.old.turns self.old.served result self.new.turns self.new.served }
+        ensures rung { AreRung self.new.served self.new.bells }
+    {
+        if self.turn_alone() {
+            return true;
+        }
+        if self.has_nothing(was_idle) {
+            return false;
+        }
+        self.look()
+    }
+}

@@ -1,0 +1,49 @@
+-- What became of reads, writes and flushes that are made again where a signal interrupts them.
+use Rattle.std.specs.Prelude.{◌≡◌, ◌⊎◌, ℕ, zero, suc, ◌<◌}
+use Rattle.rt_sink.specs.declared.once.Once.{Once}
+use Rattle.rt_sink.specs.declared.once.Once.TheVariants.{Made, Interrupted, Failed}
+
+-- a fact of what a read, write or flush gave
+abbrev pub IfMade : {A : Type 0} → Once A → (A → Type 0) → Type 0
+IfMade (Made what) fact = fact what
+IfMade Interrupted fact = Unit {0}
+IfMade Failed fact = Unit {0}
+
+-- a fact of one that gave nothing
+abbrev pub IfNotMade : {A : Type 0} → Once A → Type 0 → Type 0
+IfNotMade (Made what) fact = Unit {0}
+IfNotMade Interrupted fact = fact
+IfNotMade Failed fact = fact
+
+-- a fact of one that a signal interrupted
+abbrev pub IfInterrupted : {A : Type 0} → Once A → Type 0 → Type 0
+IfInterrupted (Made what) fact = Unit {0}
+IfInterrupted Interrupted fact = fact
+IfInterrupted Failed fact = Unit {0}
+
+-- a fact of one that failed
+abbrev pub IfFailed : {A : Type 0} → Once A → Type 0 → Type 0
+IfFailed (Made what) fact = Unit {0}
+IfFailed Interrupted fact = Unit {0}
+IfFailed Failed fact = fact
+
+-- so many tries in a row were interrupted, and lead from one state to the other
+abbrev pub AreInterrupted : {S : Type 0} → (S → S → Type 0) → ℕ → S → S → Type 0
+AreInterrupted interrupts zero old new = new ≡ old
+AreInterrupted {S} interrupts (suc more) old new = (between : S) × AreInterrupted interrupts more old between × interrupts between new
+
+-- fewer than 1000 tries in a row were interrupted, and the one after them failed
+pub record FailsAfter {S : Type 0} (interrupts fails : S → S → Type 0) (old new : S) : Type 0 where
+  pub count : ℕ
+  pub few : count < 1000
+  pub between : S
+  pub interrupted : AreInterrupted interrupts count old between
+  pub failed : fails between new
+
+-- a try failed, or 1000 in a row were interrupted
+abbrev pub HasFailed : {S : Type 0} → (S → S → Type 0) → (S → S → Type 0) → S → S → Type 0
+HasFailed interrupts fails old new = FailsAfter interrupts fails old new ⊎ AreInterrupted interrupts 1000 old new
+
+-- the device has just failed, and nothing was tried behind that
+abbrev pub HasJustFailed : {S : Type 0} → (S → S → Type 0) → (S → S → Type 0) → S → Type 0
+HasJustFailed {S} interrupts fails new = (from : S) × HasFailed interrupts fails from new
