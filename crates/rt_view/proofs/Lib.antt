@@ -1,4 +1,10 @@
 pub mod ClockSteps
 pub mod PercentileLemmas
+pub mod PollSteps
 pub mod SpanSteps
+pub mod StorySteps
 pub mod SummaryLemmas
+pub mod Rows
+pub mod SummariesRefused
+pub mod Tables
+pub mod WatchSteps

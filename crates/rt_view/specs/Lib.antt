@@ -3,3 +3,10 @@ pub mod Spans
 pub mod Waits
 pub mod Percentiles
 pub mod Summaries
+pub mod Histograms
+pub mod Shares
+pub mod Watches
+pub mod Polls
+pub mod Stories
+pub mod Rows
+pub mod BadSummaries

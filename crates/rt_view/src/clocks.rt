@@ -4,6 +4,8 @@ ghost use Rattle.std.specs.Prelude.{◌≡◌, ℕ, []};
 ghost use Rattle.rt_view.specs.Clocks.{clock_of, clock_run, clock_after};
 
 use rt_ids::Note;
+use rt_journal_facts::note_at;
+use rt_journal_notes::Journal;
 
 /// How far a core came: its turns, and the processor time of the polls that it settled, in nanoseconds.
 ///
@@ -40,4 +42,16 @@ impl Clock {
     {
         self.time = self.time.saturating_add(rt_shares::clamped(time) as u128);
     }
+}
+
+/// How far a core came, by its journal.
+pub fn clock_of(journal: &Journal<u64>) -> Clock
+    ensures { result ≡ clock_of journal.now.notes }
+{
+    let mut clock = Clock::new();
+    for place in 0..journal.len() {
+        let note = note_at(journal, place);
+        clock.add(&note);
+    }
+    clock
 }

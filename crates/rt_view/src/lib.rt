@@ -2,13 +2,21 @@
 #![tactic(auto)]
 
 pub mod clocks;
+pub mod laws;
 pub mod percentiles;
+pub mod polls;
+pub mod shares;
 pub mod spans;
+pub mod stories;
 pub mod summaries;
 pub mod waits;
+pub mod watches;
 
-pub use clocks::Clock;
+pub use clocks::{Clock, clock_of};
 pub use percentiles::Percentiles;
+pub use polls::{Picked, Poll, settled_polls};
+pub use shares::{CoreShares, QueueShare};
 pub use spans::Span;
-pub use summaries::{Measure, Summary, summarize};
+pub use stories::{Chapter, Part, StoryWalk};
+pub use summaries::{Measure, Summary, count_within, summarize};
 pub use waits::{JobSpans, job_spans};

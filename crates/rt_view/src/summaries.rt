@@ -1,6 +1,7 @@
 //! What is told of many spans.
 
 ghost use Rattle.std.specs.Prelude.{◌≡◌, ◌<◌, length, IfOk};
+ghost use Rattle.rt_view.specs.Histograms as histograms;
 ghost use Rattle.rt_view.specs.Summaries as spec;
 
 use crate::percentiles::{Percentiles, first_greatest, percentiles_of};
@@ -70,4 +71,21 @@ pub fn summarize(
         greatest: measure.of(&longest),
         longest,
     }))
+}
+
+/// How many of these spans are so long: at least `from` and at most `to`.
+pub fn count_within(spans: &[Span], measure: Measure, from: u128, to: u128) -> usize
+    ensures { result ≡ histograms.count_within measure from to spans.now }
+{
+    spans
+        .iter()
+        .filter(|span| is_within(measure.of(span), from, to))
+        .count()
+}
+
+/// Whether a number is within this range.
+fn is_within(number: u128, from: u128, to: u128) -> bool
+    ensures { result ≡ histograms.is_within number from to }
+{
+    from <= number && number <= to
 }

@@ -1,0 +1,4 @@
+mod Adds
+mod Answered
+mod Reasons
+mod Rows

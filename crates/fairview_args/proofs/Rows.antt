@@ -1,0 +1,33 @@
+-- The rows, by computation.
+use Rattle.std.proofs.Common.{refl}
+use Rattle.clap.proofs.OnLiterals.{clap_on_literals}
+use Rattle.fairview_args.specs.Asks.{asks_of}
+use Rattle.fairview_args.specs.CommandLine.{csv_app, our_app, program_app, share_app, wait_app, why_app, with_tables}
+use Rattle.fairview_args.specs.Rows.{AreAsked, AreRefused}
+
+pub asked_rows : AreAsked
+unfolding clap_on_literals asks_of our_app with_tables program_app wait_app share_app why_app csv_app
+asked_rows = record {
+  wait = (refl, refl);
+  wait_plain = (refl, refl);
+  share = (refl, refl);
+  share_plain = (refl, refl);
+  share_csv = (refl, refl);
+  why = (refl, refl);
+  why_file = (refl, refl);
+  csv = (refl, refl);
+}
+
+pub refused_rows : AreRefused
+unfolding clap_on_literals our_app with_tables program_app wait_app share_app why_app csv_app
+refused_rows = record {
+  nothing = (refl, refl);
+  unknown = (refl, refl);
+  two_files = (refl, refl);
+  twice = (refl, refl);
+  flag_of_share = (refl, refl);
+  no_name = (refl, refl);
+  help = (refl, refl);
+  help_of_why = (refl, refl);
+  version = (refl, refl);
+}

@@ -1,0 +1,50 @@
+-- What the words of a command line ask for.
+use Rattle.std.specs.Prelude.{Bool, false, List, Option, if◌then◌else◌, codes, option_map}
+use Rattle.std.specs.Option.{option_map_or}
+use Rattle.std.specs.Str.{bytes_eq}
+use Rattle.clap.specs.Words.{Row, Text, subcommand_of}
+use Rattle.clap.specs.Walk.{first_of}
+use Rattle.fairview_args.specs.CommandLine.{our_app}
+use Rattle.fairview_args.specs.declared.asked.Asked.{Asked}
+use Rattle.fairview_args.specs.declared.asked.What.{What}
+use Rattle.fairview_args.specs.declared.asked.What.TheVariants as what
+
+-- what is to be printed; a submission is named by a word
+pub data Wish : Type 0 where
+  Wait : Bool → Wish
+  Share : Bool → Bool → Wish
+  Why : Option Text → Wish
+  Csv : Wish
+
+-- the flag of this name is given: its text is then `true`
+abbrev pub is_given : Text → List Row → Bool
+is_given name rows = option_map_or (λ text. bytes_eq text (codes "true")) (first_of name rows) false
+
+-- what the subcommand of this name prints, with these matches
+abbrev pub what_named : Text → List Row → Wish
+what_named name rows = if bytes_eq name (codes "wait") then Wait (is_given (codes "plain") rows)
+    else (if bytes_eq name (codes "share") then Share (is_given (codes "plain") rows) (is_given (codes "csv") rows)
+    else (if bytes_eq name (codes "why") then Why (first_of (codes "NAME") rows)
+    else Csv))
+
+-- what is to be printed, and the path of the file
+abbrev pub Asking : Type 0
+Asking = Wish × Option Text
+
+-- what a subcommand with these matches asks for
+abbrev pub asks_of_subcommand : Text × List Row → Asking
+asks_of_subcommand found = (what_named found.0 found.1, first_of (codes "FILE") found.1)
+
+-- what the words ask for, the first of which is the program's name
+unfoldable pub asks_of : List Text → Option Asking
+asks_of words = option_map asks_of_subcommand (subcommand_of our_app words)
+
+-- the same, as `parse` answers it
+abbrev pub what_told : What → Wish
+what_told (what.Wait plain) = Wait plain
+what_told (what.Share plain csv) = Share plain csv
+what_told (what.Why name) = Why (option_map (λ word. word.now) name)
+what_told what.Csv = Csv
+
+abbrev pub asks_told : Asked → Asking
+asks_told asked = (what_told asked.what, option_map (λ path. path.now) asked.file)

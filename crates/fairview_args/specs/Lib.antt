@@ -1,0 +1,4 @@
+pub mod Asks
+pub mod CommandLine
+pub mod Refusals
+pub mod Rows

@@ -1,0 +1,59 @@
+-- Command lines, and what each asks for or why it is refused.
+use Rattle.std.specs.Prelude.{◌≡◌, [], ◌∷◌, true, false, List, Option, Some, None, codes}
+use Rattle.clap.specs.Words.{Text, fault_of, takes}
+use Rattle.clap.specs.Kinds.{Kinds}
+use Rattle.clap.specs.declared.error.kind.ErrorKind.TheVariants as kind
+use Rattle.fairview_args.specs.Asks.{Wish, Wait, Share, Why, Csv, asks_of}
+use Rattle.fairview_args.specs.CommandLine.{our_app}
+
+-- the words of a command line, behind the program's name
+abbrev pub fairview : List Text → List Text
+fairview words = codes "fairview" ∷ words
+
+-- the words are taken, and ask for this
+abbrev pub IsAsked : List Text → Wish → Option Text → Type 0
+IsAsked words wish file = (takes our_app words ≡ true) × (asks_of words ≡ Some (wish, file))
+
+-- the words are not taken, and have one of these faults
+abbrev pub IsRefused : List Text → Kinds → Type 0
+IsRefused words faults = (takes our_app words ≡ false) × (fault_of our_app words ≡ faults)
+
+-- command lines that are taken
+pub record AreAsked : Type 0 where
+  -- fairview wait
+  pub wait : IsAsked (fairview (codes "wait" ∷ [])) (Wait false) None
+  -- fairview wait x --plain: a flag may come behind the file
+  pub wait_plain : IsAsked (fairview (codes "wait" ∷ codes "x" ∷ codes "--plain" ∷ [])) (Wait true) (Some (codes "x"))
+  -- fairview share x
+  pub share : IsAsked (fairview (codes "share" ∷ codes "x" ∷ [])) (Share false false) (Some (codes "x"))
+  -- fairview share --plain
+  pub share_plain : IsAsked (fairview (codes "share" ∷ codes "--plain" ∷ [])) (Share true false) None
+  -- fairview share --csv -- --plain: what follows `--` is a file
+  pub share_csv : IsAsked (fairview (codes "share" ∷ codes "--csv" ∷ codes "--" ∷ codes "--plain" ∷ [])) (Share false true) (Some (codes "--plain"))
+  -- fairview why 0>1#2
+  pub why : IsAsked (fairview (codes "why" ∷ codes "0>1#2" ∷ [])) (Why (Some (codes "0>1#2"))) None
+  -- fairview why 0>1#2 -: a file named `-` is a file
+  pub why_file : IsAsked (fairview (codes "why" ∷ codes "0>1#2" ∷ codes "-" ∷ [])) (Why (Some (codes "0>1#2"))) (Some (codes "-"))
+  -- fairview csv share: the name of a subcommand is a file here
+  pub csv : IsAsked (fairview (codes "csv" ∷ codes "share" ∷ [])) Csv (Some (codes "share"))
+
+-- command lines that are not taken
+pub record AreRefused : Type 0 where
+  -- fairview
+  pub nothing : IsRefused (fairview []) (kind.MissingSubcommand ∷ [])
+  -- fairview go
+  pub unknown : IsRefused (fairview (codes "go" ∷ [])) (kind.UnknownArgument ∷ kind.InvalidSubcommand ∷ [])
+  -- fairview wait a b
+  pub two_files : IsRefused (fairview (codes "wait" ∷ codes "a" ∷ codes "b" ∷ [])) (kind.UnknownArgument ∷ [])
+  -- fairview share --csv --csv
+  pub twice : IsRefused (fairview (codes "share" ∷ codes "--csv" ∷ codes "--csv" ∷ [])) (kind.ArgumentConflict ∷ [])
+  -- fairview wait --csv
+  pub flag_of_share : IsRefused (fairview (codes "wait" ∷ codes "--csv" ∷ [])) (kind.UnknownArgument ∷ [])
+  -- fairview why
+  pub no_name : IsRefused (fairview (codes "why" ∷ [])) (kind.MissingRequiredArgument ∷ [])
+  -- fairview --help
+  pub help : IsRefused (fairview (codes "--help" ∷ [])) (kind.DisplayHelp ∷ [])
+  -- fairview why -h
+  pub help_of_why : IsRefused (fairview (codes "why" ∷ codes "-h" ∷ [])) (kind.DisplayHelp ∷ [])
+  -- fairview -V
+  pub version : IsRefused (fairview (codes "-V" ∷ [])) (kind.DisplayVersion ∷ [])

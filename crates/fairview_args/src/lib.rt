@@ -1,0 +1,8 @@
+//! The command line of the program fairview, and what it asks for.
+#![tactic(auto)]
+
+mod asked;
+mod command;
+pub mod laws;
+
+pub use asked::{Asked, Unasked, What, parse};

@@ -1,0 +1,15 @@
+-- What is known of queues after one more note.
+use Rattle.std.proofs.Common.{◌≡◌, ℕ, ◌+◌, ◌<◌, min, length, ◌∙◌, ap}
+use Rattle.rt_ids.specs.declared.note.Note.TheVariants.{Pick}
+use Rattle.rt_ids.specs.Journal.{Journal}
+use Rattle.rt_ids.specs.Picks.{turns}
+use Rattle.rt_journal_facts.specs.Accounts.{greatest_count}
+use Rattle.rt_view.specs.Clocks.{clock_of}
+use Rattle.rt_view.proofs.ClockSteps.{clock_next}
+use Rattle.rt_view.specs.declared.clocks.Clock.{Clock}
+
+-- the next turn has the next number
+pub next_turn : {T : Type 0} (before : Journal T) (clock : Clock) (turn : ℕ) → length before < greatest_count →
+    turn ≡ min (clock.turns + 1) greatest_count → clock ≡ clock_of before → turn ≡ turns before + 1
+next_turn before clock turn short is known =
+    is ∙ (ap (λ (clock : Clock). min (clock.turns + 1) greatest_count) known ∙ ap (λ (clock : Clock). clock.turns) (clock_next (Pick 0 0) before short))

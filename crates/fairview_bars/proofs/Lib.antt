@@ -1,0 +1,3 @@
+pub mod PollSteps
+pub mod LeadSteps
+pub mod LeadLaws

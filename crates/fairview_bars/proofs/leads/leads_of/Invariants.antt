@@ -1,0 +1,11 @@
+-- The leads are those of the notes so far.
+use Rattle.std.proofs.Common.{◌≡◌}
+use Rattle.rt_ids.specs.Journal.{at_place}
+use Rattle.fairview_bars.specs.Leads.{leads, KnowsStanding}
+use Rattle.fairview_bars.proofs.leads.leads_of.Given as goal
+
+abbrev pub invariant-loop-place : goal.invariant-loop-place
+invariant-loop-place l = record {
+  standing : KnowsStanding l.standing (at_place l.place l.journal.notes);
+  told : l.told.items ≡ leads l.first l.second (at_place l.place l.journal.notes);
+}

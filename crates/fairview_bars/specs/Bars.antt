@@ -1,0 +1,44 @@
+-- The bars of a core: its settled polls, one behind another on the clock of its processor time.
+use Rattle.std.specs.Prelude.{◌≡◌, ℕ, Bool, true, false, Option, Some, None, option_map, List, [], ◌∷◌}
+use Rattle.rt_shares.specs.Charge.{clamped}
+use Rattle.rt_ids.specs.declared.names.JobId.{JobId}
+use Rattle.rt_ids.specs.declared.note.Note.{Note}
+use Rattle.rt_ids.specs.declared.note.Note.TheVariants.{Yield, Done}
+use Rattle.rt_ids.specs.Journal.{Journal, with_last}
+use Rattle.rt_ids.specs.Picks.{turns}
+use Rattle.rt_ids.specs.Work.{queue_of}
+use Rattle.rt_journal_facts.specs.Names.{known}
+use Rattle.rt_view.specs.Clocks.{busy_time, clock_of}
+use Rattle.fairview_bars.specs.declared.polls.Bar.{Bar}
+use Rattle.fairview_bars.specs.declared.polls.Polls.{Polls}
+
+-- a poll that took that time: it starts where the polls before it end
+abbrev pub bar : {T : Type 0} → JobId → ℕ → Bool → Journal T → Bar
+bar name time done before = record {
+  turn = turns before;
+  queue = queue_of name before;
+  name = name;
+  start = busy_time before;
+  time = clamped time;
+  done = done;
+}
+
+-- the poll that a note settles: its job, the time that it took, and whether the job is done
+abbrev pub settled : {T : Type 0} → Note T → Option (JobId × ℕ × Bool)
+settled (Yield name time) = Some (name, time, false)
+settled (Done name time value) = Some (name, time, true)
+settled _ = None
+
+-- a note that settles a poll has a bar
+abbrev pub bar_told : {T : Type 0} → Note T → Journal T → Option Bar
+bar_told note before = option_map (λ poll. bar poll.0 poll.1 poll.2 before) (settled note)
+
+-- the bars of a journal, the oldest first
+abbrev pub bars : {T : Type 0} → Journal T → List Bar
+bars [] = []
+bars (note ∷ before) = with_last (bars before) (bar_told note before)
+
+-- the clock and the queues of jobs are those of these notes
+pub record KnowsPolls {T : Type 0} (polls : Polls) (journal : Journal T) : Type 0 where
+  pub clock : polls.clock ≡ clock_of journal
+  pub queues : (name : JobId) → known polls.queues name ≡ queue_of name journal

@@ -1,0 +1,75 @@
+-- The leads of two queues of a core: how far their virtual runtimes are apart where a turn begins.
+use Rattle.std.specs.Prelude.{◌≡◌, ℕ, ◌+◌, ◌-◌, min, Bool, ◌&&◌, if◌then◌else◌, Option, Some, None, List, [], ◌∷◌, map, slice_get}
+use Rattle.rt_ids.specs.declared.note.Note.{Note}
+use Rattle.rt_ids.specs.declared.note.Note.TheVariants.{Pick}
+use Rattle.rt_ids.specs.Journal.{Journal, with_last}
+use Rattle.rt_ids.specs.Lag.{greatest_charge}
+use Rattle.rt_ids.specs.Picks.{turns}
+use Rattle.rt_ids.specs.Runtimes.{virtual_runtime}
+use Rattle.rt_ids.specs.Work.{has_work}
+use Rattle.rt_journal_facts.specs.Accounts.{greatest_runtime}
+use Rattle.rt_journal_facts.specs.AllAccounts.{KnowsAccounts}
+use Rattle.rt_stats.specs.Walks.{KnowsQueues, KnowsTallies}
+use Rattle.rt_view.specs.Clocks.{clock_of}
+use Rattle.rt_view.specs.Percentiles.{IsFirstGreatest}
+use Rattle.fairview_bars.specs.declared.standing.Lead.{Lead}
+use Rattle.fairview_bars.specs.declared.standing.Standing.{Standing}
+
+-- a virtual runtime, or the greatest one that is told
+abbrev pub runtime_told : {T : Type 0} → ℕ → Journal T → ℕ
+runtime_told queue journal = min (virtual_runtime queue journal) greatest_runtime
+
+-- two queues have work
+abbrev pub are_together : {T : Type 0} → ℕ → ℕ → Journal T → Bool
+are_together first second before = has_work first before && has_work second before
+
+-- where the next turn begins, two queues lead as their virtual runtimes say
+abbrev pub lead : {T : Type 0} → ℕ → ℕ → Journal T → Lead
+lead first second before = record {
+  turn = turns before + 1;
+  first = runtime_told first before;
+  second = runtime_told second before;
+  first_most = greatest_charge first before;
+  second_most = greatest_charge second before;
+}
+
+-- a lead is told only of queues that both have work
+abbrev pub lead_of : {T : Type 0} → ℕ → ℕ → Journal T → Option Lead
+lead_of first second before = if are_together first second before then Some (lead first second before) else None
+
+-- the lead before a pick
+abbrev pub lead_told : {T : Type 0} → ℕ → ℕ → Note T → Journal T → Option Lead
+lead_told first second (Pick queue runtime) before = lead_of first second before
+lead_told first second _ before = None
+
+-- the leads of two queues, the oldest first: one for each pick before which both have work
+abbrev pub leads : {T : Type 0} → ℕ → ℕ → Journal T → List Lead
+leads first second [] = []
+leads first second (note ∷ before) = with_last (leads first second before) (lead_told first second note before)
+
+-- how far the first queue is above the second
+abbrev pub ahead : Lead → ℕ
+ahead lead = lead.first - lead.second
+
+-- how far the first queue is below the second
+abbrev pub behind : Lead → ℕ
+behind lead = lead.second - lead.first
+
+-- how far the two are apart
+abbrev pub apart : Lead → ℕ
+apart lead = ahead lead + behind lead
+
+abbrev pub distances : List Lead → List ℕ
+distances leads = map apart leads
+
+-- of no lead nothing is told, else the first in which the queues are the furthest apart
+abbrev pub IsGreatestLead : List Lead → Option Lead → Type 0
+IsGreatestLead leads None = leads ≡ []
+IsGreatestLead leads (Some lead) = (place : ℕ) × (slice_get leads place ≡ Some lead) × IsFirstGreatest place (distances leads)
+
+-- the clock, the queues of jobs, and the accounts and tallies of queues are those of these notes
+pub record KnowsStanding {T : Type 0} (standing : Standing) (journal : Journal T) : Type 0 where
+  pub clock : standing.clock ≡ clock_of journal
+  pub queues : KnowsQueues standing.queues journal
+  pub accounts : KnowsAccounts standing.accounts journal
+  pub tallies : KnowsTallies standing.tallies journal

@@ -1,0 +1,104 @@
+//! What a walk over a journal knows of its queues.
+
+ghost use Rattle.std.specs.Prelude.{◌≡◌, ◌<◌, ◌∷◌, ℕ, [], length, OnOk};
+ghost use Rattle.rt_ids.specs.Journal.{Journal as Notes};
+ghost use Rattle.rt_journal_facts.specs.Accounts.{greatest_count};
+ghost use Rattle.fairview_bars.specs.Leads as spec;
+
+use rt_ids::{Note, QueueNo};
+use rt_journal_facts::told::queue_told;
+use rt_journal_facts::{Accounts, NameTable};
+use rt_stats::tally::{Tallies, queue_noted, queue_touched};
+use rt_view::Clock;
+use std::alloc::{AllocError, Global};
+
+/// The virtual runtimes of two queues that have work, at the beginning of a turn, and the greatest charge of each so far.
+#[derive(Clone, Copy)]
+pub struct Lead {
+    /// Which turn of the core begins, counted from 1.
+    pub turn: u64,
+    pub first: u128,
+    pub second: u128,
+    pub first_most: u64,
+    pub second_most: u64,
+}
+
+/// Of the notes that were read: the clock, the queue of each job, and the account and the tally of each queue.
+#[derive(Drop)]
+pub struct Standing {
+    clock: Clock,
+    queues: NameTable<QueueNo>,
+    accounts: Accounts,
+    tallies: Tallies,
+}
+
+impl Standing {
+    /// No note was read.
+    pub fn new(alloc: Global) -> Self
+        ensures { spec.KnowsStanding {T = ℕ} result [] }
+    {
+        Standing {
+            clock: Clock::new(),
+            queues: NameTable::new(alloc),
+            accounts: Accounts::new(),
+            tallies: Tallies::new(),
+        }
+    }
+
+    /// Reads the next note.
+    ///
+    /// # Errors
+    ///
+    /// `AllocError` for want of memory; then nothing is known any more.
+    pub fn add(&mut self, note: &Note<u64>) -> Result<(), AllocError>
+        ensures { OnOk result ((before : Notes ℕ) → length before < greatest_count → spec.KnowsStanding self.old before → spec.KnowsStanding self.new (note.now ∷ before)) }
+    {
+        let queue = queue_noted(note, &self.queues);
+        let touched = queue_touched(note, &queue);
+        self.clock.add(note);
+        self.tallies.add(note, &queue, &self.accounts);
+        self.accounts.add(note, touched);
+        self.queues.set_told(queue_told(note))
+    }
+
+    /// Whether both queues have work.
+    fn are_together(&self, first: QueueNo, second: QueueNo) -> bool
+        ensures { (before : Notes ℕ) → spec.KnowsStanding self.now before → result ≡ spec.are_together first second before }
+    {
+        self.accounts.of(first).has_jobs() && self.accounts.of(second).has_jobs()
+    }
+
+    /// The lead of two queues.
+    fn lead_between(&self, first: QueueNo, second: QueueNo) -> Lead
+        ensures { (before : Notes ℕ) → length before < greatest_count → spec.KnowsStanding self.now before → result ≡ spec.lead first second before }
+    {
+        Lead {
+            turn: self.clock.turns.saturating_add(1),
+            first: self.accounts.of(first).virtual_runtime,
+            second: self.accounts.of(second).virtual_runtime,
+            first_most: self.tallies.of(first).greatest,
+            second_most: self.tallies.of(second).greatest,
+        }
+    }
+
+    /// The lead of two queues, if both have work.
+    fn lead_of(&self, first: QueueNo, second: QueueNo) -> Option<Lead>
+        ensures { (before : Notes ℕ) → length before < greatest_count → spec.KnowsStanding self.now before → result ≡ spec.lead_of first second before }
+    {
+        if self.are_together(first, second) {
+            Some(self.lead_between(first, second))
+        } else {
+            None
+        }
+    }
+
+    /// The lead of two queues where the next note begins a turn, if both have work.
+    pub fn lead(&self, first: QueueNo, second: QueueNo, note: &Note<u64>) -> Option<Lead>
+        ensures { (before : Notes ℕ) → length before < greatest_count → spec.KnowsStanding self.now before → result ≡ spec.lead_told first second note.now before }
+    {
+        match *note {
+            Note::Pick(_, _) => self.lead_of(first, second),
+            _ => None,
+        }
+    }
+}

@@ -1,0 +1,39 @@
+//! The leads of the journal.
+
+use crate::texts::JOURNAL;
+use fairview_bars::{bars_of, greatest_lead, leads_of};
+use rt_ids::{ActorNo, QueueNo};
+use rt_journal_read::read_journal;
+use std::alloc::Global;
+
+/// How many leads the two queues of the journal have, and how far the greatest is apart.
+fn greatest(alloc: Global) -> Option<(usize, u128, u64)> {
+    let mut source = JOURNAL.as_bytes();
+    let Ok(assembly) = read_journal(alloc, &mut source) else {
+        return None;
+    };
+    let Ok(leads) = leads_of(alloc, assembly.journal(ActorNo(0)), QueueNo(1), QueueNo(2)) else {
+        return None;
+    };
+    match greatest_lead(alloc, &leads) {
+        Ok(Some(lead)) => Some((leads.len(), lead.apart(), lead.turn)),
+        _ => None,
+    }
+}
+
+/// How many bars the core has.
+fn bar_count(alloc: Global) -> Option<usize> {
+    let mut source = JOURNAL.as_bytes();
+    let Ok(assembly) = read_journal(alloc, &mut source) else {
+        return None;
+    };
+    match bars_of(alloc, assembly.journal(ActorNo(0))) {
+        Ok(bars) => Some(bars.len()),
+        Err(_) => None,
+    }
+}
+
+#[test]
+fn leads_and_bars_are_told(rt: HostRuntime) {
+    assert!(rt; greatest(rt.alloc()) == Some((3, 100, 2)) && bar_count(rt.alloc()) == Some(4));
+}

@@ -1,0 +1,4 @@
+pub mod StoryLemmas
+pub mod TextLemmas
+pub mod ViewLemmas
+pub mod WaitLemmas

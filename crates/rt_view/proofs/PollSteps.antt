@@ -1,0 +1,116 @@
+-- The polls of a core after one more note.
+use Rattle.std.proofs.Common.{◌≡◌, ℕ, ◌+◌, ◌<◌, ◌≤◌, min, Bool, true, false, cond, List, [], ◌∷◌, length, refl, sym, ap, ◌∙◌, arith}
+use Rattle.std.specs.Prelude.{Option, Some, None, option_map, unwrap_or}
+use Rattle.rt_ids.specs.declared.names.JobId.{JobId}
+use Rattle.rt_ids.specs.declared.note.Note.{Note}
+use Rattle.rt_ids.specs.declared.note.Note.TheVariants.{Yield, Done}
+use Rattle.rt_ids.specs.Journal.{Journal, latest_told, or_else, with_last}
+use Rattle.rt_ids.specs.Lines.{name_settled}
+use Rattle.rt_ids.specs.Names.{same_name, is_name}
+use Rattle.rt_ids.specs.Picks.{turns}
+use Rattle.rt_ids.specs.Work.{number_if}
+use Rattle.rt_journal_facts.specs.Accounts.{greatest_count}
+use Rattle.rt_ids.proofs.NameLemmas.{one_name}
+use Rattle.rt_journal_facts.specs.Names.{known}
+use Rattle.rt_view.specs.Clocks.{clock_after, clock_of}
+use Rattle.rt_view.specs.Polls.{KnowsPolls, Settles, SettlesTold, pick_told, poll_told, polls, steps_of, time_told}
+use Rattle.rt_view.specs.declared.clocks.Clock.{Clock}
+use Rattle.rt_view.specs.declared.polls.Picked.{Picked}
+use Rattle.rt_view.specs.declared.polls.Poll.{Poll}
+use Rattle.rt_view.specs.declared.polls.PollWalk.{PollWalk}
+use Rattle.rt_view.proofs.ClockSteps.{clock_next}
+
+-- a note settles the poll of the job whose time it tells
+settled_told : {T : Type 0} (note : Note T) → name_settled note ≡ option_map (λ (told : JobId × ℕ). told.0) (time_told note)
+settled_told (Yield name time) = refl
+settled_told (Done name time value) = refl
+settled_told _ = refl
+
+few : (test : Bool) → number_if test ≤ 1
+few true = omega arith
+few false = omega arith
+
+steps-within : {T : Type 0} (name : JobId) (journal : Journal T) → steps_of name journal ≤ length journal
+steps-within name [] = omega arith
+steps-within name (note ∷ before) = omega (arith, steps-within name before, few (is_name name (name_settled note)))
+
+one_fits : (count notes : ℕ) → count ≤ notes → notes < greatest_count → min (count + 1) greatest_count ≡ count + 1
+one_fits count notes within short = omega arith
+
+still : (count : ℕ) → count ≡ count + 0
+still count = omega arith
+
+-- the steps of a job under the name that is settled
+step_counted : {T : Type 0} (name settled : JobId) (before : Journal T) (old new : ℕ) (test : Bool) → same_name name settled ≡ test → length before < greatest_count →
+    old ≡ steps_of settled before → new ≡ cond test (min (old + 1) greatest_count) (steps_of name before) → new ≡ steps_of name before + number_if test
+step_counted name settled before old new true same short is new_is =
+    let one : steps_of settled before ≡ steps_of name before = ap (λ (it : JobId). steps_of it before) (sym (one_name name settled same)) in
+    new_is ∙ (ap (λ count. min (count + 1) greatest_count) (is ∙ one) ∙ one_fits (steps_of name before) (length before) (steps-within name before) short)
+step_counted name settled before old new false apart short is new_is = new_is ∙ still (steps_of name before)
+
+or_zero : (test : Bool) (step : ℕ) (other : Option ℕ) → unwrap_or (cond test (Some step) other) 0 ≡ cond test step (unwrap_or other 0)
+or_zero true step other = refl
+or_zero false step other = refl
+
+module _ (old mid : PollWalk) (note : Note ℕ) (before : Journal ℕ) (short : length before < greatest_count) (knows : KnowsPolls old before) where
+  abbrev StepsNext : Type 0
+  StepsNext = (name : JobId) → unwrap_or (known mid.steps name) 0 ≡ steps_of name (note ∷ before)
+
+  -- the steps of all jobs
+  steps_next : (told : Option (JobId × ℕ)) → time_told note ≡ told → SettlesTold old mid told → StepsNext
+  steps_next None is goes name =
+      ap (λ (walk : PollWalk). unwrap_or (known walk.steps name) 0) goes
+      ∙ (knows.steps name ∙ (still (steps_of name before) ∙ ap (λ who. steps_of name before + number_if (is_name name who)) (sym (settled_told note ∙ ap (option_map (λ (it : JobId × ℕ). it.0)) is))))
+  steps_next (Some told) is goes name =
+      step_counted name told.0 before (unwrap_or (known old.steps told.0) 0) (unwrap_or (known mid.steps name) 0) (same_name name told.0) refl short (knows.steps told.0)
+      (
+      ap (λ value. unwrap_or value 0) (goes.steps name) ∙
+      (
+      or_zero (same_name name told.0) (min (unwrap_or (known old.steps told.0) 0 + 1) greatest_count) (known old.steps name) ∙
+      ap (cond (same_name name told.0) (min (unwrap_or (known old.steps told.0) 0 + 1) greatest_count)) (knows.steps name)
+      )
+      ) ∙
+      ap (λ who. steps_of name before + number_if (is_name name who)) (sym (settled_told note ∙ ap (option_map (λ (it : JobId × ℕ). it.0)) is))
+
+  -- the step that is counted is the next one
+  next_step : (name : JobId) → min (unwrap_or (known old.steps name) 0 + 1) greatest_count ≡ steps_of name before + 1
+  next_step name = ap (λ count. min (count + 1) greatest_count) (knows.steps name) ∙ one_fits (steps_of name before) (length before) (steps-within name before) short
+
+  abbrev PollsNext : Type 0
+  PollsNext = mid.polls.items ≡ polls (note ∷ before)
+
+  polls_next : (told : Option (JobId × ℕ)) → time_told note ≡ told → SettlesTold old mid told → PollsNext
+  polls_next None is goes =
+      ap (λ (walk : PollWalk). walk.polls.items) goes ∙ (knows.polls ∙ ap (with_last (polls before)) (sym (ap (λ it. poll_told (latest_told pick_told before) it before) is ∙ nothing (latest_told pick_told before))))
+    where
+      nothing : (picked : Option Picked) → poll_told picked None before ≡ None
+      nothing None = refl
+      nothing (Some picked) = refl
+  polls_next (Some told) is goes =
+      goes.polls ∙ ((λ i. with_last (knows.polls i) (listed (knows.picked i) ((knows.clock i).turns) (next_step told.0 i))) ∙
+      ap (with_last (polls before)) (by_pick (latest_told pick_told before) ∙ sym (ap (λ it. poll_told (latest_told pick_told before) it before) is)))
+    where
+      listed : Option Picked → ℕ → ℕ → Option Poll
+      listed picked turn step = option_map (λ pick. record { turn = turn; picked = pick; name = told.0; step = step; time = told.1 }) picked
+
+      by_pick : (picked : Option Picked) → option_map (λ pick. record { turn = turns before; picked = pick; name = told.0; step = steps_of told.0 before + 1; time = told.1 }) picked ≡ poll_told picked (Some told) before
+      by_pick None = refl
+      by_pick (Some picked) = refl
+
+  clock_kept : (told : Option (JobId × ℕ)) → SettlesTold old mid told → mid.clock ≡ old.clock
+  clock_kept None goes = ap (λ (walk : PollWalk). walk.clock) goes
+  clock_kept (Some told) goes = goes.clock
+
+  pick_kept : (told : Option (JobId × ℕ)) → SettlesTold old mid told → mid.picked ≡ old.picked
+  pick_kept None goes = ap (λ (walk : PollWalk). walk.picked) goes
+  pick_kept (Some told) goes = goes.picked
+
+  -- all that is known after one more note
+  pub walk_next : (told : Option (JobId × ℕ)) (clock : Clock) (picked : Option Picked) → told ≡ time_told note → SettlesTold old mid told →
+      clock ≡ clock_after note mid.clock → picked ≡ or_else (pick_told note) mid.picked → KnowsPolls (record mid { clock = clock; picked = picked }) (note ∷ before)
+  walk_next told clock picked is goes clock_is picked_is = record {
+    clock = clock_is ∙ (ap (clock_after {T = ℕ} note) (clock_kept told goes ∙ knows.clock) ∙ clock_next note before short);
+    picked = picked_is ∙ ap (or_else (pick_told note)) (pick_kept told goes ∙ knows.picked);
+    steps = steps_next told (sym is) goes;
+    polls = polls_next told (sym is) goes;
+  }

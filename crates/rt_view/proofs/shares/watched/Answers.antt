@@ -1,0 +1,25 @@
+use Rattle.std.proofs.Common.{ℕ, ◌<◌, List, get_or, length, sym, subst, arith}
+use Rattle.rt_ids.specs.Journal.{Journal, at_place}
+use Rattle.rt_journal_facts.specs.Accounts.{greatest_count}
+use Rattle.rt_journal_facts.proofs.Walks.{at_start, whole_walk}
+use Rattle.rt_view.specs.Watches.{KnowsWatch, KnowsWatches, no_watch}
+use Rattle.rt_view.specs.declared.watches.Watch.{Watch}
+use Rattle.rt_view.proofs.ClockSteps.{length-at_place}
+use Rattle.rt_view.proofs.shares.watched.Goals as goal
+
+pub loop-place-init : goal.loop-place-init
+loop-place-init c =
+    subst (λ (journal : Journal ℕ). KnowsWatches c.new-all.result journal) (sym (at_start c.args.journal.now.notes)) c.new-all.ensures
+
+pub loop-place-preserved : goal.loop-place-preserved
+loop-place-preserved c =
+    let notes = c.args.journal.now.notes in
+    let before = at_place c.loop-place.place notes in
+    let short : length before < greatest_count = omega (arith, length-at_place c.loop-place.place notes, c.len-place-end.ensures.value, c.len-place-end.ensures.limits) in
+    subst (λ (journal : Journal ℕ). KnowsWatches c.add.new.self journal) (sym c.note_at-note.ensures) (c.in_ok-add.ensures before short c.loop-place.invariant)
+
+pub returns : goal.returns
+returns c =
+    let notes = c.args.journal.now.notes in
+    let known = whole_walk (λ (journal : Journal ℕ). KnowsWatches c.loop-place.all journal) notes c.loop-place.place (omega arith) c.loop-place.invariant in
+    λ queue less. subst (λ (each : List Watch). KnowsWatch queue (get_or each queue no_watch) notes) (sym c.into_each.ensures) (known.each queue less)

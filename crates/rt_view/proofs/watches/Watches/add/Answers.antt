@@ -1,0 +1,31 @@
+use Rattle.std.proofs.Common.{◌∷◌, get_or}
+use Rattle.std.proofs.lemmas.Result.{on_ok_weaker}
+use Rattle.rt_ids.specs.Limits.{most_queues}
+use Rattle.rt_stats.proofs.SumSteps.{queues_next}
+use Rattle.rt_view.specs.Watches.{no_watch}
+use Rattle.rt_view.proofs.WatchSteps.{busy_known, below_known, waiting_known, watch_next}
+use Rattle.rt_view.proofs.watches.Watches.add.Goals as goal
+
+pub returns : goal.returns
+returns c =
+    on_ok_weaker c.set_told.result
+    (
+    λ sets before short knows.
+    let note = c.args.note.now in
+    let old = c.args.self.now in
+    let noted = c.queue_noted-queue.ensures before knows.queues in
+    let accounts = c.add-2.ensures before (c.queue_touched-touched.ensures before noted) short knows.accounts in
+    let tallies = c.add.ensures before noted short knows.accounts knows.tallies in
+    record {
+      queues = queues_next old.queues c.set_told.new.self note before (rw c.queue_told.ensures at sets) knows.queues;
+      accounts = accounts;
+      tallies = tallies;
+      each =
+          λ queue less.
+          watch_next queue note before (get_or old.each queue no_watch) (get_or c.owe_all.new.each queue no_watch) (get_or c.see_all.new.each queue no_watch) _ _ _ _
+          c.settled_time.ensures (busy_known old.accounts before knows.accounts queue) (below_known old.accounts before knows.accounts most_queues)
+          (waiting_known c.add-2.new.self (note ∷ before) accounts c.add.new.self tallies queue) (c.owe_all.ensures queue less) (c.see_all.ensures queue less)
+          (knows.each queue less);
+    }
+    )
+    c.set_told.ensures

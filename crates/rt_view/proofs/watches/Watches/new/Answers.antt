@@ -1,0 +1,16 @@
+use Rattle.std.proofs.Common.{get_or, replicate, ℕ, ap}
+use Rattle.rt_journal_facts.specs.Names.{Entries, known}
+use Rattle.rt_stats.proofs.Tables.{all_alike}
+use Rattle.rt_view.specs.Watches.{no_watch}
+use Rattle.rt_view.proofs.WatchSteps.{none_watched}
+use Rattle.rt_view.proofs.watches.Watches.new.Goals as goal
+
+pub returns : goal.returns
+returns c = record {
+  queues = λ name. ap (λ (entries : Entries ℕ). known entries name) c.new.ensures;
+  accounts = c.new-2.ensures;
+  tallies = c.new-3.ensures;
+  each =
+      λ queue less.
+      none_watched queue (get_or (replicate 256 c.new-4.result) queue no_watch) (all_alike 256 queue c.new-4.result no_watch c.new-4.ensures);
+}

@@ -1,0 +1,62 @@
+-- A worked row: two jobs of two queues with equal shares, with all numbers on paper.
+use Rattle.std.specs.Prelude.{◌≡◌, ℕ, List, [], ◌∷◌}
+use Rattle.rt_ids.specs.declared.names.JobId.{JobId}
+use Rattle.rt_ids.specs.declared.note.Note.TheVariants.{Took, Pick, Start, Resume, Yield, Done}
+use Rattle.rt_ids.specs.Journal.{Journal}
+use Rattle.rt_view.specs.Polls.{polls}
+use Rattle.rt_view.specs.Shares.{due, most_waiting}
+use Rattle.rt_view.specs.Stories.{chapters}
+use Rattle.rt_view.specs.Waits.{waits, runs}
+use Rattle.rt_view.specs.declared.clocks.Clock.{Clock}
+use Rattle.rt_view.specs.declared.polls.Poll.{Poll}
+use Rattle.rt_view.specs.declared.spans.Span.{Span}
+use Rattle.rt_view.specs.declared.stories.Chapter.{Chapter}
+use Rattle.rt_view.specs.declared.stories.Part.TheVariants.{Serving}
+
+-- two jobs of one sender
+abbrev pub job : ℕ → JobId
+job number = record { from = 0; to = 0; number = number }
+
+-- both enter, the first in queue 0 and the second in queue 1; the first is polled twice and the second once
+abbrev pub entered : Journal ℕ
+entered = Took (job 2) 1 ∷ Took (job 1) 0 ∷ []
+
+abbrev pub first_poll : Journal ℕ
+first_poll = Yield (job 1) 30 ∷ Start (job 1) ∷ Pick 0 0 ∷ entered
+
+abbrev pub second_poll : Journal ℕ
+second_poll = Done (job 2) 20 5 ∷ Start (job 2) ∷ Pick 1 0 ∷ first_poll
+
+abbrev pub row : Journal ℕ
+row = Done (job 1) 10 7 ∷ Resume (job 1) ∷ Pick 0 30 ∷ second_poll
+
+abbrev pub span_row : ℕ → ℕ → ℕ → Span
+span_row number turns time = record { name = job number; turns = turns; time = time }
+
+abbrev pub clock_row : ℕ → ℕ → Clock
+clock_row turns time = record { turns = turns; time = time }
+
+abbrev pub poll_row : ℕ → ℕ → ℕ → ℕ → ℕ → ℕ → Poll
+poll_row turn queue runtime number step time =
+    record { turn = turn; picked = record { queue = queue; virtual_runtime = runtime }; name = job number; step = step; time = time }
+
+-- the notes of the second job, with their places and clocks
+abbrev pub second_story : List Chapter
+second_story =
+    record { place = 2; from = clock_row 0 0; clock = clock_row 0 0; note = Took (job 2) 1 }
+    ∷ record { place = 7; from = clock_row 0 0; clock = clock_row 2 30; note = Start (job 2) }
+    ∷ record { place = 8; from = clock_row 2 30; clock = clock_row 2 50; note = Done (job 2) 20 5 } ∷ []
+
+-- what the definitions say of the row
+pub record RowsHold : Type 0 where
+  pub waited : waits row ≡ span_row 1 1 0 ∷ span_row 2 2 30 ∷ []
+  pub ran : runs row ≡ span_row 2 0 20 ∷ span_row 1 2 60 ∷ []
+  -- half of 30 and of 20, and all of the last 10
+  pub first_due : due 0 row ≡ 35000
+  -- half of 30 and of 20; from then on it has no work
+  pub second_due : due 1 row ≡ 25000
+  pub third_due : due 2 row ≡ 0
+  pub most : most_waiting 0 row ≡ 1
+  pub nobody : most_waiting 2 row ≡ 0
+  pub polled : polls row ≡ poll_row 1 0 0 1 1 30 ∷ poll_row 2 1 0 2 1 20 ∷ poll_row 3 0 30 1 2 10 ∷ []
+  pub told : chapters Serving (job 2) row ≡ second_story

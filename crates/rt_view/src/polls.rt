@@ -1,0 +1,149 @@
+//! The polls of a core, each with its turn.
+
+ghost use Rattle.std.specs.Prelude.{◌≡◌, ◌<◌, ◌∷◌, ℕ, [], length, OnOk, IfOk};
+ghost use Rattle.rt_ids.specs.Journal.{Journal as Notes, or_else, latest_told};
+ghost use Rattle.rt_journal_facts.specs.Accounts.{greatest_count};
+ghost use Rattle.rt_view.specs.Polls as spec;
+
+use crate::clocks::Clock;
+use rt_ids::{JobId, Note, QueueNo};
+use rt_journal_facts::{NameTable, note_at};
+use rt_journal_notes::Journal;
+use std::alloc::{AllocError, Global};
+
+/// A queue that was picked, with its virtual runtime before the poll.
+#[derive(Clone, Copy)]
+pub struct Picked {
+    pub queue: QueueNo,
+    pub virtual_runtime: u128,
+}
+
+/// A settled poll: the turn in which it ran, counted from 1, the pick of that turn, the job, which of its polls it is, counted from 1, and
+/// its time in nanoseconds, as the note tells it.
+#[derive(Clone, Copy)]
+pub struct Poll {
+    pub turn: u64,
+    pub picked: Picked,
+    pub name: JobId,
+    pub step: u64,
+    pub time: u64,
+}
+
+/// The queue that a note picks.
+fn pick_told(note: &Note<u64>) -> Option<Picked>
+    ensures { result ≡ spec.pick_told note.now }
+{
+    match *note {
+        Note::Pick(queue, virtual_runtime) => Some(Picked {
+            queue,
+            virtual_runtime,
+        }),
+        _ => None,
+    }
+}
+
+/// The job whose poll a note settles, with its time.
+fn time_told(note: &Note<u64>) -> Option<(JobId, u64)>
+    ensures { result ≡ spec.time_told note.now }
+{
+    match *note {
+        Note::Yield(name, time) => Some((name, time)),
+        Note::Done(name, time, _) => Some((name, time)),
+        _ => None,
+    }
+}
+
+/// The newer of two picks, if there is one.
+fn newer(pick: Option<Picked>, before: Option<Picked>) -> Option<Picked>
+    ensures { result ≡ or_else pick before }
+{
+    match pick {
+        Some(picked) => Some(picked),
+        None => before,
+    }
+}
+
+/// Of the notes that were read: the turns, the newest pick, how many polls of each job are settled, and the polls.
+#[derive(Drop)]
+struct PollWalk {
+    clock: Clock,
+    picked: Option<Picked>,
+    steps: NameTable<u64>,
+    polls: Vec<Poll>,
+}
+
+impl PollWalk {
+    /// No note was read.
+    fn new(alloc: Global) -> Self
+        ensures { spec.KnowsPolls result [] }
+    {
+        PollWalk {
+            clock: Clock::new(),
+            picked: None,
+            steps: NameTable::new(alloc),
+            polls: Vec::new(alloc),
+        }
+    }
+
+    /// Reads the next note.
+    fn add(&mut self, note: &Note<u64>) -> Result<(), AllocError>
+        ensures { OnOk result ((before : Notes ℕ) → length before < greatest_count → spec.KnowsPolls self.old before → spec.KnowsPolls self.new (note.now ∷ before)) }
+    {
+        self.settle_told(time_told(note))?;
+        self.clock.add(note);
+        self.picked = newer(pick_told(note), self.picked);
+        Ok(())
+    }
+
+    /// A poll of a job is settled, if there is one.
+    fn settle_told(&mut self, told: Option<(JobId, u64)>) -> Result<(), AllocError>
+        ensures { OnOk result (spec.SettlesTold self.old self.new told) }
+    {
+        let Some((name, time)) = told else {
+            return Ok(());
+        };
+        self.settle(name, time)
+    }
+
+    /// A poll of this job is settled.
+    fn settle(&mut self, name: JobId, time: u64) -> Result<(), AllocError>
+        ensures { OnOk result (spec.Settles self.old self.new name time) }
+    {
+        let step = self.steps.get(&name).unwrap_or(0).saturating_add(1);
+        self.steps.set(name, step)?;
+        let Some(picked) = self.picked else {
+            return Ok(());
+        };
+        let turn = self.clock.turns;
+        self.polls.push(Poll {
+            turn,
+            picked,
+            name,
+            step,
+            time,
+        })?;
+        Ok(())
+    }
+}
+
+/// The settled polls of a core that has picked, by its journal, the oldest first.
+///
+/// # Errors
+///
+/// `AllocError` for want of memory.
+pub fn settled_polls(alloc: Global, journal: &Journal<u64>) -> Result<Vec<Poll>, AllocError>
+    ensures { IfOk result (λ polls. polls.items ≡ spec.polls journal.now.notes) }
+{
+    let mut walk = PollWalk::new(alloc);
+    for place in 0..journal.len() {
+        let note = note_at(journal, place);
+        walk.add(&note)?;
+    }
+    let PollWalk {
+        clock: _,
+        picked: _,
+        steps: _,
+        polls,
+    } = walk;
+    Ok(polls)
+}

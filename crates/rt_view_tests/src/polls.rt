@@ -1,0 +1,45 @@
+//! The polls of a core.
+
+use crate::journals::journal;
+use rt_view::{Poll, settled_polls};
+use std::alloc::Global;
+
+/// A poll: its turn, its queue, the virtual runtime before it, its job, which of the job's polls it is, and its time.
+type Row = (u64, u8, u128, u64, u64, u64);
+
+static ROWS: [Row; 3] = [
+    (1, 0, 0, 1, 1, 30),
+    (2, 1, 0, 2, 1, 20),
+    (3, 0, 30, 1, 2, 10),
+];
+
+fn is_row(poll: &Poll, row: &Row) -> bool {
+    poll.turn == row.0
+        && poll.picked.queue.0 == row.1
+        && poll.picked.virtual_runtime == row.2
+        && poll.name.number == row.3
+        && poll.step == row.4
+        && poll.time == row.5
+}
+
+fn are_rows(polls: &[Poll]) -> bool {
+    polls.len() == 3
+        && is_row(&polls[0], &ROWS[0])
+        && is_row(&polls[1], &ROWS[1])
+        && is_row(&polls[2], &ROWS[2])
+}
+
+fn polls_are_right(alloc: Global) -> bool {
+    let Ok(journal) = journal(alloc) else {
+        return false;
+    };
+    match settled_polls(alloc, &journal) {
+        Ok(polls) => are_rows(&polls),
+        Err(_) => false,
+    }
+}
+
+#[test]
+fn polls_are_listed(rt: HostRuntime) {
+    assert!(rt; polls_are_right(rt.alloc()));
+}

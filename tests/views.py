@@ -1,0 +1,118 @@
+#!/usr/bin/env python3
+"""Computes what `fairview wait --plain`, `share --csv` and `csv` print of a journal text once more, for tests/fairview.
+
+  tests/views.py wait_plain|share_csv|csv FILE
+
+It reads the notes by itself, and shares nothing with the program.
+"""
+import sys
+from collections import defaultdict
+
+
+def read(path):
+    """The number of cores, and the words of each note of each actor."""
+    lines = open(path).read().split("\n")
+    cores = int(lines[1].split()[1])
+    journals = [[] for _ in range(cores + 1)]
+    for line in lines[2 : lines.index("end")]:
+        actor, *words = line.split()
+        journals[int(actor)].append(words)
+    return cores, journals
+
+
+def settled(words):
+    """The time of the poll that a note settles, as it counts for its charge, if it settles one."""
+    return min(max(int(words[2]), 1), 2**40 - 1) if words[0] in ("yield", "done") else 0
+
+
+def number(word):
+    return int(word[1:])
+
+
+def rows_of_core(core, notes):
+    shares, queue_of, created = {0: 1000}, {}, 0
+    entered, left, out, most, due, got, picked, finished, returned = (defaultdict(int) for _ in range(9))
+    for words in notes:
+        kind, time = words[0], settled(words)
+        if time:
+            busy = [queue for queue in entered if entered[queue] > left[queue]]
+            whole = sum(shares.get(queue, 1000) for queue in busy)
+            for queue in busy:
+                due[queue] += time * 1000 * shares.get(queue, 1000) // whole
+            got[queue_of[words[1]]] += time
+            out[queue_of[words[1]]] -= 1
+        if kind in ("queue", "shares"):
+            shares[number(words[1])] = int(words[2])
+            created += kind == "queue"
+        elif kind == "took":
+            queue_of[words[1]] = number(words[2])
+            entered[number(words[2])] += 1
+        elif kind == "pick":
+            picked[number(words[1])] += 1
+        elif kind in ("start", "resume"):
+            out[queue_of[words[1]]] += 1
+        if kind in ("done", "returned"):
+            left[queue_of[words[1]]] += 1
+            (finished if kind == "done" else returned)[queue_of[words[1]]] += 1
+        for queue in entered:
+            most[queue] = max(most[queue], entered[queue] - left[queue] - out[queue])
+    for queue in range(created + 1):
+        row = (core, queue, shares.get(queue, 1000), due[queue] // 1000, got[queue], picked[queue], most[queue], finished[queue], returned[queue])
+        yield ",".join(map(str, row))
+
+
+def share_csv(cores, journals):
+    yield "core,queue,shares,due,got,selected,most_waiting,finished,returned"
+    for core in range(cores):
+        yield from rows_of_core(core, journals[core])
+
+
+def csv(cores, journals):
+    yield "core,turn,queue,name,step,time,virtual_runtime"
+    for core in range(cores):
+        turn, steps = 0, defaultdict(int)
+        for words in journals[core]:
+            if words[0] == "pick":
+                turn, queue, runtime = turn + 1, number(words[1]), words[3]
+            elif settled(words):
+                steps[words[1]] += 1
+                yield f"{core},{turn},{queue},{words[1]},{steps[words[1]]},{words[2]},{runtime}"
+
+
+def spans_of(notes):
+    """The waits and the runs of a core: name, turns, time."""
+    turns, time, waits, runs, taken, begun = 0, 0, [], [], {}, {}
+    for words in notes:
+        turns += words[0] == "pick"
+        time += settled(words)
+        if words[0] == "took":
+            taken[words[1]] = turns, time
+        elif words[0] == "start":
+            waits.append((words[1], turns - taken[words[1]][0], time - taken[words[1]][1]))
+            begun[words[1]] = turns, time
+        elif words[0] == "done":
+            runs.append((words[1], turns - begun[words[1]][0], time - begun[words[1]][1]))
+    return ("wait", waits), ("run", runs)
+
+
+def wait_plain(cores, journals):
+    for core in range(cores):
+        for kind, spans in spans_of(journals[core]):
+            for place, measure in (1, "turns"), (2, "ns"):
+                if spans:
+                    yield from lines_of(f"core {core} {kind} {measure}", [(span[0], span[place]) for span in spans])
+
+
+def lines_of(whose, spans):
+    lengths = sorted(length for _, length in spans)
+    count = len(lengths)
+    told = " ".join(f"p{part / 10:g} {lengths[(count * part + 999) // 1000 - 1]}" for part in (500, 900, 990, 999))
+    name = next(name for name, length in spans if length == lengths[-1])
+    yield f"{whose} jobs {count} {told} greatest {lengths[-1]} of {name}"
+    for digits in range(129):
+        here = sum(length.bit_length() == digits for length in lengths)
+        if here:
+            yield f"{2 ** digits // 2 :>14} {2 ** digits - 1:>14} {here:>8} {'#' * (here * 40 // count)}"
+
+
+print("\n".join({"wait_plain": wait_plain, "share_csv": share_csv, "csv": csv}[sys.argv[1]](*read(sys.argv[2]))))
