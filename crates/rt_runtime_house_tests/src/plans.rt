@@ -36,8 +36,14 @@ fn queues_are_numbered_on_each_core(rt: HostRuntime) -> Result<(), Fail> {
     assert!(rt; plans(&mut house, 1, "writes") == 1);
     assert!(rt; plans(&mut house, 0, "compaction") == 2);
     let names = house.names();
-    assert!(rt; is_named(names, 0, 1, "reads") && is_named(names, 0, 2, "compaction") && is_named(names, 1, 1, "writes"));
-    assert!(rt; names.name(CoreNo(1), QueueNo(2)).is_none() && names.name(CoreNo(0), QueueNo(0)).is_none());
+    assert!(rt;
+        is_named(names, 0, 1, "reads")
+            && is_named(names, 0, 2, "compaction")
+            && is_named(names, 1, 1, "writes")
+    );
+    assert!(rt;
+        names.name(CoreNo(1), QueueNo(2)).is_none() && names.name(CoreNo(0), QueueNo(0)).is_none()
+    );
     Ok(())
 }
 
