@@ -14,6 +14,4 @@ mod house;
 #[cfg(test)]
 mod meeting;
 #[cfg(test)]
-mod waking;
-#[cfg(test)]
 mod wiring;
