@@ -22,6 +22,7 @@ pub mod PollsRefused
 pub mod PostingTurn
 pub mod QuietSteps
 pub mod Received
+pub mod RefusalsCounted
 pub mod ScriptPolls
 pub mod SentNotes
 pub mod SettledPolls

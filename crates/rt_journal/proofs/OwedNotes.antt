@@ -62,7 +62,7 @@ module _ {J T : Type 0} (terms : Terms) (seen now : Seen J) (more : SeesNoLess s
   -- an answer stays right where no less is known of the links
   pub right_stays : (call : Call J T) (before : Journal T) → IsRightAnswer terms seen call before → IsRightAnswer terms now call before
   right_stays (Submit to order (Ok name)) before right = (right.0, right.1, more.sent name order right.2)
-  right_stays (Submit to order (Err (refused.Closed back final))) before right = (right.0, more.shut to final right.1)
+  right_stays (Submit to order (Err (refused.Closed back final))) before right = (right.0, more.shut to final right.1, right.2)
   right_stays (Submit to order (Err (refused.Full back))) before right = right
   right_stays (Submit to order (Err (refused.Spent back))) before right = right
   right_stays (Submit to order (Err (refused.NoCore back))) before right = right

@@ -127,6 +127,7 @@ module _ {J T E : Type 0} (fits : Order J → Outcome J T → Type 0) (out : E �
           ap (λ (end : Outward J T). end.closed) did.sends.2,
           did.sends.1 ∙ sym (ap (λ (end : Outward J T). end.base + length end.sent) did.sends.2),
         ),
+        did.submits.1,
       ),
     )
     submitted to order (Err (refused.Full back)) did = (same_notes old.desk new.desk did.submits.2, (did.submits.0, did.submits.1))

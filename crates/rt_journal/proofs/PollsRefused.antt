@@ -15,12 +15,12 @@ use Rattle.rt_journal.specs.OwedPolls.{IsOwedPoll}
 use Rattle.rt_journal.specs.BadPolls.{job, sent, terms, open_links, other_orders, ordered, begun, PollsAreRefused, OneIsOwed}
 use Rattle.rt_journal.proofs.OneBeginning.{IsPollBehind, poll_behind, calls_post}
 
-abbrev script : List Poll → Script
+abbrev pub script : List Poll → Script
 script polls = record { polls = polls; polled = 0 }
 
 -- the poll of the job of these polls, behind its beginning
 module _ (seen : Seen Script) (polls : List Poll) (time : ℕ) (step : Step ℕ) (posts : List (Note ℕ)) (started : Bool) (queue runtime : ℕ) (earlier : Journal ℕ) (are : ArePosts posts) where
-  its_poll : IsOwedPoll script_meaning terms seen (ordered polls) job time step (posts ++ poll_note job started ∷ writes.Pick queue runtime ∷ earlier) →
+  pub its_poll : IsOwedPoll script_meaning terms seen (ordered polls) job time step (posts ++ poll_note job started ∷ writes.Pick queue runtime ∷ earlier) →
       IsPollBehind script_meaning terms seen (script polls) job time step posts started queue runtime earlier
   its_poll owed =
       let task : Some (Job 0 (script polls)) ≡ Some (Job owed.queue owed.sent) = owed.task in
@@ -28,23 +28,24 @@ module _ (seen : Seen Script) (polls : List Poll) (time : ℕ) (step : Step ℕ)
       subst (λ sent. IsPollBehind script_meaning terms seen sent job time step posts started queue runtime earlier) same
       (poll_behind script_meaning terms seen owed.sent job time step queue owed.queue posts started runtime earlier are owed.poll)
 
--- where no gate is shut, the link is empty and there is such a core, nothing gives a reason to refuse
-no_reason : (error : SendError Script) → AnswersOrder {T = ℕ} terms open_links 1 (Job 0 small_job) (Err error) begun → ⊥
-no_reason (refused.Closed back final) right = right.1
-no_reason (refused.Full back) right = omega (arith, right.1)
-no_reason (refused.Spent back) right = omega (arith, right.1)
-no_reason (refused.NoCore back) right = omega (arith, right.1)
+-- If the gate of the core isn't shut before the first order, the link is empty and there is such a core, nothing gives a reason to refuse.
+module _ (seen : Seen Script) (unshut : seen.shut 1 0 → ⊥) where
+  no_reason : (error : SendError Script) → AnswersOrder {T = ℕ} terms seen 1 (Job 0 small_job) (Err error) begun → ⊥
+  no_reason (refused.Closed back final) right = unshut (subst (seen.shut 1) right.2 right.1)
+  no_reason (refused.Full back) right = omega (arith, right.1)
+  no_reason (refused.Spent back) right = omega (arith, right.1)
+  no_reason (refused.NoCore back) right = omega (arith, right.1)
 
--- so a small job that is submitted there writes two notes
-two_notes : (calls : List (Call Script ℕ)) (sends : SendsSmall 1 0 calls) → AreRightAnswers terms open_links calls begun → length (posted_notes calls) ≡ 2
-two_notes calls sends right = by_answer sends.answer sends.are
-  where
-    by_answer : (answer : Result JobId (SendError Script)) → calls ≡ Submit 1 (Job 0 small_job) answer ∷ detach_calls answer → length (posted_notes calls) ≡ 2
-    by_answer (Ok name) are = ap (λ calls. length (posted_notes calls)) are
-    by_answer (Err error) are = absurd (no_reason error (subst (λ calls. AreRightAnswers terms open_links calls begun) are right).0)
+  -- so a small job that is submitted there writes two notes
+  pub two_notes : (calls : List (Call Script ℕ)) (sends : SendsSmall 1 0 calls) → AreRightAnswers terms seen calls begun → length (posted_notes calls) ≡ 2
+  two_notes calls sends right = by_answer sends.answer sends.are
+    where
+      by_answer : (answer : Result JobId (SendError Script)) → calls ≡ Submit 1 (Job 0 small_job) answer ∷ detach_calls answer → length (posted_notes calls) ≡ 2
+      by_answer (Ok name) are = ap (λ calls. length (posted_notes calls)) are
+      by_answer (Err error) are = absurd (no_reason error (subst (λ calls. AreRightAnswers terms seen calls begun) are right).0)
 
 -- the polls of the small jobs
-abbrev first : List (Note ℕ)
+abbrev pub first : List (Note ℕ)
 first = writes.Took job 0 ∷ []
 
 abbrev ends : List Poll
@@ -73,7 +74,7 @@ module _ (posts : List (Note ℕ)) (are : ArePosts posts) where
   submits_once : IsOwedPoll script_meaning terms open_links (ordered submits) job 5 steps.Yield (posts ++ begun) → length posts ≡ 2
   submits_once owed =
       let its = its_poll open_links submits 5 steps.Yield posts false 0 0 first are owed in
-      ap length (sym its.wrote) ∙ two_notes its.calls its.owed.0 its.right
+      ap length (sym its.wrote) ∙ two_notes open_links (λ shut. shut) its.calls its.owed.0 its.right
 
 -- what was accepted is what was sent
 another_job : (calls : List (Call Script ℕ)) → SendsSmall 1 0 calls → AreRightAnswers terms other_orders calls begun → length (posted_notes calls) ≡ 2 → ⊥

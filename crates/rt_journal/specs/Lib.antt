@@ -1,5 +1,6 @@
 pub mod Agreement
 pub mod BadPolls
+pub mod BadRefusals
 pub mod Deliveries
 pub mod Ends
 pub mod Figures

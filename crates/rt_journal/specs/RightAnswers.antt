@@ -45,11 +45,11 @@ module _ {J T : Type 0} where
   posted_notes (call ∷ calls) = posted_notes calls ++ call_notes call
 
   module _ (terms : Terms) (seen : Seen J) where
-    -- An order that is accepted is the one that was sent under the next name of its link. A refusal tells what is so: the gate of that core is shut at this number; as many
-    -- orders are outstanding as may be; the last number was given; or there is no such core.
+    -- An order that is accepted is the one that was sent under the next name of its link. A refusal tells what is so: the gate of that core is shut at this number, and so
+    -- many orders this actor had sent there; as many orders are outstanding as may be; the last number was given; or there is no such core.
     abbrev pub AnswersOrder : ℕ → Order J → Result JobId (SendError J) → Journal T → Type 0
     AnswersOrder to order (Ok name) before = IsNextSent terms name (without_job order) before × (name.to ≡ to) × seen.sent name order
-    AnswersOrder to order (Err (Closed back final)) before = (back ≡ order) × seen.shut to final
+    AnswersOrder to order (Err (Closed back final)) before = (back ≡ order) × seen.shut to final × (final ≡ length (accepted_orders to before))
     AnswersOrder to order (Err (Full back)) before = (back ≡ order) × (terms.cap ≤ outstanding_count to before)
     AnswersOrder to order (Err (Spent back)) before = (back ≡ order) × (length (accepted_orders to before) ≡ 2 ^ 63 - 1)
     AnswersOrder to order (Err (NoCore back)) before = (back ≡ order) × (terms.cores ≤ to)

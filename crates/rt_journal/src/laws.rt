@@ -2,6 +2,7 @@
 
 ghost use Rattle.std.specs.Prelude.{ℕ};
 ghost use Rattle.rt_journal.specs.BadPolls.{OneIsOwed, PollsAreRefused};
+ghost use Rattle.rt_journal.specs.BadRefusals.{RefusalsAreCounted};
 ghost use Rattle.rt_journal.specs.Laws.{PicksRight, RefusesAsTold, WorksAsTold};
 ghost use Rattle.rt_journal.specs.OwedLaws.{CollectionsSeeNoLess, OthersKeepOwed, TurnsKeepOwed};
 ghost use Rattle.rt_journal.specs.ScriptPolls.{ScriptPollsAreWords};
@@ -43,10 +44,12 @@ pub fn others_owe_polls<J: Task<Out = u64>, O: OutEnd<J>>()
 {}
 
 /// Small journals with a poll that isn't owed are refused: among them one that yields for ever, one whose poll submits nothing, and one in
-/// which another time counts than was told. A journal of a job that submits once and is done isn't.
+/// which another time counts than was told. A journal of a job that submits once and is done isn't. A refusal by a shut gate is right only
+/// behind as many orders as the gate let through: so no order is accepted after it.
 pub fn bad_polls_are_refused()
     ensures refused { PollsAreRefused }
     ensures owed { OneIsOwed }
+    ensures counted { RefusalsAreCounted }
 {}
 
 /// Each poll that a script job owes is a word of its script, in their order: the word's time counts, and the job is done exactly at the last word.

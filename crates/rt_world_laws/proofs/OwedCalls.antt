@@ -1,6 +1,6 @@
 -- What a send and the calls of a post add to a world, and that each call is answered as the notes before it say.
 use Rattle.rt_world_laws.proofs.Words.{◌≡◌, inl, inr, ℕ, ◌+◌, ◌-◌, ◌<◌, ◌≤◌, List, [], ◌∷◌, ◌++◌, length, refl, sym, ◌∙◌, ap, subst, arith, get_or, set}
-use Rattle.rt_world_laws.proofs.Words.{get_or-set_same, Some, Ok, Err, slice_get, JobId, Note, Order, Meaning, WorldView, journal_at, noted, ◌==◌}
+use Rattle.rt_world_laws.proofs.Words.{get_or-set_same, none-some, Some, Ok, Err, slice_get, JobId, Note, Order, Meaning, WorldView, journal_at, noted, ◌==◌}
 use Rattle.rt_world_laws.proofs.Words.{order_under, sent_at, with_sent, terms_at, accepted_orders, HasAllLists, Sends, sent_reply, IsNextSent, without_job, CallsAt, Call, Makes}
 use Rattle.rt_world_laws.proofs.Words.{Submit, Closed, Full, Spent, Unknown, Gone, Pending, Redeems, Detaches, redeemed_reply, detached_reply, outcome_note}
 use Rattle.std.proofs.lemmas.Bool.{eq-eqb, ne_eqb}
@@ -23,7 +23,7 @@ use Rattle.rt_world_laws.proofs.KeptLists.{sends}
 use Rattle.rt_world.specs.Closings.{IsGateOpen}
 use Rattle.rt_ids.proofs.Told.{length-with_last_if}
 use Rattle.rt_ids.specs.Work.{number_if}
-use Rattle.rt_world_laws.proofs.OwedWorlds.{Adds, AreCounted, adds_noted, adds_nothing, gates_stay, own_journal, same_terms, sees_no_less}
+use Rattle.rt_world_laws.proofs.OwedWorlds.{Adds, AreCounted, adds_noted, adds_nothing, own_journal, same_gates, same_terms, sees_no_less}
 use Rattle.rt_world_laws.proofs.StillNotes.{redeemed_still, detached_still}
 use Rattle.rt_world_laws.specs.OwedRuns.{seen_of}
 
@@ -96,7 +96,7 @@ module _ {J T : Type 0} (sender core : ℕ) (order : Order J) (old new : WorldVi
     | inr away ↦ (
       (λ place what was. ap (λ orders. slice_get orders place) (other_sender from at away.1) ∙ was),
       ap (λ journal. length (accepted_orders at journal)) (ap (λ journals. get_or journals from []) journals ∙ get_or-set_other old.journals sender from (writes.Sent name (without_job order) ∷ journal_at sender old) [] away.1)
-          ∙ (counted from at ∙ sym (ap length (other_sender from at away.1))),
+          ∙ (counted.kept from at ∙ sym (ap length (other_sender from at away.1))),
     )
   ]
     where
@@ -106,7 +106,7 @@ module _ {J T : Type 0} (sender core : ℕ) (order : Order J) (old new : WorldVi
           ap (λ journal. length (accepted_orders core journal)) own
           ∙ (length-with_last_if (accepted_orders core (journal_at sender old)) (name, without_job order) (name.to == core)
           ∙ ap (λ test. length (accepted_orders core (journal_at sender old)) + number_if test) (eq-eqb name.to core to)) in
-          omega (arith, longer, counted sender core, ap length here_sent, length-append (sent_at sender core old) (order ∷ []))
+          omega (arith, longer, counted.kept sender core, ap length here_sent, length-append (sent_at sender core old) (order ∷ []))
 
       no_more : (at : ℕ) → (at ≡ core → ⊥) → Counts sender at
       no_more at away =
@@ -114,7 +114,7 @@ module _ {J T : Type 0} (sender core : ℕ) (order : Order J) (old new : WorldVi
           ap (λ journal. length (accepted_orders at journal)) own
           ∙ (length-with_last_if (accepted_orders at (journal_at sender old)) (name, without_job order) (name.to == at)
           ∙ ap (λ test. length (accepted_orders at (journal_at sender old)) + number_if test) (ne_eqb name.to at (λ one. away (sym one ∙ to)))) in
-          omega (arith, same, counted sender at, ap length (other_core at away))
+          omega (arith, same, counted.kept sender at, ap length (other_core at away))
 
   -- the order stands under its name
   pub stands_under : order_under name new ≡ Some order
@@ -123,7 +123,27 @@ module _ {J T : Type 0} (sender core : ℕ) (order : Order J) (old new : WorldVi
       ∙ (ap (λ orders. slice_get orders (length (sent_at sender core old))) here_sent ∙ at_end (sent_at sender core old) order)
     where
       last : name.number - 1 ≡ length (sent_at sender core old)
-      last = omega (arith, next.next, ap (λ at. length (accepted_orders at (journal_at sender old))) to, counted sender core)
+      last = omega (arith, next.next, ap (λ at. length (accepted_orders at (journal_at sender old))) to, counted.kept sender core)
+
+  -- each gate stays as it is, and what came through a shut one too
+  still_gates : (from at : ℕ) → final_count from (journal_at at new) ≡ final_count from (journal_at at old)
+  still_gates = same_gates sender (writes.Sent name (without_job order) ∷ []) old new ((λ sender. refl), tt) journals
+
+  gates_counted : (from at final : ℕ) → final_count from (journal_at at new) ≡ Some final → final ≡ length (accepted_orders at (journal_at from new))
+  gates_counted from at final shut =
+      counted.gates from at final was ∙ (counted.kept from at ∙ (ap length (sym same) ∙ sym (each from at).1))
+    where
+      was : final_count from (journal_at at old) ≡ Some final
+      was = sym (still_gates from at) ∙ shut
+
+      same : sent_at from at new ≡ sent_at from at old
+      same = elim (eqb_tells from sender) [
+        | inl here ↦ elim (eqb_tells at core) [
+          | inl there ↦ absurd (none-some final (sym unshut ∙ ((λ i. final_count (sym here.1 i) (journal_at (sym there.1 i) old)) ∙ was)))
+          | inr away ↦ ap (λ from. sent_at from at new) here.1 ∙ (other_core at away.1 ∙ ap (λ from. sent_at from at old) (sym here.1))
+        ]
+        | inr away ↦ other_sender from at away.1
+      ]
 
   pub adds_sent : Adds sender (writes.Sent name (without_job order) ∷ []) old new
   adds_sent = record {
@@ -131,8 +151,8 @@ module _ {J T : Type 0} (sender core : ℕ) (order : Order J) (old new : WorldVi
     cap = ap (λ world. world.cap) is;
     journals = journals;
     orders = λ which what was. (each which.from which.to).0 (which.number - 1) what was;
-    gates = gates_stay sender (writes.Sent name (without_job order) ∷ []) old new ((λ sender. refl), tt) journals;
-    counted = λ counted from at. (each from at).1;
+    gates = λ from at final shut. still_gates from at ∙ shut;
+    counted = λ counted. record { kept = λ from at. (each from at).1; gates = gates_counted };
     lists = (sends sender core order old new (reply.Sent name) (next, to, is, unshut)).lists;
   }
 
@@ -163,7 +183,7 @@ module _ {J : Type 0} (meaning : Meaning J ℕ) (core : ℕ) where
     submitted to order (Ok name) known did =
         (adds_sent core to order old new there known counted name did.0 did.1 did.2 did.3, (did.0, did.1, stands_under core to order old new there known counted name did.0 did.1 did.2 did.3))
     submitted to order (Err (Closed back final)) known did =
-        (adds_nothing core old new did.2, (did.0, subst (λ world. final_count core (journal_at to world) ≡ Some final) (sym did.2) did.1))
+        (adds_nothing core old new did.2, (did.0, subst (λ world. final_count core (journal_at to world) ≡ Some final) (sym did.2) did.1, counted.gates core to final did.1))
     submitted to order (Err (Full back)) known did = (adds_nothing core old new did.2, (did.0, did.1))
     submitted to order (Err (Spent back)) known did = (adds_nothing core old new did.3, (did.0, did.2))
     submitted to order (Err (NoCore back)) known did = absurd did

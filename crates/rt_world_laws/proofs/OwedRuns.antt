@@ -3,7 +3,7 @@ use Rattle.rt_world_laws.proofs.Words.{◌≡◌, inl, inr, ⊎_elim, ℕ, ◌+�
 use Rattle.rt_world_laws.proofs.Words.{JobId, Note, Order, Journal, Meaning, Event, Reply, WorldView, journal_at, noted, order_under, terms_at, Step, is_told}
 use Rattle.rt_world_laws.proofs.Words.{accepted_orders, HasAllLists, IsUnbegun, Happens, IsRun, Steps, AreThere, Sends, Delivers, Turns, Shuts, Collects, Redeems}
 use Rattle.rt_world_laws.proofs.Words.{Detaches, Closed, Full, Spent, Unknown, Gone, Send, Deliver, Turn, Shut, Collect, IsPoll, pick_notes, settle_note, name_started}
-use Rattle.rt_world_laws.proofs.Words.{collected_notes, uncollected, outcome_note, next_place, without_job}
+use Rattle.rt_world_laws.proofs.Words.{none-some, collected_notes, uncollected, outcome_note, next_place, without_job}
 use Rattle.rt_ids.specs.declared.note.Note.TheVariants as writes
 use Rattle.std.proofs.Common.{append-nil}
 use Rattle.rt_jobs.specs.declared.job.Step.TheVariants as steps
@@ -16,7 +16,9 @@ use Rattle.rt_world.specs.declared.event.Reply.TheVariants as reply
 use Rattle.rt_world_laws.proofs.OwedWorlds.{Adds, AreCounted, adds_noted, adds_shut, all_owed, each_journal, own_journal, owed_now, same_terms, sees_no_less}
 use Rattle.rt_world_laws.proofs.OwedCalls.{IsThere, adds_sent, made}
 use Rattle.rt_world_laws.proofs.StillNotes.{AreStill, collected_still, redeemed_still, detached_still, back_still, pick_still, delivery_still}
-use Rattle.rt_world_laws.proofs.StillNotes.{settled_shuts_nothing, settled_sends_nothing, opening_sends_nothing, opening_settles_nothing, accepted_orders-longer}
+use Rattle.rt_world_laws.proofs.StillNotes.{settled_shuts_nothing, settled_sends_nothing, opening_sends_nothing, opening_shuts_nothing, opening_settles_nothing}
+use Rattle.rt_world_laws.proofs.StillNotes.{accepted_orders-longer, final_count-longer}
+use Rattle.rt_ids.specs.Closing.{final_count}
 use Rattle.rt_world_laws.specs.OwedRuns.{seen_of, HasAllPollsOwed, RunsOwePolls}
 
 -- what is so of a world at any time of a run
@@ -153,7 +155,7 @@ module _ {J : Type 0} (meaning : Meaning J ℕ) (old new : WorldView J ℕ) (is 
   turn_owes core spent known _ did = absurd did
 
   shut_owes : (core sender : ℕ) (answer : Reply J) → Shuts core sender old new answer → IsOwing meaning new
-  shut_owes core sender reply.Noted did = added core (writes.Shut sender _ ∷ []) (refl, tt) (adds_shut core sender _ old new did.1 did.2)
+  shut_owes core sender reply.Noted did = added core (writes.Shut sender _ ∷ []) (refl, tt) (adds_shut core sender _ old new refl did.1 did.2)
   shut_owes core sender reply.NotClosed did = same_owes did.1
   shut_owes core sender reply.AlreadyShut did = same_owes did.2
   shut_owes core sender _ did = absurd did
@@ -196,9 +198,14 @@ module _ {J : Type 0} (meaning : Meaning J ℕ) where
   unbegun_owes : (world : WorldView J ℕ) → IsUnbegun world → IsOwing meaning world
   unbegun_owes world unbegun = record {
     lists = unbegun.lists;
-    counted = λ sender core.
-        ap length (ap (accepted_orders core) (sym (append-nil (journal_at sender world))) ∙ accepted_orders-longer core (journal_at sender world) [] (opening_sends_nothing (journal_at sender world) (unbegun.opening sender)))
-        ∙ sym (ap length (unbegun.no_order sender core));
+    counted = record {
+      kept = λ sender core.
+          ap length (ap (accepted_orders core) (sym (append-nil (journal_at sender world))) ∙ accepted_orders-longer core (journal_at sender world) [] (opening_sends_nothing (journal_at sender world) (unbegun.opening sender)))
+          ∙ sym (ap length (unbegun.no_order sender core));
+      gates = λ sender core final shut. absurd (none-some final
+          (sym (final_count-longer sender (journal_at core world) [] (opening_shuts_nothing (journal_at core world) (unbegun.opening core)))
+          ∙ (ap (final_count sender) (append-nil (journal_at core world)) ∙ shut)));
+    };
     owed = λ actor.
         subst (PollsAreOwed meaning (terms_at actor world) (seen_of actor world) (λ name. order_under name world)) (append-nil (journal_at actor world))
         (owed_longer meaning (terms_at actor world) (seen_of actor world) (λ name. order_under name world) (journal_at actor world) [] (opening_settles_nothing (journal_at actor world) (unbegun.opening actor)) tt);

@@ -41,6 +41,11 @@ module _ {T : Type 0} where
   opening_sends_nothing (writes.Created queue weight ∷ before) opening = ((λ core. refl), opening_sends_nothing before opening)
   opening_sends_nothing (_ ∷ before) opening = absurd opening
 
+  pub opening_shuts_nothing : (journal : Journal T) → IsOpening journal → ShutNothing journal
+  opening_shuts_nothing [] opening = tt
+  opening_shuts_nothing (writes.Created queue weight ∷ before) opening = ((λ sender. refl), opening_shuts_nothing before opening)
+  opening_shuts_nothing (_ ∷ before) opening = absurd opening
+
   pub opening_settles_nothing : (journal : Journal T) → IsOpening journal → SettleNothing journal
   opening_settles_nothing [] opening = tt
   opening_settles_nothing (writes.Created queue weight ∷ before) opening = (refl, opening_settles_nothing before opening)

@@ -1,4 +1,5 @@
 use Rattle.rt_journal.proofs.PollsRefused.{polls_refused, one_is_owed}
+use Rattle.rt_journal.proofs.RefusalsCounted.{refusals_counted}
 use Rattle.rt_journal.proofs.laws.bad_polls_are_refused.Goals as goal
 
 pub returns-clause-refused : goal.returns-clause-refused
@@ -6,3 +7,6 @@ returns-clause-refused c = polls_refused
 
 pub returns-clause-owed : goal.returns-clause-owed
 returns-clause-owed c = one_is_owed
+
+pub returns-clause-counted : goal.returns-clause-counted
+returns-clause-counted c = refusals_counted
