@@ -1,5 +1,5 @@
 -- A loop that takes the first of several lists again and again.
-use Rattle.std.proofs.Common.{◌≡◌, ℕ, ◌<◌, List, [], ◌∷◌, ◌++◌, length, map, get_or, refl, sym, ◌∙◌, ap, subst, arith, append_assoc}
+use Rattle.std.proofs.Common.{◌≡◌, ℕ, ◌<◌, replicate, List, [], ◌∷◌, ◌++◌, length, map, get_or, refl, sym, ◌∙◌, ap, subst, arith, append_assoc}
 use Rattle.std.specs.Prelude.{All, IfOk, Result, Ok, Err, remove}
 use Rattle.std.proofs.lemmas.List.{get_or-map, length-map, map-append}
 use Rattle.rt_runtime_team.specs.Works.{Together}
@@ -26,6 +26,27 @@ together_of_map f related [] [] both = tt
 together_of_map f related [] (one ∷ made) both = absurd both
 together_of_map f related (seat ∷ seats) [] both = absurd both
 together_of_map f related (seat ∷ seats) (one ∷ made) both = (both.0, together_of_map f related seats made both.1)
+
+-- what is made of two lists that belong together belongs together
+pub together_maps : {A B C D : Type 0} (f : B → A) (h : D → C) (strong : B → D → Type 0) (related : A → C → Type 0) → ((seat : B) (one : D) → strong seat one → related (f seat) (h one)) →
+    (seats : List B) (made : List D) → Together strong seats made → Together related (map f seats) (map h made)
+together_maps f h strong related follows [] [] both = tt
+together_maps f h strong related follows [] (one ∷ made) both = absurd both
+together_maps f h strong related follows (seat ∷ seats) [] both = absurd both
+together_maps f h strong related follows (seat ∷ seats) (one ∷ made) both = (follows seat one both.0, together_maps f h strong related follows seats made both.1)
+
+-- the same may be made of both
+pub same_maps : {A B D : Type 0} (f : B → A) (h : D → A) (strong : B → D → Type 0) → ((seat : B) (one : D) → strong seat one → h one ≡ f seat) →
+    (seats : List B) (made : List D) → Together strong seats made → map h made ≡ map f seats
+same_maps f h strong follows [] [] both = refl
+same_maps f h strong follows [] (one ∷ made) both = absurd both
+same_maps f h strong follows (seat ∷ seats) [] both = absurd both
+same_maps f h strong follows (seat ∷ seats) (one ∷ made) both = cc (follows seat one both.0, same_maps f h strong follows seats made both.1)
+
+-- the same of each
+pub same_of_each : {A B : Type 0} (one : A) (items : List B) (count : ℕ) → length items ≡ count → map (λ item. one) items ≡ replicate count one
+same_of_each one [] count is = ap (λ count. replicate count one) is
+same_of_each one (item ∷ items) count is = ap (λ rest. one ∷ rest) (same_of_each one items (length items) refl) ∙ ap (λ count. replicate count one) is
 
 -- what follows of what was answered
 pub if_ok : {A E : Type 0} (P Q : A → Type 0) → ((a : A) → P a → Q a) → (answer : Result A E) → IfOk answer P → IfOk answer Q

@@ -22,13 +22,16 @@ use Rattle.rt_runtime_worker.specs.Linked.{LinkedView, StaysLinked}
 use Rattle.rt_runtime_worker.specs.Ended.{HasEnded}
 use Rattle.rt_runtime_worker.specs.Queues.{opening_of}
 use Rattle.rt_runtime_worker.specs.Rooms.{MayAct, least_free}
+use Rattle.rt_runtime_worker.specs.Workers.{WorkerView}
 use Rattle.rt_runtime_worker.specs.Together.{HaveEnded, EndedAreJoined, no_linked, worker_at, desk_among, all_ends}
 use Rattle.rt_runtime_worker.proofs.Ending.{before_last, at_last}
 use Rattle.rt_runtime.specs.State.{RuntimeView, IsRuntime, outside_of, closing_at}
 use Rattle.rt_runtime.specs.Calls.{HasFinished, IsFirstOpen}
 use Rattle.rt_runtime.specs.Finishing.{IsFirstOpenOf, Parts}
+use Rattle.rt_runtime.proofs.Dealt.{together_of_map}
 use Rattle.rt_runtime.proofs.Fitting.{all_fit}
 use Rattle.rt_runtime.proofs.Orders.{are_its_orders, its_orders}
+use Rattle.rt_runtime.proofs.Outcomes.{all_have_outcomes}
 use Rattle.rt_runtime.proofs.Polled.{all_owed}
 use Rattle.rt_link.specs.Fits.{Fits}
 
@@ -157,6 +160,7 @@ module _ {J : Type 0} (meaning : Meaning J ℕ) (view : RuntimeView J ℕ) (is :
           openings = λ core low. ap opening_of (here core low) ∙ (stays core low).opening;
           orders = its_orders view ended have assembly is_assembly;
           orders_are = are_its_orders view ended have assembly is_assembly;
+          outcomes = all_have_outcomes view assembly (its_orders view ended have assembly is_assembly) refl (sound_law assembly law.0) (are_its_orders view ended have assembly is_assembly) law.1;
           fitting = all_fit view ended have assembly is_assembly;
           polls = all_owed view ended have assembly is_assembly;
         }
@@ -171,6 +175,11 @@ module _ {J : Type 0} (meaning : Meaning J ℕ) (view : RuntimeView J ℕ) (is :
         (subst (λ cap. HasFinished meaning view (record { cores = view.desk.cores; cap = cap; journals = map (λ (journal : JournalView ℕ). journal.notes) journals })) (sym same_cap)
         (subst (λ journals. HasFinished meaning view (record { cores = view.desk.cores; cap = view.desk.cap; journals = map (λ (journal : JournalView ℕ). journal.notes) journals })) (sym journals_are)
         (finished (subst (λ cores. AreReunited (Fits meaning) cores (all_ends ended (outside_of view))) same_cores (subst (AreReunited (Fits meaning) cores) ends_are reunited)) joined_law sound_law spelled_law closed)))
+
+-- the promise of each worker is kept by what it was opened as
+pub its_kept : {J T C G : Type 0} (workers : List (WorkerView J T C G)) (ended : List (LinkedView J T)) → Together (λ worker end. StaysLinked worker.linked end) workers ended →
+    Together StaysLinked (map (λ worker. worker.linked) workers) ended
+its_kept {J} {T} {C} {G} workers ended kept = together_of_map (λ (worker : WorkerView J T C G). worker.linked) StaysLinked workers ended kept
 
 -- how many ends and journals there are
 pub part_counts : {J T : Type 0} {meaning : Meaning J T} (all : List (LinkedView J T)) (ends : List (EndsView J T)) (journals : List (JournalView T)) →

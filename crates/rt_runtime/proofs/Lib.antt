@@ -1,6 +1,7 @@
 pub mod Parted
 pub mod Orders
 pub mod Fitting
+pub mod Outcomes
 pub mod Polled
 pub mod PollsOwed
 mod PollsRefused

@@ -46,6 +46,11 @@ module _ {J : Type 0} where
       by_found None at = tt
       by_found (Some order) at = at
 
+  -- where numbers count from 1, the two are one
+  from_one : (sent : List (Order J)) (number : ℕ) → 0 < number → at_number sent number ≡ slice_get sent (number - 1)
+  from_one sent zero low = absurd (omega (arith, low))
+  from_one sent (suc place) low = let same : suc place - 1 ≡ place = omega arith in ap (slice_get sent) (sym same)
+
   -- the numbered orders of a link tell the order of a number without its job
   told_number : (sender core : ℕ) (sent : List (Order J)) (number : ℕ) → first_under (name_of sender core number) (numbered_orders sender core 0 sent) ≡ option_map without_job (at_number sent number)
   told_number sender core sent zero = numbered-missing sender core 0 sent 0 (λ low high. omega (arith, low))
@@ -90,4 +95,7 @@ module _ {J : Type 0} {meaning : Meaning J ℕ} (view : RuntimeView J ℕ) (ende
     by_caller = λ name from to.
         subst (λ ends. IfSome (its_orders name) (λ order. slice_get (out_at name.to ends).out.sent (name.number - 1) ≡ Some order)) (outside_ends name from)
         (before_number (out_under name).out.sent name.number);
+    all_of_caller = λ name from to counted.
+        from_one (out_under name).out.sent name.number counted
+        ∙ ap (λ ends. slice_get (out_at name.to ends).out.sent (name.number - 1)) (outside_ends name from);
   }

@@ -27,6 +27,7 @@ use Rattle.rt_runtime_worker.specs.Together.{no_linked, worker_at}
 use Rattle.rt_runtime_worker.proofs.Ending.{before_last, at_last}
 use Rattle.rt_ids.specs.Journal.{Journal}
 use Rattle.rt_ids.specs.Outstanding.{outstanding_count}
+use Rattle.rt_runtime.specs.Rings.{RingsView}
 use Rattle.rt_runtime.specs.Sends.{accepted, outstanding_upto}
 use Rattle.rt_runtime.specs.State.{RuntimeView, IsRuntime, IsStored, SubmitsNothing, is_told_shut, submitted}
 
@@ -113,7 +114,7 @@ module _ {J T : Type 0} where
     same_links : SameEnds view.ends put
     same_links = out_used view.ends core later there link
 
-    runtime_put : (closing : List Bool) → length closing ≡ view.desk.cores → (rung : List ℕ) → length rung ≡ view.desk.cores → booked desk ≤ desk.journal.room → IsRuntime fits (record { desk = desk; ends = put; closing = closing; workers = view.workers; room = view.room; rung = rung })
+    runtime_put : (closing : List Bool) → length closing ≡ view.desk.cores → (rung : RingsView J T) → length rung.times ≡ view.desk.cores + 1 → booked desk ≤ desk.journal.room → IsRuntime fits (record { desk = desk; ends = put; closing = closing; workers = view.workers; room = view.room; rung = rung })
     runtime_put closing count rung bells room = record {
       count = is.count ∙ sym cores;
       each = subst (λ cores. (core : ℕ) → core < cores → IsWorkerOf core cores desk.cap view.room (worker_at core view.workers)) (sym cores)
@@ -126,7 +127,7 @@ module _ {J T : Type 0} where
       };
       grid = subst (λ cores. IsGrid cores (map (λ worker. worker.ends) view.workers ++ put ∷ [])) (sym cores) (grid_kept view.desk.cores _ _ (same_last view.workers view.ends put same_links) is.grid);
       closings = count ∙ sym cores;
-      bells = bells ∙ sym cores;
+      bells = bells ∙ ap (λ cores. cores + 1) (sym cores);
       lanes = lanes_now;
       lanes_are = stays.known.cores_are;
       room_is = room;
@@ -134,13 +135,13 @@ module _ {J T : Type 0} where
     }
 
     -- the same, over the ends as the code has them
-    pub runtime_on : (ends : EndsView J T) → ends ≡ put → (closing : List Bool) → length closing ≡ view.desk.cores → (rung : List ℕ) → length rung ≡ view.desk.cores → booked desk ≤ view.desk.journal.room →
+    pub runtime_on : (ends : EndsView J T) → ends ≡ put → (closing : List Bool) → length closing ≡ view.desk.cores → (rung : RingsView J T) → length rung.times ≡ view.desk.cores + 1 → booked desk ≤ view.desk.journal.room →
         IsRuntime fits (record { desk = desk; ends = ends; closing = closing; workers = view.workers; room = view.room; rung = rung })
     runtime_on ends is_put closing count rung bells room =
         subst (λ ends. IsRuntime fits (record { desk = desk; ends = ends; closing = closing; workers = view.workers; room = view.room; rung = rung })) (sym is_put)
         (runtime_put closing count rung bells (omega (arith, room, ap (λ desk. desk.journal.room) stays.rest)))
 
-    pub stored_on : {cores_are cap_is room_ends room_journals : ℕ} (ends : EndsView J T) (closing : List Bool) (rung : List ℕ) → IsStored view cores_are cap_is room_ends room_journals →
+    pub stored_on : {cores_are cap_is room_ends room_journals : ℕ} (ends : EndsView J T) (closing : List Bool) (rung : RingsView J T) → IsStored view cores_are cap_is room_ends room_journals →
         IsStored (record { desk = desk; ends = ends; closing = closing; workers = view.workers; room = view.room; rung = rung }) cores_are cap_is room_ends room_journals
     stored_on ends closing rung stored = record {
       cores_are = stored.cores_are ∙ sym cores;

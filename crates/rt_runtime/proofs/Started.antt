@@ -27,6 +27,7 @@ use Rattle.rt_runtime_worker.specs.Opening.{IsWorkerOf}
 use Rattle.rt_runtime_worker.specs.Queues.{creations}
 use Rattle.rt_runtime_worker.specs.Together.{IsOutside, no_linked, worker_at}
 use Rattle.rt_runtime_worker.proofs.Opened.{fresh_out}
+use Rattle.rt_runtime.specs.Rings.{RingsView}
 use Rattle.rt_runtime.specs.State.{IsRuntime}
 use Rattle.rt_runtime.specs.Starting.{AreOpening, IsHouse, IsOpenedWith}
 use Rattle.rt_runtime.proofs.Finished.{together_at}
@@ -43,7 +44,7 @@ module _ {J T : Type 0} (cores cap room : ℕ) (queues : List Entry) where
   over_same (ends ∷ front) (worker ∷ workers) both = ap (λ ends. ends ∷ map (λ (worker : LinkedView J T). worker.ends) workers) both.0.over.ends_are ∙ ap (λ front. ends ∷ front) (over_same front workers both.1)
 
   module _ (all front : List (EndsView J T)) (outside : EndsView J T) (is : all ≡ front ++ outside ∷ []) (grid : IsGrid cores all) (are_fresh : AreAllFresh cores cap all) where
-    front_count : length front ≡ cores
+    pub front_count : length front ≡ cores
     front_count = let longer : length all ≡ length front + 1 = ap length is ∙ length-append front (outside ∷ []) in omega (arith, longer, grid.count)
 
     at_front : (core : ℕ) → core < length front → ends_at core all ≡ get_or front core no_ends
@@ -92,7 +93,7 @@ module _ {J T : Type 0} (cores cap room : ℕ) (queues : List Entry) where
 
   -- a runtime in which nothing has happened
   module _ (workers : List (LinkedView J T)) (ends : EndsView J T) (desk : DeskView J T) (closing : List Bool) (house : IsHouse cores cap room queues workers ends) (opened : desk ≡ opened_desk cores cores cap room)
-      (written : IsWritten (terms_of_desk desk) desk.journal.notes) (none : closing ≡ replicate cores false) (rung : List ℕ) (silent : rung ≡ replicate cores 0) (limits : IsWithinLimits cores cap) where
+      (written : IsWritten (terms_of_desk desk) desk.journal.notes) (none : closing ≡ replicate cores false) (rung : RingsView J T) (silent : rung.times ≡ replicate (cores + 1) 0) (limits : IsWithinLimits cores cap) where
     outs_opened : (core : ℕ) → core < cores → IsOutOf core (opened_desk cores cores cap room) (out_at core ends).out (out_at core ends).credited
     outs_opened core low =
         let is = house.fresh.outs core (omega (arith, low, house.outs)) in
@@ -125,7 +126,7 @@ module _ {J T : Type 0} (cores cap room : ℕ) (queues : List Entry) where
       actor = ap (λ desk. desk.actor) opened ∙ ap (λ desk. desk.cores) (sym opened);
       outside = outside_opened;
       grid = subst (λ (desk : DeskView J T). IsGrid desk.cores (map (λ worker. worker.ends) workers ++ ends ∷ [])) (sym opened) house.grid;
-      bells = ap length silent ∙ (length-replicate cores 0 ∙ ap (λ desk. desk.cores) (sym opened));
+      bells = ap length silent ∙ (length-replicate (cores + 1) 0 ∙ ap (λ desk. desk.cores + 1) (sym opened));
       closings = ap length none ∙ (length-replicate cores false ∙ ap (λ desk. desk.cores) (sym opened));
       lanes_are = ap (λ desk. length desk.lanes) opened ∙ (length-replicate cores (fresh_lane cap) ∙ ap (λ desk. desk.cores) (sym opened));
       room_is = subst (λ (desk : DeskView J T). booked desk ≤ desk.journal.room) (sym opened) (omega (arith, none_due));

@@ -1,5 +1,5 @@
 -- How a runtime starts and finishes.
-use Rattle.std.specs.Prelude.{◌≡◌, ℕ, ◌<◌, true, false, List, [], length, replicate, Result, Ok, Err}
+use Rattle.std.specs.Prelude.{◌≡◌, ℕ, ◌+◌, ◌<◌, true, false, List, [], length, replicate, Result, Ok, Err}
 use Rattle.rt_ids.specs.Assembly.{Assembly, journal_of}
 use Rattle.rt_ids.specs.Closing.{IsDrained}
 use Rattle.rt_ids.specs.Journal.{EachNote}
@@ -18,7 +18,7 @@ use Rattle.rt_runtime.specs.declared.error.FinishError.TheVariants.{NotClosed}
 use Rattle.rt_runtime.specs.declared.error.StartError.{StartError}
 use Rattle.rt_runtime.specs.declared.error.StartError.TheVariants.{BadConfig, Memory, Thread}
 use Rattle.rt_runtime_config.specs.Configs.{Entry, IsGood}
-use Rattle.rt_runtime.specs.Outcomes.{AllFitTheirOrders, AllPollsAreOwed, AreItsOrders, Orders}
+use Rattle.rt_runtime.specs.Outcomes.{AllFitTheirOrders, AllHaveOutcomes, AllPollsAreOwed, AreItsOrders, Orders}
 use Rattle.rt_runtime.specs.Starting.{HaveQueues}
 use Rattle.rt_runtime.specs.State.{RuntimeView, closing_at, submitted}
 
@@ -28,7 +28,7 @@ module _ {J T : Type 0} where
   pub record IsStarted (cores cap room : ℕ) (queues : List Entry) (view : RuntimeView J T) : Type 0 where
     pub desk : view.desk ≡ opened_desk cores cores cap room
     pub closing : view.closing ≡ replicate cores false
-    pub rung : view.rung ≡ replicate cores 0
+    pub rung : view.rung.times ≡ replicate (cores + 1) 0
     pub room_is : view.room ≡ room
     pub count : length view.workers ≡ cores
     pub ends : length view.ends.outs ≡ cores
@@ -58,8 +58,8 @@ module _ {J T : Type 0} where
 module _ {J : Type 0} (meaning : Meaning J ℕ) where
   -- The journals are joined, so they are sound, and they have a text. The outside journal is that of the caller's calls. Each core is drained.
   -- It closed by itself only where its journal was short, and it sent, redeemed and let go only while one of its jobs was polled. Its journal begins
-  -- with what its worker began with. There is one order for each name, as it was sent: what the journals tell of it is what it asks,
-  -- and each of its polls is one that it owes.
+  -- with what its worker began with. There is one order for each name, as it was sent: each has an outcome, what the journals tell of it is what it
+  -- asks, and each of its polls is one that it owes.
   pub record HasFinished (view : RuntimeView J ℕ) (assembly : Assembly ℕ) : Type 0 where
     pub closed : (core : ℕ) → core < view.desk.cores → closing_at core view ≡ true
     pub cores : assembly.cores ≡ view.desk.cores
@@ -73,6 +73,7 @@ module _ {J : Type 0} (meaning : Meaning J ℕ) where
     pub openings : (core : ℕ) → core < view.desk.cores → opening_of (journal_of core assembly) ≡ opening_of (worker_at core view.workers).recorded.journal.notes
     pub orders : Orders J
     pub orders_are : AreItsOrders view assembly orders
+    pub outcomes : AllHaveOutcomes view assembly orders
     pub fitting : AllFitTheirOrders view assembly orders (Fits meaning)
     pub polls : AllPollsAreOwed view assembly orders meaning
 

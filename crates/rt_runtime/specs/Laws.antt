@@ -4,11 +4,14 @@ use Rattle.rt_ids.specs.declared.names.JobId.{JobId}
 use Rattle.rt_ids.specs.declared.note.OutcomeNote.TheVariants.{Finished}
 use Rattle.rt_ids.specs.declared.order.Order.{Order}
 use Rattle.rt_ids.specs.declared.order.Order.TheVariants.{Job}
+use Rattle.rt_ids.specs.declared.order.Outcome.{Outcome}
 use Rattle.rt_ids.specs.declared.order.SendError.{SendError}
 use Rattle.rt_ids.specs.declared.order.SendError.TheVariants.{Closed}
 use Rattle.rt_ids.specs.Assembly.{Assembly, journal_of, outcome_of}
 use Rattle.rt_ids.specs.Journal.{Journal}
+use Rattle.rt_ids.specs.Outcomes.{outcome_note}
 use Rattle.rt_jobs.specs.Calls.{Call}
+use Rattle.rt_link.specs.Fits.{Fits}
 use Rattle.rt_jobs.specs.Meanings.{Meaning}
 use Rattle.rt_jobs.specs.declared.job.Step.{Step}
 use Rattle.rt_journal.specs.OwedPolls.{IsPollOf}
@@ -57,6 +60,18 @@ module _ {J : Type 0} where
   WrongAnswersAreRefused meaning =
       (view : RuntimeView J ℕ) (assembly : Assembly ℕ) (name : JobId) (job : J) (answer : ℕ) →
       TellsAnswer view assembly name job answer → (meaning.answers job answer → ⊥) → HasFinished meaning view assembly → ⊥
+
+  -- the journals tell an outcome under this name, and it fits the order
+  pub record IsToldOf (meaning : Meaning J ℕ) (assembly : Assembly ℕ) (name : JobId) (order : Order J) : Type 0 where
+    pub outcome : Outcome J ℕ
+    pub told : outcome_of name assembly ≡ Some (outcome_note outcome)
+    pub fit : Fits meaning order outcome
+
+  -- each order that the caller submitted under a name has its outcome in the journals of a finish
+  abbrev pub SubmittedOrdersAreTold : Meaning J ℕ → Type 0
+  SubmittedOrdersAreTold meaning =
+      (view : RuntimeView J ℕ) (assembly : Assembly ℕ) (name : JobId) (order : Order J) → name.from ≡ view.desk.cores → name.to < view.desk.cores → 0 < name.number →
+      submitted_under name view ≡ Some order → HasFinished meaning view assembly → IsToldOf meaning assembly name order
 
   -- the answer is that the core is closed
   abbrev pub IsClosed : Result JobId (SendError J) → Type 0

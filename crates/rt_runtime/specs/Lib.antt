@@ -1,3 +1,4 @@
+pub mod Rings
 pub mod State
 pub mod Starting
 pub mod Sends

@@ -1,6 +1,6 @@
 -- The orders of a house whose runtime has finished, and what its journals tell of them.
 use Rattle.std.specs.Prelude.{◌≡◌, ℕ, ◌<◌, ◌≤◌, Option, Some, IfSome}
-use Rattle.std.specs.Option.{option_map}
+use Rattle.std.specs.Option.{IsSome, option_map}
 use Rattle.rt_ids.specs.declared.names.JobId.{JobId}
 use Rattle.rt_ids.specs.declared.note.OutcomeNote.{OutcomeNote}
 use Rattle.rt_ids.specs.declared.order.Order.{Order}
@@ -36,10 +36,15 @@ seen_at_end assembly orders core =
 
 module _ {J T : Type 0} (view : RuntimeView J T) (assembly : Assembly T) (orders : Orders J) where
   -- These are the orders that were sent. The sender's journal tells each of them without its job, and no other. Under a name of the outside actor
-  -- stands the one that the caller submitted, with its job.
+  -- stands the one that the caller submitted, with its job. Each that the caller submitted stands there.
   pub record AreItsOrders : Type 0 where
     pub sent : (name : JobId) → name.from ≤ view.desk.cores → name.to < view.desk.cores → order_of name assembly ≡ option_map without_job (orders name)
     pub by_caller : (name : JobId) → name.from ≡ view.desk.cores → name.to < view.desk.cores → IfSome (orders name) (λ order. submitted_under name view ≡ Some order)
+    pub all_of_caller : (name : JobId) → name.from ≡ view.desk.cores → name.to < view.desk.cores → 0 < name.number → orders name ≡ submitted_under name view
+
+  -- the journals tell an outcome of each order that was sent
+  abbrev pub AllHaveOutcomes : Type 0
+  AllHaveOutcomes = (name : JobId) → name.from ≤ view.desk.cores → name.to < view.desk.cores → IfSome (orders name) (λ order. IsSome (outcome_of name assembly))
 
   -- each outcome that the journals tell of a submission is one that its order asks
   abbrev pub AllFitTheirOrders : (Order J → Outcome J T → Type 0) → Type 0

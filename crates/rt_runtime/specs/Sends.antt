@@ -45,7 +45,7 @@ module _ {J T : Type 0} where
 
   -- A send to a core that there is: its link answers. So `Closed` comes only from a gate that was found shut, and then at each later send; `Full`
   -- and an acceptance come only where no send found it shut. An order that was accepted stands under its name, and what the caller knows of the
-  -- core's closing goes on. The bell of this core is rung.
+  -- core's closing goes on. Then the bell of this core is rung, and no other: at that ring the ends are as the send left them.
   pub record SendsTo (core : ℕ) (order : Order J) (old : RuntimeView J T) (answer : Result JobId (SendError J)) (new : RuntimeView J T) : Type 0 where
     pub submits : Submits core order old.desk answer new.desk
     pub link : link.Sends (out_at core old.ends).out (out_at core old.ends).credited order (out_at core new.ends).out (numbered answer)
@@ -54,7 +54,7 @@ module _ {J T : Type 0} where
     pub others : (other : ℕ) → other ≢ core → submitted other new ≡ submitted other old
     pub gates : (other : ℕ) → other ≢ core → is_told_shut other new ≡ is_told_shut other old
     pub named : IfOk answer (λ name. submitted_under name new ≡ Some order)
-    pub rings : new.rung ≡ rung_at core old.rung
+    pub rings : new.rung ≡ record { times = rung_at core old.rung.times; over = new.ends }
     pub stays : StaysRunning old new
 
   -- a send: the same, or there is no such core

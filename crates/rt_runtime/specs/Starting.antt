@@ -7,6 +7,7 @@ use Rattle.rt_runtime_worker.specs.Linked.{LinkedView}
 use Rattle.rt_runtime_worker.specs.Opening.{AreEndsOf, IsOpenedOver, IsWorkerOf}
 use Rattle.rt_runtime_worker.specs.Queues.{creations}
 use Rattle.rt_runtime_worker.specs.Together.{worker_at}
+use Rattle.rt_runtime_worker.specs.Workers.{WorkerView}
 
 -- a journal has room for the queues that a core is to have, and for what a worker needs
 abbrev pub IsRoomFor : ℕ → ℕ → ℕ → List Entry → ℕ → Type 0
@@ -22,6 +23,13 @@ module _ {J T : Type 0} where
   pub record IsOpenedWith (cores cap room : ℕ) (queues : List Entry) (ends : EndsView J T) (worker : LinkedView J T) : Type 0 where
     pub over : IsOpenedOver cores cap room ends worker
     pub queues_are : worker.recorded.journal.notes ≡ creations ends.number queues
+
+  -- a worker of which this is so has this clock and this gate, and rings the bells of these names
+  pub record IsWiredWith {C G : Type 0} (opened : LinkedView J T → Type 0) (clock : C) (gate : G) (names : List ℕ) (worker : WorkerView J T C G) : Type 0 where
+    pub linked : opened worker.linked
+    pub clock_is : worker.clock ≡ clock
+    pub gate_is : worker.gate ≡ gate
+    pub bells_are : worker.bells ≡ names
 
   -- the journal of each worker tells of the queues of its core and of nothing else
   abbrev pub HaveQueues : ℕ → List Entry → List (LinkedView J T) → Type 0

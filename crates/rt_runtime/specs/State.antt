@@ -12,16 +12,17 @@ use Rattle.rt_ring_mesh.specs.Grid.{IsGrid}
 use Rattle.rt_runtime_worker.specs.Linked.{LinkedView}
 use Rattle.rt_runtime_worker.specs.Opening.{IsWorkerOf}
 use Rattle.rt_runtime_worker.specs.Together.{OutsideView, IsOutside, worker_at, all_ends}
+use Rattle.rt_runtime.specs.Rings.{RingsView}
 
 -- The outside actor's journal and ends, and for each core whether the caller closed it: an order to close it was accepted, or a send to it was
--- answered `Closed`. The workers are as they began, with room for so many notes each. How often the caller rang the bell of each core.
+-- answered `Closed`. The workers are as they began, with room for so many notes each. How often the caller rang the bell of each core, and behind what.
 pub record RuntimeView (J T : Type 0) : Type 0 where
   pub desk : DeskView J T
   pub ends : EndsView J T
   pub closing : List Bool
   pub workers : List (LinkedView J T)
   pub room : ℕ
-  pub rung : List ℕ
+  pub rung : RingsView J T
 
 module _ {J T : Type 0} where
   -- the outside actor
@@ -59,7 +60,7 @@ module _ {J T : Type 0} where
     pub stays : StaysRunning old new
 
 module _ {J T : Type 0} (fits : Order J → Outcome J T → Type 0) where
-  -- Each core has its worker and its bell, all links of the house are there, and the outside actor's journal is written by the rules and beside its ends.
+  -- Each core has its worker and its bell, and the outside actor has one; all links of the house are there, and the outside actor's journal is written by the rules and beside its ends.
   -- It has room for each note that is due of its submissions.
   pub record IsRuntime (view : RuntimeView J T) : Type 0 where
     pub count : length view.workers ≡ view.desk.cores
@@ -68,7 +69,7 @@ module _ {J T : Type 0} (fits : Order J → Outcome J T → Type 0) where
     pub outside : IsOutside (outside_of view)
     pub grid : IsGrid view.desk.cores (all_ends view.workers (outside_of view))
     pub closings : length view.closing ≡ view.desk.cores
-    pub bells : length view.rung ≡ view.desk.cores
+    pub bells : length view.rung.times ≡ view.desk.cores + 1
     pub lanes : (core : ℕ) → core < view.desk.cores → HasLane fits core view.desk (out_at core view.ends).out (out_at core view.ends).credited
     pub lanes_are : length view.desk.lanes ≡ view.desk.cores
     pub room_is : booked view.desk ≤ view.desk.journal.room

@@ -121,7 +121,7 @@ impl<J: Task<Out = u64>, C: Drop, G: Drop> Runtime<J, C, G> {
         let closing = closes(&order);
         let answer = send_on(&mut self.desk, &mut self.ends, to, order);
         mark(&mut self.closing, core, tells(closing, &answer));
-        self.bells.ring(to);
+        self.bells.ring(&self.ends, to);
         answer
     }
 

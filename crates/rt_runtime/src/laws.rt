@@ -1,6 +1,6 @@
 //! Laws over the definitions alone. Their bodies are empty: each contract is the law.
 
-ghost use Rattle.rt_runtime.specs.Laws.{ClosedStaysClosed, RefusedOrdersComeBack, ToldPollsAreOwed, UnowedPollsAreRefused, WrongAnswersAreRefused};
+ghost use Rattle.rt_runtime.specs.Laws.{ClosedStaysClosed, RefusedOrdersComeBack, SubmittedOrdersAreTold, ToldPollsAreOwed, UnowedPollsAreRefused, WrongAnswersAreRefused};
 
 use rt_jobs::Task;
 
@@ -27,4 +27,9 @@ pub fn told_polls_are_owed<J: Task<Out = u64>>()
 /// No finish tells of a submitted job a poll that its task doesn't owe, such as a yield that it never makes.
 pub fn unowed_polls_are_refused<J: Task<Out = u64>>()
     ensures { UnowedPollsAreRefused J.meaning }
+{}
+
+/// Each order that the caller submitted has an outcome in the journals of a finish, and it fits the order.
+pub fn submitted_orders_are_told<J: Task<Out = u64>>()
+    ensures { SubmittedOrdersAreTold J.meaning }
 {}

@@ -5,6 +5,7 @@ mod calls;
 pub mod error;
 mod finishing;
 pub mod laws;
+mod rings;
 pub mod runtime;
 mod starting;
 mod tickets;

@@ -5,9 +5,10 @@ ghost use Rattle.rt_runtime_config.specs.Configs.{IsGood};
 ghost use Rattle.rt_runtime_team.specs.Works.{Together};
 ghost use Rattle.rt_journal_desk.specs.Submissions.{IsWritten, opened_desk, terms_of_desk};
 ghost use Rattle.rt_runtime.specs.Calls.{Begins, Starts};
-ghost use Rattle.rt_runtime.specs.Starting.{AreOpening, IsHouse, IsOpenedWith};
+ghost use Rattle.rt_runtime.specs.Starting.{AreOpening, IsHouse, IsOpenedWith, IsWiredWith};
 
 use crate::error::StartError;
+use crate::rings::Rings;
 use crate::runtime::Runtime;
 use rt_ids::ActorNo;
 use rt_jobs::{Job, Task};
@@ -58,8 +59,8 @@ fn open_seats<J: Task<Out = u64>, C: Drop, G: Drop>(
     bells: &Bells,
 ) -> Result<Vec<Worker<J, C, G>>, AllocError>
     requires each { All (λ seat. AreOpening config.now.cores config.now.cap config.now.room config.now.queues.items seat.ends) seats.items }
-    requires bells { length bells.now ≡ config.now.cores }
-    ensures { IfOk result (λ opened. Together (λ seat worker. IsOpenedWith config.now.cores config.now.cap config.now.room config.now.queues.items seat.ends worker) seats.items opened.items) }
+    requires bells { length bells.now.rings ≡ config.now.cores + 1 }
+    ensures { IfOk result (λ opened. Together (λ seat worker. IsWiredWith (IsOpenedWith config.now.cores config.now.cap config.now.room config.now.queues.items seat.ends) seat.clock seat.gate bells.now.names worker) seats.items opened.items) }
 {
     let mut workers = Vec::with_capacity(alloc, seats.len())?;
     for seat in seats {
@@ -69,7 +70,7 @@ fn open_seats<J: Task<Out = u64>, C: Drop, G: Drop>(
     Ok(workers)
 }
 
-/// Opens the workers of a house, each with the clock and the gate of its number.
+/// Opens the workers of a house, each with the clock and the gate of its number. All ring the same bells.
 fn open_workers<J: Task<Out = u64>, C: Drop, G: Drop>(
     alloc: Global,
     config: &Config,
@@ -79,10 +80,13 @@ fn open_workers<J: Task<Out = u64>, C: Drop, G: Drop>(
     gates: Vec<G>,
 ) -> Result<Vec<Worker<J, C, G>>, AllocError>
     requires each { All (AreOpening config.now.cores config.now.cap config.now.room config.now.queues.items) all.items }
-    requires bells { length bells.now ≡ config.now.cores }
+    requires bells { length bells.now.rings ≡ config.now.cores + 1 }
     requires clocks { length clocks.items ≡ length all.items }
     requires gates { length gates.items ≡ length all.items }
-    ensures { IfOk result (λ opened. Together (IsOpenedWith config.now.cores config.now.cap config.now.room config.now.queues.items) all.items opened.items) }
+    ensures opened { IfOk result (λ opened. Together (IsOpenedWith config.now.cores config.now.cap config.now.room config.now.queues.items) all.items (map (λ worker. worker.linked) opened.items)) }
+    ensures clocks { IfOk result (λ opened. map (λ worker. worker.clock) opened.items ≡ clocks.items) }
+    ensures gates { IfOk result (λ opened. map (λ worker. worker.gate) opened.items ≡ gates.items) }
+    ensures bells { IfOk result (λ opened. map (λ worker. worker.bells) opened.items ≡ map (λ ends. bells.now.names) all.items) }
 {
     let seats = deal(alloc, all, clocks, gates)?;
     open_seats(alloc, config, seats, bells)
@@ -96,8 +100,11 @@ fn open_house<J: Task<Out = u64>, C: Drop, G: Drop>(
     gates: Vec<G>,
 ) -> Result<(Vec<Worker<J, C, G>>, Bells, Ends<J>), AllocError>
     requires { IsGood config.now.cores config.now.cap config.now.room config.now.queues.items (length clocks.items) (length gates.items) }
-    ensures house { IfOk result (λ house. IsHouse config.now.cores config.now.cap config.now.room config.now.queues.items house.0.items house.2) }
-    ensures bells { IfOk result (λ house. house.1 ≡ replicate config.now.cores 0) }
+    ensures house { IfOk result (λ house. IsHouse config.now.cores config.now.cap config.now.room config.now.queues.items (map (λ worker. worker.linked) house.0.items) house.2) }
+    ensures clocks { IfOk result (λ house. map (λ worker. worker.clock) house.0.items ≡ clocks.items) }
+    ensures gates { IfOk result (λ house. map (λ worker. worker.gate) house.0.items ≡ gates.items) }
+    ensures shared { IfOk result (λ house. map (λ worker. worker.bells) house.0.items ≡ replicate config.now.cores house.1.names) }
+    ensures bells { IfOk result (λ house. house.1.rings ≡ replicate (config.now.cores + 1) 0) }
 {
     let bells = Bells::open(alloc, config.cores)?;
     let Ok(mut all) = open_all::<J>(alloc, config.cores, config.cap) else {
@@ -162,6 +169,7 @@ impl<J: Task<Out = u64>, C: Drop, G: Drop> Runtime<J, C, G> {
         let Ok(spare_journals) = Vec::with_capacity(alloc, actors) else {
             return Err(StartError::Memory);
         };
+        let bells = Rings::of(bells, &ends);
         match Team::start(rt, alloc, workers) {
             Ok(team) => Ok(Runtime {
                 cores: config.cores,
@@ -182,6 +190,15 @@ impl<J: Task<Out = u64>, C: Drop, G: Drop> Runtime<J, C, G> {
 
     /// Starts a worker for each core, each with a clock and a gate of its own, on a thread of its own. All memory is taken here, except what
     /// an order to create a queue takes.
+    ///
+    /// # Limits
+    ///
+    /// - 1 to 16 cores. 1 to 1024 submissions from one actor to one core may be outstanding. A core has at most 255 queues beside queue 0.
+    /// - A journal has room for `16 * (cores + 1) * (cap + 1)` notes and one for each queue at least, and for 2^24 at most. A poll makes three
+    ///   notes, a job that comes and goes four more. No room comes back.
+    /// - A core whose journal grows short closes by itself, and hands its jobs back. A caller whose journal is full can't submit any more.
+    /// - A job that doesn't yield keeps its core.
+    /// - Each core must be closed before `finish`. A runtime that is dropped without `finish` leaves its threads to themselves.
     ///
     /// # Errors
     ///

@@ -14,4 +14,6 @@ mod house;
 #[cfg(test)]
 mod meeting;
 #[cfg(test)]
+mod waking;
+#[cfg(test)]
 mod wiring;

@@ -28,6 +28,8 @@ use Rattle.rt_runtime_worker.specs.Steps.{ShutsGate}
 use Rattle.rt_runtime_worker.specs.Gates.{WritesShut, WritesReturn, IsShutWithin, LeavesShut, LeavesReturning, ShutsFirst, KeepsTaken}
 use Rattle.rt_runtime_worker.specs.Rooms.{last_through, least_free, MayAct, ActsAsItMay, HasSpare, IsShort, IsEnding}
 use Rattle.rt_runtime_worker.proofs.Along.{stays_along, stays_same}
+use Rattle.rt_runtime_worker.proofs.Asking.{prefix_shorter, return_notes_none, shut_notes_none}
+use Rattle.rt_runtime_worker.specs.Asks.{NotesNoPoll}
 use Rattle.rt_runtime_worker.proofs.Stepping.{sends_kept}
 use Rattle.rt_runtime_worker.proofs.Spare.{sums_within, places_more}
 use Rattle.std.proofs.lemmas.List.{length-map}
@@ -87,9 +89,10 @@ module _ {J T : Type 0} where
     shut = λ sender low. absurd (omega (arith, low));
     mode = refl;
     longer = omega arith;
+    polls = refl;
     acts = λ least each. each;
     stays = stays_same old;
-    taken = λ sender. refl;
+    taken = λ sender. (refl, omega arith);
   }
 
   -- the next one is shut
@@ -109,9 +112,10 @@ module _ {J T : Type 0} where
         (cases_eq sender count);
     mode = mode_same count middle.recorded.journal new.recorded.journal next.wrote ∙ first.mode;
     longer = omega (arith, first.longer, one_longer count middle.recorded.journal new.recorded.journal next.wrote);
+    polls = shut_notes_none count middle.recorded.journal new.recorded.journal next.wrote ∙ first.polls;
     acts = λ least each. shut_acts count least old.recorded.journal.room middle.recorded.journal new.recorded.journal next.wrote (first.acts least each);
     stays = stays_along old middle new first.stays next.stays;
-    taken = λ sender. next.taken sender ∙ first.taken sender;
+    taken = λ sender. let was = (first.taken sender).1 in let now = (next.taken sender).1 in ((next.taken sender).0 ∙ (first.taken sender).0, omega (arith, was, now));
   }
 
   module _ {meaning : Meaning J T} (old middle new : LinkedView J T) (linked : IsLinked meaning old) (spare : HasSpare old.recorded)
@@ -161,6 +165,10 @@ module _ {J T : Type 0} where
         by_return now (inr wrote) =
             subst (λ journal. EachNote (MayAct (least_free old.recorded.core.cores old.recorded.cap) old.recorded.journal.room) journal.notes) (sym wrote) (inr (refl, short), each)
 
+  -- a core that closes by itself and shuts its gates notes no poll
+  pub ending_notes_none : (old middle new : LinkedView J T) (count : ℕ) → LeavesReturning old middle → ShutsFirst count middle new → NotesNoPoll old.recorded.journal.notes new.recorded.journal.notes
+  ending_notes_none old middle new count returns shuts = shuts.polls ∙ return_notes_none old.recorded.journal middle.recorded.journal returns.wrote
+
   -- a core that closed by itself is linked as before
   pub returned_linked : {meaning : Meaning J T} (old new : RecordedView J T) (ends : EndsView J T) → IsLinked meaning (record { recorded = old; ends = ends }) →
       (did : Bool) → ClosesItself old Return did new → ((sender : ℕ) → KeepsIn sender old new) → KeepsOuts (desk_of old) (desk_of new) → new.lanes ≡ old.lanes → IsSameSeat old new → IsRecorded meaning new →
@@ -202,12 +210,16 @@ module _ {J T : Type 0} where
         ∙ ap (λ test. is_some (or_else (cond test (Some did.count) None) (final_count sender old.recorded.journal.notes))) (eq-eqb sender sender refl),
   )
 
-  -- no order is delivered by it
+  -- no order is delivered by it, and the end has seen no less
   taken_same : (sender : ℕ) (old new : LinkedView J T) → ShutsGate sender old new → KeepsTaken old new
   taken_same sender old new did other =
       ⊎_elim
-      (λ (is : other ≡ sender). subst (λ one. (in_at one new.ends).inward.taken ≡ (in_at one old.ends).inward.taken) (sym is) (ap (λ inward. inward.taken) did.shuts.0))
-      (λ (away : other ≢ sender). ap (λ end. end.inward.taken) (did.others other away))
+      (λ (is : other ≡ sender).
+      subst (λ one. ((in_at one new.ends).inward.taken ≡ (in_at one old.ends).inward.taken) × (length (in_at one old.ends).inward.seen ≤ length (in_at one new.ends).inward.seen)) (sym is)
+      (ap (λ inward. inward.taken) did.shuts.0, prefix_shorter _ _ did.shuts.1.0))
+      (λ (away : other ≢ sender).
+      let same : length (in_at other new.ends).inward.seen ≡ length (in_at other old.ends).inward.seen = ap (λ end. length end.inward.seen) (did.others other away) in
+      (ap (λ end. end.inward.taken) (did.others other away), omega (arith, same)))
       (cases_eq other sender)
 
   -- the gate is shut, whether it was so before or not
@@ -235,5 +247,5 @@ module _ {J T : Type 0} where
     -- it was shut before
     pub leaves_else : new ≡ old → IsSome (final_count sender old.recorded.journal.notes) → LeavesShut sender old new
     leaves_else is some =
-        leaves_here (inl (ap (λ view. view.recorded.journal) is)) (subst (StaysLinked old) (sym is) (stays_same old)) (λ other. ap (λ view. (in_at other view.ends).inward.taken) is)
+        leaves_here (inl (ap (λ view. view.recorded.journal) is)) (subst (StaysLinked old) (sym is) (stays_same old)) (λ other. let same : length (in_at other new.ends).inward.seen ≡ length (in_at other old.ends).inward.seen = ap (λ view. length (in_at other view.ends).inward.seen) is in (ap (λ view. (in_at other view.ends).inward.taken) is, omega (arith, same)))
         (subst (λ (view : LinkedView J T). IsSome (final_count sender view.recorded.journal.notes)) (sym is) some)

@@ -4,6 +4,7 @@ pub mod Openings
 pub mod Rung
 mod QueuesRefused
 mod ActsRefused
+mod BellsRefused
 pub mod Stepping
 pub mod Delivered
 pub mod Posted
@@ -13,10 +14,12 @@ pub mod HandedBack
 pub mod Noted
 pub mod Acting
 pub mod Spare
+pub mod Asking
 pub mod Gated
 pub mod Serving
 pub mod Telling
 pub mod Heard
+mod Looked
 pub mod Opened
 pub mod Creating
 pub mod Ending

@@ -1,13 +1,13 @@
 -- Bells in their places, and rings one after another.
-use Rattle.std.proofs.Common.{◌≡◌, ◌≢◌, ℕ, ◌+◌, ◌<◌, List, [], ◌∷◌, ◌++◌, length, map, replicate, get_or, set, get_or-set_same, get_or-set_other, length-set, length-append, refl, sym, ◌∙◌, ap, subst, arith, ⊎_elim, drop}
+use Rattle.std.proofs.Common.{◌≡◌, ◌≢◌, ℕ, ◌+◌, ◌<◌, List, [], ◌∷◌, ◌++◌, length, map, replicate, take, get_or, set, get_or-set_same, get_or-set_other, length-set, length-append, refl, sym, ◌∙◌, ap, subst, arith, ⊎_elim, drop}
 use Rattle.std.proofs.lemmas.Bool.{cases_eq}
-use Rattle.std.proofs.lemmas.List.{get_or_append_left, get_or_default, get_or-map, map-append, map-set, length-reverse, replicate-append-replicate, reverse-append}
-use Rattle.std.proofs.Math.Seq.{drop-append_seam, get_or-append_seam}
+use Rattle.std.proofs.lemmas.List.{get_or_append_left, get_or_default, get_or-map, take_more, map-append, map-set, length-map, length-reverse, replicate-append-replicate, reverse-append}
+use Rattle.std.proofs.Math.Seq.{drop-append_seam, get_or-append_seam, map-set_same}
 use Rattle.std.specs.Prelude.{Bool, true, reverse}
 use Rattle.rt_ids.specs.declared.note.Note.{Note}
 use Rattle.rt_ids.specs.declared.note.Note.TheVariants.{Created}
 use Rattle.rt_ids.specs.Journal.{Journal}
-use Rattle.rt_runtime_worker.specs.Bells.{BellView, no_bell, AreInPlace, once_more, rung_at, rung_at_some, told_by, rung_for, HasRung, AreRung}
+use Rattle.rt_runtime_worker.specs.Bells.{BellView, BellsView, no_bell, AreInPlace, bells_view, once_more, rung_at, rung_at_some, told_by, rung_for, HasRung, AreRung}
 use Rattle.rt_runtime_worker.specs.Ended.{ServedView}
 use Rattle.rt_runtime_worker.specs.Linked.{Grows}
 use Rattle.rt_runtime_worker.specs.Queues.{creations, is_opening}
@@ -20,19 +20,41 @@ pub none_in_place : AreInPlace []
 none_in_place core low = absurd (omega (arith, low))
 
 -- one more bell behind the others
-pub one_more_in_place : (bells : List BellView) (bell : BellView) → AreInPlace bells → bell.core ≡ length bells → AreInPlace (bells ++ bell ∷ [])
+pub one_more_in_place : (bells : List BellView) (bell : BellView) → AreInPlace bells → bell.actor ≡ length bells → AreInPlace (bells ++ bell ∷ [])
 one_more_in_place bells bell are is core low =
     ⊎_elim
-    (λ (one : core ≡ length bells). ap (λ place. (get_or (bells ++ bell ∷ []) place no_bell).core) one ∙ (ap (λ (bell : BellView). bell.core) (get_or-append_seam bells bell [] no_bell) ∙ (is ∙ sym one)))
+    (λ (one : core ≡ length bells). ap (λ place. (get_or (bells ++ bell ∷ []) place no_bell).actor) one ∙ (ap (λ (bell : BellView). bell.actor) (get_or-append_seam bells bell [] no_bell) ∙ (is ∙ sym one)))
     (λ (away : core ≢ length bells).
     let before : core < length bells = omega (arith, low, away, length-append bells (bell ∷ [])) in
-    ap (λ (bell : BellView). bell.core) (get_or_append_left bells (bell ∷ []) no_bell core before) ∙ are core before)
+    ap (λ (bell : BellView). bell.actor) (get_or_append_left bells (bell ∷ []) no_bell core before) ∙ are core before)
     (cases_eq core (length bells))
 
 -- none of them was rung
 pub one_more_unrung : (bells : List BellView) (bell : BellView) (count : ℕ) → map (λ bell. bell.rings) bells ≡ replicate count 0 → bell.rings ≡ 0 → map (λ bell. bell.rings) (bells ++ bell ∷ []) ≡ replicate (count + 1) 0
 one_more_unrung bells bell count are is =
     map-append (λ (bell : BellView). bell.rings) bells (bell ∷ []) ∙ (ap (λ rung. rung ++ bell.rings ∷ []) are ∙ (ap (λ rings. replicate count 0 ++ rings ∷ []) is ∙ replicate-append-replicate count 1 0))
+
+-- one more bell that has the name of the one in its place
+pub one_more_named : (bells all : List BellView) (bell : BellView) (place : ℕ) → map (λ bell. bell.name) bells ≡ take place (map (λ bell. bell.name) all) → place < length all → bell.name ≡ (get_or all place no_bell).name →
+    map (λ bell. bell.name) (bells ++ bell ∷ []) ≡ take (place + 1) (map (λ bell. bell.name) all)
+one_more_named bells all bell place are low is =
+    map-append (λ (bell : BellView). bell.name) bells (bell ∷ [])
+    ∙ (ap (λ names. names ++ bell.name ∷ []) are
+    ∙ (ap (λ name. take place (map (λ (bell : BellView). bell.name) all) ++ name ∷ []) (is ∙ sym (get_or-map (λ (bell : BellView). bell.name) all place no_bell 0 low))
+    ∙ sym (take_more (map (λ (bell : BellView). bell.name) all) place 0 (subst (λ count. place < count) (sym (length-map all (λ (bell : BellView). bell.name))) low))))
+
+-- the bell in a place is had again, behind those before it
+pub one_more_again : (all bells new : List BellView) (place : ℕ) (seen bell : BellView) → AreInPlace all → place < length all → seen ≡ get_or all place seen → bell ≡ record seen { rings = 0 } → new ≡ bells ++ bell ∷ [] → length bells ≡ place →
+    map (λ bell. bell.rings) bells ≡ replicate place 0 → map (λ bell. bell.name) bells ≡ take place (map (λ bell. bell.name) all) → AreInPlace bells →
+    (length new ≡ place + 1) × (map (λ bell. bell.rings) new ≡ replicate (place + 1) 0) × (map (λ bell. bell.name) new ≡ take (place + 1) (map (λ bell. bell.name) all)) × AreInPlace new
+one_more_again all bells new place seen bell are low seen_is is new_is count unrung named in_place =
+    let here : seen ≡ get_or all place no_bell = seen_is ∙ get_or_default all place seen no_bell low in
+    let actor : bell.actor ≡ length bells = ap (λ (bell : BellView). bell.actor) is ∙ (ap (λ (bell : BellView). bell.actor) here ∙ (are place low ∙ sym count)) in (
+      (let longer : length new ≡ length bells + length (bell ∷ []) = ap length new_is ∙ length-append bells (bell ∷ []) in omega (arith, longer, count)),
+      ap (map (λ (bell : BellView). bell.rings)) new_is ∙ one_more_unrung bells bell place unrung (ap (λ (bell : BellView). bell.rings) is),
+      ap (map (λ (bell : BellView). bell.name)) new_is ∙ one_more_named bells all bell place named low (ap (λ (bell : BellView). bell.name) is ∙ ap (λ (bell : BellView). bell.name) here),
+      subst AreInPlace (sym new_is) (one_more_in_place bells bell in_place actor),
+    )
 
 module _ (bells : List BellView) (core : ℕ) (bell new : BellView) (low : core < length bells) (is : bell ≡ get_or bells core bell) (rung : new ≡ record bell { rings = once_more bell.rings }) where
   its_bell : bell ≡ get_or bells core no_bell
@@ -45,14 +67,20 @@ module _ (bells : List BellView) (core : ℕ) (bell new : BellView) (low : core 
       ∙ ap (set (map (λ (bell : BellView). bell.rings) bells) core)
       (ap (λ (bell : BellView). bell.rings) rung ∙ (ap (λ (bell : BellView). once_more bell.rings) its_bell ∙ ap once_more (sym (get_or-map (λ (bell : BellView). bell.rings) bells core no_bell 0 low))))
 
+  pub bell_view_rung : bells_view (set bells core new) ≡ record (bells_view bells) { rings = rung_at core (bells_view bells).rings }
+  bell_view_rung =
+      ap (λ names. record { names = names; rings = map (λ (bell : BellView). bell.rings) (set bells core new) })
+      (map-set_same (λ (bell : BellView). bell.name) bells core new no_bell (ap (λ (bell : BellView). bell.name) rung ∙ ap (λ (bell : BellView). bell.name) its_bell))
+      ∙ ap (λ rings. record { names = map (λ (bell : BellView). bell.name) bells; rings = rings }) bell_rung
+
   pub still_in_place : AreInPlace bells → AreInPlace (set bells core new)
   still_in_place are other there =
       ⊎_elim
       (λ (one : other ≡ core).
-      ap (λ place. (get_or (set bells core new) place no_bell).core) one
-      ∙ (ap (λ (bell : BellView). bell.core) (get_or-set_same bells core new no_bell low ∙ rung) ∙ (ap (λ (bell : BellView). bell.core) its_bell ∙ (are core low ∙ sym one))))
+      ap (λ place. (get_or (set bells core new) place no_bell).actor) one
+      ∙ (ap (λ (bell : BellView). bell.actor) (get_or-set_same bells core new no_bell low ∙ rung) ∙ (ap (λ (bell : BellView). bell.actor) its_bell ∙ (are core low ∙ sym one))))
       (λ (away : other ≢ core).
-      ap (λ (bell : BellView). bell.core) (get_or-set_other bells core other new no_bell away) ∙ are other (omega (arith, there, length-set bells core new)))
+      ap (λ (bell : BellView). bell.actor) (get_or-set_other bells core other new no_bell away) ∙ are other (omega (arith, there, length-set bells core new)))
       (cases_eq other core)
 
 module _ {T : Type 0} where
@@ -66,7 +94,7 @@ module _ {T : Type 0} where
   rung_since cores old newer new before after has grew rings =
       rings
       ∙ (ap (rung_for (reverse newer)) has
-      ∙ (sym (rung_along (reverse old) (reverse newer) (replicate cores 0)) ∙ ap (λ notes. rung_for notes (replicate cores 0)) (sym (ap reverse grew ∙ reverse-append newer old))))
+      ∙ (sym (rung_along (reverse old) (reverse newer) (replicate (cores + 1) 0)) ∙ ap (λ notes. rung_for notes (replicate (cores + 1) 0)) (sym (ap reverse grew ∙ reverse-append newer old))))
 
   -- the same, where the rings are for the notes behind the old ones
   pub rung_behind : (cores : ℕ) (old new : Journal T) (before after : List ℕ) → HasRung cores old before → Grows old new → after ≡ rung_for (drop (length old) (reverse new)) before → HasRung cores new after
@@ -76,11 +104,11 @@ module _ {T : Type 0} where
       (rings ∙ ap (λ notes. rung_for notes before) (ap (λ notes. drop (length old) (reverse notes)) grows.1 ∙ (ap (drop (length old)) (reverse-append grows.0 old) ∙ split)))
 
 -- a step of a worker, after the rings for its notes
-pub are_rung : {J T : Type 0} {some : Bool} (old new : ServedView J T) (before after : List ℕ) → StepsServed old some new → AreRung old before →
-    after ≡ rung_for (drop (length old.linked.recorded.journal.notes) (reverse new.linked.recorded.journal.notes)) before → AreRung new after
+pub are_rung : {J T : Type 0} {some : Bool} (old new : ServedView J T) (before after : BellsView) → StepsServed old some new → AreRung old before →
+    after.rings ≡ rung_for (drop (length old.linked.recorded.journal.notes) (reverse new.linked.recorded.journal.notes)) before.rings → AreRung new after
 are_rung old new before after steps has rings =
-    subst (λ cores. HasRung cores new.linked.recorded.journal.notes after) (sym steps.stays.seat.cores)
-    (rung_behind old.linked.recorded.core.cores old.linked.recorded.journal.notes new.linked.recorded.journal.notes before after has steps.stays.grows rings)
+    subst (λ cores. HasRung cores new.linked.recorded.journal.notes after.rings) (sym steps.stays.seat.cores)
+    (rung_behind old.linked.recorded.core.cores old.linked.recorded.journal.notes new.linked.recorded.journal.notes before.rings after.rings has steps.stays.grows rings)
 
 module _ {T : Type 0} where
   -- a creation is for nobody
@@ -92,10 +120,10 @@ module _ {T : Type 0} where
   opening_rung (_ ∷ before) is rung = cc
 
 -- a worker that was just opened has rung nobody
-pub opened_rung : {J T : Type 0} (served : ServedView J T) (core cores : ℕ) (entries : List Entry) (rung : List ℕ) (count : ℕ) → served.linked.recorded.journal.notes ≡ creations core entries →
-    served.linked.recorded.core.cores ≡ cores → count ≡ cores → rung ≡ replicate count 0 → AreRung served rung
-opened_rung served core cores entries rung count are same counted none =
+pub opened_rung : {J T : Type 0} (served : ServedView J T) (core cores : ℕ) (entries : List Entry) (bells : BellsView) (count : ℕ) → served.linked.recorded.journal.notes ≡ creations core entries →
+    served.linked.recorded.core.cores ≡ cores → count ≡ cores + 1 → bells.rings ≡ replicate count 0 → AreRung served bells
+opened_rung served core cores entries bells count are same counted none =
     none
-    ∙ (ap (λ count. replicate count 0) (counted ∙ sym same)
-    ∙ (sym (opening_rung (creations core entries) (creations_behind core entries [] refl) (replicate served.linked.recorded.core.cores 0))
-    ∙ ap (λ notes. rung_for (reverse notes) (replicate served.linked.recorded.core.cores 0)) (sym are)))
+    ∙ (ap (λ count. replicate count 0) (counted ∙ ap (λ cores. cores + 1) (sym same))
+    ∙ (sym (opening_rung (creations core entries) (creations_behind core entries [] refl) (replicate (served.linked.recorded.core.cores + 1) 0))
+    ∙ ap (λ notes. rung_for (reverse notes) (replicate (served.linked.recorded.core.cores + 1) 0)) (sym are)))

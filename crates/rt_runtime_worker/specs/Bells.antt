@@ -1,35 +1,56 @@
--- Who has something from a note, and how often the bell of each core was rung.
-use Rattle.std.specs.Prelude.{◌≡◌, ℕ, ◌+◌, ◌-◌, ◌^◌, ◌<◌, Option, Some, None, List, [], ◌∷◌, length, min, replicate, reverse, slice_index_or, slice_set}
+-- Who has something from a note, and how often the bell of each actor was rung.
+use Rattle.std.specs.Prelude.{◌≡◌, ◌==◌, ◌||◌, Bool, false, is_some, ℕ, ◌+◌, ◌-◌, ◌^◌, ◌<◌, Option, Some, None, List, [], ◌∷◌, length, map, min, replicate, reverse, slice_index_or, slice_set}
 use Rattle.rt_ids.specs.declared.note.Note.{Note}
 use Rattle.rt_ids.specs.declared.note.Note.TheVariants.{Sent, Answered, Back, Returned, Done}
+use Rattle.rt_ids.specs.Filters.{order_sent, outcome_given}
 use Rattle.rt_ids.specs.Journal.{Journal}
 use Rattle.rt_runtime_worker.specs.Ended.{ServedView}
 
--- the bell of a core, in the hands of one who rings it, and how often that one rang it
+-- The bell of an actor in the hands of one who rings it, and how often that one rang it. All handles on one bell have the same name, and a bell that is
+-- opened has a name of its own.
 pub record BellView : Type 0 where
-  pub core : ℕ
+  pub actor : ℕ
+  pub name : ℕ
   pub rings : ℕ
+
+-- the bells of all actors in the hands of one who rings them: the name of each, and how often that one rang it
+pub record BellsView : Type 0 where
+  pub names : List ℕ
+  pub rings : List ℕ
 
 -- no bell
 abbrev pub no_bell : BellView
-no_bell = record { core = 0; rings = 0 }
+no_bell = record { actor = 0; name = 0; rings = 0 }
 
--- each bell is that of the core whose number is its place
+-- each bell is that of the actor whose number is its place
 abbrev pub AreInPlace : List BellView → Type 0
-AreInPlace bells = (core : ℕ) → core < length bells → (slice_index_or bells core no_bell).core ≡ core
+AreInPlace bells = (actor : ℕ) → actor < length bells → (slice_index_or bells actor no_bell).actor ≡ actor
+
+-- what is seen of these bells
+abbrev pub bells_view : List BellView → BellsView
+bells_view bells = record { names = map (λ bell. bell.name) bells; rings = map (λ bell. bell.rings) bells }
+
+-- the bell of an actor among these, in hands that haven't rung it
+abbrev pub bell_at : ℕ → BellsView → BellView
+bell_at actor bells = record { actor = actor; name = slice_index_or bells.names actor 0; rings = 0 }
 
 -- once more
 abbrev pub once_more : ℕ → ℕ
 once_more rings = min (rings + 1) (2 ^ 64 - 1)
 
--- the bell of this core is rung, if the core has one
+-- the bell of this actor is rung, if the actor has one
 abbrev pub rung_at : ℕ → List ℕ → List ℕ
-rung_at core rung = slice_set rung core (once_more (slice_index_or rung core 0))
+rung_at actor rung = slice_set rung actor (once_more (slice_index_or rung actor 0))
 
--- the same, of a core that there may be
+-- the same, of an actor that there may be
 abbrev pub rung_at_some : Option ℕ → List ℕ → List ℕ
 rung_at_some None rung = rung
-rung_at_some (Some core) rung = rung_at core rung
+rung_at_some (Some actor) rung = rung_at actor rung
+
+-- whether something is for this actor, and not for another or for nobody
+abbrev pub is_for : ℕ → Option ℕ → Bool
+is_for actor None = false
+is_for actor (Some one) = one == actor
 
 module _ {T : Type 0} where
   -- who has something from a note: the receiver of an order that was sent, or the sender of a job or command that has its outcome
@@ -46,10 +67,14 @@ module _ {T : Type 0} where
   rung_for [] rung = rung
   rung_for (note ∷ later) rung = rung_for later (rung_at_some (told_by note) rung)
 
-  -- in a house of so many cores the bells were rung for each note of this journal, and for nothing else
+  -- in a house of so many cores the bells of these and of the outside actor were rung for each note of this journal, and for nothing else
   abbrev pub HasRung : ℕ → Journal T → List ℕ → Type 0
-  HasRung cores notes rung = rung ≡ rung_for (reverse notes) (replicate cores 0)
+  HasRung cores notes rung = rung ≡ rung_for (reverse notes) (replicate (cores + 1) 0)
 
 -- the same of a worker
-abbrev pub AreRung : {J T : Type 0} → ServedView J T → List ℕ → Type 0
-AreRung served rung = HasRung served.linked.recorded.core.cores served.linked.recorded.journal.notes rung
+abbrev pub AreRung : {J T : Type 0} → ServedView J T → BellsView → Type 0
+AreRung served bells = HasRung served.linked.recorded.core.cores served.linked.recorded.journal.notes bells.rings
+
+-- A note is for an actor just if the lists of its links grow by it: it says that an order was sent to the actor, or that an outcome was given to it.
+abbrev pub NotesAreForLinks : Type 0 → Type 0
+NotesAreForLinks T = (note : Note T) (actor : ℕ) → is_for actor (told_by note) ≡ (is_some (order_sent actor note) || is_some (outcome_given actor note))

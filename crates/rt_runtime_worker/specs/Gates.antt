@@ -8,6 +8,7 @@ use Rattle.rt_journal_notes.specs.Journals.{JournalView}
 use Rattle.rt_journal.specs.Recorded.{RecordedView, given_count}
 use Rattle.rt_journal.specs.Steps.{with_notes}
 use Rattle.rt_ring_mesh.specs.Ends.{in_at}
+use Rattle.rt_runtime_worker.specs.Asks.{NotesNoPoll}
 use Rattle.rt_runtime_worker.specs.Linked.{LinkedView, StaysLinked}
 use Rattle.rt_runtime_worker.specs.Rooms.{last_through, MayAct}
 
@@ -22,9 +23,11 @@ module _ {T : Type 0} where
   WritesReturn old new = (new ≡ old) ⊎ (new ≡ with_notes (CoreClosed Return ∷ []) old)
 
 module _ {J T : Type 0} where
-  -- as many orders of each sender were delivered as before
+  -- as many orders of each sender were delivered as before, and its end has seen as many as before or more
   abbrev pub KeepsTaken : LinkedView J T → LinkedView J T → Type 0
-  KeepsTaken old new = (sender : ℕ) → (in_at sender new.ends).inward.taken ≡ (in_at sender old.ends).inward.taken
+  KeepsTaken old new =
+      (sender : ℕ) → ((in_at sender new.ends).inward.taken ≡ (in_at sender old.ends).inward.taken)
+      × (length (in_at sender old.ends).inward.seen ≤ length (in_at sender new.ends).inward.seen)
 
   -- the gate of this sender is shut, and at most as many orders came through as have an outcome and a link holds more
   pub record IsShutWithin (sender : ℕ) (view : RecordedView J T) : Type 0 where
@@ -49,6 +52,7 @@ module _ {J T : Type 0} where
     pub shut : (sender : ℕ) → sender < count → IsShutWithin sender new.recorded
     pub mode : core_mode new.recorded.journal.notes ≡ core_mode old.recorded.journal.notes
     pub longer : length new.recorded.journal.notes ≤ length old.recorded.journal.notes + count
+    pub polls : NotesNoPoll old.recorded.journal.notes new.recorded.journal.notes
     pub acts : (least : ℕ) → EachNote (MayAct least old.recorded.journal.room) old.recorded.journal.notes
         → EachNote (MayAct least old.recorded.journal.room) new.recorded.journal.notes
     pub taken : KeepsTaken old new

@@ -5,7 +5,9 @@ pub mod Rooms
 pub mod Gates
 pub mod Ended
 pub mod Bells
+pub mod Workers
 pub mod Rounds
+pub mod Asks
 pub mod Looks
 pub mod Opening
 pub mod Together

@@ -1,26 +1,61 @@
 -- When a worker looks at its links, and what a round is.
-use Rattle.std.specs.Prelude.{◌≡◌, ◌⊎◌, ℕ, ◌+◌, ◌<◌, Bool, true, false}
-use Rattle.rt_runtime_worker.specs.Ended.{ServedView}
-use Rattle.rt_runtime_worker.specs.Rounds.{CollectsFirst, HearsAll}
+use Rattle.std.specs.Prelude.{◌≡◌, ◌⊎◌, ◌&&◌, ◌||◌, ℕ, ◌+◌, ◌≤◌, ◌<◌, Bool, true, false, not}
+use Rattle.rt_ids.specs.declared.names.JobId.{JobId}
+use Rattle.rt_jobs.specs.Meanings.{Meaning}
+use Rattle.rt_runtime_worker.specs.Ended.{ServedView, IsServed}
+use Rattle.rt_runtime_worker.specs.Readings.{BeginsNext}
+use Rattle.rt_runtime_worker.specs.Rounds.{CollectsFirst, HearsAll, StepsServed, TakesTurn}
 
 -- Without a look at the links a turn is made only if polls took little time since the last look, and it counts as one of those that are left.
 abbrev pub PassesLinks : ℕ → ℕ → Bool → ℕ → Type 0
 PassesLinks taken turns true left = (taken < 2000) × (turns ≡ left + 1)
 PassesLinks taken turns false left = left ≡ turns
 
+-- how many turns may be made at most without a look
+abbrev pub most_turns : ℕ
+most_turns = 16
+
 -- sixteen turns may be made without a look behind one that found the links quiet, and none behind another
 abbrev pub turns_after : Bool → ℕ
-turns_after true = 16
+turns_after true = most_turns
 turns_after false = 0
 
-module _ {J T : Type 0} where
-  -- each sender was heard, then a turn was made, and then the outcomes of each core were collected
-  pub record LooksAtAll (old new : ServedView J T) : Type 0 where
-    pub heard : ServedView J T
-    pub hears : HearsAll (old.linked.recorded.core.cores + 1) old heard
-    pub collects : CollectsFirst old.linked.recorded.core.cores new
+-- a look found the links quiet: there was work, and nothing was delivered, shut or collected
+abbrev pub found_quiet : Bool → Bool → Bool
+found_quiet worked came = worked && not came
 
-  -- a turn without a look, which counts; a look at everything; or nothing, behind a round in which nothing was done
-  abbrev pub MakesRound : Bool → ℕ → ℕ → ServedView J T → Bool → ℕ → ServedView J T → Type 0
+-- a worker's core, and the clock and the gate that serve it
+pub record RoundView (J T C G : Type 0) : Type 0 where
+  pub served : ServedView J T
+  pub clock : C
+  pub gate : G
+
+module _ {J T C G : Type 0} (meaning : Meaning J T) (reads : C → ℕ → C → Type 0) (asked : G → ℕ → JobId → G → Type 0) where
+  -- the room is looked at, and a turn is made, with this clock and this gate
+  abbrev pub TurnsWith : C → G → G → ServedView J T → Bool → ServedView J T → Type 0
+  TurnsWith clock before after old some new = TakesTurn meaning (BeginsNext reads clock) (λ core name. asked before core name after) (after ≡ before) old some new
+
+  -- Each sender is heard, then a turn is made, and then the outcomes of each core are collected. Between these steps the core agrees with its journal and
+  -- its ends, and each step leaves the notes that stand. It tells whether anything was done, and how many turns may be made without a look behind it.
+  pub record LooksAtAll (old : RoundView J T C G) (some : Bool) (turns : ℕ) (new : RoundView J T C G) : Type 0 where
+    pub heard : ServedView J T
+    pub turned : ServedView J T
+    pub came : Bool
+    pub worked : Bool
+    pub back : Bool
+    pub steps : StepsServed old.served came heard
+    pub hears : HearsAll (old.served.linked.recorded.core.cores + 1) old.served heard
+    pub sound : IsServed meaning heard
+    pub turn : TurnsWith old.clock old.gate new.gate heard worked turned
+    pub gathers : StepsServed turned back new.served
+    pub collects : CollectsFirst old.served.linked.recorded.core.cores new.served
+    pub tells : some ≡ (worked || (came || back))
+    pub plans : turns ≡ turns_after (found_quiet worked (came || back))
+
+  -- A turn without a look, which counts; a turn for which there was no work, if there was one, and a look at everything; or no look, behind a round in which
+  -- nothing was done.
+  abbrev pub MakesRound : Bool → ℕ → ℕ → RoundView J T C G → Bool → ℕ → RoundView J T C G → Type 0
   MakesRound was_idle taken turns old some left new =
-      PassesLinks taken turns true left ⊎ (((before : ServedView J T) × LooksAtAll before new) ⊎ ((was_idle ≡ true) × (some ≡ false)))
+      (PassesLinks taken turns true left × (some ≡ true) × TurnsWith old.clock old.gate new.gate old.served true new.served)
+      ⊎ (((before : RoundView J T C G) × StepsServed old.served false before.served × LooksAtAll before some left new)
+      ⊎ ((was_idle ≡ true) × (some ≡ false) × (left ≤ turns) × StepsServed old.served false new.served))

@@ -7,6 +7,7 @@ use Rattle.rt_jobs.specs.Meanings.{Meaning}
 use Rattle.rt_ring_mesh.specs.Ends.{in_at, out_at}
 use Rattle.rt_runtime_worker.specs.Linked.{LinkedView, StaysLinked}
 use Rattle.rt_runtime_worker.specs.Ended.{ServedView}
+use Rattle.rt_runtime_worker.specs.Rooms.{IsReady}
 use Rattle.rt_runtime_worker.specs.Steps.{MakesTurn}
 use Rattle.rt_runtime_worker.specs.declared.turn.Made.{Made}
 use Rattle.rt_runtime_worker.specs.declared.turn.Made.TheVariants.{Polled, Returned, Idle, Spent}
@@ -53,25 +54,33 @@ module _ {J T : Type 0} where
     pub ended : old.ending ≡ true → new.ending ≡ true
     pub tells : new.ending ≡ old.ending → TellsNotes some old.linked.recorded.journal.notes new.linked.recorded.journal.notes
 
+  -- each end has seen as many orders as before or more
+  abbrev pub SeesNoLess : LinkedView J T → LinkedView J T → Type 0
+  SeesNoLess old new = (sender : ℕ) → length (in_at sender old.ends).inward.seen ≤ length (in_at sender new.ends).inward.seen
+
   -- one more order of this sender was delivered, or all that its end has seen were; no other end was touched
   pub record HearsOne (sender : ℕ) (old : LinkedView J T) (found : Bool) (new : LinkedView J T) : Type 0 where
     pub one : found ≡ true → (in_at sender new.ends).inward.taken ≡ (in_at sender old.ends).inward.taken + 1
     pub all : found ≡ false → IsAllTaken sender new
     pub others : (other : ℕ) → other ≢ sender → in_at other new.ends ≡ in_at other old.ends
+    pub sees : SeesNoLess old new
 
   -- a sender was heard, unless the worker came to its end meanwhile; no other end was touched
   pub record HearsSome (sender : ℕ) (old new : ServedView J T) : Type 0 where
     pub heard : new.ending ≡ old.ending → IsHeard sender old.linked new.linked
     pub others : new.ending ≡ old.ending → (other : ℕ) → other ≢ sender → in_at other new.linked.ends ≡ in_at other old.linked.ends
+    pub sees : new.ending ≡ old.ending → SeesNoLess old.linked new.linked
 
   -- each of the first senders was heard, unless the worker came to its end meanwhile; the ends of the others are as they were
   pub record HearsFirst (count : ℕ) (old new : ServedView J T) : Type 0 where
     pub each : new.ending ≡ old.ending → (sender : ℕ) → sender < count → IsHeard sender old.linked new.linked
     pub rest : new.ending ≡ old.ending → (sender : ℕ) → count ≤ sender → in_at sender new.linked.ends ≡ in_at sender old.linked.ends
+    pub sees : new.ending ≡ old.ending → SeesNoLess old.linked new.linked
 
-  -- each of the first senders was heard, unless the worker came to its end meanwhile
-  abbrev pub HearsAll : ℕ → ServedView J T → ServedView J T → Type 0
-  HearsAll count old new = new.ending ≡ old.ending → (sender : ℕ) → sender < count → IsHeard sender old.linked new.linked
+  -- each of the first senders was heard, and no end has seen less than before, unless the worker came to its end meanwhile
+  pub record HearsAll (count : ℕ) (old new : ServedView J T) : Type 0 where
+    pub each : new.ending ≡ old.ending → (sender : ℕ) → sender < count → IsHeard sender old.linked new.linked
+    pub sees : new.ending ≡ old.ending → SeesNoLess old.linked new.linked
 
   -- of this core every outcome was collected, unless the worker is at its end; no other end was touched
   pub record CollectsNext (core : ℕ) (old new : ServedView J T) : Type 0 where
@@ -83,10 +92,14 @@ module _ {J T : Type 0} where
   CollectsFirst count new = new.ending ≡ false → (core : ℕ) → core < count → IsAllGot core new.linked
 
 module _ {J T : Type 0} (meaning : Meaning J T) (tells : ℕ → Type 0) (asked : ℕ → JobId → Type 0) (unasked : Type 0) where
-  -- the room is looked at, and then one turn is made; it tells whether there was work
+  -- The room is looked at, and then one turn is made; it tells whether there was work. A worker that is at its end right before the turn was so before, or
+  -- it closed its core and shut each gate just now, and it is at its end behind the turn.
   pub record TakesTurn (old : ServedView J T) (some : Bool) (new : ServedView J T) : Type 0 where
     pub before : ServedView J T
     pub looks : LooksAtRoom old before
+    pub stays : StaysLinked old.linked before.linked
+    pub ready : IsReady before.ending before.linked.recorded
+    pub ended : new.ending ≡ before.ending
     pub made : Made
     pub makes : MakesTurn meaning tells asked unasked before.linked made new.linked
     pub answer : some ≡ is_turn made

@@ -1,11 +1,11 @@
-//! The bells of all cores, in the hands of one who rings them.
+//! The bells of all actors, in the hands of one who rings them.
 
-ghost use Rattle.std.specs.Prelude.{◌≡◌, ◌<◌, IfOk, length, replicate};
+ghost use Rattle.std.specs.Prelude.{◌≡◌, ◌+◌, ◌<◌, IfOk, length, replicate};
 ghost use Rattle.std.specs.Option.{option_map};
-ghost use Rattle.rt_runtime_worker.specs.Bells.{rung_at, rung_for, told_by};
+ghost use Rattle.rt_runtime_worker.specs.Bells.{bell_at, rung_at, rung_for, told_by};
 
 use crate::bell::Bell;
-use rt_ids::{CoreNo, Note};
+use rt_ids::{ActorNo, CoreNo, Note};
 use std::alloc::{AllocError, Global};
 use std::marker::Model;
 
@@ -23,35 +23,35 @@ fn told(note: &Note<u64>) -> Option<u8>
     }
 }
 
-/// The bells of all cores of a house, each at the number of its core. Contracts see how often each was rung by these hands.
+/// The bells of all cores of a house and of the outside actor, each at the number of its actor. Contracts see which bells they are, and how
+/// often each was rung by these hands.
 #[derive(Drop)]
 pub struct Bells {
     bells: Vec<Bell>,
 }
 
 impl Model for Bells {
-    ghost use Rattle.std.specs.Prelude.{ℕ, List, map};
-    ghost use Rattle.rt_runtime_worker.specs.Bells.{AreInPlace};
+    ghost use Rattle.rt_runtime_worker.specs.Bells.{AreInPlace, BellsView, bells_view};
 
-    ghost Value = { List ℕ };
+    ghost Value = { BellsView };
 
-    ghost view = { λ b. map (λ bell. bell.rings) b.bells.items };
+    ghost view = { λ b. bells_view b.bells.items };
 
     ghost invariant = { λ b. AreInPlace b.bells.items };
 }
 
 impl Bells {
-    /// A bell for each core.
+    /// A bell for each core, and one for the outside actor.
     ///
     /// # Errors
     ///
     /// If there is no memory.
     pub fn open(alloc: Global, cores: u8) -> Result<Self, AllocError>
-        ensures { IfOk result (λ bells. bells ≡ replicate cores 0) }
+        ensures { IfOk result (λ bells. bells.rings ≡ replicate (cores + 1) 0) }
     {
-        let mut bells = Vec::with_capacity(alloc, cores as usize)?;
-        for core in 0..cores {
-            bells.push_reserved(Bell::open(alloc, CoreNo(core))?);
+        let mut bells = Vec::with_capacity(alloc, cores as usize + 1)?;
+        for actor in 0..cores as usize + 1 {
+            bells.push_reserved(Bell::open(alloc, ActorNo(actor as u8))?);
         }
         Ok(Bells { bells })
     }
@@ -62,44 +62,53 @@ impl Bells {
     ///
     /// If there is no memory.
     pub fn again(&self, alloc: Global) -> Result<Self, AllocError>
-        ensures { IfOk result (λ bells. bells ≡ replicate (length self.now) 0) }
+        ensures names { IfOk result (λ bells. bells.names ≡ self.now.names) }
+        ensures rings { IfOk result (λ bells. bells.rings ≡ replicate (length self.now.rings) 0) }
     {
         let mut bells = Vec::with_capacity(alloc, self.bells.len())?;
         for place in 0..self.bells.len() {
-            bells.push_reserved(self.bells[place].again()?);
+            let bell = self.bells[place].again()?;
+            bells.push_reserved(bell);
         }
         Ok(Bells { bells })
     }
 
-    /// The bell of this core, in other hands.
+    /// The bell of this actor, in other hands.
     ///
     /// # Errors
     ///
     /// If it is in too many.
-    pub fn bell_of(&self, core: CoreNo) -> Result<Bell, AllocError>
-        requires { core < length self.now }
-        ensures { IfOk result (λ bell. bell ≡ record { core = core; rings = 0 }) }
+    pub fn bell_of(&self, actor: ActorNo) -> Result<Bell, AllocError>
+        requires { actor < length self.now.rings }
+        ensures { IfOk result (λ bell. bell ≡ bell_at actor self.now) }
     {
-        self.bells[core.0 as usize].again()
+        self.bells[actor.0 as usize].again()
     }
 
-    /// Tells the worker of this core, if there is one, that there is something for it.
-    pub fn ring(&mut self, core: CoreNo)
-        ensures { self.new ≡ rung_at core self.old }
+    /// Tells this actor, if there is one, that there is something for it.
+    fn ring_actor(&mut self, actor: u8)
+        ensures { self.new ≡ record self.old { rings = rung_at actor self.old.rings } }
     {
-        let place = core.0 as usize;
+        let place = actor as usize;
         if place < self.bells.len() {
             self.bells[place].ring();
         }
     }
 
-    /// Rings the bell of each core that has something from these notes.
+    /// Tells the worker of this core, if there is one, that there is something for it.
+    pub fn ring(&mut self, core: CoreNo)
+        ensures { self.new ≡ record self.old { rings = rung_at core self.old.rings } }
+    {
+        self.ring_actor(core.0);
+    }
+
+    /// Rings the bell of each actor that has something from these notes.
     pub(crate) fn ring_for(&mut self, notes: &[Note<u64>])
-        ensures { self.new ≡ rung_for notes.now self.old }
+        ensures { self.new ≡ record self.old { rings = rung_for notes.now self.old.rings } }
     {
         for note in notes {
-            if let Some(core) = told(note) {
-                self.ring(CoreNo(core));
+            if let Some(actor) = told(note) {
+                self.ring_actor(actor);
             }
         }
     }

@@ -2,6 +2,7 @@
 
 ghost use Rattle.std.specs.Prelude.{◌≡◌, ◌+◌, ◌<◌, ◌≤◌, IsSome, length};
 ghost use Rattle.rt_ids.specs.Closing.{core_mode};
+ghost use Rattle.rt_runtime_worker.specs.Asks.{NotesNoPoll};
 ghost use Rattle.rt_runtime_worker.specs.Linked.{IsLinked, StaysLinked};
 ghost use Rattle.rt_runtime_worker.specs.Gates.{LeavesShut, LeavesReturning, ShutsFirst};
 ghost use Rattle.rt_runtime_worker.specs.Rooms.{ActsAsItMay, HasSpare, IsEnding, IsShort};
@@ -66,6 +67,7 @@ impl<J: Task<Out = u64>> Linked<J> {
         requires acts { ActsAsItMay self.old.recorded.core.cores self.old.recorded.cap self.old.recorded.journal }
         ensures ending { IsEnding self.new.recorded }
         ensures acts { ActsAsItMay self.new.recorded.core.cores self.new.recorded.cap self.new.recorded.journal }
+        ensures polls { NotesNoPoll self.old.recorded.journal.notes self.new.recorded.journal.notes }
         ensures stays { StaysLinked self.old self.new }
         ensures linked { IsLinked J.meaning self.new }
     {

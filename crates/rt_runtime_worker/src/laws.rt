@@ -1,6 +1,7 @@
 //! Laws over the definitions alone. Their bodies are empty or call those of the crates below: each contract is the law.
 
 ghost use Rattle.std.specs.Prelude.{ℕ};
+ghost use Rattle.rt_runtime_worker.specs.Bells.{NotesAreForLinks};
 ghost use Rattle.rt_runtime_worker.specs.Together.{EndedAreJoined};
 
 use rt_jobs::Task;
@@ -12,3 +13,8 @@ pub fn ended_are_joined<J: Task<Out = u64>>()
 {
     recorded_are_joined::<J>();
 }
+
+/// A note rings the bell of an actor just if it says that an order was sent to the actor, or that an outcome was given to it.
+pub fn notes_are_for_links()
+    ensures { NotesAreForLinks ℕ }
+{}

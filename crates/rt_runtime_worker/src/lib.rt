@@ -18,7 +18,7 @@ pub mod stopwatch;
 pub mod turn;
 pub mod worker;
 
-pub use bell::Bell;
+pub use bell::{Bell, Key, sleep};
 pub use bells::Bells;
 pub use ended::Ended;
 pub use linked::Linked;

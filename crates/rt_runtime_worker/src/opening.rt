@@ -13,7 +13,7 @@ use crate::bells::Bells;
 use crate::linked::Linked;
 use crate::served::Served;
 use crate::worker::Worker;
-use rt_ids::CoreNo;
+use rt_ids::{ActorNo, CoreNo};
 use rt_jobs::Task;
 use rt_journal::Recorded;
 use rt_ring_mesh::Ends;
@@ -101,7 +101,8 @@ fn serve_core<J: Task<Out = u64>>(
 }
 
 impl<J: Task<Out = u64>, C: Drop, G: Drop> Worker<J, C, G> {
-    /// Opens the worker of the core that has these ends, with the queues that the configuration names for it.
+    /// Opens the worker of the core that has these ends, with the queues that the configuration names for it. It rings these bells, and parks
+    /// on that of its core.
     ///
     /// # Errors
     ///
@@ -116,13 +117,16 @@ impl<J: Task<Out = u64>, C: Drop, G: Drop> Worker<J, C, G> {
     ) -> Result<Self, AllocError>
         requires ends { AreEndsOf config.now.cores config.now.cap ends }
         requires room { least_room config.now.cores config.now.cap + queues_of ends.number config.now.queues.items ≤ config.now.room }
-        requires bells { length bells.now ≡ config.now.cores }
-        ensures over { IfOk result (λ worker. IsOpenedOver config.now.cores config.now.cap config.now.room ends worker) }
-        ensures queues { IfOk result (λ worker. worker.recorded.journal.notes ≡ creations ends.number config.now.queues.items) }
+        requires bells { length bells.now.rings ≡ config.now.cores + 1 }
+        ensures over { IfOk result (λ worker. IsOpenedOver config.now.cores config.now.cap config.now.room ends worker.linked) }
+        ensures clock { IfOk result (λ worker. worker.clock ≡ clock) }
+        ensures gate { IfOk result (λ worker. worker.gate ≡ gate) }
+        ensures bells { IfOk result (λ worker. worker.bells ≡ bells.now.names) }
+        ensures queues { IfOk result (λ worker. worker.linked.recorded.journal.notes ≡ creations ends.number config.now.queues.items) }
     {
         let number = ends.number;
         let served = serve_core(alloc, config, ends)?;
-        let own = bells.bell_of(CoreNo(number.0))?;
+        let own = bells.bell_of(ActorNo(number.0))?;
         let all = bells.again(alloc)?;
         Ok(Worker::of(alloc, served, clock, gate, own, all))
     }

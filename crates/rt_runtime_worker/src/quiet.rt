@@ -1,13 +1,14 @@
 //! How an idle worker is put to sleep: it lies down, looks once more at everything, and parks only if there was nothing.
 
-ghost use Rattle.std.specs.Prelude.{IfSome, IfNone, false, true};
+ghost use Rattle.std.specs.Prelude.{◌≡◌, IfSome, IfNone, false, is_none, true};
+ghost use Rattle.rt_runtime_worker.specs.Asks.{AsksSince};
 ghost use Rattle.rt_runtime_worker.specs.Bells.{AreRung};
 ghost use Rattle.rt_runtime_worker.specs.Linked.{StaysLinked};
 ghost use Rattle.rt_runtime_worker.specs.Looks.{LooksAtAll};
 ghost use Rattle.rt_runtime_worker.specs.Rounds.{StepsServed};
 
+use crate::bell::{Key, sleep};
 use crate::rounds::Rounds;
-use crossbeam_utils::sync::Key;
 use rt_jobs::{Job, Task};
 use rt_runtime_config::{Clock, Gate};
 use std::sync::Wait;
@@ -22,8 +23,7 @@ impl Quiet<'_> {
     /// Parks until the bell rings. It doesn't if the bell has rung since the worker lay down.
     pub(crate) fn sleep<R: Wait>(self, rt: &R) {
         let Quiet { key } = self;
-        // step: park, which looks at the word once more
-        key.wait(rt);
+        sleep(rt, key);
     }
 }
 
@@ -35,9 +35,11 @@ pub(crate) fn look_again<'a, J: Job + Task<Out = u64>, C: Clock + Drop, G: Gate 
     requires rung { AreRung rounds.old.served rounds.old.bells }
     ensures some { IfSome result (λ _. StepsServed rounds.old.served false rounds.new.served) }
     ensures none { IfNone result (StepsServed rounds.old.served true rounds.new.served) }
-    ensures looks { LooksAtAll rounds.old.served rounds.new.served }
+    ensures looks { LooksAtAll J.meaning C.Reads G.Asked (record { served = rounds.old.served; clock = rounds.old.watch.clock; gate = rounds.old.gate }) (is_none result) rounds.new.turns (record { served = rounds.new.served; clock = rounds.new.watch.clock; gate = rounds.new.gate }) }
+    ensures asks { AsksSince G.Asked rounds.old.served.linked.recorded.core.core rounds.old.served.linked.recorded.journal.notes rounds.new.served.linked.recorded.journal.notes rounds.old.gate rounds.new.gate }
     ensures stays { StaysLinked rounds.old.served.linked rounds.new.served.linked }
     ensures rung { AreRung rounds.new.served rounds.new.bells }
+    ensures names { rounds.new.bells.names ≡ rounds.old.bells.names }
 {
     if rounds.look() {
         // step: get up, by the key that is dropped

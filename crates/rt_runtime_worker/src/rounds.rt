@@ -3,9 +3,10 @@
 ghost use Rattle.std.specs.Prelude.{◌≡◌, ◌||◌, ◌+◌, ◌≤◌, ◌↔◌, IsTrue, drop, length, reverse, true};
 ghost use Rattle.rt_ids.specs.Closing.{IsDrained};
 ghost use Rattle.rt_runtime_worker.specs.Bells.{AreRung, rung_for};
-ghost use Rattle.rt_runtime_worker.specs.Readings.{BeginsNext};
-ghost use Rattle.rt_runtime_worker.specs.Looks.{LooksAtAll, MakesRound, PassesLinks, turns_after};
-ghost use Rattle.rt_runtime_worker.specs.Rounds.{CollectsFirst, HearsAll, StepsServed, TakesTurn};
+ghost use Rattle.rt_runtime_worker.specs.Asks.{AsksSince, NotesNoPoll};
+ghost use Rattle.rt_runtime_worker.specs.Ended.{IsServed};
+ghost use Rattle.rt_runtime_worker.specs.Looks.{LooksAtAll, MakesRound, PassesLinks, TurnsWith, found_quiet, turns_after};
+ghost use Rattle.rt_runtime_worker.specs.Rounds.{CollectsFirst, HearsAll, StepsServed};
 
 use crate::bells::Bells;
 use crate::ended::Ended;
@@ -29,10 +30,17 @@ fn either(one: bool, two: bool) -> bool
     one || two
 }
 
+/// Whether a look found the links quiet: there was work, and nothing came.
+fn is_quiet(worked: bool, came: bool) -> bool
+    ensures { result ≡ found_quiet worked came }
+{
+    worked && !came
+}
+
 /// Wakes the workers that have something from the notes behind the first `count`.
 fn ring_since(bells: &mut Bells, journal: &Journal<u64>, count: usize)
     requires { count ≤ length journal.now.notes }
-    ensures { bells.new ≡ rung_for (drop count (reverse journal.now.notes)) bells.old }
+    ensures { bells.new ≡ record bells.old { rings = rung_for (drop count (reverse journal.now.notes)) bells.old.rings } }
 {
     let notes = journal.as_slice();
     bells.ring_for(&notes[count..]);
@@ -54,7 +62,11 @@ impl<J: Task<Out = u64>, C: Drop, G: Drop> Rounds<J, C, G> {
     /// Before the first round.
     pub(crate) fn of(alloc: Global, served: Served<J>, clock: C, gate: G, bells: Bells) -> Self
         ensures served { result.served ≡ served }
+        ensures clock { result.watch.clock ≡ clock }
+        ensures gate { result.gate ≡ gate }
         ensures bells { result.bells ≡ bells }
+        ensures turns { result.turns ≡ 0 }
+        ensures taken { result.watch.taken ≡ 0 }
     {
         Rounds {
             alloc,
@@ -121,7 +133,10 @@ impl<J: Task<Out = u64>, C: Drop, G: Drop> Rounds<J, C, G> {
         requires rung { AreRung self.old.served self.old.bells }
         ensures steps { StepsServed self.old.served result self.new.served }
         ensures hears { HearsAll (self.old.served.linked.recorded.core.cores + 1) self.old.served self.new.served }
+        ensures sound { IsServed J.meaning self.new.served }
         ensures rung { AreRung self.new.served self.new.bells }
+        ensures names { self.new.bells.names ≡ self.old.bells.names }
+        ensures polls { NotesNoPoll self.old.served.linked.recorded.journal.notes self.new.served.linked.recorded.journal.notes }
         ensures rest { self.new ≡ record self.old { served = self.new.served; bells = self.new.bells } }
     {
         let before = self.served.journal().len();
@@ -139,6 +154,8 @@ impl<J: Task<Out = u64>, C: Drop, G: Drop> Rounds<J, C, G> {
         ensures steps { StepsServed self.old.served result self.new.served }
         ensures collects { CollectsFirst self.old.served.linked.recorded.core.cores self.new.served }
         ensures rung { AreRung self.new.served self.new.bells }
+        ensures names { self.new.bells.names ≡ self.old.bells.names }
+        ensures polls { NotesNoPoll self.old.served.linked.recorded.journal.notes self.new.served.linked.recorded.journal.notes }
         ensures rest { self.new ≡ record self.old { served = self.new.served; bells = self.new.bells } }
     {
         let before = self.served.journal().len();
@@ -153,8 +170,10 @@ impl<J: Job + Task<Out = u64>, C: Clock + Drop, G: Gate + Drop> Rounds<J, C, G> 
     fn take_turn(&mut self) -> bool
         requires rung { AreRung self.old.served self.old.bells }
         ensures steps { StepsServed self.old.served result self.new.served }
-        ensures takes { TakesTurn J.meaning (BeginsNext C.Reads self.old.watch.clock) (λ core name. G.Asked self.old.gate core name self.new.gate) (self.new.gate ≡ self.old.gate) self.old.served result self.new.served }
+        ensures takes { TurnsWith J.meaning C.Reads G.Asked self.old.watch.clock self.old.gate self.new.gate self.old.served result self.new.served }
+        ensures asks { AsksSince G.Asked self.old.served.linked.recorded.core.core self.old.served.linked.recorded.journal.notes self.new.served.linked.recorded.journal.notes self.old.gate self.new.gate }
         ensures rung { AreRung self.new.served self.new.bells }
+        ensures names { self.new.bells.names ≡ self.old.bells.names }
         ensures turns { self.new.turns ≡ self.old.turns }
     {
         let before = self.served.journal().len();
@@ -169,14 +188,17 @@ impl<J: Job + Task<Out = u64>, C: Clock + Drop, G: Gate + Drop> Rounds<J, C, G> 
     pub(crate) fn look(&mut self) -> bool
         requires rung { AreRung self.old.served self.old.bells }
         ensures steps { StepsServed self.old.served result self.new.served }
-        ensures looks { LooksAtAll self.old.served self.new.served }
+        ensures looks { LooksAtAll J.meaning C.Reads G.Asked (record { served = self.old.served; clock = self.old.watch.clock; gate = self.old.gate }) result self.new.turns (record { served = self.new.served; clock = self.new.watch.clock; gate = self.new.gate }) }
+        ensures forgets { self.new.watch.taken ≡ 0 }
+        ensures asks { AsksSince G.Asked self.old.served.linked.recorded.core.core self.old.served.linked.recorded.journal.notes self.new.served.linked.recorded.journal.notes self.old.gate self.new.gate }
         ensures rung { AreRung self.new.served self.new.bells }
+        ensures names { self.new.bells.names ≡ self.old.bells.names }
     {
         let taken = self.take_in();
         let turned = self.take_turn();
         let collected = self.gather();
         let came = either(taken, collected);
-        self.plan(turned && !came);
+        self.plan(is_quiet(turned, came));
         either(turned, came)
     }
 
@@ -185,7 +207,11 @@ impl<J: Job + Task<Out = u64>, C: Clock + Drop, G: Gate + Drop> Rounds<J, C, G> 
         requires rung { AreRung self.old.served self.old.bells }
         ensures steps { StepsServed self.old.served result self.new.served }
         ensures passes { result ≡ true → PassesLinks self.old.watch.taken self.old.turns true self.new.turns }
+        ensures turns { result ≡ true → TurnsWith J.meaning C.Reads G.Asked self.old.watch.clock self.old.gate self.new.gate self.old.served true self.new.served }
+        ensures fewer { self.new.turns ≤ self.old.turns }
+        ensures asks { AsksSince G.Asked self.old.served.linked.recorded.core.core self.old.served.linked.recorded.journal.notes self.new.served.linked.recorded.journal.notes self.old.gate self.new.gate }
         ensures rung { AreRung self.new.served self.new.bells }
+        ensures names { self.new.bells.names ≡ self.old.bells.names }
     {
         if !self.passes_links() {
             return false;
@@ -198,8 +224,10 @@ impl<J: Job + Task<Out = u64>, C: Clock + Drop, G: Gate + Drop> Rounds<J, C, G> 
     pub(crate) fn round(&mut self, was_idle: bool) -> bool
         requires rung { AreRung self.old.served self.old.bells }
         ensures steps { StepsServed self.old.served result self.new.served }
-        ensures makes { MakesRound was_idle self.old.watch.taken self.old.turns self.old.served result self.new.turns self.new.served }
+        ensures makes { MakesRound J.meaning C.Reads G.Asked was_idle self.old.watch.taken self.old.turns (record { served = self.old.served; clock = self.old.watch.clock; gate = self.old.gate }) result self.new.turns (record { served = self.new.served; clock = self.new.watch.clock; gate = self.new.gate }) }
+        ensures asks { AsksSince G.Asked self.old.served.linked.recorded.core.core self.old.served.linked.recorded.journal.notes self.new.served.linked.recorded.journal.notes self.old.gate self.new.gate }
         ensures rung { AreRung self.new.served self.new.bells }
+        ensures names { self.new.bells.names ≡ self.old.bells.names }
     {
         if self.turn_alone() {
             return true;

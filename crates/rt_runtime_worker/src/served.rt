@@ -2,7 +2,8 @@
 
 ghost use Rattle.std.specs.Prelude.{◌≡◌, ◌+◌, ◌<◌, ◌≤◌, ◌↔◌, IsTrue, false};
 ghost use Rattle.rt_ids.specs.Closing.{IsDrained};
-ghost use Rattle.rt_runtime_worker.specs.Ended.{HasEnded};
+ghost use Rattle.rt_runtime_worker.specs.Asks.{AsksSince, NotesNoPoll};
+ghost use Rattle.rt_runtime_worker.specs.Ended.{HasEnded, IsServed};
 ghost use Rattle.rt_runtime_worker.specs.Linked.{StaysLinked};
 ghost use Rattle.rt_runtime_worker.specs.Gates.{KeepsTaken};
 ghost use Rattle.rt_runtime_worker.specs.Rooms.{ActsAsItMay, HasSpare, IsReady};
@@ -91,6 +92,7 @@ impl<J: Task<Out = u64>> Served<J> {
         ensures stays { StaysLinked self.old.linked self.new.linked }
         ensures looks { LooksAtRoom self.old self.new }
         ensures ready { IsReady self.new.ending self.new.linked.recorded }
+        ensures polls { NotesNoPoll self.old.linked.recorded.journal.notes self.new.linked.recorded.journal.notes }
     {
         if !self.ending && self.linked.is_short() {
             self.linked.end();
@@ -103,6 +105,7 @@ impl<J: Task<Out = u64>> Served<J> {
         requires { sender ≤ self.old.linked.recorded.core.cores }
         ensures steps { StepsServed self.old result self.new }
         ensures hears { self.new.ending ≡ self.old.ending → HearsOne sender self.old.linked result self.new.linked }
+        ensures polls { NotesNoPoll self.old.linked.recorded.journal.notes self.new.linked.recorded.journal.notes }
     {
         self.look();
         self.linked.deliver_from(sender)
@@ -113,6 +116,7 @@ impl<J: Task<Out = u64>> Served<J> {
         requires { sender ≤ self.old.linked.recorded.core.cores }
         ensures steps { StepsServed self.old result self.new }
         ensures hears { HearsSome sender self.old self.new }
+        ensures polls { NotesNoPoll self.old.linked.recorded.journal.notes self.new.linked.recorded.journal.notes }
     {
         let cap = self.linked.recorded.cap();
         for count in 0..cap {
@@ -127,6 +131,7 @@ impl<J: Task<Out = u64>> Served<J> {
     pub(crate) fn deliver_all(&mut self) -> bool
         ensures steps { StepsServed self.old result self.new }
         ensures hears { HearsFirst (self.old.linked.recorded.core.cores + 1) self.old self.new }
+        ensures polls { NotesNoPoll self.old.linked.recorded.journal.notes self.new.linked.recorded.journal.notes }
     {
         let mut some = false;
         for sender in 0..self.linked.cores as usize + 1 {
@@ -142,6 +147,7 @@ impl<J: Task<Out = u64>> Served<J> {
         requires { core < self.old.linked.recorded.core.cores }
         ensures steps { StepsServed self.old result self.new }
         ensures collects { CollectsNext core self.old self.new }
+        ensures polls { NotesNoPoll self.old.linked.recorded.journal.notes self.new.linked.recorded.journal.notes }
     {
         self.look();
         if self.ending {
@@ -154,6 +160,7 @@ impl<J: Task<Out = u64>> Served<J> {
     pub(crate) fn collect_all(&mut self) -> bool
         ensures steps { StepsServed self.old result self.new }
         ensures collects { CollectsFirst self.old.linked.recorded.core.cores self.new }
+        ensures polls { NotesNoPoll self.old.linked.recorded.journal.notes self.new.linked.recorded.journal.notes }
     {
         let mut some = false;
         for core in 0..self.linked.cores {
@@ -171,7 +178,8 @@ impl<J: Task<Out = u64>> Served<J> {
 
     /// The notes of this worker.
     pub(crate) fn journal(&self) -> &Journal<u64>
-        ensures { result.now ≡ self.now.linked.recorded.journal }
+        ensures journal { result.now ≡ self.now.linked.recorded.journal }
+        ensures sound { IsServed J.meaning self.now }
     {
         self.linked.recorded.journal()
     }
@@ -181,6 +189,7 @@ impl<J: Task<Out = u64>> Served<J> {
         ensures steps { StepsServed self.old result self.new }
         ensures shuts { HasShutGates self.new.linked }
         ensures taken { self.new.ending ≡ self.old.ending → KeepsTaken self.old.linked self.new.linked }
+        ensures polls { NotesNoPoll self.old.linked.recorded.journal.notes self.new.linked.recorded.journal.notes }
     {
         self.look();
         // At its end each gate is shut already.
@@ -204,6 +213,7 @@ impl<J: Job + Task<Out = u64>> Served<J> {
     ) -> bool
         ensures steps { StepsServed self.old result self.new }
         ensures takes { TakesTurn J.meaning (M.Tells meter.old) (λ core name. G.Asked gate.old core name gate.new) (gate.new ≡ gate.old) self.old result self.new }
+        ensures asks { AsksSince G.Asked self.old.linked.recorded.core.core self.old.linked.recorded.journal.notes self.new.linked.recorded.journal.notes gate.old gate.new }
     {
         self.look();
         is_work(self.linked.turn(alloc, meter, gate))

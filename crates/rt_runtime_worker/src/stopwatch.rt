@@ -1,6 +1,7 @@
 //! How a worker measures a poll: two readings of its clock.
 
-ghost use Rattle.std.specs.Prelude.{◌≡◌};
+ghost use Rattle.std.specs.Prelude.{◌≡◌, ◌+◌, ◌-◌, ◌^◌, ℕ, min};
+ghost use Rattle.rt_runtime_worker.specs.Readings.{BeginsNext, EndsNext};
 
 use rt_runtime_config::{Clock, spent_between};
 use rt_taskqueue::Meter;
@@ -17,7 +18,8 @@ pub struct Stopwatch<C> {
 impl<C> Stopwatch<C> {
     /// A clock that has not been read.
     pub fn new(clock: C) -> Self
-        ensures { result.clock ≡ clock }
+        ensures clock { result.clock ≡ clock }
+        ensures taken { result.taken ≡ 0 }
     {
         Stopwatch {
             clock,
@@ -49,11 +51,17 @@ impl<C: Clock> Meter for Stopwatch<C> {
 
     ghost TellsBegun = { λ watch spent. EndsNext C.Reads watch.clock watch.began spent };
 
-    fn start(&mut self) {
+    fn start(&mut self)
+        ensures begins { (time : ℕ) → EndsNext C.Reads self.new.clock self.new.began time → BeginsNext C.Reads self.old.clock time }
+        ensures taken { self.new.taken ≡ self.old.taken }
+    {
         self.began = self.clock.now();
     }
 
-    fn spent(&mut self) -> u64 {
+    fn spent(&mut self) -> u64
+        ensures ends { EndsNext C.Reads self.old.clock self.old.began result }
+        ensures taken { self.new.taken ≡ min (self.old.taken + result) (2 ^ 64 - 1) }
+    {
         let spent = spent_between(self.began, self.clock.now());
         self.taken = self.taken.saturating_add(spent);
         spent

@@ -2,8 +2,10 @@
 
 ghost use Rattle.std.specs.Prelude.{◌≡◌};
 ghost use Rattle.rt_ids.specs.Closing.{IsDrained};
+ghost use Rattle.rt_runtime_worker.specs.Asks.{AsksSince};
 ghost use Rattle.rt_runtime_worker.specs.Bells.{AreRung};
 ghost use Rattle.rt_runtime_worker.specs.Linked.{StaysLinked};
+ghost use Rattle.rt_runtime_worker.specs.Workers.{IsBellOf};
 
 use crate::bell::Bell;
 use crate::bells::Bells;
@@ -35,16 +37,16 @@ pub struct Worker<J: Task<Out = u64>, C: Drop, G: Drop> {
 
 impl<J: Task<Out = u64>, C: Drop, G: Drop> Model for Worker<J, C, G> {
     ghost use Rattle.std.specs.Prelude.{ℕ};
-    ghost use Rattle.rt_runtime_worker.specs.Linked.{LinkedView};
+    ghost use Rattle.rt_runtime_worker.specs.Workers.{WorkerView};
 
-    ghost Value = { LinkedView J ℕ };
+    ghost Value = { WorkerView J ℕ C G };
 
-    ghost use Rattle.std.specs.Prelude.{◌≡◌};
     ghost use Rattle.rt_runtime_worker.specs.Bells.{AreRung};
+    ghost use Rattle.rt_runtime_worker.specs.Workers.{IsBellOf};
 
-    ghost view = { λ w. w.rounds.served.linked };
+    ghost view = { λ w. record { linked = w.rounds.served.linked; clock = w.rounds.watch.clock; gate = w.rounds.gate; tries = w.tries; bells = w.rounds.bells.names } };
 
-    ghost invariant = { λ w. AreRung w.rounds.served w.rounds.bells × (w.own.core ≡ w.rounds.served.linked.recorded.core.core) };
+    ghost invariant = { λ w. AreRung w.rounds.served w.rounds.bells × IsBellOf w.rounds.served.linked.recorded.core.core w.rounds.bells.names w.own };
 }
 
 impl<J: Task<Out = u64>, C: Drop, G: Drop> Worker<J, C, G> {
@@ -57,9 +59,12 @@ impl<J: Task<Out = u64>, C: Drop, G: Drop> Worker<J, C, G> {
         own: Bell,
         bells: Bells,
     ) -> Self
-        requires own { own.core ≡ served.linked.recorded.core.core }
+        requires own { IsBellOf served.linked.recorded.core.core bells.names own }
         requires rung { AreRung served bells }
-        ensures { result ≡ served.linked }
+        ensures linked { result.linked ≡ served.linked }
+        ensures clock { result.clock ≡ clock }
+        ensures gate { result.gate ≡ gate }
+        ensures bells { result.bells ≡ bells.names }
     {
         Worker {
             own,
@@ -71,7 +76,7 @@ impl<J: Task<Out = u64>, C: Drop, G: Drop> Worker<J, C, G> {
 
     /// The same worker, which parks after so many rounds in which nothing was done. With 0 it parks after the first.
     pub fn with_tries(self, tries: u32) -> Self
-        ensures { result ≡ self }
+        ensures { result ≡ record self { tries = tries } }
     {
         let mut worker = self;
         worker.tries = tries;
@@ -80,8 +85,8 @@ impl<J: Task<Out = u64>, C: Drop, G: Drop> Worker<J, C, G> {
 
     /// What a worker of a drained core leaves.
     fn into_ended(self) -> Ended<J>
-        requires { IsDrained self.recorded.core.cores self.recorded.journal.notes }
-        ensures { result ≡ self }
+        requires { IsDrained self.linked.recorded.core.cores self.linked.recorded.journal.notes }
+        ensures { result ≡ self.linked }
     {
         let Worker { rounds, .. } = self;
         rounds.into_ended()
@@ -91,7 +96,8 @@ impl<J: Task<Out = u64>, C: Drop, G: Drop> Worker<J, C, G> {
 impl<J: Job + Task<Out = u64>, C: Clock + Drop, G: Gate + Drop> Worker<J, C, G> {
     /// Lies down, looks once more, and parks until its bell rings if there was nothing.
     fn rest<R: Wait>(&mut self, rt: &R)
-        ensures { StaysLinked self.old self.new }
+        ensures stays { StaysLinked self.old.linked self.new.linked }
+        ensures asks { AsksSince G.Asked self.old.linked.recorded.core.core self.old.linked.recorded.journal.notes self.new.linked.recorded.journal.notes self.old.gate self.new.gate }
     {
         let key = self.own.lie_down();
         match look_again(&mut self.rounds, key) {
@@ -102,7 +108,8 @@ impl<J: Job + Task<Out = u64>, C: Clock + Drop, G: Gate + Drop> Worker<J, C, G> 
 
     /// One round. Whether the next one is made at once: unless nothing was to be done in it and in so many rounds before it.
     fn goes_on(&mut self) -> bool
-        ensures { StaysLinked self.old self.new }
+        ensures stays { StaysLinked self.old.linked self.new.linked }
+        ensures asks { AsksSince G.Asked self.old.linked.recorded.core.core self.old.linked.recorded.journal.notes self.new.linked.recorded.journal.notes self.old.gate self.new.gate }
     {
         let was_idle = self.idle > 0;
         if self.rounds.round(was_idle) {
@@ -118,7 +125,8 @@ impl<J: Job + Task<Out = u64>, C: Clock + Drop, G: Gate + Drop> Worker<J, C, G> 
 
     /// One round, and a rest where the next one isn't made at once.
     fn serve<R: Wait>(&mut self, rt: &R)
-        ensures { StaysLinked self.old self.new }
+        ensures stays { StaysLinked self.old.linked self.new.linked }
+        ensures asks { AsksSince G.Asked self.old.linked.recorded.core.core self.old.linked.recorded.journal.notes self.new.linked.recorded.journal.notes self.old.gate self.new.gate }
     {
         if !self.goes_on() {
             self.rest(rt);
@@ -129,11 +137,14 @@ impl<J: Job + Task<Out = u64>, C: Clock + Drop, G: Gate + Drop> Worker<J, C, G> 
 impl<J: Task<Out = u64>, C: Drop, G: Drop> Promised for Worker<J, C, G> {
     type Ended = Ended<J>;
 
-    ghost keeps = { λ worker ended. StaysLinked worker ended };
+    ghost keeps = { λ worker ended. StaysLinked worker.linked ended };
 }
 
 impl<J: Job + Task<Out = u64>, C: Clock + Drop, G: Gate + Drop> Work for Worker<J, C, G> {
-    fn run<R: Wait>(self, rt: &R) -> Ended<J> {
+    fn run<R: Wait>(self, rt: &R) -> Ended<J>
+        ensures keeps { StaysLinked self.linked result }
+        ensures asks { (gate : G) × AsksSince G.Asked self.linked.recorded.core.core self.linked.recorded.journal.notes result.recorded.journal.notes self.gate gate }
+    {
         let mut worker = self;
         // On the thread that writes the notes, so that their pages come from memory that is near to it.
         worker.rounds.prefault();

@@ -76,7 +76,7 @@ struct Shared {
 
 impl Shared {
     fn new(alloc: Global) -> Result<Self, AllocError>
-        ensures { IfOk result (λ shared. shared.bells ≡ replicate 1 0) }
+        ensures { IfOk result (λ shared. shared.bells.rings ≡ replicate 2 0) }
     {
         Ok(Shared {
             bells: Bells::open(alloc, 1)?,
@@ -161,7 +161,7 @@ fn open(
     shared: &Shared,
 ) -> Result<Worker<ScriptJob, Still, Counter>, AllocError>
     requires own { AreEndsOf 1 4 own }
-    requires bells { shared.now.bells ≡ replicate 1 0 }
+    requires bells { shared.now.bells.rings ≡ replicate 2 0 }
 {
     let config = Config {
         cores: 1,
@@ -189,7 +189,7 @@ fn serve<R: Wait>(
     shared: &Shared,
 ) -> Result<Journal<u64>, AllocError>
     requires own { AreEndsOf 1 4 own }
-    requires bells { shared.now.bells ≡ replicate 1 0 }
+    requires bells { shared.now.bells.rings ≡ replicate 2 0 }
 {
     let worker = open(alloc, own, shared)?;
     let (recorded, _ends) = worker.run(rt).into_linked().into_parts();

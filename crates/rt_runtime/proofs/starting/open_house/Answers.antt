@@ -1,4 +1,6 @@
-use Rattle.rt_runtime.proofs.Started.{may_open, opened_house}
+use Rattle.std.proofs.Common.{◌∙◌, map}
+use Rattle.rt_runtime.proofs.Dealt.{same_of_each}
+use Rattle.rt_runtime.proofs.Started.{front_count, may_open, opened_house}
 use Rattle.rt_runtime.proofs.starting.open_house.Goals as goal
 
 pub open_workers-requires-clause-each : goal.open_workers-requires-clause-each
@@ -9,4 +11,10 @@ open_workers-requires-clause-each g c =
 pub returns-clause-house : goal.returns-clause-house
 returns-clause-house g c =
     opened_house c.args.config.now.cores c.args.config.now.cap c.args.config.now.room c.args.config.now.queues.items c.in-Ok.all.items c.pop.new.self.items c.in-Some.outside c.in-Some.ensures.items c.in-Ok.ensures.grid c.in-Ok.ensures.fresh
-    c.in_ok-workers.workers.items c.in_ok-workers.ensures
+    (map (λ worker. worker.linked) c.in_ok-workers.workers.items) c.in_ok-workers.ensures.opened
+
+pub returns-clause-shared : goal.returns-clause-shared
+returns-clause-shared g c =
+    c.in_ok-workers.ensures.bells
+    ∙ same_of_each _ c.pop.new.self.items c.args.config.now.cores
+    (front_count c.args.config.now.cores c.args.config.now.cap c.args.config.now.room c.args.config.now.queues.items c.in-Ok.all.items c.pop.new.self.items c.in-Some.outside c.in-Some.ensures.items c.in-Ok.ensures.grid c.in-Ok.ensures.fresh)

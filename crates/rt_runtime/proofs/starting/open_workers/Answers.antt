@@ -1,8 +1,9 @@
-use Rattle.std.proofs.Common.{sym, subst}
+use Rattle.std.proofs.Common.{◌≡◌, ◌∙◌, length, map, refl, sym, subst, ap}
+use Rattle.std.proofs.lemmas.List.{length-map}
 use Rattle.std.specs.Prelude.{All}
 use Rattle.rt_runtime_team.specs.Works.{Together}
 use Rattle.rt_runtime.specs.Starting.{AreOpening, IsOpenedWith}
-use Rattle.rt_runtime.proofs.Dealt.{all_of_map, if_ok, together_of_map}
+use Rattle.rt_runtime.proofs.Dealt.{all_of_map, if_ok, same_maps, same_of_each, together_maps}
 use Rattle.rt_runtime.proofs.starting.open_workers.Goals as goal
 
 pub open_seats-requires-clause-each : goal.open_seats-requires-clause-each
@@ -10,9 +11,28 @@ open_seats-requires-clause-each g c =
     let opening = AreOpening c.args.config.now.cores c.args.config.now.cap c.args.config.now.room c.args.config.now.queues.items in
     all_of_map (λ seat. seat.ends) opening c.in_ok-seats.seats.items (subst (All opening) (sym c.in_ok-seats.ensures.ends) c.requires.each)
 
-pub returns : goal.returns
-returns g c =
-    if_ok _ _ (λ opened both.
-    subst (λ all. Together (IsOpenedWith c.args.config.now.cores c.args.config.now.cap c.args.config.now.room c.args.config.now.queues.items) all opened.items) c.in_ok-seats.ensures.ends
-    (together_of_map (λ seat. seat.ends) (IsOpenedWith c.args.config.now.cores c.args.config.now.cap c.args.config.now.room c.args.config.now.queues.items) c.in_ok-seats.seats.items opened.items both))
+pub returns-clause-opened : goal.returns-clause-opened
+returns-clause-opened g c =
+    let opened_with = IsOpenedWith c.args.config.now.cores c.args.config.now.cap c.args.config.now.room c.args.config.now.queues.items in
+    if_ok _ _ (λ opened both. subst (λ all. Together opened_with all (map (λ worker. worker.linked) opened.items)) c.in_ok-seats.ensures.ends
+    (together_maps (λ seat. seat.ends) (λ worker. worker.linked) _ opened_with (λ seat worker wired. wired.linked) c.in_ok-seats.seats.items opened.items both))
+    c.open_seats.result c.open_seats.ensures
+
+pub returns-clause-clocks : goal.returns-clause-clocks
+returns-clause-clocks g c =
+    if_ok _ _ (λ opened both. same_maps (λ seat. seat.clock) (λ worker. worker.clock) _ (λ seat worker wired. wired.clock_is) c.in_ok-seats.seats.items opened.items both ∙ c.in_ok-seats.ensures.clocks)
+    c.open_seats.result c.open_seats.ensures
+
+pub returns-clause-gates : goal.returns-clause-gates
+returns-clause-gates g c =
+    if_ok _ _ (λ opened both. same_maps (λ seat. seat.gate) (λ worker. worker.gate) _ (λ seat worker wired. wired.gate_is) c.in_ok-seats.seats.items opened.items both ∙ c.in_ok-seats.ensures.gates)
+    c.open_seats.result c.open_seats.ensures
+
+pub returns-clause-bells : goal.returns-clause-bells
+returns-clause-bells g c =
+    let names = c.args.bells.now.names in
+    let seats = c.in_ok-seats.seats.items in
+    let count : length seats ≡ length c.args.all.items = sym (length-map seats (λ seat. seat.ends)) ∙ ap length c.in_ok-seats.ensures.ends in
+    if_ok _ _ (λ opened both. same_maps (λ seat. names) (λ worker. worker.bells) _ (λ seat worker wired. wired.bells_are) seats opened.items both
+    ∙ (same_of_each names seats (length c.args.all.items) count ∙ sym (same_of_each names c.args.all.items (length c.args.all.items) refl)))
     c.open_seats.result c.open_seats.ensures

@@ -1,4 +1,4 @@
-use Rattle.std.proofs.Common.{rules, refl, ◌∙◌, ap, sym, subst, arith, length}
+use Rattle.std.proofs.Common.{rules, refl, ◌∙◌, ap, sym, subst, arith, length, map}
 use denote.Param.{param}
 use denote.Param.Send.{IsSend, arg_send, param_send}
 use denote.Exit.{no}
@@ -24,9 +24,9 @@ pub invariant_of-result : goal.invariant_of-result
 invariant_of-result g c =
     let desk = c.in-Ok-open_outside.ensures.desk in
     let numbers = c.requires.numbers in (
-      started c.args.config.now.cores c.args.config.now.cap c.args.config.now.room c.args.config.now.queues.items c.in-Ok-start.team c.in-Ok.ends c.in-Ok-open_outside.desk c.in-Ok-open_outside.closing.items
-          (subst (λ workers. IsHouse c.args.config.now.cores c.args.config.now.cap c.args.config.now.room c.args.config.now.queues.items workers c.in-Ok.ends) (sym c.in-Ok-start.ensures.ok) c.in-Ok.ensures.house) desk
-          c.in-Ok-open_outside.ensures.written c.in-Ok-open_outside.ensures.closing c.in-Ok.bells c.in-Ok.ensures.bells
+      started c.args.config.now.cores c.args.config.now.cap c.args.config.now.room c.args.config.now.queues.items (map (λ worker. worker.linked) c.in-Ok-start.team) c.in-Ok.ends c.in-Ok-open_outside.desk c.in-Ok-open_outside.closing.items
+          (subst (λ workers. IsHouse c.args.config.now.cores c.args.config.now.cap c.args.config.now.room c.args.config.now.queues.items (map (λ worker. worker.linked) workers) c.in-Ok.ends) (sym c.in-Ok-start.ensures.ok) c.in-Ok.ensures.house) desk
+          c.in-Ok-open_outside.ensures.written c.in-Ok-open_outside.ensures.closing c.of-bells.result (ap (λ rung. rung.times) c.of-bells.ensures ∙ c.in-Ok.ensures.bells)
           (record {
             some_core = omega (arith, numbers.some_core);
             few_cores = numbers.cores_most;
@@ -48,11 +48,11 @@ pub returns-in-Ok-start : goal.returns-in-Ok-start
 returns-in-Ok-start g c = record {
   desk = c.in-Ok-open_outside.ensures.desk;
   closing = c.in-Ok-open_outside.ensures.closing;
-  rung = c.in-Ok.ensures.bells;
+  rung = ap (λ rung. rung.times) c.of-bells.ensures ∙ c.in-Ok.ensures.bells;
   room_is = refl;
-  count = ap length c.in-Ok-start.ensures.ok ∙ c.in-Ok.ensures.house.count;
+  count = ap (λ workers. length (map (λ worker. worker.linked) workers)) c.in-Ok-start.ensures.ok ∙ c.in-Ok.ensures.house.count;
   ends = c.in-Ok.ensures.house.outs;
   fresh = c.in-Ok.ensures.house.fresh;
-  none = none_submitted c.args.config.now.cores c.args.config.now.cap c.args.config.now.room c.args.config.now.queues.items c.in-Ok.workers.items c.in-Ok.ends c.in-Ok.ensures.house;
-  have_queues = subst (HaveQueues c.args.config.now.cores c.args.config.now.queues.items) (sym c.in-Ok-start.ensures.ok) c.in-Ok.ensures.house.have_queues;
+  none = none_submitted c.args.config.now.cores c.args.config.now.cap c.args.config.now.room c.args.config.now.queues.items (map (λ worker. worker.linked) c.in-Ok.workers.items) c.in-Ok.ends c.in-Ok.ensures.house;
+  have_queues = subst (λ workers. HaveQueues c.args.config.now.cores c.args.config.now.queues.items (map (λ worker. worker.linked) workers)) (sym c.in-Ok-start.ensures.ok) c.in-Ok.ensures.house.have_queues;
 }

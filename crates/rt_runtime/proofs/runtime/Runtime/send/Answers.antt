@@ -10,7 +10,7 @@ invariant_of-self g c =
     let sent = c.send_on-answer.ensures in
     let low : c.args.to < c.self.inside.desk.cores = omega (arith, c.if-to-self.false, c.to.view_is, c.self.invariant.1.cores_are) in
     let count : length c.mark.new.closing.items ≡ c.self.inside.desk.cores = ap length c.mark.ensures ∙ (length-set c.self.inside.closing.items _ _ ∙ c.self.invariant.0.closings) in
-    let bells : length c.ring.new.self ≡ c.self.inside.desk.cores = ap length c.ring.ensures ∙ (length-set c.self.inside.bells _ _ ∙ c.self.invariant.0.bells) in
+    let bells : length c.ring.new.self.times ≡ c.self.inside.desk.cores + 1 = ap (λ rung. length rung.times) c.ring.ensures ∙ (length-set c.self.inside.bells.times _ _ ∙ c.self.invariant.0.bells) in
     let room = subst (λ view. booked view.desk + 3 ≤ view.desk.journal.room) (sym c.self.view_is) c.requires.room in
     let books = books_sent c.args.to c.args.order c.self.inside.desk c.send_on-answer.new.desk c.send_on-answer.result sent.submits sent.spends in (
       runtime_on _ c.self.invariant.0 c.args.to low c.send_on-answer.new.desk (out_at c.args.to c.send_on-answer.new.ends) sent.stays sent.link c.send_on-answer.new.ends sent.ends c.mark.new.closing.items count

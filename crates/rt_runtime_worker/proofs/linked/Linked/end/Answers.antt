@@ -1,6 +1,6 @@
 use Rattle.std.proofs.Common.{subst}
 use Rattle.rt_runtime_worker.specs.Linked.{IsLinked}
-use Rattle.rt_runtime_worker.proofs.Gated.{ending_now, ending_acts}
+use Rattle.rt_runtime_worker.proofs.Gated.{ending_now, ending_acts, ending_notes_none}
 use Rattle.rt_runtime_worker.proofs.Along.{stays_along}
 use Rattle.rt_runtime_worker.proofs.linked.Linked.end.Goals as goal
 
@@ -13,6 +13,9 @@ pub returns-clause-acts : goal.returns-clause-acts
 returns-clause-acts g c =
     ending_acts c.args.self.now c.close_returning.new.self c.shut_gates.new.self (subst (IsLinked g.J.Task.meaning) c.self.view_is c.self.invariant.0) c.requires.spare
     c.close_returning.ensures c.shut_gates.ensures.shuts c.requires.short c.requires.acts
+
+pub returns-clause-polls : goal.returns-clause-polls
+returns-clause-polls g c = ending_notes_none c.args.self.now c.close_returning.new.self c.shut_gates.new.self _ c.close_returning.ensures c.shut_gates.ensures.shuts
 
 pub returns-clause-stays : goal.returns-clause-stays
 returns-clause-stays g c = stays_along _ _ _ c.close_returning.ensures.stays c.shut_gates.ensures.shuts.stays

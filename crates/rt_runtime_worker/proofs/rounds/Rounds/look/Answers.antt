@@ -2,6 +2,10 @@ use Rattle.std.proofs.Common.{sym, ◌∙◌, subst, ap}
 use Rattle.std.specs.Prelude.{◌||◌}
 use Rattle.rt_runtime_worker.specs.Rounds.{CollectsFirst, StepsServed}
 use Rattle.rt_runtime_worker.specs.Bells.{AreRung}
+use Rattle.rt_runtime_worker.specs.Asks.{polls_of}
+use Rattle.rt_runtime_worker.specs.Looks.{found_quiet, turns_after}
+use Rattle.rt_runtime_worker.proofs.Asking.{asks_between}
+use Rattle.rt_runtime_worker.proofs.Looked.{turns_same}
 use Rattle.rt_runtime_worker.proofs.Telling.{steps_cores, steps_three}
 use Rattle.rt_runtime_worker.proofs.rounds.Rounds.look.Goals as goal
 
@@ -14,11 +18,37 @@ returns-clause-steps g c =
 pub returns-clause-looks : goal.returns-clause-looks
 returns-clause-looks g c = record {
   heard = c.take_in-taken.new.self.served;
+  turned = c.take_turn-turned.new.self.served;
+  came = c.take_in-taken.result;
+  worked = c.take_turn-turned.result;
+  back = c.gather-collected.result;
+  steps = c.take_in-taken.ensures.steps;
   hears = c.take_in-taken.ensures.hears;
+  sound = c.take_in-taken.ensures.sound;
+  turn =
+      turns_same g.J.Task.meaning g.C.Clock.Reads g.G.Gate.Asked c.args.self.now.watch.clock c.take_in-taken.new.self.watch.clock c.args.self.now.gate c.take_in-taken.new.self.gate c.plan.new.self.gate c.take_turn-turned.new.self.gate
+      c.take_in-taken.new.self.served c.take_turn-turned.new.self.served c.take_turn-turned.result (ap (λ rounds. rounds.watch.clock) c.take_in-taken.ensures.rest) (ap (λ rounds. rounds.gate) c.take_in-taken.ensures.rest)
+      (sym (ap (λ rounds. rounds.gate) c.plan.ensures ∙ ap (λ rounds. rounds.gate) c.gather-collected.ensures.rest)) c.take_turn-turned.ensures.takes;
+  gathers = subst (λ served. StepsServed c.take_turn-turned.new.self.served c.gather-collected.result served) (sym (ap (λ rounds. rounds.served) c.plan.ensures)) c.gather-collected.ensures.steps;
   collects =
       subst (λ served. CollectsFirst c.args.self.now.served.linked.recorded.core.cores served) (sym (ap (λ rounds. rounds.served) c.plan.ensures))
       (subst (λ cores. CollectsFirst cores c.gather-collected.new.self.served) (steps_cores c.take_in-taken.ensures.steps c.take_turn-turned.ensures.steps) c.gather-collected.ensures.collects);
+  tells = c.either.ensures ∙ ap (λ came. c.take_turn-turned.result || came) c.either-came.ensures;
+  plans = ap (λ rounds. rounds.turns) c.plan.ensures ∙ ap turns_after (c.is_quiet.ensures ∙ ap (found_quiet c.take_turn-turned.result) c.either-came.ensures);
 }
+
+pub returns-clause-forgets : goal.returns-clause-forgets
+returns-clause-forgets g c = ap (λ rounds. rounds.watch.taken) c.plan.ensures
+
+pub returns-clause-names : goal.returns-clause-names
+returns-clause-names g c = ap (λ rounds. rounds.bells.names) c.plan.ensures ∙ (c.gather-collected.ensures.names ∙ (c.take_turn-turned.ensures.names ∙ c.take_in-taken.ensures.names))
+
+pub returns-clause-asks : goal.returns-clause-asks
+returns-clause-asks g c =
+    asks_between g.G.Gate.Asked c.args.self.now.served.linked.recorded.core.core c.take_in-taken.new.self.served.linked.recorded.core.core c.args.self.now.served.linked.recorded.journal.notes c.take_in-taken.new.self.served.linked.recorded.journal.notes
+    c.take_turn-turned.new.self.served.linked.recorded.journal.notes c.plan.new.self.served.linked.recorded.journal.notes c.args.self.now.gate c.take_in-taken.new.self.gate c.plan.new.self.gate c.take_turn-turned.new.self.gate
+    c.take_in-taken.ensures.steps.stays.seat.number (ap (λ rounds. rounds.gate) c.take_in-taken.ensures.rest) (sym (ap (λ rounds. rounds.gate) c.plan.ensures ∙ ap (λ rounds. rounds.gate) c.gather-collected.ensures.rest))
+    c.take_in-taken.ensures.polls (ap (λ rounds. polls_of rounds.served.linked.recorded.journal.notes) c.plan.ensures ∙ c.gather-collected.ensures.polls) c.take_turn-turned.ensures.asks
 
 pub returns-clause-rung : goal.returns-clause-rung
 returns-clause-rung g c = subst (λ rounds. AreRung rounds.served rounds.bells) (sym c.plan.ensures) c.gather-collected.ensures.rung

@@ -1,6 +1,7 @@
-use Rattle.std.proofs.Common.{inl, inr, refl, subst}
+use Rattle.std.proofs.Common.{inl, inr, refl, ◌∙◌, subst}
 use Rattle.std.specs.Prelude.{false}
 use Rattle.rt_runtime_worker.specs.Rounds.{StepsServed}
+use Rattle.rt_runtime_worker.proofs.Asking.{asks_then}
 use Rattle.rt_runtime_worker.proofs.Telling.{steps_more}
 use Rattle.rt_runtime_worker.proofs.rounds.Rounds.round.Goals as goal
 
@@ -8,13 +9,14 @@ pub returns-then-turn_alone-clause-steps : goal.returns-then-turn_alone-clause-s
 returns-then-turn_alone-clause-steps g c = subst (λ some. StepsServed c.args.self.now.served some c.turn_alone.new.self.served) c.if-turn_alone.true c.turn_alone.ensures.steps
 
 pub returns-then-turn_alone-clause-makes : goal.returns-then-turn_alone-clause-makes
-returns-then-turn_alone-clause-makes g c = inl (c.turn_alone.ensures.passes c.if-turn_alone.true)
+returns-then-turn_alone-clause-makes g c = inl (c.turn_alone.ensures.passes c.if-turn_alone.true, refl, c.turn_alone.ensures.turns c.if-turn_alone.true)
 
 pub returns-then-has_nothing-clause-steps : goal.returns-then-has_nothing-clause-steps
 returns-then-has_nothing-clause-steps g c = subst (λ some. StepsServed c.args.self.now.served some c.turn_alone.new.self.served) c.if-turn_alone.false c.turn_alone.ensures.steps
 
 pub returns-then-has_nothing-clause-makes : goal.returns-then-has_nothing-clause-makes
-returns-then-has_nothing-clause-makes g c = inr (inr (c.has_nothing.ensures c.if-has_nothing.true, refl))
+returns-then-has_nothing-clause-makes g c =
+    inr (inr (c.has_nothing.ensures c.if-has_nothing.true, refl, c.turn_alone.ensures.fewer, subst (λ some. StepsServed c.args.self.now.served some c.turn_alone.new.self.served) c.if-turn_alone.false c.turn_alone.ensures.steps))
 
 pub returns-clause-steps : goal.returns-clause-steps
 returns-clause-steps g c =
@@ -22,4 +24,17 @@ returns-clause-steps g c =
     (subst (λ some. StepsServed c.args.self.now.served some c.turn_alone.new.self.served) c.if-turn_alone.false c.turn_alone.ensures.steps) c.look.ensures.steps
 
 pub returns-clause-makes : goal.returns-clause-makes
-returns-clause-makes g c = inr (inl (c.turn_alone.new.self.served, c.look.ensures.looks))
+returns-clause-makes g c =
+    inr (inl (
+      record { served = c.turn_alone.new.self.served; clock = c.turn_alone.new.self.watch.clock; gate = c.turn_alone.new.self.gate },
+      subst (λ some. StepsServed c.args.self.now.served some c.turn_alone.new.self.served) c.if-turn_alone.false c.turn_alone.ensures.steps,
+      c.look.ensures.looks,
+    ))
+
+pub returns-clause-names : goal.returns-clause-names
+returns-clause-names g c = c.look.ensures.names ∙ c.turn_alone.ensures.names
+
+pub returns-clause-asks : goal.returns-clause-asks
+returns-clause-asks g c =
+    asks_then g.G.Gate.Asked c.args.self.now.served.linked.recorded.core.core c.turn_alone.new.self.served.linked.recorded.core.core c.args.self.now.served.linked.recorded.journal.notes c.turn_alone.new.self.served.linked.recorded.journal.notes
+    c.look.new.self.served.linked.recorded.journal.notes c.args.self.now.gate c.turn_alone.new.self.gate c.look.new.self.gate c.turn_alone.ensures.steps.stays.seat.number c.turn_alone.ensures.asks c.look.ensures.asks

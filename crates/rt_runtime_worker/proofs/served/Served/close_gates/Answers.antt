@@ -1,7 +1,8 @@
-use Rattle.std.proofs.Common.{sym, subst, arith}
+use Rattle.std.proofs.Common.{sym, ◌∙◌, ap, subst, arith}
 use Rattle.rt_runtime_worker.specs.Rooms.{IsReady}
 use Rattle.rt_runtime_worker.specs.Ended.{IsServed}
 use Rattle.rt_runtime_worker.proofs.Serving.{shuts_served}
+use Rattle.rt_runtime_worker.specs.Asks.{polls_of}
 use Rattle.rt_runtime_worker.proofs.served.Served.close_gates.Goals as goal
 
 pub invariant_of-self : goal.invariant_of-self
@@ -13,3 +14,6 @@ invariant_of-self g c =
 
 pub returns-clause-shuts : goal.returns-clause-shuts
 returns-clause-shuts g c = λ some sender known. (c.shut_gates.ensures.shuts.shut sender (omega (arith, known, c.shut_gates.ensures.shuts.stays.seat.cores))).gate
+
+pub returns-clause-polls : goal.returns-clause-polls
+returns-clause-polls g c = c.shut_gates.ensures.shuts.polls ∙ (ap (λ view. polls_of view.linked.recorded.journal.notes) c.self.view_is ∙ c.look.ensures.polls)

@@ -1,4 +1,4 @@
-use Rattle.std.proofs.Common.{sym, subst}
+use Rattle.std.proofs.Common.{sym, ◌∙◌, subst}
 use Rattle.rt_runtime_worker.specs.Rounds.{StepsServed}
 use Rattle.rt_runtime_worker.proofs.Telling.{steps_found, steps_same}
 use Rattle.rt_runtime_worker.proofs.Heard.{next_collected}
@@ -19,4 +19,5 @@ loop-core-preserved g c = record {
   ];
   collects = next_collected c.loop-core.core c.loop-core.self c.collect_one.new.self c.collect_one.ensures.steps c.loop-core.invariant.collects c.collect_one.ensures.collects;
   end = c.loop-core.invariant.end;
+  polls = c.collect_one.ensures.polls ∙ c.loop-core.invariant.polls;
 }

@@ -1,4 +1,5 @@
 use Rattle.std.proofs.Common.{◌≡◌}
+use Rattle.rt_runtime_worker.specs.Asks.{NotesNoPoll}
 use Rattle.rt_runtime_worker.specs.Rounds.{CollectsFirst, StepsServed}
 use Rattle.rt_runtime_worker.proofs.served.Served.collect_all.Given as goal
 
@@ -7,4 +8,5 @@ invariant-loop-core g l = record {
   steps : StepsServed l.fn.self l.some l.self;
   collects : CollectsFirst l.core l.self;
   end : l.core-end ≡ l.fn.self.linked.recorded.core.cores;
+  polls : NotesNoPoll l.fn.self.linked.recorded.journal.notes l.self.linked.recorded.journal.notes;
 }

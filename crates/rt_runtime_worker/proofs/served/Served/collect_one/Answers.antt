@@ -6,6 +6,8 @@ use Rattle.rt_runtime_worker.proofs.Spare.{places_few}
 use Rattle.rt_runtime_worker.proofs.Serving.{collects_served}
 use Rattle.rt_runtime_worker.proofs.Telling.{looked_steps, looked_alone, collected_tells}
 use Rattle.rt_runtime_worker.proofs.Heard.{looked_collects, ended_collects}
+use Rattle.rt_runtime_worker.proofs.Asking.{collects_note_none}
+use Rattle.rt_runtime_worker.specs.Asks.{polls_of}
 use Rattle.rt_runtime_worker.proofs.served.Served.collect_one.Goals as goal
 
 pub collect_from-requires-clause-room : goal.collect_from-requires-clause-room
@@ -35,3 +37,8 @@ pub returns-clause-collects : goal.returns-clause-collects
 returns-clause-collects g c =
     looked_collects c.args.core c.collect_from.result c.args.self.now c.look.new.self (record { linked = c.self.inside.linked; ending = c.self.inside.ending }) c.collect_from.new.self c.self.view_is c.look.ensures.looks
     c.collect_from.ensures.collects
+
+pub returns-clause-polls : goal.returns-clause-polls
+returns-clause-polls g c =
+    collects_note_none c.args.core c.collect_from.result c.self.inside.linked c.collect_from.new.self c.collect_from.ensures.collects
+    ∙ (ap (λ view. polls_of view.linked.recorded.journal.notes) c.self.view_is ∙ c.look.ensures.polls)

@@ -1,4 +1,4 @@
-use Rattle.std.proofs.Common.{sym, subst}
+use Rattle.std.proofs.Common.{sym, ◌∙◌, subst}
 use Rattle.rt_runtime_worker.specs.Rounds.{StepsServed}
 use Rattle.rt_runtime_worker.proofs.Telling.{steps_found, steps_same}
 use Rattle.rt_runtime_worker.proofs.Heard.{next_heard}
@@ -19,4 +19,5 @@ loop-sender-preserved g c = record {
   ];
   hears = next_heard c.loop-sender.sender c.args.self.now c.loop-sender.self c.deliver_some.new.self c.loop-sender.invariant.steps c.deliver_some.ensures.steps c.loop-sender.invariant.hears c.deliver_some.ensures.hears;
   end = c.loop-sender.invariant.end;
+  polls = c.deliver_some.ensures.polls ∙ c.loop-sender.invariant.polls;
 }

@@ -1,9 +1,11 @@
-use Rattle.std.proofs.Common.{sym, subst, ap, arith}
+use Rattle.std.proofs.Common.{sym, ◌∙◌, subst, ap, arith}
 use Rattle.rt_runtime_worker.specs.Rooms.{IsReady}
 use Rattle.rt_runtime_worker.proofs.Spare.{ready_room}
 use Rattle.rt_runtime_worker.proofs.Serving.{delivers_served}
 use Rattle.rt_runtime_worker.proofs.Telling.{looked_steps, delivered_tells}
 use Rattle.rt_runtime_worker.proofs.Heard.{looked_hears}
+use Rattle.rt_runtime_worker.proofs.Asking.{delivered_notes_none}
+use Rattle.rt_runtime_worker.specs.Asks.{polls_of}
 use Rattle.rt_runtime_worker.proofs.served.Served.deliver_one.Goals as goal
 
 pub deliver_from-requires-clause-room : goal.deliver_from-requires-clause-room
@@ -24,3 +26,8 @@ returns-clause-steps g c =
 pub returns-clause-hears : goal.returns-clause-hears
 returns-clause-hears g c same =
     looked_hears c.args.sender c.deliver_from.result c.args.self.now c.look.new.self (record { linked = c.self.inside.linked; ending = c.self.inside.ending }) c.deliver_from.new.self c.self.view_is c.look.ensures.looks c.deliver_from.ensures.delivers same
+
+pub returns-clause-polls : goal.returns-clause-polls
+returns-clause-polls g c =
+    delivered_notes_none c.args.sender c.deliver_from.result c.self.inside.linked c.deliver_from.new.self c.deliver_from.ensures.delivers
+    ∙ (ap (λ view. polls_of view.linked.recorded.journal.notes) c.self.view_is ∙ c.look.ensures.polls)

@@ -1,4 +1,4 @@
-use Rattle.std.proofs.Common.{◌≡◌, ◌+◌, sym, ◌∙◌, ap, subst, arith}
+use Rattle.std.proofs.Common.{◌≡◌, ◌+◌, refl, sym, ◌∙◌, ap, subst, arith}
 use Rattle.std.specs.Prelude.{nat_lt}
 use Rattle.std.proofs.lemmas.Bool.{lt-ltb}
 use Rattle.rt_runtime_worker.specs.Rounds.{StepsServed, HearsOne}
@@ -14,6 +14,7 @@ loop-count-init g c = record {
   steps = steps_none c.args.self.now;
   many = none_heard c.args.sender c.args.self.now;
   cap_is = c.cap-cap.ensures.cap ∙ (ap (λ inside. inside.linked.recorded.cap) c.self-inside.view_is ∙ ap (λ view. view.linked.recorded.cap) c.self.view_is);
+  polls = refl;
 }
 
 pub returns-then-not-deliver_one-clause-steps : goal.returns-then-not-deliver_one-clause-steps
@@ -36,6 +37,7 @@ loop-count-preserved g c = record {
       one_more_heard c.args.sender c.loop-count.count c.args.self.now c.loop-count.self c.deliver_one.new.self c.loop-count.invariant.steps.ended c.deliver_one.ensures.steps.ended c.loop-count.invariant.many
       (λ same. subst (λ found. HearsOne c.args.sender c.loop-count.self.linked found c.deliver_one.new.self.linked) c.if-not-deliver_one.false (c.deliver_one.ensures.hears same));
   cap_is = c.loop-count.invariant.cap_is;
+  polls = c.deliver_one.ensures.polls ∙ c.loop-count.invariant.polls;
 }
 
 pub returns-clause-steps : goal.returns-clause-steps
@@ -47,3 +49,6 @@ pub returns-clause-hears : goal.returns-clause-hears
 returns-clause-hears g c =
     let all : c.loop-count.count ≡ c.cap-cap.result = omega (arith, c.loop-count.auto, c.loop-count-test.false) in
     all_heard c.args.sender c.loop-count.count c.args.self.now c.loop-count.self (all ∙ c.loop-count.invariant.cap_is) c.loop-count.invariant.many
+
+pub returns-then-not-deliver_one-clause-polls : goal.returns-then-not-deliver_one-clause-polls
+returns-then-not-deliver_one-clause-polls g c = c.deliver_one.ensures.polls ∙ c.loop-count.invariant.polls

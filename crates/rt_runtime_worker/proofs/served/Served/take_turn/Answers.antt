@@ -1,4 +1,4 @@
-use Rattle.std.proofs.Common.{◌≡◌, sym, subst}
+use Rattle.std.proofs.Common.{◌≡◌, refl, sym, ◌∙◌, ap, subst}
 use Rattle.rt_runtime_worker.specs.Rooms.{IsReady}
 use Rattle.rt_runtime_worker.proofs.Spare.{turn_room}
 use Rattle.rt_runtime_worker.proofs.Serving.{turned_served}
@@ -6,6 +6,8 @@ use Rattle.rt_runtime_worker.specs.Ended.{ServedView}
 use Rattle.rt_runtime_worker.specs.Steps.{MakesTurn}
 use Rattle.rt_runtime_worker.specs.Rounds.{StepsServed, is_turn}
 use Rattle.rt_runtime_worker.proofs.Telling.{looked_steps, turned_tells}
+use Rattle.rt_runtime_worker.proofs.Asking.{asks_between, turn_asks}
+use Rattle.rt_runtime_worker.specs.Asks.{polls_of, NotesNoPoll}
 use Rattle.rt_runtime_worker.proofs.served.Served.take_turn.Goals as goal
 
 pub turn-requires : goal.turn-requires
@@ -28,9 +30,20 @@ pub returns-clause-takes : goal.returns-clause-takes
 returns-clause-takes g c = record {
   before = c.look.new.self;
   looks = c.look.ensures.looks;
+  stays = c.look.ensures.stays;
+  ready = c.look.ensures.ready;
+  ended = ap (λ (view : ServedView _ _). view.ending) c.self.view_is;
   made = c.turn.result;
   makes =
       subst (λ (view : ServedView _ _). MakesTurn g.J.Task.meaning (g.M.Meter.Tells c.args.meter.now) (λ core name. g.G.Gate.Asked c.args.gate.now core name c.turn.new.gate) (c.turn.new.gate ≡ c.args.gate.now) view.linked c.turn.result c.turn.new.self)
       c.self.view_is c.turn.ensures.makes;
   answer = c.is_work.ensures;
 }
+
+pub returns-clause-asks : goal.returns-clause-asks
+returns-clause-asks g c =
+    let none : NotesNoPoll c.args.self.now.linked.recorded.journal.notes c.self.inside.linked.recorded.journal.notes = ap (λ (view : ServedView _ _). polls_of view.linked.recorded.journal.notes) c.self.view_is ∙ c.look.ensures.polls in
+    let core : c.self.inside.linked.recorded.core.core ≡ c.args.self.now.linked.recorded.core.core = ap (λ (view : ServedView _ _). view.linked.recorded.core.core) c.self.view_is ∙ c.look.ensures.stays.seat.number in
+    asks_between g.G.Gate.Asked c.args.self.now.linked.recorded.core.core c.self.inside.linked.recorded.core.core c.args.self.now.linked.recorded.journal.notes c.self.inside.linked.recorded.journal.notes c.turn.new.self.recorded.journal.notes c.turn.new.self.recorded.journal.notes
+    c.args.gate.now c.args.gate.now c.turn.new.gate c.turn.new.gate core refl refl none refl
+    (turn_asks g.G.Gate.Asked g.J.Task.meaning (g.M.Meter.Tells c.args.meter.now) c.self.inside.linked c.turn.new.self c.args.gate.now c.turn.new.gate c.turn.result c.turn.ensures.makes)

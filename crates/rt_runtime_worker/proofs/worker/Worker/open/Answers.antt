@@ -1,4 +1,7 @@
-use Rattle.std.proofs.Common.{◌≡◌, length, sym, ◌∙◌, ap, arith}
+use Rattle.std.proofs.Common.{◌≡◌, ◌+◌, length, sym, ◌∙◌, ap, subst, arith}
+use Rattle.std.specs.Prelude.{slice_index_or}
+use Rattle.rt_runtime_worker.specs.Bells.{BellView}
+use Rattle.rt_runtime_worker.specs.Workers.{IsBellOf}
 use Rattle.rt_runtime_worker.proofs.Rung.{opened_rung}
 use Rattle.rt_runtime_worker.proofs.worker.Worker.open.Goals as goal
 
@@ -9,9 +12,15 @@ bell_of-requires g c =
 
 pub of-requires-clause-own : goal.of-requires-clause-own
 of-requires-clause-own g c =
-    ap (λ bell. bell.core) c.in_ok-own.ensures ∙ (c.number.view_is ∙ (ap (λ ends. ends.number) c.ends.view_is ∙ sym (ap (λ terms. terms.actor) c.in_ok-served.ensures.over.of.terms)))
+    let core : c.number.inside.0 ≡ c.in_ok-served.served.linked.recorded.core.core = (c.number.view_is ∙ ap (λ ends. ends.number) c.ends.view_is) ∙ sym (ap (λ terms. terms.actor) c.in_ok-served.ensures.over.of.terms) in
+    record {
+      actor = ap (λ (bell : BellView). bell.actor) c.in_ok-own.ensures ∙ core;
+      name =
+          ap (λ (bell : BellView). bell.name) c.in_ok-own.ensures
+          ∙ (ap (λ core. slice_index_or c.args.bells.now.names core 0) core ∙ ap (λ names. slice_index_or names c.in_ok-served.served.linked.recorded.core.core 0) (sym c.in_ok-all.ensures.names));
+    }
 
 pub of-requires-clause-rung : goal.of-requires-clause-rung
 of-requires-clause-rung g c =
-    opened_rung c.in_ok-served.served c.args.ends.number c.args.config.now.cores c.args.config.now.queues.items c.in_ok-all.all (length c.args.bells.now) c.in_ok-served.ensures.queues (ap (λ terms. terms.cores) c.in_ok-served.ensures.over.of.terms)
-    c.requires.bells c.in_ok-all.ensures
+    opened_rung c.in_ok-served.served c.args.ends.number c.args.config.now.cores c.args.config.now.queues.items c.in_ok-all.all (length c.args.bells.now.rings) c.in_ok-served.ensures.queues (ap (λ terms. terms.cores) c.in_ok-served.ensures.over.of.terms)
+    c.requires.bells c.in_ok-all.ensures.rings

@@ -1,0 +1,48 @@
+//! The bells of all cores, and the caller's own, in the caller's hands.
+
+ghost use Rattle.std.specs.Prelude.{◌≡◌};
+ghost use Rattle.rt_runtime_worker.specs.Bells.{rung_at};
+
+use rt_ids::CoreNo;
+use rt_jobs::Task;
+use rt_ring_mesh::Ends;
+use rt_runtime_worker::Bells;
+use std::marker::Model;
+use std::snapshot::Snapshot;
+
+/// The bells of all cores. Contracts see how often each was rung, and what the caller's ends were at the last ring. So a ring before the
+/// send that it tells of is another ring.
+#[derive(Drop)]
+pub(crate) struct Rings<J: Task<Out = u64>> {
+    bells: Bells,
+    over: Snapshot<Ends<J>>,
+}
+
+impl<J: Task<Out = u64>> Model for Rings<J> {
+    ghost use Rattle.std.specs.Prelude.{ℕ};
+    ghost use Rattle.rt_runtime.specs.Rings.{RingsView};
+
+    ghost Value = { RingsView J ℕ };
+
+    ghost view = { λ r. record { times = r.bells.rings; over = r.over.value } };
+}
+
+impl<J: Task<Out = u64>> Rings<J> {
+    /// Bells that these hands haven't rung yet.
+    pub(crate) fn of(bells: Bells, ends: &Ends<J>) -> Self
+        ensures { result ≡ record { times = bells.rings; over = ends.now } }
+    {
+        Rings {
+            bells,
+            over: Snapshot::of(ends),
+        }
+    }
+
+    /// Tells the worker of this core that there is something for it on these ends.
+    pub(crate) fn ring(&mut self, ends: &Ends<J>, core: CoreNo)
+        ensures { self.new ≡ record { times = rung_at core self.old.times; over = ends.now } }
+    {
+        self.bells.ring(core);
+        self.over = Snapshot::of(ends);
+    }
+}
