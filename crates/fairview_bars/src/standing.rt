@@ -2,13 +2,15 @@
 
 ghost use Rattle.std.specs.Prelude.{◌≡◌, ◌<◌, ◌∷◌, ℕ, [], length, OnOk};
 ghost use Rattle.rt_ids.specs.Journal.{Journal as Notes};
+ghost use Rattle.rt_ids.specs.Picks.{turns};
 ghost use Rattle.rt_journal_facts.specs.Accounts.{greatest_count};
+ghost use Rattle.rt_stats.specs.Tallies.{tally_of};
 ghost use Rattle.fairview_bars.specs.Leads as spec;
 
 use rt_ids::{Note, QueueNo};
 use rt_journal_facts::told::queue_told;
 use rt_journal_facts::{Accounts, NameTable};
-use rt_stats::tally::{Tallies, queue_noted, queue_touched};
+use rt_stats::tally::{Tallies, Tally, queue_noted, queue_touched};
 use rt_view::Clock;
 use std::alloc::{AllocError, Global};
 
@@ -61,8 +63,22 @@ impl Standing {
         self.queues.set_told(queue_told(note))
     }
 
+    /// How many turns of the core began.
+    pub fn turns(&self) -> u64
+        ensures { (before : Notes ℕ) → spec.KnowsStanding self.now before → result ≡ turns before }
+    {
+        self.clock.turns
+    }
+
+    /// What is counted of a queue.
+    pub fn tally(&self, queue: QueueNo) -> Tally
+        ensures { (before : Notes ℕ) → spec.KnowsStanding self.now before → result ≡ tally_of queue before }
+    {
+        self.tallies.of(queue)
+    }
+
     /// Whether both queues have work.
-    fn are_together(&self, first: QueueNo, second: QueueNo) -> bool
+    pub fn are_together(&self, first: QueueNo, second: QueueNo) -> bool
         ensures { (before : Notes ℕ) → spec.KnowsStanding self.now before → result ≡ spec.are_together first second before }
     {
         self.accounts.of(first).has_jobs() && self.accounts.of(second).has_jobs()

@@ -1,7 +1,7 @@
 -- What stands before the lanes of a picture, and behind them.
 use Rattle.std.specs.Prelude.{ℕ, ◌+◌, ◌*◌, ◌++◌, List, codes, decimal}
 use Rattle.fairview_svg.specs.Marks.{fitting_line}
-use Rattle.fairview_svg.specs.Styles.{style}
+use Rattle.fairview_svg.specs.Styles.{style, legend}
 
 -- the first line
 abbrev pub opening_text : ℕ → List ℕ
@@ -15,7 +15,7 @@ axis_text span =
 
 -- what stands before the lanes
 unfoldable pub head_text : ℕ → ℕ → List ℕ
-head_text count span = opening_text count ++ (style ++ axis_text span)
+head_text count span = opening_text count ++ (style ++ (legend ++ axis_text span))
 
 -- the last line
 abbrev pub end_text : List ℕ

@@ -10,7 +10,7 @@ ghost use Rattle.fairview_svg.specs.Heads as heads;
 use crate::cut::Cut;
 use crate::frame::longest;
 use crate::lanes::put_lane;
-use crate::style::style;
+use crate::style::{legend, style};
 use fairview_text::{PictureFault, write_text};
 use rt_ids::{ActorNo, CoreNo};
 use rt_journal_notes::Assembly;
@@ -98,7 +98,8 @@ fn put_opening(lanes: u32, span: u128, page: &mut String) -> Result<(), AllocErr
     let opening = Opening(lanes);
     let axis = Axis(span);
     let style = style();
-    write!(page, "{opening}{style}{axis}")?;
+    let legend = legend();
+    write!(page, "{opening}{style}{legend}{axis}")?;
     Ok(())
 }
 

@@ -1,0 +1,6 @@
+pub mod Lists
+pub mod StretchSteps
+pub mod LagLaws
+pub mod ColumnSteps
+pub mod PanelSteps
+pub mod LagsRefused

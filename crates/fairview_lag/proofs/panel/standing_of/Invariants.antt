@@ -1,0 +1,7 @@
+-- What is known is what the notes so far tell.
+use Rattle.rt_ids.specs.Journal.{at_place}
+use Rattle.fairview_bars.specs.Leads.{KnowsStanding}
+use Rattle.fairview_lag.proofs.panel.standing_of.Given as goal
+
+abbrev pub invariant-loop-place : goal.invariant-loop-place
+invariant-loop-place l = KnowsStanding l.standing (at_place l.place l.journal.notes)

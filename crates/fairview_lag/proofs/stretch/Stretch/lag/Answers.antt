@@ -1,0 +1,8 @@
+use Rattle.std.proofs.Common.{◌∷◌}
+use Rattle.fairview_lag.proofs.stretch.Stretch.lag.Goals as goal
+
+pub returns-in-Yield : goal.returns-in-Yield
+returns-in-Yield c = λ before knows. rw c.in-Yield.is (rw c.in-Yield.is at (c.lag_now.ensures (c.args.note.now ∷ before) knows))
+
+pub returns-in-Done : goal.returns-in-Done
+returns-in-Done c = λ before knows. rw c.in-Done.is (rw c.in-Done.is at (c.lag_now-in-Done.ensures (c.args.note.now ∷ before) knows))

@@ -1,0 +1,33 @@
+-- Small cases that the definitions of lags refuse.
+use Rattle.std.specs.Prelude.{ℕ, Some, None, [], ◌∷◌}
+use Rattle.rt_ids.specs.declared.note.Note.TheVariants.{Took, Pick}
+use Rattle.rt_ids.specs.BadJournals.{submission}
+use Rattle.rt_ids.specs.Journal.{Journal}
+use Rattle.fairview_lag.specs.Lags.{IsGreatest}
+use Rattle.fairview_lag.specs.Laws.{IsWithinBound, IsStretch, BeginsHere}
+use Rattle.fairview_lag.specs.declared.stretch.Lag.{Lag}
+
+-- the first queue is ahead by 4, of at most 3
+abbrev pub far : Lag
+far = record { turn = 1; first = 5; second = 1; bound = 3 }
+
+-- the second queue is ahead by 4, of at most 3
+abbrev pub far_behind : Lag
+far_behind = record { turn = 1; first = 1; second = 5; bound = 3 }
+
+-- the first queue is ahead by 1
+abbrev pub near : Lag
+near = record { turn = 2; first = 2; second = 1; bound = 3 }
+
+-- queues 1 and 2 have work
+abbrev pub both_work : Journal ℕ
+both_work = Took (submission 2) 2 ∷ Took (submission 1) 1 ∷ []
+
+-- what lies beyond its bound is refused, and so are a stretch without work, one that begins too late, a lead that isn't the greatest, and none where there is one
+pub record BadLagsAreRefused : Type 0 where
+  pub ahead : IsWithinBound far → ⊥
+  pub behind : IsWithinBound far_behind → ⊥
+  pub idle : IsStretch 1 2 [] [] [] → ⊥
+  pub late : BeginsHere 1 2 (Pick 1 0 ∷ both_work) → ⊥
+  pub lesser : IsGreatest (far ∷ []) (Some near) → ⊥
+  pub silent : IsGreatest (near ∷ []) None → ⊥

@@ -1,0 +1,66 @@
+-- The lags of two queues: what each gained since both have work, behind each poll.
+use Rattle.std.specs.Prelude.{◌≡◌, ℕ, ◌+◌, ◌-◌, ◌≤◌, nat_lt, if◌then◌else◌, Option, Some, None, List, [], ◌∷◌, All, Contains}
+use Rattle.rt_ids.specs.declared.note.Note.{Note}
+use Rattle.rt_ids.specs.declared.note.Note.TheVariants.{Yield, Done}
+use Rattle.rt_ids.specs.Journal.{Journal, with_last}
+use Rattle.rt_ids.specs.Lag.{greatest_charge}
+use Rattle.rt_ids.specs.Picks.{turns}
+use Rattle.fairview_bars.specs.Leads.{are_together}
+use Rattle.fairview_lag.specs.Stretches.{gained_together}
+use Rattle.fairview_lag.specs.declared.stretch.Lag.{Lag}
+
+-- how far the first queue is ahead of the second
+abbrev pub ahead : Lag → ℕ
+ahead lag = lag.first - lag.second
+
+-- how far the first queue is behind the second
+abbrev pub behind : Lag → ℕ
+behind lag = lag.second - lag.first
+
+-- how far the two are apart
+abbrev pub apart : Lag → ℕ
+apart lag = ahead lag + behind lag
+
+-- the greatest charges of two queues together
+abbrev pub bound : {T : Type 0} → ℕ → ℕ → Journal T → ℕ
+bound first second journal = greatest_charge first journal + greatest_charge second journal
+
+-- the lag of two queues that have work
+abbrev pub lag : {T : Type 0} → ℕ → ℕ → Journal T → Lag
+lag first second journal = record {
+  turn = turns journal;
+  first = gained_together first second first journal;
+  second = gained_together first second second journal;
+  bound = bound first second journal;
+}
+
+-- a lag is told only of queues that both have work
+abbrev pub lag_of : {T : Type 0} → ℕ → ℕ → Journal T → Option Lag
+lag_of first second journal = if are_together first second journal then Some (lag first second journal) else None
+
+-- the lag behind a note that settles a poll
+abbrev pub lag_told : {T : Type 0} → ℕ → ℕ → Note T → Journal T → Option Lag
+lag_told first second (Yield name time) before = lag_of first second (Yield name time ∷ before)
+lag_told first second (Done name time value) before = lag_of first second (Done name time value ∷ before)
+lag_told first second _ before = None
+
+-- the lags of two queues, the oldest first
+abbrev pub lags : {T : Type 0} → ℕ → ℕ → Journal T → List Lag
+lags first second [] = []
+lags first second (note ∷ before) = with_last (lags first second before) (lag_told first second note before)
+
+-- the first of two lags, unless the queues are further apart in the second
+abbrev pub further : Option Lag → Option Lag → Option Lag
+further old None = old
+further None (Some new) = Some new
+further (Some old) (Some new) = if nat_lt (apart old) (apart new) then Some new else Some old
+
+-- the first lag in which the queues are the furthest apart
+abbrev pub greatest_lag : {T : Type 0} → ℕ → ℕ → Journal T → Option Lag
+greatest_lag first second [] = None
+greatest_lag first second (note ∷ before) = further (greatest_lag first second before) (lag_told first second note before)
+
+-- of no lag nothing is told, else a lag in which the queues are the furthest apart
+abbrev pub IsGreatest : List Lag → Option Lag → Type 0
+IsGreatest lags None = lags ≡ []
+IsGreatest lags (Some greatest) = All (λ lag. apart lag ≤ apart greatest) lags × Contains lags greatest

@@ -1,0 +1,11 @@
+pub mod Lists
+pub mod Stretches
+pub mod Lags
+pub mod Laws
+pub mod BadLags
+pub mod Pairs
+pub mod Lines
+pub mod Columns
+pub mod ColumnTexts
+pub mod Panels
+pub mod Pictures

@@ -1,0 +1,19 @@
+//! How far each two queues of a core were apart while both had work, beside the proved bound: as text, and as a picture.
+#![tactic(auto)]
+
+pub mod column_texts;
+pub mod columns;
+pub mod greatest;
+pub mod laws;
+pub mod line;
+pub mod pairs;
+pub mod panel;
+pub mod picture;
+pub mod stretch;
+pub mod text;
+
+pub use greatest::greatest_lag;
+pub use pairs::{PairLag, lags_of_run};
+pub use picture::{put_lag, write_lag};
+pub use stretch::Lag;
+pub use text::{put_lag_text, write_lag_text};

@@ -1,0 +1,155 @@
+//! What a walk knows of two queues.
+
+ghost use Rattle.std.specs.Prelude.{◌≡◌, ◌<◌, ◌∷◌, ℕ, [], length, OnOk};
+ghost use Rattle.rt_ids.specs.Journal.{Journal as Notes};
+ghost use Rattle.rt_journal_facts.specs.Accounts.{greatest_count};
+ghost use Rattle.rt_ids.specs.declared.note.Note.{Note as NoteSeen};
+ghost use Rattle.fairview_bars.specs.Leads.{KnowsStanding};
+ghost use Rattle.fairview_lag.specs.Lags as lags;
+ghost use Rattle.fairview_lag.specs.Stretches as spec;
+
+use fairview_bars::standing::Standing;
+use rt_ids::{Note, QueueNo};
+use std::alloc::{AllocError, Global};
+
+/// What two queues gained, in virtual runtime, since both have work without a break.
+#[derive(Clone, Copy)]
+pub struct Lag {
+    /// The turn of the core behind whose poll this is so, counted from 1.
+    pub turn: u64,
+    pub first: u128,
+    pub second: u128,
+    /// The greatest charge of the one queue so far and that of the other together. In a lawful journal neither gains more than the other by more.
+    pub bound: u128,
+}
+
+impl Lag {
+    /// How far the first queue is ahead of the second.
+    pub fn ahead(&self) -> u128
+        ensures { result ≡ lags.ahead self.now }
+    {
+        self.first.saturating_sub(self.second)
+    }
+
+    /// How far the first queue is behind the second.
+    pub fn behind(&self) -> u128
+        ensures { result ≡ lags.behind self.now }
+    {
+        self.second.saturating_sub(self.first)
+    }
+
+    /// How far the two are apart.
+    pub fn apart(&self) -> u128
+        ensures { result ≡ lags.apart self.now }
+    {
+        self.first.abs_diff(self.second)
+    }
+}
+
+/// All charges of two queues where both began to have work.
+#[derive(Clone, Copy)]
+pub struct Begun {
+    first: u128,
+    second: u128,
+}
+
+/// Of the notes that were read: what is known of all queues, and where the stretch of two of them began, if both have work.
+#[derive(Drop)]
+pub struct Stretch {
+    standing: Standing,
+    begun: Option<Begun>,
+}
+
+/// Where a stretch began, of which both queues have work: where it was known to begin, else here.
+fn begun_by(standing: &Standing, begun: Option<Begun>, first: QueueNo, second: QueueNo) -> Begun
+    ensures { (note : NoteSeen ℕ) → (before : Notes ℕ) → KnowsStanding standing.now (note ∷ before) → begun ≡ spec.begun first second before → result ≡ spec.begun_of first second (note ∷ before) }
+{
+    match begun {
+        Some(begun) => begun,
+        None => Begun {
+            first: standing.tally(first).charged,
+            second: standing.tally(second).charged,
+        },
+    }
+}
+
+/// Where the stretch of two queues began, if both have work.
+fn begun_after(
+    standing: &Standing,
+    begun: Option<Begun>,
+    first: QueueNo,
+    second: QueueNo,
+) -> Option<Begun>
+    ensures { (note : NoteSeen ℕ) → (before : Notes ℕ) → KnowsStanding standing.now (note ∷ before) → begun ≡ spec.begun first second before → result ≡ spec.begun first second (note ∷ before) }
+{
+    if standing.are_together(first, second) {
+        Some(begun_by(standing, begun, first, second))
+    } else {
+        None
+    }
+}
+
+impl Stretch {
+    /// No note was read.
+    pub fn new(alloc: Global) -> Self
+        ensures { (first : ℕ) → (second : ℕ) → spec.KnowsStretch {T = ℕ} first second result [] }
+    {
+        Stretch {
+            standing: Standing::new(alloc),
+            begun: None,
+        }
+    }
+
+    /// Reads the next note.
+    ///
+    /// # Errors
+    ///
+    /// `AllocError` for want of memory; then nothing is known any more.
+    pub fn add(
+        &mut self,
+        first: QueueNo,
+        second: QueueNo,
+        note: &Note<u64>,
+    ) -> Result<(), AllocError>
+        ensures { OnOk result ((before : Notes ℕ) → length before < greatest_count → spec.KnowsStretch first second self.old before → spec.KnowsStretch first second self.new (note.now ∷ before)) }
+    {
+        self.standing.add(note)?;
+        self.begun = begun_after(&self.standing, self.begun, first, second);
+        Ok(())
+    }
+
+    /// What the queues gained since their stretch began.
+    fn lag_since(&self, first: QueueNo, second: QueueNo, begun: Begun) -> Lag
+        ensures { (journal : Notes ℕ) → KnowsStanding self.now.standing journal → begun ≡ spec.begun_of first second journal → result ≡ lags.lag first second journal }
+    {
+        let one = self.standing.tally(first);
+        let other = self.standing.tally(second);
+        Lag {
+            turn: self.standing.turns(),
+            first: one.charged.saturating_sub(begun.first),
+            second: other.charged.saturating_sub(begun.second),
+            bound: one.greatest as u128 + other.greatest as u128,
+        }
+    }
+
+    /// The lag of the queues, if both have work.
+    fn lag_now(&self, first: QueueNo, second: QueueNo) -> Option<Lag>
+        ensures { (journal : Notes ℕ) → spec.KnowsStretch first second self.now journal → result ≡ lags.lag_of first second journal }
+    {
+        match self.begun {
+            Some(begun) => Some(self.lag_since(first, second, begun)),
+            None => None,
+        }
+    }
+
+    /// The lag of the queues behind the note that was read last, if it settles a poll and both have work.
+    pub fn lag(&self, first: QueueNo, second: QueueNo, note: &Note<u64>) -> Option<Lag>
+        ensures { (before : Notes ℕ) → spec.KnowsStretch first second self.now (note.now ∷ before) → result ≡ lags.lag_told first second note.now before }
+    {
+        match *note {
+            Note::Yield(_, _) => self.lag_now(first, second),
+            Note::Done(_, _, _) => self.lag_now(first, second),
+            _ => None,
+        }
+    }
+}
