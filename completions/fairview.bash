@@ -22,7 +22,7 @@ _fairview() {
     local word=${COMP_WORDS[COMP_CWORD]} place
     COMPREPLY=()
     if [ "$COMP_CWORD" -le 1 ]; then
-        _fairview_words "$word" 'wait share why csv help --help --version -h -V'
+        _fairview_words "$word" 'wait share why csv gantt lag trace help --help --version -h -V'
         return
     fi
     # Behind `--` stands a file, whatever its name is.
@@ -37,10 +37,20 @@ _fairview() {
         share/-*) _fairview_words "$word" '--plain --csv --help -h' ;;
         why/-*) _fairview_words "$word" '--help -h' ;;
         csv/-*) _fairview_words "$word" '--help -h' ;;
-        wait/* | share/* | csv/*) _fairview_files "$word" ;;
+        gantt/-*) _fairview_words "$word" '--core --from --to --help -h' ;;
+        lag/-*) _fairview_words "$word" '--text --help -h' ;;
+        trace/-*) _fairview_words "$word" '--help -h' ;;
+        # Behind an option of `gantt` stands a number.
+        gantt/*)
+            case ${COMP_WORDS[COMP_CWORD - 1]} in
+                --core | --from | --to) ;;
+                *) _fairview_files "$word" ;;
+            esac
+            ;;
+        wait/* | share/* | csv/* | lag/* | trace/*) _fairview_files "$word" ;;
         # The first word behind `why` is a name.
         why/*) [ "$COMP_CWORD" -le 2 ] || _fairview_files "$word" ;;
-        help/*) _fairview_words "$word" 'wait share why csv help' ;;
+        help/*) _fairview_words "$word" 'wait share why csv gantt lag trace help' ;;
     esac
 }
 

@@ -5,21 +5,19 @@ ghost use Rattle.std.specs.Prelude.{◌≡◌, ◌≢◌, true, Err, IfOk};
 ghost use Rattle.std.specs.declared.io.ErrorKind.TheVariants as kinds;
 ghost use Rattle.fairexec_args.specs.declared.asked.Unasked.TheVariants as unasked;
 ghost use Rattle.fairexec_args.specs.declared.asked.What.TheVariants as whats;
-ghost use Rattle.fairexec_report.specs.Faults.{status_of as audit_status};
-ghost use Rattle.fairexec_report.specs.declared.fault.AuditFault.TheVariants as audit_faults;
-ghost use Rattle.rt_text.specs.Statuses.{status_of};
+ghost use Rattle.rt_text.specs.Statuses.{fault_status, status_of};
 ghost use Rattle.fairexec_threads_script.specs.Faults.{status_of as threads_code};
-ghost use Rattle.fairexec_threads_script.specs.declared.fault.ThreadsFault.TheVariants as threads_faults;
+ghost use Rattle.fairexec_threads_script.specs.declared.fault.ThreadsFault.TheVariants.{Of};
 ghost use Rattle.rt_text.specs.declared.status.Status.TheVariants as status;
-ghost use Rattle.rt_text.specs.declared.fault.EngineFault.TheVariants as faults;
+ghost use Rattle.rt_text.specs.declared.fault.Fault.TheVariants as faults;
 
 use fairexec_args::{Unasked, What, parse};
-use fairexec_report::fault::status_of;
-use fairexec_report::{AuditFault, audit_text};
+use fairexec_report::audit_text;
 use fairexec_run::run_script;
 use fairexec_threads::threads_script;
 use fairexec_threads_script::{ThreadsFault, status_of as threads_status};
-use rt_text::{EngineFault, Status};
+use rt_journal_read::JournalCause;
+use rt_text::{Cause, CauseWords, Fault, Status};
 use std::io::ErrorKind;
 use std::process::ExitCode;
 use std::rt::{Env, Files};
@@ -52,7 +50,7 @@ where
         Err(error) => return words_refused(rt, error.kind()),
     };
     let Ok(words) = args.collect::<Vec<String>>(rt.alloc()) else {
-        return ended(rt, Err(EngineFault::Memory));
+        return failed(rt, Fault::Memory);
     };
     match parse(rt, rt.alloc(), words.as_slice()) {
         Ok(asked) => done(rt, asked.what, asked.file),
@@ -69,7 +67,7 @@ where
     match what {
         What::Run { journal, stats } => ended(rt, run(rt, journal, stats, file)),
         What::Threads { journal, stats } => ran(rt, threads(rt, journal, stats, file)),
-        What::Audit => judged(rt, audit(rt, file)),
+        What::Audit => ended(rt, audit(rt, file)),
     }
 }
 
@@ -77,14 +75,14 @@ where
 fn not_done<R: Eprint>(rt: &R, why: Unasked) -> Status
     ensures told { why ≡ unasked.Told → result ≡ status.Done }
     ensures mistake { why ≡ unasked.Mistake → result ≡ status.Refused }
-    ensures write { why ≡ unasked.Write → result ≡ status_of (Err faults.Write) }
-    ensures memory { why ≡ unasked.Memory → result ≡ status_of (Err faults.Memory) }
+    ensures write { why ≡ unasked.Write → result ≡ status.Device }
+    ensures memory { why ≡ unasked.Memory → result ≡ status.Memory }
 {
     match why {
         Unasked::Told => Status::Done,
         Unasked::Mistake => Status::Refused,
-        Unasked::Write => ended(rt, Err(EngineFault::Write)),
-        Unasked::Memory => ended(rt, Err(EngineFault::Memory)),
+        Unasked::Write => failed(rt, Fault::Write),
+        Unasked::Memory => failed(rt, Fault::Memory),
     }
 }
 
@@ -94,7 +92,7 @@ fn run<R: Files + Input + Print + AllocGlobal>(
     journal: bool,
     stats: bool,
     file: Option<&str>,
-) -> Result<bool, EngineFault>
+) -> Result<bool, Fault<Cause>>
     ensures { IfOk result (λ done. done ≡ true) }
 {
     let alloc = rt.alloc();
@@ -129,49 +127,35 @@ where
 fn audit<R: Files + Input + Print + AllocGlobal>(
     rt: &R,
     file: Option<&str>,
-) -> Result<bool, AuditFault> {
+) -> Result<bool, Fault<JournalCause>> {
     let alloc = rt.alloc();
     let mut sink = io::writer(rt);
     match file {
         None => audit_text(alloc, &mut rt.reader(), &mut sink),
         Some(path) => match fs::open(rt, path) {
             Ok(mut source) => audit_text(alloc, &mut source, &mut sink),
-            Err(error) => Err(unopened(error.kind())),
+            Err(error) => Err(opening_fault(error.kind())),
         },
     }
 }
 
 /// Why a file can't be opened.
-fn opening_fault(kind: ErrorKind) -> EngineFault
+fn opening_fault<C>(kind: ErrorKind) -> Fault<C>
     ensures memory { kind ≡ kinds.OutOfMemory → result ≡ faults.Memory }
     ensures other { kind ≢ kinds.OutOfMemory → result ≡ faults.Read }
 {
     match kind {
-        ErrorKind::OutOfMemory => EngineFault::Memory,
-        _ => EngineFault::Read,
-    }
-}
-
-/// Why a journal text can't be opened.
-fn unopened(kind: ErrorKind) -> AuditFault
-    ensures memory { kind ≡ kinds.OutOfMemory → result ≡ audit_faults.Memory }
-    ensures other { kind ≢ kinds.OutOfMemory → result ≡ audit_faults.Read }
-{
-    match kind {
-        ErrorKind::OutOfMemory => AuditFault::Memory,
-        _ => AuditFault::Read,
+        ErrorKind::OutOfMemory => Fault::Memory,
+        _ => Fault::Read,
     }
 }
 
 /// Why a script for threads can't be opened.
 fn not_opened(kind: ErrorKind) -> ThreadsFault
-    ensures memory { kind ≡ kinds.OutOfMemory → result ≡ threads_faults.Memory }
-    ensures other { kind ≢ kinds.OutOfMemory → result ≡ threads_faults.Read }
+    ensures memory { kind ≡ kinds.OutOfMemory → result ≡ Of faults.Memory }
+    ensures other { kind ≢ kinds.OutOfMemory → result ≡ Of faults.Read }
 {
-    match kind {
-        ErrorKind::OutOfMemory => ThreadsFault::Memory,
-        _ => ThreadsFault::Read,
-    }
+    ThreadsFault::Of(opening_fault(kind))
 }
 
 /// Says on standard error why a script wasn't run on threads, if it wasn't. Where even that can't be said, the status is the same.
@@ -184,18 +168,8 @@ fn ran<R: Eprint>(rt: &R, answer: Result<bool, ThreadsFault>) -> Status
     threads_status(&answer)
 }
 
-/// Says on standard error why there is no verdict, if there is none. Where even that can't be said, the status is the same.
-fn judged<R: Eprint>(rt: &R, answer: Result<bool, AuditFault>) -> Status
-    ensures { result ≡ audit_status answer }
-{
-    if let Err(fault) = &answer {
-        let _ = eprintln!(rt; "{fault}");
-    }
-    status_of(&answer)
-}
-
 /// Says on standard error what went wrong, if anything did. Where even that can't be said, the status is the same.
-fn ended<R: Eprint>(rt: &R, answer: Result<bool, EngineFault>) -> Status
+fn ended<R: Eprint, C: CauseWords + Drop>(rt: &R, answer: Result<bool, Fault<C>>) -> Status
     ensures { result ≡ status_of answer }
 {
     if let Err(fault) = &answer {
@@ -204,13 +178,20 @@ fn ended<R: Eprint>(rt: &R, answer: Result<bool, EngineFault>) -> Status
     Status::of(&answer)
 }
 
+/// Says on standard error what went wrong before anything was asked for.
+fn failed<R: Eprint>(rt: &R, fault: Fault<Cause>) -> Status
+    ensures { result ≡ fault_status fault }
+{
+    ended(rt, Err(fault))
+}
+
 /// The words of the command line can't be read as text.
 fn words_refused<R: Eprint>(rt: &R, kind: ErrorKind) -> Status
     ensures memory { kind ≡ kinds.OutOfMemory → result ≡ status.Memory }
     ensures other { kind ≢ kinds.OutOfMemory → result ≡ status.Refused }
 {
     if kind == ErrorKind::OutOfMemory {
-        return ended(rt, Err(EngineFault::Memory));
+        return failed(rt, Fault::Memory);
     }
     let _ = eprintln!(rt; "error: the command line is not UTF-8");
     Status::Refused

@@ -1,4 +1,4 @@
--- What is written of a verdict, and what stops a reader, told as a fault of the audit.
+-- What is written of a verdict.
 use Rattle.std.proofs.Common.{◌≡◌, Result, Ok, Err, OnOk, OnErr, ℕ, List, [], Option, Some, None, true, refl, append-nil, ap, ◌∙◌, ◌++◌}
 use Rattle.std.specs.Option.{IfSome}
 use Rattle.std.specs.Io.KnownBytes.{Appends}
@@ -8,15 +8,7 @@ use Rattle.rt_ids.specs.Spelled.{IsSpelled}
 use Rattle.rt_audit.specs.declared.judge.Verdict.{Verdict}
 use Rattle.rt_audit.specs.declared.judge.Verdict.TheVariants.{Sound, Fault}
 use Rattle.rt_audit.specs.Verdicts.{IsFirstBroken, IsVerdict, rule_named}
-use Rattle.rt_journal_read.specs.declared.fault.JournalCause.{JournalCause}
-use Rattle.rt_journal_read.specs.declared.fault.ReadError.{ReadError}
-use Rattle.rt_journal_read.specs.declared.fault.ReadError.TheVariants as read
-use Rattle.rt_journal_read.specs.Faults.{IfText as IfTextRead}
-use Rattle.rt_journal_read.specs.Taking.{IsPrompt as IsPromptRead}
 use Rattle.fairexec_report.specs.Audits.{JudgesText, TellsSound}
-use Rattle.fairexec_report.specs.Faults.{IfText}
-use Rattle.fairexec_report.specs.Prompt.{IsPrompt}
-use Rattle.fairexec_report.specs.Reasons.{fault_of}
 use Rattle.rt_journal_write.specs.Pages.{AppendsFront}
 use Rattle.fairexec_report.specs.VerdictTexts.{is_sound}
 use Rattle.rt_journal_write.specs.Texts.{journal_text}
@@ -36,21 +28,9 @@ pub line_of : (before page bytes text : List ℕ) → bytes ≡ page → page �
 line_of before page bytes text same put empty = same ∙ (put ∙ ap (λ front. front ++ text) empty)
 
 -- a try that failed is the last
-pub failed_now : {S T E : Type 0} (interrupts fails : S → S → Type 0) (old new : S) (result : Result T E) → OnErr result (HasFailed interrupts fails old new) → OnErr result (HasJustFailed interrupts fails new)
-failed_now interrupts fails old new (Ok value) failed = tt
-failed_now interrupts fails old new (Err error) failed = (old, failed)
-
--- a faulty line of the text
-pub told_of : (fact : ℕ × JournalCause → Type 0) (error : ReadError) → IfTextRead fact error → IfText fact (fault_of error)
-told_of fact (read.Text line cause) known = known
-told_of fact read.Read known = tt
-told_of fact read.Memory known = tt
-
--- told as soon as its reader could
-pub prompt_of : (old new : Option (List ℕ)) (error : ReadError) → IsPromptRead old new error → IsPrompt old new (fault_of error)
-prompt_of old new (read.Text line cause) prompt = prompt
-prompt_of old new read.Read prompt = prompt
-prompt_of old new read.Memory prompt = tt
+pub failed_now : {S T E : Type 0} (tries : S → Option ℕ) (interrupts fails : S → S → Type 0) (old new : S) (result : Result T E) → OnErr result (HasFailed tries interrupts fails old new) → OnErr result (HasJustFailed tries interrupts fails new)
+failed_now tries interrupts fails old new (Ok value) failed = tt
+failed_now tries interrupts fails old new (Err error) failed = (old, failed)
 
 sound_only : (verdict : Verdict) → is_sound verdict ≡ true → verdict ≡ Sound
 sound_only Sound is = refl

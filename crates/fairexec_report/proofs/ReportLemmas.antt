@@ -35,14 +35,14 @@ three_out old first second new front middle rear one two three =
     Appends-trans old first new front (middle ++ rear) one (Appends-trans first second new middle rear two three)
 
 -- the three parts of a report: the outcomes, the journals, and the statistics with the verdict behind them
-pub reported : (journal stats : Bool) (assembly : Assembly ℕ) (verdict : Verdict) (empty front bare counted rear : List ℕ) → IsJudged assembly verdict → empty ≡ [] → front ≡ empty ++ outcomes_text assembly → bare ≡ [] →
-    (text : List ℕ) × IsStatsIf stats assembly text × (counted ≡ bare ++ text) → rear ≡ counted ++ verdict_text verdict → IsReport journal stats assembly verdict (front ++ (journal_if journal assembly ++ rear))
-reported journal stats assembly verdict empty front bare counted rear judged fresh put blank (text, right, so_far) last = record {
+pub reported : (journal stats : Bool) (assembly : Assembly ℕ) (verdict : Verdict) (empty front middle bare counted rear : List ℕ) → IsJudged assembly verdict → empty ≡ [] → front ≡ empty ++ outcomes_text assembly → middle ≡ journal_if journal assembly → bare ≡ [] →
+    (text : List ℕ) × IsStatsIf stats assembly text × (counted ≡ bare ++ text) → rear ≡ counted ++ verdict_text verdict → IsReport journal stats assembly verdict (front ++ (middle ++ rear))
+reported journal stats assembly verdict empty front middle bare counted rear judged fresh put journals blank (text, right, so_far) last = record {
   judged = judged;
   counted = text;
   right = right;
   told =
       let first : front ≡ outcomes_text assembly = put ∙ ap (λ bytes. bytes ++ outcomes_text assembly) fresh in
       let behind : rear ≡ text ++ verdict_text verdict = last ∙ ap (λ bytes. bytes ++ verdict_text verdict) (so_far ∙ ap (λ bytes. bytes ++ text) blank) in
-      ap₂ (λ (one two : List ℕ). one ++ (journal_if journal assembly ++ two)) first behind;
+      ap₂ (λ (one two : List ℕ). one ++ two) first (ap₂ (λ (one two : List ℕ). one ++ two) journals behind);
 }

@@ -1,8 +1,5 @@
 pub mod Audits
-pub mod Faults
 pub mod Outcomes
-pub mod Prompt
-pub mod Reasons
 pub mod StatLines
 pub mod StatTexts
 pub mod VerdictTexts

@@ -9,8 +9,6 @@ use Rattle.fairexec_report.specs.Audits.{IsJudged}
 use Rattle.fairexec_report.specs.Outcomes.{outcomes_text}
 use Rattle.fairexec_report.specs.StatTexts.{IsStatsIf}
 use Rattle.fairexec_report.specs.VerdictTexts.{is_sound, verdict_text}
-use Rattle.fairexec_report.specs.declared.report.TellFault.{TellFault}
-use Rattle.fairexec_report.specs.declared.report.TellFault.TheVariants.{Write, Memory}
 
 -- the text of the journals, if it is wanted
 abbrev pub journal_if : Bool → Assembly ℕ → List ℕ
@@ -42,13 +40,3 @@ pub record IsCutShort (journal stats : Bool) (assembly : Assembly ℕ) (sink_old
   pub text : List ℕ
   pub report : IsReport journal stats assembly verdict text
   pub appends : AppendsFront sink_old sink_new text
-
--- a fact of a failed write
-abbrev pub IfUnwritten : Type 0 → TellFault → Type 0
-IfUnwritten fact Write = fact
-IfUnwritten fact Memory = Unit {0}
-
--- a fact of want of memory, before which nothing is written
-abbrev pub IfUnjudged : Type 0 → TellFault → Type 0
-IfUnjudged fact Write = Unit {0}
-IfUnjudged fact Memory = fact

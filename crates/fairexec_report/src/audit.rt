@@ -2,49 +2,52 @@
 
 ghost use Rattle.std.specs.Prelude.{◌≡◌, Ok, Err, IfOk, IfErr, IfSome, OnOk, OnErr, true};
 ghost use Rattle.std.specs.Io.KnownBytes.{Keeps, Appends};
-ghost use Rattle.rt_journal_read.specs.JournalTexts.{journals_of};
+ghost use Rattle.rt_journal_read.specs.JournalTexts.{journals_of, judge};
 ghost use Rattle.fairexec_report.specs.Audits.{IsAudited, IsCutShort, TellsSound};
-ghost use Rattle.fairexec_report.specs.Faults.{IfText, IfUnjudged, IfUnwritten};
-ghost use Rattle.fairexec_report.specs.Prompt.{IsPrompt};
 ghost use Rattle.rt_journal_write.specs.Pages.{AppendsFront};
-ghost use Rattle.rt_sink.specs.Tries.{HasJustFailed};
+ghost use Rattle.rt_journal_read.specs.Drafts.{empty_draft};
+ghost use Rattle.rt_lines.specs.Taking.{IsPrompt, IsToldByRead};
+ghost use Rattle.rt_sink.specs.Tries.{HasFailed, HasJustFailed};
+ghost use Rattle.rt_text.specs.Faults.{IfRead, IfText, IfUnjudged, IfUnwritten};
 
-use crate::fault::AuditFault;
-use crate::verdict::{is_sound, put_verdict};
-use rt_audit::audit;
-use rt_journal_read::read_journal;
+use crate::verdict::{is_sound, put_verdict, verdict_of};
+use rt_journal_read::{JournalCause, read_journal};
+use rt_lines::Source;
 use rt_sink::{DeviceFault, Sink, flush, write_all};
+use rt_text::Fault;
 use std::alloc::Global;
-use std::io::Read;
 
 /// Reads the text of journals, judges them, and writes the line of the verdict. The answer is false if a fault was found.
 ///
 /// # Errors
 ///
-/// A faulty line of the text (`Text`), a failed read (`Read`) or write (`Write`), want of memory (`Memory`). Nothing is written
-/// before the whole text is read and judged. After a failed write a first part of the line may be written, and nothing
+/// A faulty line of the text (`Text`), a failed read (`Read`) or write (`Write`), or 1000 interrupted ones in a row, want of memory
+/// (`Memory`). Nothing is written before the whole text is read and judged. After a failed write a first part of the line may be written, and nothing
 /// is tried behind it.
-pub fn audit_text<R: Read, S: Sink>(
+pub fn audit_text<R: Source, S: Sink>(
     alloc: Global,
     source: &mut R,
     sink: &mut S,
-) -> Result<bool, AuditFault>
+) -> Result<bool, Fault<JournalCause>>
     ensures done { IfOk result (IsAudited (R.remaining source.old) (S.contents sink.old) (S.contents sink.new)) }
     ensures sound { result ≡ Ok true → TellsSound (R.remaining source.old) }
     ensures faulty { IfErr result (IfText (λ fault.
         IfSome (R.remaining source.old) (λ text. journals_of text ≡ Err fault))) }
-    ensures prompt { IfErr result (IsPrompt (R.remaining source.old) (R.remaining source.new)) }
+    ensures prompt { IfErr result (IsPrompt judge empty_draft (R.remaining source.old) (R.remaining source.new)) }
+    ensures at_once { IfErr result (IfText (λ fault.
+        IsToldByRead judge empty_draft R.remaining R.tries R.reads R.interrupts source.old source.new)) }
+    ensures unread { IfErr result (IfRead ((from : R) × HasFailed R.tries R.interrupts R.fails from source.new)) }
     ensures silent { IfErr result (IfUnjudged (Keeps (S.contents sink.old) (S.contents sink.new))) }
     ensures unwritten { IfErr result (IfUnwritten (IsCutShort (R.remaining source.old) (S.contents sink.old) (S.contents sink.new))) }
-    ensures failed { IfErr result (IfUnwritten (HasJustFailed S.interrupts S.fails sink.new)) }
+    ensures failed { IfErr result (IfUnwritten (HasJustFailed S.tries S.interrupts S.fails sink.new)) }
 {
     let assembly = read_journal(alloc, source)?;
-    let verdict = audit(alloc, &assembly)?;
+    let verdict = verdict_of(alloc, &assembly)?;
     let mut page = String::new(alloc);
     put_verdict(&verdict, &mut page)?;
     match write_line(page.as_bytes(), sink) {
         Ok(()) => Ok(is_sound(&verdict)),
-        Err(_) => Err(AuditFault::Write),
+        Err(_) => Err(Fault::Write),
     }
 }
 
@@ -52,7 +55,7 @@ pub fn audit_text<R: Read, S: Sink>(
 fn write_line<S: Sink>(line: &[u8], sink: &mut S) -> Result<(), DeviceFault>
     ensures ok { OnOk result (Appends (S.contents sink.old) (S.contents sink.new) line.now) }
     ensures err { OnErr result (AppendsFront (S.contents sink.old) (S.contents sink.new) line.now) }
-    ensures failed { OnErr result (HasJustFailed S.interrupts S.fails sink.new) }
+    ensures failed { OnErr result (HasJustFailed S.tries S.interrupts S.fails sink.new) }
 {
     write_all(sink, line)?;
     flush(sink)

@@ -2,7 +2,6 @@
 #![tactic(auto)]
 
 pub mod audit;
-pub mod fault;
 pub mod laws;
 pub mod line;
 pub mod outcome_line;
@@ -12,8 +11,7 @@ pub mod stats;
 pub mod verdict;
 
 pub use audit::audit_text;
-pub use fault::AuditFault;
 pub use outcome_line::OutcomeLine;
 pub use outcome_text::put_outcomes;
-pub use report::{TellFault, write_report};
+pub use report::write_report;
 pub use stats::{put_all_stats, put_stats};

@@ -1,82 +1,59 @@
 //! Writes what became of a run on threads: the outcomes, the journals and the statistics if they are wanted, and the verdict.
 
-ghost use Rattle.std.specs.Prelude.{◌≡◌, ◌++◌, ℕ, List, IfOk, IfErr, OnOk, OnErr, false, string_bytes};
+ghost use Rattle.std.specs.Prelude.{◌≡◌, ◌++◌, ℕ, List, IfOk, IfErr, OnOk, OnErr, string_bytes};
 ghost use Rattle.std.specs.Io.KnownBytes.{Keeps, Appends};
 ghost use Rattle.rt_ids.specs.Spelled.{IsSpelled};
 ghost use Rattle.rt_journal_write.specs.Pages.{AppendsFront};
 ghost use Rattle.fairexec_report.specs.StatTexts.{IsStatsIf};
 ghost use Rattle.rt_sink.specs.Tries.{HasJustFailed};
-ghost use Rattle.fairexec_report.specs.Writing.{IsTold, IsCutShort, IfUnwritten, IfUnjudged, journal_if};
+ghost use Rattle.fairexec_report.specs.Writing.{IsTold, IsCutShort, journal_if};
+ghost use Rattle.rt_text.specs.Faults.{IfUnwritten, IfUnjudged, IfUnread};
 
 use crate::outcome_text::put_outcomes;
 use crate::stats::put_all_stats;
-use crate::verdict::{is_sound, put_verdict};
-use rt_audit::{AuditError, audit};
+use crate::verdict::{is_sound, put_verdict, verdict_of};
 use rt_journal_notes::Assembly;
+use rt_journal_read::JournalCause;
 use rt_journal_write::write_journal;
 use rt_sink::{DeviceFault, Sink, flush, write_all};
+use rt_text::Fault;
 use std::alloc::{AllocError, Global};
-
-/// Why a run isn't told, or not all of it.
-#[derive(Clone, Copy, PartialEq, Eq)]
-pub enum TellFault {
-    /// The output couldn't be written.
-    Write,
-    /// There is no memory.
-    Memory,
-}
-
-impl From<AllocError> for TellFault {
-    ghost use Rattle.fairexec_report.specs.declared.report.TellFault.TheVariants.{Memory};
-
-    ghost from_gives = { λ _ fault. fault ≡ Memory };
-
-    fn from(_error: AllocError) -> TellFault {
-        TellFault::Memory
-    }
-}
-
-impl From<AuditError> for TellFault {
-    ghost use Rattle.fairexec_report.specs.declared.report.TellFault.TheVariants.{Memory};
-
-    ghost from_gives = { λ _ fault. fault ≡ Memory };
-
-    fn from(_error: AuditError) -> TellFault {
-        TellFault::Memory
-    }
-}
 
 /// Writes the outcome of each submission of the outside actor, and at last the verdict of the journals. Between them stand the text of the
 /// journals, with `journal`, and behind it the statistics of all cores, with `stats`. The answer is false if the journals have a fault.
 ///
-/// Everything that takes memory is made before the first byte is written; the journals go to the writer a page at a time.
+/// No text is read here, so the caller chooses the causes `C` of its own fault.
+///
+/// Everything that takes memory is made before the first byte is written, the text of the journals too.
 ///
 /// # Errors
 ///
 /// Want of memory (`Memory`): nothing is written then. A failed write (`Write`): a first part of the text may be written, and nothing is
 /// tried behind it.
-pub fn write_report<S: Sink>(
+pub fn write_report<C, S: Sink>(
     alloc: Global,
     journal: bool,
     stats: bool,
     assembly: &Assembly,
     sink: &mut S,
-) -> Result<bool, TellFault>
+) -> Result<bool, Fault<C>>
     requires { IsSpelled assembly.now }
     ensures done { IfOk result (IsTold journal stats assembly.now (S.contents sink.old) (S.contents sink.new)) }
     ensures unwritten { IfErr result (IfUnwritten (IsCutShort journal stats assembly.now (S.contents sink.old) (S.contents sink.new))) }
+    ensures device { IfErr result (IfUnread ⊥) }
     ensures silent { IfErr result (IfUnjudged (Keeps (S.contents sink.old) (S.contents sink.new))) }
-    ensures failed { journal ≡ false → IfErr result (IfUnwritten (HasJustFailed S.interrupts S.fails sink.new)) }
+    ensures failed { IfErr result (IfUnwritten (HasJustFailed S.tries S.interrupts S.fails sink.new)) }
 {
     let mut front = String::new(alloc);
     put_outcomes(alloc, assembly, &mut front)?;
-    let verdict = audit(alloc, assembly)?;
+    let verdict = verdict_of(alloc, assembly)?;
+    let middle = journal_bytes(alloc, journal, assembly)?;
     let mut rear = String::new(alloc);
     put_stats_if(alloc, stats, assembly, &mut rear)?;
     put_verdict(&verdict, &mut rear)?;
-    match write_parts(front.as_bytes(), journal, assembly, rear.as_bytes(), sink) {
+    match write_parts(front.as_bytes(), middle.as_slice(), rear.as_bytes(), sink) {
         Ok(()) => Ok(is_sound(&verdict)),
-        Err(_) => Err(TellFault::Write),
+        Err(_) => Err(Fault::Write),
     }
 }
 
@@ -96,43 +73,36 @@ fn put_stats_if(
     put_all_stats(alloc, assembly, page)
 }
 
-/// Writes what comes before the journals, the journals if they are wanted, and the rest. Then it tells the writer that no more comes.
+/// The text of the journals, if it is wanted.
+fn journal_bytes(alloc: Global, journal: bool, assembly: &Assembly) -> Result<Vec<u8>, AllocError>
+    requires { IsSpelled assembly.now }
+    ensures { IfOk result (λ bytes. bytes.items ≡ journal_if journal assembly.now) }
+{
+    let mut bytes = Vec::new(alloc);
+    if !journal {
+        return Ok(bytes);
+    }
+    match write_journal::<JournalCause, Vec<u8>>(alloc, assembly, &mut bytes) {
+        Ok(()) => Ok(bytes),
+        Err(_) => Err(AllocError),
+    }
+}
+
+/// Writes three texts, one behind another. Then it tells the writer that no more comes.
 fn write_parts<S: Sink>(
     front: &[u8],
-    journal: bool,
-    assembly: &Assembly,
+    middle: &[u8],
     rear: &[u8],
     sink: &mut S,
 ) -> Result<(), DeviceFault>
-    requires { IsSpelled assembly.now }
     ensures ok { OnOk result (Appends (S.contents sink.old) (S.contents sink.new)
-        (front.now ++ (journal_if journal assembly.now ++ rear.now))) }
+        (front.now ++ (middle.now ++ rear.now))) }
     ensures err { OnErr result (AppendsFront (S.contents sink.old) (S.contents sink.new)
-        (front.now ++ (journal_if journal assembly.now ++ rear.now))) }
-    ensures failed { journal ≡ false → OnErr result (HasJustFailed S.interrupts S.fails sink.new) }
+        (front.now ++ (middle.now ++ rear.now))) }
+    ensures failed { OnErr result (HasJustFailed S.tries S.interrupts S.fails sink.new) }
 {
     write_all(sink, front)?;
-    write_journal_if(journal, assembly, sink)?;
+    write_all(sink, middle)?;
     write_all(sink, rear)?;
     flush(sink)
-}
-
-/// Writes the text of the journals, if they are wanted.
-fn write_journal_if<S: Sink>(
-    journal: bool,
-    assembly: &Assembly,
-    sink: &mut S,
-) -> Result<(), DeviceFault>
-    requires { IsSpelled assembly.now }
-    ensures ok { OnOk result (Appends (S.contents sink.old) (S.contents sink.new) (journal_if journal assembly.now)) }
-    ensures err { OnErr result (AppendsFront (S.contents sink.old) (S.contents sink.new) (journal_if journal assembly.now)) }
-    ensures unasked { journal ≡ false → OnErr result ⊥ }
-{
-    if !journal {
-        return Ok(());
-    }
-    match write_journal(assembly, sink) {
-        Ok(()) => Ok(()),
-        Err(_) => Err(DeviceFault),
-    }
 }

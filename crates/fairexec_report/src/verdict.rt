@@ -1,10 +1,15 @@
 //! What is printed of a verdict.
 
-ghost use Rattle.std.specs.Prelude.{◌≡◌, ◌++◌, OnOk, Some, string_bytes};
+ghost use Rattle.std.specs.Prelude.{◌≡◌, ◌++◌, IfOk, OnOk, Some, string_bytes};
+ghost use Rattle.rt_audit.specs.declared.judge.Verdict.TheVariants.{Sound};
+ghost use Rattle.rt_audit.specs.Verdicts.{IsFirstBroken, IsVerdict, rule_named};
+ghost use Rattle.rt_ids.specs.Sound.{IsSound};
+ghost use Rattle.rt_ids.specs.Spelled.{IsSpelled};
 ghost use Rattle.fairexec_report.specs.VerdictTexts as spec;
 
-use rt_audit::Verdict;
-use std::alloc::AllocError;
+use rt_audit::{Verdict, audit};
+use rt_journal_notes::Assembly;
+use std::alloc::{AllocError, Global};
 use std::fmt;
 
 /// A verdict as a line, without its line feed: `sound`, or `fault actor A note L rule R`.
@@ -22,6 +27,19 @@ impl fmt::Display for VerdictLine {
                 write!(f, "fault actor {actor} note {line} rule {rule}")
             }
         }
+    }
+}
+
+/// The verdict of the journals.
+pub(crate) fn verdict_of(alloc: Global, assembly: &Assembly) -> Result<Verdict, AllocError>
+    ensures sound { IfOk result (λ verdict. verdict ≡ Sound → IsSpelled assembly.now × IsSound assembly.now) }
+    ensures rule { IfOk result (λ verdict. IsSpelled assembly.now → IsFirstBroken assembly.now (rule_named verdict)) }
+    ensures place { IfOk result (λ verdict. IsSpelled assembly.now → IsVerdict assembly.now verdict) }
+    ensures only { IfOk result (λ verdict. IsSpelled assembly.now → IsSound assembly.now → verdict ≡ Sound) }
+{
+    match audit(alloc, assembly) {
+        Ok(verdict) => Ok(verdict),
+        Err(_) => Err(AllocError),
     }
 }
 

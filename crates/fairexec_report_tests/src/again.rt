@@ -1,13 +1,15 @@
 //! Texts whose reading or audit is refused for want of memory, and tried again. tests/memory/again lets each growth fail.
 
+ghost use Rattle.rt_ids.specs.Spelled.{IsSpelled};
+
 use crate::texts::TURNS;
 use crate::verdicts::STATS;
-use fairexec_report::fault::AuditFault;
 use fairexec_report::{audit_text, put_stats};
 use rt_ids::{ActorNo, CoreNo};
 use rt_journal_notes::Assembly;
-use rt_journal_read::{ReadError, read_journal};
+use rt_journal_read::{JournalCause, read_journal};
 use rt_journal_write::write_journal;
+use rt_text::Fault;
 use std::alloc::Global;
 
 /// How often a call is made at most.
@@ -32,11 +34,26 @@ fn read(alloc: Global, text: &str) -> Option<Assembly> {
         let mut source = text.as_bytes();
         match read_journal(alloc, &mut source) {
             Ok(journals) => return Some(journals),
-            Err(ReadError::Memory) => {}
+            Err(Fault::Memory) => {}
             Err(_) => return None,
         }
     }
     None
+}
+
+/// Writes the text of the journals until memory isn't refused.
+fn write_text(alloc: Global, journals: &Assembly, sink: &mut Vec<u8>) -> bool
+    requires { IsSpelled journals.now }
+{
+    for _ in 0..TRIES {
+        sink.clear();
+        match write_journal::<JournalCause, Vec<u8>>(alloc, journals, sink) {
+            Ok(()) => return true,
+            Err(Fault::Memory) => {}
+            Err(_) => return false,
+        }
+    }
+    false
 }
 
 /// Whether this is the text of the journals.
@@ -44,7 +61,7 @@ fn is_written(alloc: Global, journals: &Assembly, text: &str) -> bool {
     match sink(alloc) {
         Some(mut sink) => {
             journals.is_spelled()
-                && write_journal(journals, &mut sink).is_ok()
+                && write_text(alloc, journals, &mut sink)
                 && sink.as_slice() == text.as_bytes()
         }
         None => false,
@@ -73,7 +90,7 @@ fn audited(alloc: Global, text: &str, sink: &mut Vec<u8>) -> bool {
         let mut source = text.as_bytes();
         match audit_text(alloc, &mut source, sink) {
             Ok(sound) => return sound,
-            Err(AuditFault::Memory) if sink.is_empty() => {}
+            Err(Fault::Memory) if sink.is_empty() => {}
             Err(_) => return false,
         }
     }

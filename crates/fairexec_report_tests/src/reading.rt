@@ -2,8 +2,9 @@
 
 use crate::devices::{FaultyReader, reader_of};
 use crate::texts::{FAULTY, TURNS, WHOLE};
-use rt_journal_read::{JournalCause, ReadError, read_journal};
+use rt_journal_read::{JournalCause, read_journal};
 use rt_journal_write::write_journal;
+use rt_text::Fault;
 use std::alloc::Global;
 
 /// Whether the text is refused at this line, for this cause.
@@ -11,7 +12,7 @@ fn is_refused(alloc: Global, text: &[u8], line: u32, cause: JournalCause) -> boo
     let mut source = text;
     match read_journal(alloc, &mut source) {
         Ok(_) => false,
-        Err(error) => error == ReadError::Text { line, cause },
+        Err(error) => error == Fault::Text { line, cause },
     }
 }
 
@@ -22,7 +23,7 @@ pub(crate) fn is_same(alloc: Global, text: &str) -> bool {
         Ok(journals) => {
             let mut sink = Vec::new(alloc);
             journals.is_spelled()
-                && write_journal(&journals, &mut sink).is_ok()
+                && write_journal::<JournalCause, Vec<u8>>(alloc, &journals, &mut sink).is_ok()
                 && sink.as_slice() == text.as_bytes()
         }
         Err(_) => false,
@@ -37,7 +38,7 @@ fn is_read(alloc: Global, mut source: FaultyReader) -> bool {
 /// Whether the reader is told to have failed.
 fn has_failed(alloc: Global, mut source: FaultyReader) -> bool {
     match read_journal(alloc, &mut source) {
-        Err(ReadError::Read) => true,
+        Err(Fault::Read) => true,
         _ => false,
     }
 }

@@ -1,10 +1,10 @@
 //! What is told of journals beside their notes: the line of a verdict, and the lines of statistics.
 
 use crate::texts::TURNS;
-use fairexec_report::fault::status_of;
 use fairexec_report::{audit_text, put_stats};
 use rt_ids::{ActorNo, CoreNo};
 use rt_journal_read::read_journal;
+use rt_text::Status;
 use std::alloc::Global;
 
 /// Texts, each with the exit status of its audit and the line that is written.
@@ -27,7 +27,7 @@ pub(crate) fn comes_to(alloc: Global, text: &str, status: u8, line: &str) -> boo
     let mut source = text.as_bytes();
     let mut written = Vec::new(alloc);
     let answer = audit_text(alloc, &mut source, &mut written);
-    status_of(&answer).code() == status && written.as_slice() == line.as_bytes()
+    Status::of(&answer).code() == status && written.as_slice() == line.as_bytes()
 }
 
 /// Whether these are the statistics of core 0.

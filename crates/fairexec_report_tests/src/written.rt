@@ -2,7 +2,7 @@
 
 use crate::devices::{FaultyWriter, writer_of};
 use crate::texts::TURNS;
-use rt_journal_read::read_journal;
+use rt_journal_read::{JournalCause, read_journal};
 use rt_journal_write::write_journal;
 use std::alloc::Global;
 
@@ -12,7 +12,8 @@ fn leaves(alloc: Global, mut sink: FaultyWriter, wanted: bool, count: usize) -> 
     match read_journal(alloc, &mut source) {
         Ok(journals) => {
             journals.is_spelled()
-                && write_journal(&journals, &mut sink).is_ok() == wanted
+                && write_journal::<JournalCause, FaultyWriter>(alloc, &journals, &mut sink).is_ok()
+                    == wanted
                 && Some(sink.written.as_slice()) == TURNS.as_bytes().get(..count)
         }
         Err(_) => false,

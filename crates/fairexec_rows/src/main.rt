@@ -9,16 +9,17 @@
 //! `NAME.refused` has the exit status and the line that tells why.
 #![tactic(auto)]
 
-ghost use Rattle.std.specs.Prelude.{◌≡◌, ◌++◌, Err, IfOk, IfErr, codes, decimal, string_bytes};
+ghost use Rattle.std.specs.Prelude.{◌≡◌, ◌++◌, IfOk, IfErr, codes, decimal, string_bytes};
 ghost use Rattle.std.specs.IoError.{error_kind};
 ghost use Rattle.std.specs.declared.io.ErrorKind.TheVariants.{OutOfMemory};
+ghost use Rattle.rt_text.specs.Causes.{cause_text};
 ghost use Rattle.rt_text.specs.Faults.{fault_text};
-ghost use Rattle.rt_text.specs.Statuses.{code_of, status_of};
+ghost use Rattle.rt_text.specs.Statuses.{code_of, fault_status};
 
-use fairexec_report::fault::status_of;
-use fairexec_report::{AuditFault, audit_text};
+use fairexec_report::audit_text;
 use fairexec_run::run_script;
-use rt_text::{EngineFault, Status};
+use rt_journal_read::JournalCause;
+use rt_text::{Cause, Fault, Status};
 use std::alloc::Global;
 use std::process::ExitCode;
 use std::rt::Files;
@@ -115,7 +116,7 @@ fn prints(
 fn judges(
     alloc: Global,
     text: &[u8],
-    wanted: Result<bool, AuditFault>,
+    wanted: Result<bool, Fault<JournalCause>>,
     verdict: &[u8],
 ) -> io::Result<bool> {
     let mut source = text;
@@ -137,7 +138,7 @@ fn is_judged_as_written<R: Files + AllocGlobal>(rt: &R, name: &str) -> io::Resul
     match answer {
         Ok(sound) => Ok(!sound),
         Err(fault) => {
-            let status = status_of(&Err(fault)).code();
+            let status = Status::of_fault(&fault).code();
             let told = format!(in alloc; "status {status}\n{fault}\n")?;
             let refused = fs::read(rt, format!(in alloc; "{name}.refused")?)?;
             Ok(told.as_bytes() == refused.as_slice())
@@ -146,11 +147,11 @@ fn is_judged_as_written<R: Files + AllocGlobal>(rt: &R, name: &str) -> io::Resul
 }
 
 /// What is told of a refusal: the exit status, and the line.
-fn told(alloc: Global, fault: EngineFault) -> io::Result<String>
+fn told(alloc: Global, fault: Fault<Cause>) -> io::Result<String>
     ensures text { IfOk result (λ text. string_bytes text
-        ≡ codes "status " ++ decimal (code_of (status_of (Err fault))) ++ codes "\n" ++ fault_text fault ++ codes "\n") }
+        ≡ codes "status " ++ decimal (code_of (fault_status fault)) ++ codes "\n" ++ fault_text cause_text fault ++ codes "\n") }
     ensures memory { IfErr result (λ error. error_kind error ≡ OutOfMemory) }
 {
-    let status = Status::of(&Err(fault)).code();
+    let status = Status::of_fault(&fault).code();
     Ok(format!(in alloc; "status {status}\n{fault}\n")?)
 }

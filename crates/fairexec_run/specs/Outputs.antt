@@ -3,8 +3,6 @@ use Rattle.std.specs.Prelude.{◌≡◌, ℕ, Bool, List, Option, Ok}
 use Rattle.std.specs.Option.{IfSome}
 use Rattle.std.specs.Io.KnownBytes.{Appends}
 use Rattle.fairexec_script.specs.declared.event.ScriptEvent.{ScriptEvent}
-use Rattle.rt_text.specs.declared.fault.EngineFault.{EngineFault}
-use Rattle.rt_text.specs.declared.fault.EngineFault.TheVariants.{Text, Read, Write, Memory}
 use Rattle.fairexec_script.specs.Drafts.{Drafted}
 use Rattle.fairexec_script.specs.Scripts.{script_of}
 use Rattle.rt_journal_write.specs.Pages.{Puts}
@@ -25,27 +23,6 @@ pub record IsDone (journal stats : Bool) (source sink_old sink_new : Option (Lis
   pub right : IsPrinted journal stats script output
   pub appends : Appends sink_old sink_new output
 
--- a fact of a refused or unread text, of which nothing is printed
-abbrev pub IfUnread : Type 0 → EngineFault → Type 0
-IfUnread fact (Text line cause) = fact
-IfUnread fact Read = fact
-IfUnread fact Write = Unit {0}
-IfUnread fact Memory = Unit {0}
-
 -- the source tells a whole script
 abbrev pub TellsScript : Option (List ℕ) → Type 0
 TellsScript source = (script : Drafted) × IfSome source (λ text. script_of text ≡ Ok script)
-
--- a fact of a text whose output couldn't be written
-abbrev pub IfUnwritten : Type 0 → EngineFault → Type 0
-IfUnwritten fact (Text line cause) = Unit {0}
-IfUnwritten fact Read = Unit {0}
-IfUnwritten fact Write = fact
-IfUnwritten fact Memory = Unit {0}
-
--- a fact of a run that ends early, for want of memory or since a write failed
-abbrev pub IfEnded : Type 0 → EngineFault → Type 0
-IfEnded fact (Text line cause) = Unit {0}
-IfEnded fact Read = Unit {0}
-IfEnded fact Write = fact
-IfEnded fact Memory = fact

@@ -6,13 +6,14 @@ ghost use Rattle.rt_ids.specs.Commands.{created_count};
 ghost use Rattle.rt_world.specs.Opening.{IsFresh, IsUnbegun};
 ghost use Rattle.rt_world.specs.State.{journal_at};
 ghost use Rattle.fairexec_script.specs.Limits.{IsSize, ArePlaced, HasFewQueues};
-ghost use Rattle.fairexec_script.specs.ScriptFaults.{IfText};
-ghost use Rattle.fairexec_script.specs.Scripts.{script_of};
-ghost use Rattle.fairexec_script.specs.Taking.{IsPrompt};
+ghost use Rattle.fairexec_script.specs.Drafts.{empty_draft};
+ghost use Rattle.fairexec_script.specs.Scripts.{judge, script_of};
 ghost use Rattle.fairexec_script.specs.Whole.{drafted};
-ghost use Rattle.rt_sink.specs.Tries.{HasJustFailed};
+ghost use Rattle.rt_lines.specs.Taking.{IsPrompt, IsToldByRead};
+ghost use Rattle.rt_sink.specs.Tries.{HasFailed, HasJustFailed};
+ghost use Rattle.rt_text.specs.Faults.{IfRead, IfText, IfUnread, IfUnwritten, IfEnded};
 ghost use Rattle.fairexec_run.specs.Begun.{BreaksOff, IsCutShort};
-ghost use Rattle.fairexec_run.specs.Outputs.{IsDone, IfUnread, TellsScript, IfUnwritten, IfEnded};
+ghost use Rattle.fairexec_run.specs.Outputs.{IsDone, TellsScript};
 ghost use Rattle.fairexec_run.specs.Rooms.{MayMake, IsOpened};
 ghost use Rattle.fairexec_run.specs.Printed.{IsPrinted};
 ghost use Rattle.fairexec_run.specs.Transcripts.{script_room, with_queue, with_queues};
@@ -21,13 +22,13 @@ use crate::journal::{events_of, print_journal, print_journal_rear, print_rear};
 use crate::print::{FULL_PAGE, LONGEST_PRINT, Model, print_events};
 use fairexec_script::{Script, read_script};
 use rt_ids::CoreNo;
+use rt_lines::Source;
 use rt_shares::Shares;
 use rt_sink::Sink;
 use rt_taskqueue::CreateError;
-use rt_text::EngineFault;
+use rt_text::{Cause, Fault};
 use rt_world::{World, WorldError};
 use std::alloc::Global;
-use std::io::Read;
 
 /// Runs the script that the source tells, and prints each event's notes, or one line if it made none.
 ///
@@ -35,25 +36,28 @@ use std::io::Read;
 ///
 /// # Errors
 ///
-/// A faulty line of the script (`Text`), a failed read (`Read`) or write (`Write`), want of memory (`Memory`). Nothing is printed
-/// before the whole script is judged. After a failed write or for want of memory, a beginning of what is printed may be written. Nothing
+/// A faulty line of the script (`Text`), a failed read (`Read`) or write (`Write`), or 1000 interrupted ones in a row, want of memory
+/// (`Memory`). Nothing is printed before the whole script is judged. After a failed write or for want of memory, a beginning of what is printed may be written. Nothing
 /// is tried behind a failed write.
-pub fn run_script<R: Read, S: Sink>(
+pub fn run_script<R: Source, S: Sink>(
     alloc: Global,
     journal: bool,
     stats: bool,
     source: &mut R,
     sink: &mut S,
-) -> Result<bool, EngineFault>
+) -> Result<bool, Fault<Cause>>
     ensures done { IfOk result (λ done. (done ≡ true)
         × IsDone journal stats (R.remaining source.old) (S.contents sink.old) (S.contents sink.new)) }
     ensures faulty { IfErr result (IfText (λ fault.
         IfSome (R.remaining source.old) (λ text. script_of text ≡ Err fault))) }
-    ensures prompt { IfErr result (IsPrompt (R.remaining source.old) (R.remaining source.new)) }
+    ensures prompt { IfErr result (IsPrompt judge empty_draft (R.remaining source.old) (R.remaining source.new)) }
+    ensures at_once { IfErr result (IfText (λ fault.
+        IsToldByRead judge empty_draft R.remaining R.tries R.reads R.interrupts source.old source.new)) }
+    ensures unread { IfErr result (IfRead ((from : R) × HasFailed R.tries R.interrupts R.fails from source.new)) }
     ensures silent { IfErr result (IfUnread (Keeps (S.contents sink.old) (S.contents sink.new))) }
     ensures judged { IfErr result (IfUnwritten (TellsScript (R.remaining source.old))) }
     ensures begun { IfErr result (IfEnded (IsCutShort journal stats (R.remaining source.old) (S.contents sink.old) (S.contents sink.new))) }
-    ensures failed { journal ≡ false → IfErr result (IfUnwritten (HasJustFailed S.interrupts S.fails sink.new)) }
+    ensures failed { IfErr result (IfUnwritten (HasJustFailed S.tries S.interrupts S.fails sink.new)) }
 {
     let script = read_script(alloc, source)?;
     play(alloc, journal, stats, script, sink)?;
@@ -67,12 +71,12 @@ fn play<S: Sink>(
     stats: bool,
     script: Script,
     sink: &mut S,
-) -> Result<(), EngineFault>
+) -> Result<(), Fault<Cause>>
     ensures ok { OnOk result ((output : List ℕ) × IsPrinted journal stats (drafted script) output
         × Appends (S.contents sink.old) (S.contents sink.new) output) }
     ensures err { OnErr result (BreaksOff journal stats (drafted script) (S.contents sink.old) (S.contents sink.new)) }
     ensures device { IfErr result (IfUnread ⊥) }
-    ensures failed { journal ≡ false → IfErr result (IfUnwritten (HasJustFailed S.interrupts S.fails sink.new)) }
+    ensures failed { IfErr result (IfUnwritten (HasJustFailed S.tries S.interrupts S.fails sink.new)) }
 {
     if journal {
         play_journal(alloc, stats, script, sink)
@@ -87,12 +91,12 @@ fn play_events<S: Sink>(
     stats: bool,
     script: Script,
     sink: &mut S,
-) -> Result<(), EngineFault>
+) -> Result<(), Fault<Cause>>
     ensures ok { OnOk result ((output : List ℕ) × IsPrinted false stats (drafted script) output
         × Appends (S.contents sink.old) (S.contents sink.new) output) }
     ensures err { OnErr result (BreaksOff false stats (drafted script) (S.contents sink.old) (S.contents sink.new)) }
     ensures device { IfErr result (IfUnread ⊥) }
-    ensures failed { IfErr result (IfUnwritten (HasJustFailed S.interrupts S.fails sink.new)) }
+    ensures failed { IfErr result (IfUnwritten (HasJustFailed S.tries S.interrupts S.fails sink.new)) }
 {
     let Script {
         cores,
@@ -115,11 +119,12 @@ fn play_journal<S: Sink>(
     stats: bool,
     script: Script,
     sink: &mut S,
-) -> Result<(), EngineFault>
+) -> Result<(), Fault<Cause>>
     ensures ok { OnOk result ((output : List ℕ) × IsPrinted true stats (drafted script) output
         × Appends (S.contents sink.old) (S.contents sink.new) output) }
     ensures err { OnErr result (BreaksOff true stats (drafted script) (S.contents sink.old) (S.contents sink.new)) }
     ensures device { IfErr result (IfUnread ⊥) }
+    ensures failed { IfErr result (IfUnwritten (HasJustFailed S.tries S.interrupts S.fails sink.new)) }
 {
     let Script {
         cores,
@@ -131,7 +136,7 @@ fn play_journal<S: Sink>(
     let events = events_of(alloc, events)?;
     let mut page = String::with_capacity(alloc, FULL_PAGE + LONGEST_PRINT)?;
     let assembly = model.run(events);
-    print_journal(&assembly, sink)?;
+    print_journal(alloc, &assembly, sink)?;
     print_journal_rear(alloc, stats, &assembly, &mut page, sink)
 }
 
@@ -141,7 +146,7 @@ fn open_model(
     cores: u8,
     cap: u16,
     queues: &[(CoreNo, Shares)],
-) -> Result<Model, EngineFault>
+) -> Result<Model, Fault<Cause>>
     requires sized { IsSize cores cap }
     requires few { HasFewQueues queues.now }
     requires placed { ArePlaced (Some (cores, cap)) queues.now }
@@ -155,7 +160,7 @@ fn open_model(
 }
 
 /// The same without queues.
-fn empty_model(alloc: Global, cores: u8, cap: u16) -> Result<Model, EngineFault>
+fn empty_model(alloc: Global, cores: u8, cap: u16) -> Result<Model, Fault<Cause>>
     requires { IsSize cores cap }
     ensures ok { IfOk result (IsFresh cores cap (script_room cores cap)) }
     ensures device { IfErr result (IfUnread ⊥) }
@@ -164,13 +169,13 @@ fn empty_model(alloc: Global, cores: u8, cap: u16) -> Result<Model, EngineFault>
     let room = 32768 + 3 * u32::from(cores) * u32::from(cap) + 4;
     match World::try_new(alloc, alloc, cores, cap, room) {
         Ok(model) => Ok(model),
-        Err(WorldError::Memory) => Err(EngineFault::Memory),
+        Err(WorldError::Memory) => Err(Fault::Memory),
         Err(WorldError::BadConfig) => unreachable!(),
     }
 }
 
 /// Makes the queues of the `queue` lines, in their order.
-fn create_queues(model: &mut Model, queues: &[(CoreNo, Shares)]) -> Result<(), EngineFault>
+fn create_queues(model: &mut Model, queues: &[(CoreNo, Shares)]) -> Result<(), Fault<Cause>>
     requires may { MayMake queues.now model.old }
     requires room { 255 < model.old.room }
     requires placed { ArePlaced (Some (model.old.cores, model.old.cap)) queues.now }
@@ -186,7 +191,7 @@ fn create_queues(model: &mut Model, queues: &[(CoreNo, Shares)]) -> Result<(), E
 }
 
 /// Makes one queue, under the next number of its core.
-fn create_queue(model: &mut Model, core: CoreNo, shares: Shares) -> Result<(), EngineFault>
+fn create_queue(model: &mut Model, core: CoreNo, shares: Shares) -> Result<(), Fault<Cause>>
     requires core { core < model.old.cores }
     requires unbegun { IsUnbegun model.old }
     requires room { length (journal_at core model.old) < model.old.room }
@@ -197,7 +202,7 @@ fn create_queue(model: &mut Model, core: CoreNo, shares: Shares) -> Result<(), E
 {
     match model.create(core, shares) {
         Ok(_) => Ok(()),
-        Err(CreateError::Memory) => Err(EngineFault::Memory),
+        Err(CreateError::Memory) => Err(Fault::Memory),
         Err(CreateError::TooMany) => unreachable!(),
     }
 }

@@ -9,7 +9,7 @@ ghost use Rattle.rt_journal_write.specs.Texts.{journal_text};
 ghost use Rattle.rt_world.specs.State.{assembly_of};
 ghost use Rattle.fairexec_run.specs.Begun.{IsRearPart, IsNoneOr, WritesStats};
 ghost use Rattle.rt_sink.specs.Tries.{HasJustFailed};
-ghost use Rattle.fairexec_run.specs.Outputs.{IfUnread, IfUnwritten};
+ghost use Rattle.rt_text.specs.Faults.{IfUnread, IfUnwritten};
 ghost use Rattle.fairexec_run.specs.Printed.{PutsStats};
 ghost use Rattle.fairexec_run.specs.Replies as replies;
 
@@ -22,7 +22,7 @@ use rt_jobs::ScriptJob;
 use rt_journal_notes::Journal;
 use rt_journal_write::write_journal;
 use rt_sink::{Sink, flush};
-use rt_text::EngineFault;
+use rt_text::{Cause, Fault};
 use rt_world::{Assembly, Event};
 use std::alloc::Global;
 
@@ -30,7 +30,7 @@ use std::alloc::Global;
 pub(crate) fn events_of(
     alloc: Global,
     events: Vec<ScriptEvent>,
-) -> Result<Vec<Event<ScriptJob>>, EngineFault>
+) -> Result<Vec<Event<ScriptJob>>, Fault<Cause>>
     ensures ok { IfOk result (λ all. all.items ≡ map replies.event_of events.items) }
     ensures device { IfErr result (IfUnread ⊥) }
     ensures quiet { IfErr result (IfUnwritten ⊥) }
@@ -43,16 +43,18 @@ pub(crate) fn events_of(
 }
 
 /// Prints the text of the journals.
-pub(crate) fn print_journal<S: Sink>(assembly: &Assembly, sink: &mut S) -> Result<(), EngineFault>
+pub(crate) fn print_journal<S: Sink>(
+    alloc: Global,
+    assembly: &Assembly,
+    sink: &mut S,
+) -> Result<(), Fault<Cause>>
     requires { IsSpelled assembly.now }
     ensures ok { OnOk result (Appends (S.contents sink.old) (S.contents sink.new) (journal_text assembly.now)) }
     ensures err { OnErr result (AppendsFront (S.contents sink.old) (S.contents sink.new) (journal_text assembly.now)) }
     ensures device { IfErr result (IfUnread ⊥) }
+    ensures failed { IfErr result (IfUnwritten (HasJustFailed S.tries S.interrupts S.fails sink.new)) }
 {
-    match write_journal(assembly, sink) {
-        Ok(()) => Ok(()),
-        Err(_) => Err(EngineFault::Write),
-    }
+    write_journal(alloc, assembly, sink)
 }
 
 /// Prints the page, and behind it the statistics of a world if they are wanted. Then it tells the sink that no more comes.
@@ -62,13 +64,13 @@ pub(crate) fn print_rear<S: Sink>(
     model: &Model,
     page: &mut String,
     sink: &mut S,
-) -> Result<(), EngineFault>
+) -> Result<(), Fault<Cause>>
     ensures ok { OnOk result ((text : List ℕ) × IsStatsIf stats (assembly_of model.now) text
         × Appends (S.contents sink.old) (S.contents sink.new) (string_bytes page.old ++ text)) }
     ensures err { OnErr result ((text : List ℕ) × IsRearPart stats (assembly_of model.now) text
         × AppendsFront (S.contents sink.old) (S.contents sink.new) (string_bytes page.old ++ text)) }
     ensures device { IfErr result (IfUnread ⊥) }
-    ensures failed { IfErr result (IfUnwritten (HasJustFailed S.interrupts S.fails sink.new)) }
+    ensures failed { IfErr result (IfUnwritten (HasJustFailed S.tries S.interrupts S.fails sink.new)) }
 {
     if !stats {
         return print_last(page, sink);
@@ -84,13 +86,13 @@ pub(crate) fn print_journal_rear<S: Sink>(
     assembly: &Assembly,
     page: &mut String,
     sink: &mut S,
-) -> Result<(), EngineFault>
+) -> Result<(), Fault<Cause>>
     ensures ok { OnOk result ((text : List ℕ) × IsStatsIf stats assembly.now text
         × Appends (S.contents sink.old) (S.contents sink.new) (string_bytes page.old ++ text)) }
     ensures err { OnErr result ((text : List ℕ) × IsRearPart stats assembly.now text
         × AppendsFront (S.contents sink.old) (S.contents sink.new) (string_bytes page.old ++ text)) }
     ensures device { IfErr result (IfUnread ⊥) }
-    ensures failed { IfErr result (IfUnwritten (HasJustFailed S.interrupts S.fails sink.new)) }
+    ensures failed { IfErr result (IfUnwritten (HasJustFailed S.tries S.interrupts S.fails sink.new)) }
 {
     if !stats {
         return print_last(page, sink);
@@ -105,11 +107,11 @@ fn print_stats<S: Sink>(
     model: &Model,
     page: &mut String,
     sink: &mut S,
-) -> Result<(), EngineFault>
+) -> Result<(), Fault<Cause>>
     ensures ok { OnOk result (PutsStats (assembly_of model.now) (string_bytes page.old) (string_bytes page.new) (S.contents sink.old) (S.contents sink.new)) }
     ensures err { OnErr result (WritesStats (assembly_of model.now) (string_bytes page.old) (S.contents sink.old) (S.contents sink.new)) }
     ensures device { IfErr result (IfUnread ⊥) }
-    ensures failed { IfErr result (IfUnwritten (HasJustFailed S.interrupts S.fails sink.new)) }
+    ensures failed { IfErr result (IfUnwritten (HasJustFailed S.tries S.interrupts S.fails sink.new)) }
 {
     let cores = model.cores();
     for core in 0..cores {
@@ -131,11 +133,11 @@ fn print_journal_stats<S: Sink>(
     assembly: &Assembly,
     page: &mut String,
     sink: &mut S,
-) -> Result<(), EngineFault>
+) -> Result<(), Fault<Cause>>
     ensures ok { OnOk result (PutsStats assembly.now (string_bytes page.old) (string_bytes page.new) (S.contents sink.old) (S.contents sink.new)) }
     ensures err { OnErr result (WritesStats assembly.now (string_bytes page.old) (S.contents sink.old) (S.contents sink.new)) }
     ensures device { IfErr result (IfUnread ⊥) }
-    ensures failed { IfErr result (IfUnwritten (HasJustFailed S.interrupts S.fails sink.new)) }
+    ensures failed { IfErr result (IfUnwritten (HasJustFailed S.tries S.interrupts S.fails sink.new)) }
 {
     let cores = assembly.cores();
     for core in 0..cores {
@@ -159,13 +161,13 @@ fn print_core<S: Sink>(
     journal: &Journal<u64>,
     page: &mut String,
     sink: &mut S,
-) -> Result<(), EngineFault>
+) -> Result<(), Fault<Cause>>
     ensures ok { OnOk result ((text : List ℕ) × IsCoreText core cores journal.now.notes text
         × Puts (string_bytes page.old) (string_bytes page.new) (S.contents sink.old) (S.contents sink.new) text) }
     ensures err { OnErr result ((text : List ℕ) × IsNoneOr (IsCoreText core cores journal.now.notes) text
         × AppendsFront (S.contents sink.old) (S.contents sink.new) (string_bytes page.old ++ text)) }
     ensures device { IfErr result (IfUnread ⊥) }
-    ensures failed { IfErr result (IfUnwritten (HasJustFailed S.interrupts S.fails sink.new)) }
+    ensures failed { IfErr result (IfUnwritten (HasJustFailed S.tries S.interrupts S.fails sink.new)) }
 {
     put_stats(alloc, core, cores, journal, page)?;
     if page.len() < FULL_PAGE {
@@ -175,15 +177,15 @@ fn print_core<S: Sink>(
 }
 
 /// Prints the last page, and tells the sink that no more comes.
-fn print_last<S: Sink>(page: &mut String, sink: &mut S) -> Result<(), EngineFault>
+fn print_last<S: Sink>(page: &mut String, sink: &mut S) -> Result<(), Fault<Cause>>
     ensures ok { OnOk result (Appends (S.contents sink.old) (S.contents sink.new) (string_bytes page.old)) }
     ensures err { OnErr result (AppendsFront (S.contents sink.old) (S.contents sink.new) (string_bytes page.old)) }
     ensures device { IfErr result (IfUnread ⊥) }
-    ensures failed { OnErr result (HasJustFailed S.interrupts S.fails sink.new) }
+    ensures failed { OnErr result (HasJustFailed S.tries S.interrupts S.fails sink.new) }
 {
     print_page(page, sink)?;
     match flush(sink) {
         Ok(()) => Ok(()),
-        Err(_) => Err(EngineFault::Write),
+        Err(_) => Err(Fault::Write),
     }
 }

@@ -5,8 +5,9 @@ ghost use Rattle.std.specs.Io.KnownBytes.{Appends};
 ghost use Rattle.fairexec_script.specs.Limits.{AreEventsOf, IsEventOf};
 ghost use Rattle.rt_journal_write.specs.Pages.{AppendsFront};
 ghost use Rattle.rt_sink.specs.Tries.{HasJustFailed};
+ghost use Rattle.rt_text.specs.Faults.{IfUnread, IfUnwritten};
 ghost use Rattle.fairexec_run.specs.Begun.{WritesFirst};
-ghost use Rattle.fairexec_run.specs.Outputs.{WritesAll, IfUnread, IfUnwritten};
+ghost use Rattle.fairexec_run.specs.Outputs.{WritesAll};
 ghost use Rattle.fairexec_run.specs.Rooms.{IsRoomy};
 ghost use Rattle.fairexec_run.specs.Transcripts.{Prints, note_lines};
 
@@ -15,7 +16,7 @@ use fairexec_script::ScriptEvent;
 use rt_ids::ActorNo;
 use rt_jobs::ScriptJob;
 use rt_sink::{Sink, write_all};
-use rt_text::{EngineFault, NoteLine, ReplyLine};
+use rt_text::{Cause, Fault, NoteLine, ReplyLine};
 use rt_world::{Journal, World};
 use std::alloc::Global;
 
@@ -35,7 +36,7 @@ pub(crate) fn print_events<S: Sink>(
     events: Vec<ScriptEvent>,
     page: &mut String,
     sink: &mut S,
-) -> Result<(), EngineFault>
+) -> Result<(), Fault<Cause>>
     requires roomy { IsRoomy model.old.cores model.old.cap 510 model.old }
     requires there { AreEventsOf (Some (model.old.cores, model.old.cap)) events.items }
     requires short { length events.items ≤ 4096 }
@@ -43,7 +44,7 @@ pub(crate) fn print_events<S: Sink>(
         (S.contents sink.old) (S.contents sink.new)) }
     ensures err { OnErr result (WritesFirst events.items model.old (string_bytes page.old) (S.contents sink.old) (S.contents sink.new)) }
     ensures device { IfErr result (IfUnread ⊥) }
-    ensures failed { IfErr result (IfUnwritten (HasJustFailed S.interrupts S.fails sink.new)) }
+    ensures failed { IfErr result (IfUnwritten (HasJustFailed S.tries S.interrupts S.fails sink.new)) }
 {
     for event in events {
         print_event(model, event, page)?;
@@ -55,7 +56,7 @@ pub(crate) fn print_events<S: Sink>(
 }
 
 /// Lets the event happen, and puts its lines on the page.
-fn print_event(model: &mut Model, event: ScriptEvent, page: &mut String) -> Result<(), EngineFault>
+fn print_event(model: &mut Model, event: ScriptEvent, page: &mut String) -> Result<(), Fault<Cause>>
     requires roomy { IsRoomy model.old.cores model.old.cap 32768 model.old }
     requires there { IsEventOf model.old.cores event }
     ensures ok { OnOk result ((text : List ℕ) × Prints event model.old model.new text
@@ -85,7 +86,7 @@ fn print_notes(
     journal: &Journal<u64>,
     first: usize,
     page: &mut String,
-) -> Result<(), EngineFault>
+) -> Result<(), Fault<Cause>>
     requires { first ≤ length journal.now.notes }
     ensures ok { OnOk result (string_bytes page.new
         ≡ string_bytes page.old ++ note_lines actor (drop first (reverse journal.now.notes))) }
@@ -102,18 +103,18 @@ fn print_notes(
 }
 
 /// Prints the page, and empties it.
-pub(crate) fn print_page<S: Sink>(page: &mut String, sink: &mut S) -> Result<(), EngineFault>
+pub(crate) fn print_page<S: Sink>(page: &mut String, sink: &mut S) -> Result<(), Fault<Cause>>
     ensures ok { OnOk result (Appends (S.contents sink.old) (S.contents sink.new) (string_bytes page.old)) }
     ensures empty { OnOk result (string_bytes page.new ≡ []) }
     ensures err { OnErr result (AppendsFront (S.contents sink.old) (S.contents sink.new) (string_bytes page.old)) }
     ensures device { IfErr result (IfUnread ⊥) }
-    ensures failed { OnErr result (HasJustFailed S.interrupts S.fails sink.new) }
+    ensures failed { OnErr result (HasJustFailed S.tries S.interrupts S.fails sink.new) }
 {
     match write_all(sink, page.as_bytes()) {
         Ok(()) => {
             page.clear();
             Ok(())
         }
-        Err(_) => Err(EngineFault::Write),
+        Err(_) => Err(Fault::Write),
     }
 }

@@ -1,7 +1,7 @@
 //! Runs that are refused for want of memory, and made again. tests/memory/again lets each growth fail.
 
 use fairexec_run::run_script;
-use rt_text::EngineFault;
+use rt_text::Fault;
 use std::alloc::Global;
 
 /// How often a run is tried at most.
@@ -28,7 +28,7 @@ fn prints(alloc: Global, journal: bool, printed: &str) -> bool {
         let mut source = SCRIPT.as_bytes();
         match run_script(alloc, journal, journal, &mut source, &mut sink) {
             Ok(done) => return done && sink.as_slice() == printed.as_bytes(),
-            Err(EngineFault::Memory) if printed.as_bytes().starts_with(sink.as_slice()) => {}
+            Err(Fault::Memory) if printed.as_bytes().starts_with(sink.as_slice()) => {}
             Err(_) => return false,
         }
     }

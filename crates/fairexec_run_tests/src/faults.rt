@@ -1,24 +1,24 @@
 //! Causes, faults and statuses.
 
-use rt_text::{Cause, EngineFault, Status};
+use rt_text::{Cause, CauseWords, Fault, Status};
 use std::alloc::{AllocError, Global};
 use std::test::Fail;
 
 /// Each way in which an engine ends, with its status, and what is printed of it.
-const ENDS: [(Result<bool, EngineFault>, u8, &str); 6] = [
+const ENDS: [(Result<bool, Fault<Cause>>, u8, &str); 6] = [
     (Ok(true), 0, ""),
     (Ok(false), 1, ""),
     (
-        Err(EngineFault::Text {
+        Err(Fault::Text {
             line: 17,
             cause: Cause::BadWord,
         }),
         2,
         "line 17: bad word",
     ),
-    (Err(EngineFault::Read), 3, "read failed"),
-    (Err(EngineFault::Write), 3, "write failed"),
-    (Err(EngineFault::Memory), 4, "out of memory"),
+    (Err(Fault::Read), 3, "read failed"),
+    (Err(Fault::Write), 3, "write failed"),
+    (Err(Fault::Memory), 4, "out of memory"),
 ];
 
 /// Each cause, and its words.
@@ -37,7 +37,7 @@ const CAUSES: [(Cause, &str); 9] = [
 /// Whether the answer has this status, and this is what is printed of it.
 fn ends_so(
     alloc: Global,
-    answer: &Result<bool, EngineFault>,
+    answer: &Result<bool, Fault<Cause>>,
     code: u8,
     text: &str,
 ) -> Result<bool, AllocError> {

@@ -2,7 +2,7 @@
 
 use crate::devices::{FaultyWriter, writer_of};
 use fairexec_run::run_script;
-use rt_text::EngineFault;
+use rt_text::{Cause, Fault};
 use std::alloc::{AllocError, Global};
 use std::test::Fail;
 
@@ -10,14 +10,14 @@ use std::test::Fail;
 const TURNS: usize = 4095;
 
 /// The number of the call to the sink that fails, what the run comes to, and how many bytes are written.
-type Row = (u32, Result<bool, EngineFault>, usize);
+type Row = (u32, Result<bool, Fault<Cause>>, usize);
 
 /// The first page is full behind 2341 lines of seven bytes. The second call writes the rest, and the third is the flush.
 const RUNS: [Row; 4] = [
     (0, Ok(true), 28665),
-    (1, Err(EngineFault::Write), 0),
-    (2, Err(EngineFault::Write), 16387),
-    (3, Err(EngineFault::Write), 28665),
+    (1, Err(Fault::Write), 0),
+    (2, Err(Fault::Write), 16387),
+    (3, Err(Fault::Write), 28665),
 ];
 
 /// The first line, and then this line so often.
@@ -31,7 +31,7 @@ fn text_of(alloc: Global, first: &str, line: &str) -> Result<Vec<u8>, AllocError
 }
 
 /// A run whose call of this number to the sink fails.
-fn ran(alloc: Global, script: &[u8], failing: u32) -> (Result<bool, EngineFault>, FaultyWriter) {
+fn ran(alloc: Global, script: &[u8], failing: u32) -> (Result<bool, Fault<Cause>>, FaultyWriter) {
     let mut source = script;
     let mut sink = writer_of(alloc, 0, failing, 65536);
     sink.most_at_once = 65536;

@@ -2,7 +2,7 @@
 
 use crate::devices::{reader_of, writer_of};
 use fairexec_run::run_script;
-use rt_text::{Cause, EngineFault};
+use rt_text::{Cause, Fault};
 use std::alloc::Global;
 
 /// One job, from its submission to its answer.
@@ -23,20 +23,20 @@ type Row = (
     &'static str,
     u32,
     u32,
-    Result<bool, EngineFault>,
+    Result<bool, Fault<Cause>>,
     &'static str,
 );
 
 const RUNS: [Row; 5] = [
     (SCRIPT, 0, 0, Ok(true), PRINTED),
     (SCRIPT, 999, 999, Ok(true), PRINTED),
-    (SCRIPT, 1000, 0, Err(EngineFault::Read), ""),
-    (SCRIPT, 0, 1000, Err(EngineFault::Write), ""),
+    (SCRIPT, 1000, 0, Err(Fault::Read), ""),
+    (SCRIPT, 0, 1000, Err(Fault::Write), ""),
     (
         FAULTY,
         0,
         0,
-        Err(EngineFault::Text {
+        Err(Fault::Text {
             line: 3,
             cause: Cause::OutOfRange,
         }),
@@ -45,7 +45,7 @@ const RUNS: [Row; 5] = [
 ];
 
 /// A run of which one read fails.
-const UNREAD: Row = (SCRIPT, 0, 0, Err(EngineFault::Read), "");
+const UNREAD: Row = (SCRIPT, 0, 0, Err(Fault::Read), "");
 
 /// Whether a run of this row comes to its answer, where the read of this number fails. What is done is flushed once.
 fn comes_to(alloc: Global, row: &Row, failing: u32) -> bool {
@@ -67,7 +67,7 @@ fn each_run_comes_to_its_answer(rt: HostRuntime) {
 #[test]
 fn a_faulty_line_is_told_before_the_next_read(rt: HostRuntime) {
     let alloc = rt.alloc();
-    let unread: Row = (FAULTY, 0, 0, Err(EngineFault::Read), "");
+    let unread: Row = (FAULTY, 0, 0, Err(Fault::Read), "");
     let mut source = reader_of(FAULTY, 0, 0);
     let mut sink = writer_of(alloc, 0, 0, 4096);
     let answer = run_script(alloc, false, false, &mut source, &mut sink);

@@ -2,9 +2,10 @@
 
 use crate::devices::{FaultyWriter, reader_of, writer_of};
 use crate::runs::SCRIPT;
-use fairexec_report::{AuditFault, audit_text};
+use fairexec_report::audit_text;
 use fairexec_run::run_script;
-use rt_text::EngineFault;
+use rt_journal_read::JournalCause;
+use rt_text::{Cause, Fault};
 use std::alloc::Global;
 
 /// The journals of a run.
@@ -19,7 +20,7 @@ fn ran(
     journal: bool,
     stats: bool,
     failing: u32,
-) -> (Result<bool, EngineFault>, FaultyWriter) {
+) -> (Result<bool, Fault<Cause>>, FaultyWriter) {
     let mut source = reader_of(SCRIPT, 0, 0);
     let mut sink = writer_of(alloc, 0, failing, 4096);
     let answer = run_script(alloc, journal, stats, &mut source, &mut sink);
@@ -29,9 +30,7 @@ fn ran(
 /// Whether a run whose call of this number to the sink fails says so, and has written a first part of what the whole run writes.
 fn breaks_off(alloc: Global, journal: bool, stats: bool, failing: u32, whole: &[u8]) -> bool {
     let (answer, sink) = ran(alloc, journal, stats, failing);
-    answer == Err(EngineFault::Write)
-        && sink.flushes == 0
-        && whole.starts_with(sink.written.as_slice())
+    answer == Err(Fault::Write) && sink.flushes == 0 && whole.starts_with(sink.written.as_slice())
 }
 
 /// Whether the run is flushed once, at its end, and breaks off wherever a call fails.
@@ -57,7 +56,7 @@ fn audited(
     text: &'static str,
     unread: u32,
     unwritten: u32,
-) -> (Result<bool, AuditFault>, FaultyWriter) {
+) -> (Result<bool, Fault<JournalCause>>, FaultyWriter) {
     let mut source = reader_of(text, 0, unread);
     let mut sink = writer_of(alloc, 0, unwritten, 4096);
     let answer = audit_text(alloc, &mut source, &mut sink);
@@ -74,11 +73,11 @@ fn each_call_of_an_audit_fails(rt: HostRuntime) {
         && sink.written.as_slice() == "sound\n".as_bytes();
     for unread in 1..=8 {
         let (answer, sink) = audited(alloc, JOURNALS, unread, 0);
-        all = answer == Err(AuditFault::Read) && sink.calls == 0 && all;
+        all = answer == Err(Fault::Read) && sink.calls == 0 && all;
     }
     for unwritten in 1..=2 {
         let (answer, sink) = audited(alloc, JOURNALS, 0, unwritten);
-        all = answer == Err(AuditFault::Write) && sink.flushes == 0 && all;
+        all = answer == Err(Fault::Write) && sink.flushes == 0 && all;
     }
     assert!(rt; all);
 }
@@ -89,7 +88,7 @@ fn a_faulty_line_of_journals_is_told_before_the_next_read(rt: HostRuntime) {
     let mut sink = writer_of(rt.alloc(), 0, 0, 4096);
     let told = matches!(
         audit_text(rt.alloc(), &mut source, &mut sink),
-        Err(AuditFault::Text { line: 1, .. })
+        Err(Fault::Text { line: 1, .. })
     );
     assert!(rt; told && source.calls == 1 && sink.calls == 0);
 }

@@ -7,6 +7,4 @@ pub mod Drafts
 pub mod Limits
 pub mod Counts
 pub mod Scripts
-pub mod ScriptFaults
 pub mod Whole
-pub mod Taking

@@ -9,8 +9,8 @@ use crate::draft::Draft;
 use crate::limits::{LONGEST_LINE, MOST_LINES};
 use crate::script::Script;
 use rt_lines::fault::stopped;
-use rt_lines::{LineDraft, LineFault, Stop};
-use rt_text::Cause;
+use rt_lines::{LineDraft, Stop};
+use rt_text::{Cause, Fault};
 
 impl LineDraft for Draft {
     type Cause = Cause;
@@ -49,7 +49,7 @@ impl LineDraft for Draft {
         }
     }
 
-    fn finish(mut self, number: u32, rest: &[u8]) -> Result<Script, LineFault<Cause>> {
+    fn finish(mut self, number: u32, rest: &[u8]) -> Result<Script, Fault<Cause>> {
         if rest.is_empty() {
             return end(self, number);
         }
@@ -61,14 +61,14 @@ impl LineDraft for Draft {
 }
 
 /// The script, if the text ends before the line of this number.
-fn end(draft: Draft, number: u32) -> Result<Script, LineFault<Cause>>
+fn end(draft: Draft, number: u32) -> Result<Script, Fault<Cause>>
     requires { spec.IsBefore number draft }
     ensures ok { IfOk result (λ script. spec.whole number draft draft.size ≡ Ok (drafted script)) }
     ensures faulty { IfErr result (IfFaulty (λ fault. spec.whole number draft draft.size ≡ Err fault)) }
 {
     match draft.finish_script() {
         Some(script) => Ok(script),
-        None => Err(LineFault::Text {
+        None => Err(Fault::Text {
             line: number,
             cause: Cause::CoresLineExpected,
         }),

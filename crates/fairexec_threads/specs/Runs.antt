@@ -9,7 +9,8 @@ use Rattle.rt_runtime.specs.Calls.{IsStarted, HasFinished}
 use Rattle.rt_runtime.specs.State.{RuntimeView}
 use Rattle.rt_runtime_config.specs.Configs.{Entry}
 use Rattle.fairexec_threads_script.specs.declared.fault.ThreadsFault.{ThreadsFault}
-use Rattle.fairexec_threads_script.specs.declared.fault.ThreadsFault.TheVariants.{Write}
+use Rattle.fairexec_threads_script.specs.declared.fault.ThreadsFault.TheVariants.{Of, Thread}
+use Rattle.rt_text.specs.Faults.{IfUnjudged}
 use Rattle.fairexec_threads_script.specs.Drafts.{Drafted, Told}
 use Rattle.fairexec_threads_script.specs.Scripts.{threads_script_of}
 use Rattle.fairexec_threads.specs.Accepted.{AreHeard}
@@ -52,12 +53,7 @@ pub record IsCutShort (journal stats : Bool) (source sink_old sink_new : Option 
   pub runs : TellsRun source assembly
   pub told : writing.IsCutShort journal stats assembly sink_old sink_new
 
--- a fact of a failed write
-abbrev pub IfUnwritten : Type 0 → ThreadsFault → Type 0
-IfUnwritten fact Write = fact
-IfUnwritten fact _ = Unit {0}
-
--- a fact of each other fault, before which nothing is written
+-- a fact of each fault but a failed write, before which nothing is written
 abbrev pub IfUntold : Type 0 → ThreadsFault → Type 0
-IfUntold fact Write = Unit {0}
-IfUntold fact _ = fact
+IfUntold fact (Of fault) = IfUnjudged fact fault
+IfUntold fact Thread = fact

@@ -14,6 +14,7 @@ use rt_jobs::ScriptJob;
 use rt_runtime::{Runtime, StartError};
 use rt_runtime_config::{Config, NoGate};
 use rt_shares::Shares;
+use rt_text::Fault;
 use std::alloc::{AllocError, Global};
 use std::sync::Wait;
 use std::thread::Threads;
@@ -78,7 +79,7 @@ where
     };
     match House::start(rt, alloc, config, clocks, gates) {
         Ok(house) => Ok(house),
-        Err(StartError::Memory) => Err(ThreadsFault::Memory),
+        Err(StartError::Memory) => Err(ThreadsFault::Of(Fault::Memory)),
         Err(StartError::Thread) => Err(ThreadsFault::Thread),
         Err(StartError::BadConfig) => unreachable!(),
     }

@@ -1,23 +1,25 @@
 //! Runs a script on threads, and tells what became of its orders.
 
-ghost use Rattle.std.specs.Prelude.{◌≡◌, Err, IfOk, IfErr, IfSome, false, true};
+ghost use Rattle.std.specs.Prelude.{◌≡◌, Err, IfOk, IfErr, IfSome, true};
 ghost use Rattle.std.specs.Io.KnownBytes.{Keeps};
-ghost use Rattle.fairexec_threads_script.specs.ScriptFaults.{IfText};
-ghost use Rattle.fairexec_threads_script.specs.Scripts.{threads_script_of};
-ghost use Rattle.fairexec_threads_script.specs.Taking.{IsPrompt};
-ghost use Rattle.rt_sink.specs.Tries.{HasJustFailed};
-ghost use Rattle.fairexec_threads.specs.Runs.{RunsOrders, IsRun, IsCutShort, IfUnwritten, IfUntold};
+ghost use Rattle.fairexec_threads_script.specs.Drafts.{empty_draft};
+ghost use Rattle.fairexec_threads_script.specs.Faults.{IfOf};
+ghost use Rattle.fairexec_threads_script.specs.Scripts.{judge, threads_script_of};
+ghost use Rattle.rt_lines.specs.Taking.{IsPrompt, IsToldByRead};
+ghost use Rattle.rt_sink.specs.Tries.{HasFailed, HasJustFailed};
+ghost use Rattle.rt_text.specs.Faults.{IfRead, IfText, IfUnwritten};
+ghost use Rattle.fairexec_threads.specs.Runs.{RunsOrders, IsRun, IsCutShort, IfUntold};
 ghost use Rattle.fairexec_threads.specs.Starting.{IsOfStart};
 
 use crate::calls::{close_all, offer_all};
 use crate::house::start_house;
-use fairexec_report::{TellFault, write_report};
+use fairexec_report::write_report;
 use fairexec_threads_script::{ThreadsFault, ThreadsScript, read_threads_script};
 use rt_journal_notes::Assembly;
+use rt_lines::Source;
 use rt_runtime::FinishError;
 use rt_sink::Sink;
 use std::alloc::Global;
-use std::io::Read;
 use std::sync::Wait;
 use std::thread::Threads;
 
@@ -50,10 +52,10 @@ where
 ///
 /// # Errors
 ///
-/// A faulty line of the script (`Text`), a failed read (`Read`) or write (`Write`), want of memory (`Memory`), a thread that can't be made
-/// (`Thread`). After a failed write a first part of the text may be written, and nothing is tried behind it. Before each other fault nothing
+/// A faulty line of the script (`Text`), a failed read (`Read`) or write (`Write`), or 1000 interrupted ones in a row, want of memory
+/// (`Memory`), a thread that can't be made (`Thread`). After a failed write a first part of the text may be written, and nothing is tried behind it. Before each other fault nothing
 /// is written.
-pub fn threads_script<H, R: Read, S: Sink>(
+pub fn threads_script<H, R: Source, S: Sink>(
     rt: H,
     alloc: Global,
     journal: bool,
@@ -65,18 +67,20 @@ where
     H: Threads + Wait + Copy + Drop + Send + 'static,
     ensures done { IfOk result (IsRun journal stats (R.remaining source.old) (S.contents sink.old) (S.contents sink.new)) }
     ensures sound { IfOk result (λ sound. sound ≡ true) }
-    ensures faulty { IfErr result (IfText (λ fault.
-        IfSome (R.remaining source.old) (λ text. threads_script_of text ≡ Err fault))) }
-    ensures prompt { IfErr result (IsPrompt (R.remaining source.old) (R.remaining source.new)) }
+    ensures faulty { IfErr result (IfOf (IfText (λ fault.
+        IfSome (R.remaining source.old) (λ text. threads_script_of text ≡ Err fault)))) }
+    ensures prompt { IfErr result (IfOf (IsPrompt judge empty_draft (R.remaining source.old) (R.remaining source.new))) }
+    ensures at_once { IfErr result (IfOf (IfText (λ fault.
+        IsToldByRead judge empty_draft R.remaining R.tries R.reads R.interrupts source.old source.new))) }
+    ensures unread { IfErr result (IfOf (IfRead ((from : R) × HasFailed R.tries R.interrupts R.fails from source.new))) }
     ensures silent { IfErr result (IfUntold (Keeps (S.contents sink.old) (S.contents sink.new))) }
-    ensures unwritten { IfErr result (IfUnwritten (IsCutShort journal stats (R.remaining source.old) (S.contents sink.old) (S.contents sink.new))) }
-    ensures failed { journal ≡ false → IfErr result (IfUnwritten (HasJustFailed S.interrupts S.fails sink.new)) }
+    ensures unwritten { IfErr result (IfOf (IfUnwritten (IsCutShort journal stats (R.remaining source.old) (S.contents sink.old) (S.contents sink.new)))) }
+    ensures failed { IfErr result (IfOf (IfUnwritten (HasJustFailed S.tries S.interrupts S.fails sink.new))) }
 {
     let script = read_threads_script(alloc, source)?;
     let assembly = run_orders(rt, alloc, script)?;
     match write_report(alloc, journal, stats, &assembly, sink) {
         Ok(sound) => Ok(sound),
-        Err(TellFault::Write) => Err(ThreadsFault::Write),
-        Err(TellFault::Memory) => Err(ThreadsFault::Memory),
+        Err(fault) => Err(ThreadsFault::Of(fault)),
     }
 }

@@ -1,34 +1,36 @@
 -- What is printed of a fault, and the exit status of an answer.
-use Rattle.std.specs.Prelude.{ℕ, Bool, true, false, ◌++◌, List, codes, decimal, Result, Ok, Err}
+use Rattle.std.specs.Prelude.{ℕ, Bool, true, false, List, codes, Result, Ok, Err}
+use Rattle.rt_text.specs.Causes as causes
 use Rattle.rt_text.specs.Faults as text
+use Rattle.rt_text.specs.Statuses.{fault_status}
+use Rattle.rt_text.specs.declared.fault.Fault.{Fault}
 use Rattle.rt_text.specs.declared.status.Status.{Status}
 use Rattle.rt_text.specs.declared.status.Status.TheVariants as status
 use Rattle.fairexec_threads_script.specs.declared.fault.ThreadsCause.{ThreadsCause}
 use Rattle.fairexec_threads_script.specs.declared.fault.ThreadsCause.TheVariants.{Line, NotForThreads, TooManyForCap, TooManyPolls}
 use Rattle.fairexec_threads_script.specs.declared.fault.ThreadsFault.{ThreadsFault}
-use Rattle.fairexec_threads_script.specs.declared.fault.ThreadsFault.TheVariants.{Text, Read, Write, Memory, Thread}
+use Rattle.fairexec_threads_script.specs.declared.fault.ThreadsFault.TheVariants.{Of, Thread}
 
 -- the text of a cause
 abbrev pub cause_text : ThreadsCause → List ℕ
-cause_text (Line cause) = text.cause_text cause
+cause_text (Line cause) = causes.cause_text cause
 cause_text NotForThreads = codes "not for threads"
 cause_text TooManyForCap = codes "too many for cap"
 cause_text TooManyPolls = codes "too many polls"
 
 -- the text of a fault
 abbrev pub fault_text : ThreadsFault → List ℕ
-fault_text (Text line cause) = codes "line " ++ decimal line ++ codes ": " ++ cause_text cause
-fault_text Read = codes "read failed"
-fault_text Write = codes "write failed"
-fault_text Memory = codes "out of memory"
+fault_text (Of fault) = text.fault_text cause_text fault
 fault_text Thread = codes "no thread"
 
 -- the exit status of an answer, which is false if the journals have a fault; want of memory and want of a thread have one status
 abbrev pub status_of : Result Bool ThreadsFault → Status
 status_of (Ok true) = status.Done
 status_of (Ok false) = status.FaultFound
-status_of (Err (Text line cause)) = status.Refused
-status_of (Err Read) = status.Device
-status_of (Err Write) = status.Device
-status_of (Err Memory) = status.Memory
+status_of (Err (Of fault)) = fault_status fault
 status_of (Err Thread) = status.Memory
+
+-- a fact of a fault that stops any call
+abbrev pub IfOf : (Fault ThreadsCause → Type 0) → ThreadsFault → Type 0
+IfOf fact (Of fault) = fact fault
+IfOf fact Thread = Unit {0}

@@ -3,6 +3,4 @@ pub mod Lines
 pub mod Drafts
 pub mod Limits
 pub mod Scripts
-pub mod ScriptFaults
 pub mod Whole
-pub mod Taking

@@ -3,8 +3,8 @@
 ghost use Rattle.std.specs.Prelude.{◌≡◌, Some};
 ghost use Rattle.fairexec_threads_script.specs.Faults as spec;
 
-use rt_text::{Cause, Status};
-use std::alloc::{AllocError, AllocFailed};
+use rt_text::{Cause, CauseWords, Fault, Status};
+use std::alloc::AllocError;
 use std::fmt;
 
 /// What is wrong with a line of a script for threads.
@@ -20,11 +20,10 @@ pub enum ThreadsCause {
     TooManyPolls,
 }
 
-impl ThreadsCause {
-    /// The words that are printed of it.
-    pub fn words(self) -> &'static str
-        ensures { result.now ≡ spec.cause_text self }
-    {
+impl CauseWords for ThreadsCause {
+    ghost cause_words = { spec.cause_text };
+
+    fn words(&self) -> &'static str {
         match self {
             ThreadsCause::Line(cause) => cause.words(),
             ThreadsCause::NotForThreads => "not for threads",
@@ -37,14 +36,8 @@ impl ThreadsCause {
 /// Why a script isn't run on threads, or not to its end.
 #[derive(Clone, Copy, PartialEq, Eq)]
 pub enum ThreadsFault {
-    /// A line of the text, by its number from 1, is faulty.
-    Text { line: u32, cause: ThreadsCause },
-    /// The text couldn't be read.
-    Read,
-    /// The output couldn't be written.
-    Write,
-    /// There is no memory.
-    Memory,
+    /// What stops any call.
+    Of(Fault<ThreadsCause>),
     /// A thread couldn't be made.
     Thread,
 }
@@ -55,35 +48,30 @@ impl fmt::Display for ThreadsFault {
 
     fn fmt<W: fmt::Write>(&self, f: &mut fmt::Formatter<W>) -> fmt::Result {
         match self {
-            ThreadsFault::Text { line, cause } => {
-                let words = cause.words();
-                write!(f, "line {line}: {words}")
-            }
-            ThreadsFault::Read => f.write_str("read failed"),
-            ThreadsFault::Write => f.write_str("write failed"),
-            ThreadsFault::Memory => f.write_str("out of memory"),
+            ThreadsFault::Of(fault) => fault.fmt(f),
             ThreadsFault::Thread => f.write_str("no thread"),
         }
     }
 }
 
-impl From<AllocError> for ThreadsFault {
-    ghost use Rattle.fairexec_threads_script.specs.declared.fault.ThreadsFault.TheVariants.{Memory};
+impl From<Fault<ThreadsCause>> for ThreadsFault {
+    ghost use Rattle.fairexec_threads_script.specs.declared.fault.ThreadsFault.TheVariants.{Of};
 
-    ghost from_gives = { λ _ fault. fault ≡ Memory };
+    ghost from_gives = { λ fault why. why ≡ Of fault };
 
-    fn from(_error: AllocError) -> ThreadsFault {
-        ThreadsFault::Memory
+    fn from(fault: Fault<ThreadsCause>) -> ThreadsFault {
+        ThreadsFault::Of(fault)
     }
 }
 
-impl<T: Drop> From<AllocFailed<T>> for ThreadsFault {
-    ghost use Rattle.fairexec_threads_script.specs.declared.fault.ThreadsFault.TheVariants.{Memory};
+impl From<AllocError> for ThreadsFault {
+    ghost use Rattle.rt_text.specs.declared.fault.Fault.TheVariants.{Memory};
+    ghost use Rattle.fairexec_threads_script.specs.declared.fault.ThreadsFault.TheVariants.{Of};
 
-    ghost from_gives = { λ _ fault. fault ≡ Memory };
+    ghost from_gives = { λ _ why. why ≡ Of Memory };
 
-    fn from(_failed: AllocFailed<T>) -> ThreadsFault {
-        ThreadsFault::Memory
+    fn from(_error: AllocError) -> ThreadsFault {
+        ThreadsFault::Of(Fault::Memory)
     }
 }
 
@@ -94,10 +82,7 @@ pub fn status_of(answer: &Result<bool, ThreadsFault>) -> Status
     match answer {
         Ok(true) => Status::Done,
         Ok(false) => Status::FaultFound,
-        Err(ThreadsFault::Text { .. }) => Status::Refused,
-        Err(ThreadsFault::Read) => Status::Device,
-        Err(ThreadsFault::Write) => Status::Device,
-        Err(ThreadsFault::Memory) => Status::Memory,
+        Err(ThreadsFault::Of(fault)) => Status::of_fault(fault),
         Err(ThreadsFault::Thread) => Status::Memory,
     }
 }

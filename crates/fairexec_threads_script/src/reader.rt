@@ -10,8 +10,8 @@ use crate::fault::ThreadsCause;
 use crate::script::ThreadsScript;
 use fairexec_script::limits::{LONGEST_LINE, MOST_LINES};
 use rt_lines::fault::stopped;
-use rt_lines::{LineDraft, LineFault, Stop};
-use rt_text::Cause;
+use rt_lines::{LineDraft, Stop};
+use rt_text::{Cause, Fault};
 
 impl LineDraft for Draft {
     type Cause = ThreadsCause;
@@ -50,11 +50,7 @@ impl LineDraft for Draft {
         }
     }
 
-    fn finish(
-        mut self,
-        number: u32,
-        rest: &[u8],
-    ) -> Result<ThreadsScript, LineFault<ThreadsCause>> {
+    fn finish(mut self, number: u32, rest: &[u8]) -> Result<ThreadsScript, Fault<ThreadsCause>> {
         if rest.is_empty() {
             return end(self, number);
         }
@@ -66,14 +62,14 @@ impl LineDraft for Draft {
 }
 
 /// The script, if the text ends before the line of this number.
-fn end(draft: Draft, number: u32) -> Result<ThreadsScript, LineFault<ThreadsCause>>
+fn end(draft: Draft, number: u32) -> Result<ThreadsScript, Fault<ThreadsCause>>
     requires { spec.IsBefore number draft }
     ensures ok { IfOk result (λ script. spec.whole number draft draft.size ≡ Ok (drafted script)) }
     ensures faulty { IfErr result (IfFaulty (λ fault. spec.whole number draft draft.size ≡ Err fault)) }
 {
     match draft.finish_script() {
         Some(script) => Ok(script),
-        None => Err(LineFault::Text {
+        None => Err(Fault::Text {
             line: number,
             cause: ThreadsCause::Line(Cause::CoresLineExpected),
         }),

@@ -2,6 +2,7 @@
 
 use fairexec_threads::threads_script;
 use fairexec_threads_script::ThreadsFault;
+use rt_text::Fault;
 use std::alloc::Global;
 use std::sync::Wait;
 use std::thread::Threads;
@@ -29,7 +30,7 @@ where
         let mut source = SCRIPT.as_bytes();
         match threads_script(rt, alloc, false, false, &mut source, &mut sink) {
             Ok(sound) => return sound && sink.as_slice() == WRITTEN.as_bytes(),
-            Err(ThreadsFault::Memory | ThreadsFault::Thread) if sink.is_empty() => {}
+            Err(ThreadsFault::Of(Fault::Memory) | ThreadsFault::Thread) if sink.is_empty() => {}
             Err(_) => return false,
         }
     }

@@ -1,7 +1,7 @@
 //! Rows of scripts, and what comes of each.
 
 use fairexec_threads_script::{ThreadsFault, read_threads_script, status_of};
-use rt_text::Status;
+use rt_text::{Fault, Status};
 use std::alloc::{AllocError, Global};
 use std::test::Fail;
 
@@ -126,9 +126,9 @@ const ROWS: [Row; 24] = [
 
 /// Each fault that isn't told of a line, its exit status, and what is printed of it.
 const FAULTS: [(ThreadsFault, u8, &str); 4] = [
-    (ThreadsFault::Read, 3, "read failed"),
-    (ThreadsFault::Write, 3, "write failed"),
-    (ThreadsFault::Memory, 4, "out of memory"),
+    (ThreadsFault::Of(Fault::Read), 3, "read failed"),
+    (ThreadsFault::Of(Fault::Write), 3, "write failed"),
+    (ThreadsFault::Of(Fault::Memory), 4, "out of memory"),
     (ThreadsFault::Thread, 4, "no thread"),
 ];
 

@@ -2,6 +2,7 @@
 
 use fairexec_threads::threads_script;
 use fairexec_threads_script::ThreadsFault;
+use rt_text::Fault;
 use std::alloc::Global;
 use std::io;
 use std::io::{ErrorKind, Write};
@@ -113,7 +114,7 @@ where
     let mut all = answer == Ok(true) && (wanted || whole.written.as_slice() == row.1.as_bytes());
     for failing in 1..=whole.calls {
         let (answer, sink) = broken_off(rt, alloc, wanted, row, failing);
-        all = answer == Err(ThreadsFault::Write)
+        all = answer == Err(ThreadsFault::Of(Fault::Write))
             && whole.written.starts_with(sink.written.as_slice())
             && all;
     }

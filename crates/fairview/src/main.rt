@@ -1,17 +1,22 @@
-//! Shows what the journals of a run tell: how long jobs waited, what each queue got, each poll, and the story of one submission.
+//! Shows what the journals of a run tell: how long jobs waited, what each queue got, each poll, and the story of one submission, as text,
+//! as a picture and as a trace.
 #![tactic(auto)]
+
+mod refusal;
+mod words;
 
 ghost use Rattle.std.specs.Prelude.{◌≡◌, ◌≢◌, Err};
 ghost use Rattle.std.specs.declared.io.ErrorKind.TheVariants as kinds;
-ghost use Rattle.fairview.specs.Shows.{form_asked, view_asked};
 ghost use Rattle.fairview_args.specs.declared.asked.Unasked.TheVariants as unasked;
 ghost use Rattle.fairview_report.specs.Faults.{status_of};
 ghost use Rattle.fairview_report.specs.declared.fault.ViewFault.TheVariants as faults;
 ghost use Rattle.rt_text.specs.declared.status.Status.TheVariants as status;
 
+use crate::refusal::Refusal;
+use crate::words::view_of;
 use fairview_args::{Unasked, What, parse};
 use fairview_report::fault::status_of;
-use fairview_report::{Form, View, ViewFault, name_of, view_text};
+use fairview_report::{View, ViewFault, view_text};
 use rt_text::Status;
 use std::io::ErrorKind;
 use std::process::ExitCode;
@@ -47,35 +52,9 @@ fn done<R: Files + Input + Print + Eprint + AllocGlobal>(
     file: Option<&str>,
 ) -> Status {
     match view_of(what) {
-        Some(view) => ended(rt, show(rt, view, file)),
-        None => name_refused(rt),
+        Ok(view) => ended(rt, show(rt, view, file)),
+        Err(refusal) => word_refused(rt, refusal),
     }
-}
-
-/// What the command line asks for. None if a word names no submission.
-fn view_of(what: What<'_>) -> Option<View>
-    ensures { result ≡ view_asked what.entry }
-{
-    match what {
-        What::Wait { plain } => Some(View::Waits { plain }),
-        What::Share { plain, csv } => Some(View::Shares {
-            form: form_of(plain, csv),
-        }),
-        What::Why { name } => Some(View::Story {
-            name: name_of(name?.as_bytes())?,
-        }),
-        What::Csv => Some(View::Polls),
-    }
-}
-
-/// How the shares are written. Rows with commas have no bars.
-fn form_of(plain: bool, csv: bool) -> Form
-    ensures { result ≡ form_asked plain csv }
-{
-    if csv {
-        return Form::Csv;
-    }
-    if plain { Form::Plain } else { Form::Blocks }
 }
 
 /// How a command line ends that asks for nothing.
@@ -131,13 +110,11 @@ fn ended<R: Eprint>(rt: &R, answer: Result<(), ViewFault>) -> Status
     status_of(&answer)
 }
 
-/// The word for a submission names none.
-fn name_refused<R: Eprint>(rt: &R) -> Status
+/// A word of the command line is refused. What is wrong is told on standard error.
+fn word_refused<R: Eprint>(rt: &R, refusal: Refusal) -> Status
     ensures { result ≡ status.Refused }
 {
-    let _ = eprintln!(rt;
-        "error: NAME is no name of a submission: sender, receiver and number, as '0>1#2'"
-    );
+    let _ = eprintln!(rt; "error: {refusal}");
     Status::Refused
 }
 

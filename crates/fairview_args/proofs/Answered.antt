@@ -9,26 +9,26 @@ use Rattle.clap.specs.declared.parser.matches.ArgMatches.{ArgMatches}
 use Rattle.clap.specs.declared.parser.matches.ArgMatches.TheViews.{out-ArgMatches, out-SubCommand}
 use Rattle.clap.proofs.OnLiterals.{clap_on_literals}
 use Rattle.fairview_args.specs.Asks.{asks_of, asks_of_subcommand, asks_told}
-use Rattle.fairview_args.specs.CommandLine.{csv_app, our_app, program_app, share_app, wait_app, why_app, with_tables}
+use Rattle.fairview_args.specs.CommandLine.{csv_app, gantt_app, lag_app, our_app, program_app, share_app, trace_app, wait_app, why_app, with_pictures, with_rows, with_tables}
 use Rattle.fairview_args.specs.declared.asked.Asked.{Asked}
 use Rattle.fairview_args.specs.declared.asked.Unasked.{Unasked}
 use Rattle.fairview_args.specs.declared.asked.Unasked.TheVariants.{Mistake}
 use Rattle.fairview_args.proofs.Adds.{no_globals}
 
 pub our_is_free : is_simple_and_free our_app ≡ true
-unfolding clap_on_literals our_app with_tables program_app wait_app share_app why_app csv_app
+unfolding clap_on_literals our_app with_pictures with_rows with_tables program_app wait_app share_app why_app csv_app gantt_app lag_app trace_app
 our_is_free = refl
 
 our_is_simple : is_simple our_app ≡ true
-unfolding clap_on_literals our_app with_tables program_app wait_app share_app why_app csv_app
+unfolding clap_on_literals our_app with_pictures with_rows with_tables program_app wait_app share_app why_app csv_app gantt_app lag_app trace_app
 our_is_simple = refl
 
 our_is_plain : our_app.top.is_plain ≡ true
-unfolding our_app with_tables program_app
+unfolding our_app with_pictures with_rows with_tables program_app
 our_is_plain = refl
 
 our_needs_subcommand : our_app.top.subcommand_required ≡ true
-unfolding our_app with_tables program_app
+unfolding our_app with_pictures with_rows with_tables program_app
 our_needs_subcommand = refl
 
 is_some-map : {X Y : Type 0} (f : X → Y) (o : Option X) → is_some (option_map f o) ≡ is_some o

@@ -9,23 +9,33 @@ use Rattle.fairview_args.specs.declared.asked.Asked.{Asked}
 use Rattle.fairview_args.specs.declared.asked.What.{What}
 use Rattle.fairview_args.specs.declared.asked.What.TheVariants as what
 
--- what is to be printed; a submission is named by a word
+-- what is to be printed; a submission, a core and turns are named by words
 pub data Wish : Type 0 where
   Wait : Bool → Wish
   Share : Bool → Bool → Wish
   Why : Option Text → Wish
   Csv : Wish
+  Gantt : Option Text → Option Text → Option Text → Wish
+  Lag : Bool → Wish
+  Trace : Wish
 
 -- the flag of this name is given: its text is then `true`
 abbrev pub is_given : Text → List Row → Bool
 is_given name rows = option_map_or (λ text. bytes_eq text (codes "true")) (first_of name rows) false
+
+-- what is drawn, with these matches
+abbrev pub gantt_named : List Row → Wish
+gantt_named rows = Gantt (first_of (codes "core") rows) (first_of (codes "from") rows) (first_of (codes "to") rows)
 
 -- what the subcommand of this name prints, with these matches
 abbrev pub what_named : Text → List Row → Wish
 what_named name rows = if bytes_eq name (codes "wait") then Wait (is_given (codes "plain") rows)
     else (if bytes_eq name (codes "share") then Share (is_given (codes "plain") rows) (is_given (codes "csv") rows)
     else (if bytes_eq name (codes "why") then Why (first_of (codes "NAME") rows)
-    else Csv))
+    else (if bytes_eq name (codes "gantt") then gantt_named rows
+    else (if bytes_eq name (codes "lag") then Lag (is_given (codes "text") rows)
+    else (if bytes_eq name (codes "trace") then Trace
+    else Csv)))))
 
 -- what is to be printed, and the path of the file
 abbrev pub Asking : Type 0
@@ -45,6 +55,9 @@ what_told (what.Wait plain) = Wait plain
 what_told (what.Share plain csv) = Share plain csv
 what_told (what.Why name) = Why (option_map (λ word. word.now) name)
 what_told what.Csv = Csv
+what_told (what.Gantt core from to) = Gantt (option_map (λ word. word.now) core) (option_map (λ word. word.now) from) (option_map (λ word. word.now) to)
+what_told (what.Lag text) = Lag text
+what_told what.Trace = Trace
 
 abbrev pub asks_told : Asked → Asking
 asks_told asked = (what_told asked.what, option_map (λ path. path.now) asked.file)

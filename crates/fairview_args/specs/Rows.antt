@@ -3,7 +3,7 @@ use Rattle.std.specs.Prelude.{◌≡◌, [], ◌∷◌, true, false, List, Optio
 use Rattle.clap.specs.Words.{Text, fault_of, takes}
 use Rattle.clap.specs.Kinds.{Kinds}
 use Rattle.clap.specs.declared.error.kind.ErrorKind.TheVariants as kind
-use Rattle.fairview_args.specs.Asks.{Wish, Wait, Share, Why, Csv, asks_of}
+use Rattle.fairview_args.specs.Asks.{Wish, Wait, Share, Why, Csv, Gantt, Lag, Trace, asks_of}
 use Rattle.fairview_args.specs.CommandLine.{our_app}
 
 -- the words of a command line, behind the program's name
@@ -36,6 +36,18 @@ pub record AreAsked : Type 0 where
   pub why_file : IsAsked (fairview (codes "why" ∷ codes "0>1#2" ∷ codes "-" ∷ [])) (Why (Some (codes "0>1#2"))) (Some (codes "-"))
   -- fairview csv share: the name of a subcommand is a file here
   pub csv : IsAsked (fairview (codes "csv" ∷ codes "share" ∷ [])) Csv (Some (codes "share"))
+  -- fairview gantt
+  pub gantt : IsAsked (fairview (codes "gantt" ∷ [])) (Gantt None None None) None
+  -- fairview gantt --to 9 x --core=1: an option may come behind the file
+  pub gantt_cut : IsAsked (fairview (codes "gantt" ∷ codes "--to" ∷ codes "9" ∷ codes "x" ∷ codes "--core=1" ∷ [])) (Gantt (Some (codes "1")) None (Some (codes "9"))) (Some (codes "x"))
+  -- fairview gantt --from x --to y: words that are no numbers are taken here, and refused later
+  pub gantt_words : IsAsked (fairview (codes "gantt" ∷ codes "--from" ∷ codes "x" ∷ codes "--to" ∷ codes "y" ∷ [])) (Gantt None (Some (codes "x")) (Some (codes "y"))) None
+  -- fairview lag
+  pub lag : IsAsked (fairview (codes "lag" ∷ [])) (Lag false) None
+  -- fairview lag --text x
+  pub lag_text : IsAsked (fairview (codes "lag" ∷ codes "--text" ∷ codes "x" ∷ [])) (Lag true) (Some (codes "x"))
+  -- fairview trace x
+  pub trace : IsAsked (fairview (codes "trace" ∷ codes "x" ∷ [])) Trace (Some (codes "x"))
 
 -- command lines that are not taken
 pub record AreRefused : Type 0 where
@@ -51,6 +63,12 @@ pub record AreRefused : Type 0 where
   pub flag_of_share : IsRefused (fairview (codes "wait" ∷ codes "--csv" ∷ [])) (kind.UnknownArgument ∷ [])
   -- fairview why
   pub no_name : IsRefused (fairview (codes "why" ∷ [])) (kind.MissingRequiredArgument ∷ [])
+  -- fairview gantt --core
+  pub no_value : IsRefused (fairview (codes "gantt" ∷ codes "--core" ∷ [])) (kind.InvalidValue ∷ [])
+  -- fairview gantt --from 1 --from 2
+  pub two_values : IsRefused (fairview (codes "gantt" ∷ codes "--from" ∷ codes "1" ∷ codes "--from" ∷ codes "2" ∷ [])) (kind.ArgumentConflict ∷ [])
+  -- fairview trace --core 1
+  pub option_of_gantt : IsRefused (fairview (codes "trace" ∷ codes "--core" ∷ codes "1" ∷ [])) (kind.UnknownArgument ∷ [])
   -- fairview --help
   pub help : IsRefused (fairview (codes "--help" ∷ [])) (kind.DisplayHelp ∷ [])
   -- fairview why -h

@@ -2,12 +2,14 @@
 
 ghost use Rattle.std.specs.Prelude.{◌≡◌, [], true, Some, map, option_map, string_bytes, IfOk, IfErr};
 ghost use Rattle.clap.specs.Words.{fault_of, found_of, kind_of, rows_of, subcommand_rows_of, takes};
-ghost use Rattle.fairview_args.specs.Asks.{asks_of, asks_of_subcommand, asks_told, is_given, what_named, what_told};
+ghost use Rattle.fairview_args.specs.Asks.{asks_of, asks_of_subcommand, asks_told, gantt_named, is_given, what_named, what_told};
 ghost use Rattle.fairview_args.specs.CommandLine.{our_app};
 ghost use Rattle.fairview_args.specs.Refusals.{IsAnswerTo, IsReason};
 ghost use Rattle.fairview_args.specs.declared.asked.Unasked.TheVariants as unasked;
 
-use crate::command::{CSV, FILE, NAME, PLAIN, SHARE, WAIT, WHY, command};
+use crate::command::{
+    CORE, CSV, FILE, FROM, GANTT, LAG, NAME, PLAIN, SHARE, TEXT, TO, TRACE, WAIT, WHY, command,
+};
 use clap::ArgMatches;
 use clap::error::ErrorKind;
 use std::alloc::Global;
@@ -16,13 +18,32 @@ use std::alloc::Global;
 #[derive(Clone, Copy)]
 pub enum What<'a> {
     /// How long jobs waited and ran. It says whether the bars are of ASCII.
-    Wait { plain: bool },
+    Wait {
+        plain: bool,
+    },
     /// What each queue got and what it should have got. It says whether the bars are of ASCII, and whether rows with commas are wanted.
-    Share { plain: bool, csv: bool },
+    Share {
+        plain: bool,
+        csv: bool,
+    },
     /// What is told of the submission that this word names. The word is there wherever the words are taken.
-    Why { name: Option<&'a str> },
+    Why {
+        name: Option<&'a str>,
+    },
     /// A row for each poll.
     Csv,
+    /// The polls of all cores, or of the one that a word names, from one turn to another, as a picture.
+    Gantt {
+        core: Option<&'a str>,
+        from: Option<&'a str>,
+        to: Option<&'a str>,
+    },
+    /// How far queues were apart, as a picture. It says whether as text in its place.
+    Lag {
+        text: bool,
+    },
+    /// The trace of the run.
+    Trace,
 }
 
 /// What is to be done, and the path of the file. Without a file it is done with standard input.
@@ -94,7 +115,28 @@ fn what_of<'a>(name: &str, found: &ArgMatches<'a>) -> What<'a>
         let name = found.get_str(NAME);
         return What::Why { name };
     }
+    if name == GANTT {
+        return gantt_of(found);
+    }
+    if name == LAG {
+        let text = flag_is_given(found, TEXT);
+        return What::Lag { text };
+    }
+    if name == TRACE {
+        return What::Trace;
+    }
     What::Csv
+}
+
+/// What is drawn of the run.
+fn gantt_of<'a>(found: &ArgMatches<'a>) -> What<'a>
+    ensures { what_told result ≡ gantt_named (rows_of (found_of found.now)) }
+{
+    What::Gantt {
+        core: found.get_str(CORE),
+        from: found.get_str(FROM),
+        to: found.get_str(TO),
+    }
 }
 
 /// Whether the flag of this name is given. Its text is `true` then, and `false` without it.

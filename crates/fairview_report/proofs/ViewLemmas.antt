@@ -7,7 +7,7 @@ use Rattle.rt_ids.specs.Spelled.{IsSpelled}
 use Rattle.rt_journal_write.specs.Pages.{AppendsFront}
 use Rattle.rt_journal_write.specs.Texts.{journal_text}
 use Rattle.fairview_report.specs.Texts.{Puts}
-use Rattle.fairview_report.specs.Views.{IsCutShort, IsShown, IsViewed, ShowsText}
+use Rattle.fairview_report.specs.Views.{IsCutShort, IsShown, IsViewed, ShowsText, absent_core}
 use Rattle.fairview_report.specs.declared.view.View.{View}
 
 pub OnOk-any : {T E P : Type 0} (result : Result T E) → P → OnOk result P
@@ -23,13 +23,13 @@ pub puts_this : (text old new : List ℕ) → new ≡ old ++ text → Puts (λ i
 puts_this text old new put = (text, (λ i. text), put)
 
 module _ (view : View) (source sink_old sink_new : Option (List ℕ)) (assembly : Assembly ℕ) (told : IfSome source (λ text. IsSpelled assembly × (text ≡ journal_text assembly)))
-    (empty page bytes : List ℕ) (nothing : empty ≡ []) (puts : Puts (IsShown view assembly) empty page) (out : bytes ≡ page) where
+    (there : absent_core view assembly.cores ≡ None) (empty page bytes : List ℕ) (nothing : empty ≡ []) (puts : Puts (IsShown view assembly) empty page) (out : bytes ≡ page) where
   shows : IfSome source (ShowsText view puts.0)
   shows = from source told
     where
       from : (all : Option (List ℕ)) → IfSome all (λ text. IsSpelled assembly × (text ≡ journal_text assembly)) → IfSome all (ShowsText view puts.0)
       from None known = tt
-      from (Some text) (spelled, same) = (assembly, spelled, same, puts.1)
+      from (Some text) (spelled, same) = (assembly, spelled, same, there, puts.1)
 
   just_that : bytes ≡ puts.0
   just_that = out ∙ (puts.2 ∙ ap (λ front. front ++ puts.0) nothing)

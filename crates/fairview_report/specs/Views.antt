@@ -1,17 +1,26 @@
 -- What is shown of the text of journals.
-use Rattle.std.specs.Prelude.{◌≡◌, ℕ, List, Option}
+use Rattle.std.specs.Prelude.{◌≡◌, ℕ, Bool, true, false, List, Option, Some, None, nat_lt, if◌then◌else◌}
 use Rattle.std.specs.Option.{IfSome}
 use Rattle.std.specs.Io.KnownBytes.{Appends}
 use Rattle.rt_ids.specs.Assembly.{Assembly}
 use Rattle.rt_ids.specs.Spelled.{IsSpelled}
 use Rattle.rt_journal_write.specs.Pages.{AppendsFront}
 use Rattle.rt_journal_write.specs.Texts.{journal_text}
+use Rattle.fairview_lag.specs.Lines.{lag_text}
+use Rattle.fairview_lag.specs.Pictures.{lag_picture}
+use Rattle.fairview_svg.specs.Gantts.{gantt_text}
+use Rattle.fairview_trace.specs.Traces.{trace_text}
 use Rattle.fairview_report.specs.PollTexts.{polls_text}
 use Rattle.fairview_report.specs.ShareTexts.{shares_text}
 use Rattle.fairview_report.specs.StoryTexts.{story_text}
 use Rattle.fairview_report.specs.WaitTexts.{IsWaitText}
 use Rattle.fairview_report.specs.declared.view.View.{View}
-use Rattle.fairview_report.specs.declared.view.View.TheVariants.{Waits, Shares, Story, Polls}
+use Rattle.fairview_report.specs.declared.view.View.TheVariants.{Waits, Shares, Story, Polls, Gantt, Lag, Trace}
+
+-- how far queues were apart, as text or as a picture
+abbrev pub lag_shown : Bool → Assembly ℕ → List ℕ
+lag_shown true assembly = lag_text assembly
+lag_shown false assembly = lag_picture assembly
 
 -- a text shows what is asked for of these journals
 abbrev pub IsShown : View → Assembly ℕ → List ℕ → Type 0
@@ -19,10 +28,29 @@ IsShown (Waits plain) assembly text = IsWaitText plain assembly text
 IsShown (Shares form) assembly text = text ≡ shares_text form assembly
 IsShown (Story name) assembly text = text ≡ story_text name assembly
 IsShown Polls assembly text = text ≡ polls_text assembly
+IsShown (Gantt cut) assembly text = text ≡ gantt_text cut assembly
+IsShown (Lag as_text) assembly text = text ≡ lag_shown as_text assembly
+IsShown Trace assembly text = text ≡ trace_text assembly
 
--- a text is that of some journals, and another shows what is asked for of them
+-- a core, if so many cores don't have it
+abbrev pub absent_of : Option ℕ → ℕ → Option ℕ
+absent_of None cores = None
+absent_of (Some core) cores = if nat_lt core cores then None else Some core
+
+-- the core that is asked for, if so many cores don't have it
+abbrev pub absent_core : View → ℕ → Option ℕ
+absent_core (Gantt cut) cores = absent_of cut.core cores
+absent_core _ cores = None
+
+-- a text is that of some journals that have what is asked for, and another shows it
 abbrev pub ShowsText : View → List ℕ → List ℕ → Type 0
-ShowsText view shown text = (assembly : Assembly ℕ) × IsSpelled assembly × (text ≡ journal_text assembly) × IsShown view assembly shown
+ShowsText view shown text =
+    (assembly : Assembly ℕ) × IsSpelled assembly × (text ≡ journal_text assembly) × (absent_core view assembly.cores ≡ None) × IsShown view assembly shown
+
+-- a text is that of some journals that lack the core that is asked for
+abbrev pub LacksCore : View → ℕ → List ℕ → Type 0
+LacksCore view core text =
+    (assembly : Assembly ℕ) × IsSpelled assembly × (text ≡ journal_text assembly) × (absent_core view assembly.cores ≡ Some core)
 
 -- the source tells journals, and what is asked for of them is written
 pub record IsViewed (view : View) (source sink_old sink_new : Option (List ℕ)) : Type 0 where

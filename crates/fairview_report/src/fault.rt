@@ -3,8 +3,9 @@
 ghost use Rattle.std.specs.Prelude.{◌≡◌, Some};
 ghost use Rattle.fairview_report.specs.Faults as spec;
 
-use rt_journal_read::{JournalCause, ReadError};
-use rt_text::Status;
+use rt_ids::CoreNo;
+use rt_journal_read::JournalCause;
+use rt_text::{CauseWords, Fault, Status};
 use std::alloc::AllocError;
 use std::fmt;
 
@@ -13,6 +14,8 @@ use std::fmt;
 pub enum ViewFault {
     /// A line of the text, by its number from 1, is faulty.
     Text { line: u32, cause: JournalCause },
+    /// A core is asked for that isn't there.
+    Core(CoreNo),
     /// The text couldn't be read.
     Read,
     /// The output couldn't be written.
@@ -31,6 +34,10 @@ impl fmt::Display for ViewFault {
                 let words = cause.words();
                 write!(f, "line {line}: {words}")
             }
+            ViewFault::Core(core) => {
+                let core = core.0;
+                write!(f, "there is no core {core}")
+            }
             ViewFault::Read => f.write_str("read failed"),
             ViewFault::Write => f.write_str("write failed"),
             ViewFault::Memory => f.write_str("out of memory"),
@@ -48,16 +55,17 @@ impl From<AllocError> for ViewFault {
     }
 }
 
-impl From<ReadError> for ViewFault {
+impl From<Fault<JournalCause>> for ViewFault {
     ghost use Rattle.fairview_report.specs.Faults.{fault_of};
 
-    ghost from_gives = { λ error fault. fault ≡ fault_of error };
+    ghost from_gives = { λ fault why. why ≡ fault_of fault };
 
-    fn from(error: ReadError) -> ViewFault {
-        match error {
-            ReadError::Text { line, cause } => ViewFault::Text { line, cause },
-            ReadError::Read => ViewFault::Read,
-            ReadError::Memory => ViewFault::Memory,
+    fn from(fault: Fault<JournalCause>) -> ViewFault {
+        match fault {
+            Fault::Text { line, cause } => ViewFault::Text { line, cause },
+            Fault::Read => ViewFault::Read,
+            Fault::Write => ViewFault::Write,
+            Fault::Memory => ViewFault::Memory,
         }
     }
 }
@@ -69,6 +77,7 @@ pub fn status_of(answer: &Result<(), ViewFault>) -> Status
     match answer {
         Ok(()) => Status::Done,
         Err(ViewFault::Text { .. }) => Status::Refused,
+        Err(ViewFault::Core(_)) => Status::Refused,
         Err(ViewFault::Read) => Status::Device,
         Err(ViewFault::Write) => Status::Device,
         Err(ViewFault::Memory) => Status::Memory,

@@ -4,16 +4,20 @@ ghost use Rattle.std.specs.Prelude.{◌≡◌, ◌++◌, Ok, Err, IfErr, IfSome,
 ghost use Rattle.std.specs.Io.KnownBytes.{Keeps, Appends};
 ghost use Rattle.rt_journal_read.specs.JournalTexts.{journals_of};
 ghost use Rattle.rt_journal_write.specs.Pages.{AppendsFront};
-ghost use Rattle.fairview_report.specs.Faults.{IfText, IfUnshown, IfUnwritten};
+ghost use Rattle.fairview_report.specs.Faults.{IfCoreless, IfText, IfUnshown, IfUnwritten};
 ghost use Rattle.fairview_report.specs.Texts.{Puts};
-ghost use Rattle.fairview_report.specs.Views.{IsShown, IsViewed, IsCutShort};
+ghost use Rattle.fairview_report.specs.Views.{IsShown, IsViewed, IsCutShort, LacksCore};
+ghost use Rattle.fairview_report.specs.Views as spec;
 
 use crate::fault::ViewFault;
 use crate::poll::put_polls;
 use crate::share::{Form, put_shares};
 use crate::story::put_story;
 use crate::wait::put_waits;
-use rt_ids::JobId;
+use fairview_lag::{put_lag, put_lag_text};
+use fairview_svg::{Cut, put_gantt};
+use fairview_trace::put_trace;
+use rt_ids::{CoreNo, JobId};
 use rt_journal_notes::Assembly;
 use rt_journal_read::read_journal;
 use rt_text::steady::{DeviceFault, flush, write_all};
@@ -31,14 +35,21 @@ pub enum View {
     Story { name: JobId },
     /// A row for each poll.
     Polls,
+    /// The picture of the polls, as SVG. It says which cores and turns are drawn.
+    Gantt { cut: Cut },
+    /// How far each two queues were apart, beside the proved bound. It says whether as text or as a picture.
+    Lag { text: bool },
+    /// The run in the trace event format.
+    Trace,
 }
 
 /// Reads the text of journals, and writes what is asked for of them.
 ///
 /// # Errors
 ///
-/// A faulty line of the text (`Text`), a failed read (`Read`) or write (`Write`), want of memory (`Memory`). Nothing is written
-/// before the whole text is read and all that takes memory is made. After a failed write a first part may be written.
+/// A faulty line of the text (`Text`), a core that is asked for and isn't there (`Core`), a failed read (`Read`) or write (`Write`),
+/// want of memory (`Memory`). Nothing is written before the whole text is read and all that takes memory is made. After a failed write
+/// a first part may be written.
 pub fn view_text<R: Read, W: Write>(
     alloc: Global,
     view: View,
@@ -48,32 +59,73 @@ pub fn view_text<R: Read, W: Write>(
     ensures done { OnOk result (IsViewed view (R.remaining source.old) (W.contents sink.old) (W.contents sink.new)) }
     ensures faulty { IfErr result (IfText (λ fault.
         IfSome (R.remaining source.old) (λ text. journals_of text ≡ Err fault))) }
+    ensures coreless { IfErr result (IfCoreless (λ core. IfSome (R.remaining source.old) (LacksCore view core))) }
     ensures silent { IfErr result (IfUnshown (Keeps (W.contents sink.old) (W.contents sink.new))) }
     ensures unwritten { IfErr result (IfUnwritten (IsCutShort view (R.remaining source.old) (W.contents sink.old) (W.contents sink.new))) }
 {
     let assembly = read_journal(alloc, source)?;
+    if let Some(core) = absent_core(&view, assembly.cores()) {
+        return Err(ViewFault::Core(core));
+    }
     let mut page = String::new(alloc);
-    put_view(alloc, view, &assembly, &mut page)?;
+    put_view(alloc, &view, &assembly, &mut page)?;
     match write_out(page.as_bytes(), sink) {
         Ok(()) => Ok(()),
         Err(_) => Err(ViewFault::Write),
     }
 }
 
+/// The core that is asked for, if so many cores don't have it.
+fn absent_core(view: &View, cores: u8) -> Option<CoreNo>
+    ensures { result ≡ spec.absent_core view.now cores }
+{
+    match *view {
+        View::Gantt { cut } => absent_of(cut.core, cores),
+        _ => None,
+    }
+}
+
+/// A core, if so many cores don't have it.
+fn absent_of(core: Option<CoreNo>, cores: u8) -> Option<CoreNo>
+    ensures { result ≡ spec.absent_of core cores }
+{
+    let core = core?;
+    if core.0 < cores { None } else { Some(core) }
+}
+
 /// Puts what is asked for of these journals.
 fn put_view(
     alloc: Global,
-    view: View,
+    view: &View,
     assembly: &Assembly,
     page: &mut String,
 ) -> Result<(), AllocError>
-    ensures { OnOk result (Puts (IsShown view assembly.now) (string_bytes page.old) (string_bytes page.new)) }
+    ensures { OnOk result (Puts (IsShown view.now assembly.now) (string_bytes page.old) (string_bytes page.new)) }
 {
-    match view {
+    match *view {
         View::Waits { plain } => put_waits(alloc, plain, assembly, page),
         View::Shares { form } => put_shares(alloc, form, assembly, page),
         View::Story { name } => put_story(alloc, &name, assembly, page),
         View::Polls => put_polls(alloc, assembly, page),
+        View::Gantt { cut } => put_gantt(alloc, assembly, &cut, page),
+        View::Lag { text } => put_lags(alloc, text, assembly, page),
+        View::Trace => put_trace(alloc, assembly, page),
+    }
+}
+
+/// Puts how far each two queues were apart, as text or as a picture.
+fn put_lags(
+    alloc: Global,
+    text: bool,
+    assembly: &Assembly,
+    page: &mut String,
+) -> Result<(), AllocError>
+    ensures { OnOk result (string_bytes page.new ≡ string_bytes page.old ++ spec.lag_shown text assembly.now) }
+{
+    if text {
+        put_lag_text(alloc, assembly, page)
+    } else {
+        put_lag(alloc, assembly, page)
     }
 }
 

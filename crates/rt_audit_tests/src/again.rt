@@ -4,7 +4,8 @@ use crate::rows::SOUND;
 use rt_audit::{AuditError, Verdict, audit};
 use rt_ids::ActorNo;
 use rt_journal_notes::Assembly;
-use rt_journal_read::{ReadError, read_journal};
+use rt_journal_read::read_journal;
+use rt_text::Fault;
 use std::alloc::Global;
 
 /// How often a call is made at most.
@@ -16,7 +17,7 @@ fn read(alloc: Global, text: &str) -> Option<Assembly> {
         let mut source = text.as_bytes();
         match read_journal(alloc, &mut source) {
             Ok(journals) => return Some(journals),
-            Err(ReadError::Memory) => {}
+            Err(Fault::Memory) => {}
             Err(_) => return None,
         }
     }

@@ -3,4 +3,3 @@ pub mod Raised
 pub mod Drafts
 pub mod JournalTexts
 pub mod Laws
-pub mod Taking

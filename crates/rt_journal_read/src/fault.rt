@@ -1,9 +1,8 @@
 //! What can be wrong with the text of journals.
 
-ghost use Rattle.std.specs.Prelude.{◌≡◌};
 ghost use Rattle.rt_journal_read.specs.Faults.{cause_text};
 
-use std::alloc::{AllocError, AllocFailed};
+use rt_text::CauseWords;
 
 /// What is wrong with a line. Of several causes the first in this order is told.
 #[derive(Clone, Copy, PartialEq, Eq, Debug)]
@@ -26,11 +25,10 @@ pub enum JournalCause {
     AfterEnd,
 }
 
-impl JournalCause {
-    /// The words that are printed of it.
-    pub fn words(self) -> &'static str
-        ensures { result.now ≡ cause_text self }
-    {
+impl CauseWords for JournalCause {
+    ghost cause_words = { cause_text };
+
+    fn words(&self) -> &'static str {
         match self {
             JournalCause::Cut => "cut",
             JournalCause::Header => "header",
@@ -41,36 +39,5 @@ impl JournalCause {
             JournalCause::EndMissing => "end missing",
             JournalCause::AfterEnd => "after end",
         }
-    }
-}
-
-/// Why no journals are read.
-#[derive(Clone, Copy, PartialEq, Eq, Debug)]
-pub enum ReadError {
-    /// A line of the text, by its number from 1, is faulty.
-    Text { line: u32, cause: JournalCause },
-    /// The text couldn't be read.
-    Read,
-    /// There is no memory.
-    Memory,
-}
-
-impl From<AllocError> for ReadError {
-    ghost use Rattle.rt_journal_read.specs.declared.fault.ReadError.TheVariants.{Memory};
-
-    ghost from_gives = { λ _ error. error ≡ Memory };
-
-    fn from(_error: AllocError) -> ReadError {
-        ReadError::Memory
-    }
-}
-
-impl<T: Drop> From<AllocFailed<T>> for ReadError {
-    ghost use Rattle.rt_journal_read.specs.declared.fault.ReadError.TheVariants.{Memory};
-
-    ghost from_gives = { λ _ error. error ≡ Memory };
-
-    fn from(_failed: AllocFailed<T>) -> ReadError {
-        ReadError::Memory
     }
 }

@@ -7,5 +7,5 @@ pub mod laws;
 mod reader;
 pub mod source;
 
-pub use fault::{JournalCause, ReadError};
+pub use fault::JournalCause;
 pub use source::read_journal;

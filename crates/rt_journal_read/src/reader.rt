@@ -4,7 +4,8 @@ use crate::draft::{Draft, Part};
 use crate::fault::JournalCause;
 use rt_journal_notes::Assembly;
 use rt_lines::fault::stopped;
-use rt_lines::{LineDraft, LineFault, Stop};
+use rt_lines::{LineDraft, Stop};
+use rt_text::Fault;
 
 impl LineDraft for Draft {
     type Cause = JournalCause;
@@ -41,9 +42,9 @@ impl LineDraft for Draft {
         }
     }
 
-    fn finish(self, number: u32, rest: &[u8]) -> Result<Assembly, LineFault<JournalCause>> {
+    fn finish(self, number: u32, rest: &[u8]) -> Result<Assembly, Fault<JournalCause>> {
         if !rest.is_empty() {
-            return Err(LineFault::Text {
+            return Err(Fault::Text {
                 line: number,
                 cause: JournalCause::Cut,
             });
@@ -59,7 +60,7 @@ impl LineDraft for Draft {
                 };
             }
         };
-        Err(LineFault::Text {
+        Err(Fault::Text {
             line: number,
             cause,
         })

@@ -3,4 +3,4 @@
 
 pub mod write;
 
-pub use write::{WriteError, write_journal};
+pub use write::write_journal;

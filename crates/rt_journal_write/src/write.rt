@@ -1,129 +1,140 @@
 //! Writes the text of all journals.
 
-ghost use Rattle.std.specs.Prelude.{◌≡◌, ◌++◌, [], codes, OnOk, OnErr};
+ghost use Rattle.std.specs.Prelude.{◌≡◌, ◌++◌, [], codes, IfErr, OnOk, OnErr, string_bytes};
 ghost use Rattle.std.specs.Io.KnownBytes.{Appends};
 ghost use Rattle.rt_ids.specs.Spelled.{IsSpelled};
+ghost use Rattle.rt_sink.specs.Tries.{HasJustFailed};
+ghost use Rattle.rt_text.specs.Faults.{IfUnread, IfUnwritten};
 ghost use Rattle.rt_text.specs.Notes.{note_line};
 ghost use Rattle.rt_journal_write.specs.Pages.{Puts, AppendsFront};
 ghost use Rattle.rt_journal_write.specs.Texts as spec;
 
-use arrayvec::ArrayVec;
 use rt_ids::{ActorNo, Note};
 use rt_journal_notes::{Assembly, Journal};
 use rt_sink::{Sink, write_all};
-use rt_text::NoteLine;
-use std::io::Write;
+use rt_text::{Fault, NoteLine};
+use std::alloc::{AllocError, Global};
 
-/// The bytes of a page.
-const PAGE: usize = 16384;
+/// A page of this many bytes is full, and is written.
+const FULL: usize = 16384;
 
-/// A page of this many bytes is full. A line has at most 128, so the next one still has room on a page that isn't.
-const FULL: usize = 16128;
+/// A line has at most 128 bytes with its line feed, so a page grows no further than this behind a full one.
+const LONGEST_LINE: usize = 128;
 
-/// The writer failed.
-#[derive(Clone, Copy, PartialEq, Eq, Debug)]
-pub struct WriteError;
-
-/// Text that waits to be written.
-type Page = ArrayVec<u8, PAGE>;
-
-/// Writes the text of the journals, a page at a time. After a fault a first part of the text is written.
-pub fn write_journal<S: Sink>(assembly: &Assembly, sink: &mut S) -> Result<(), WriteError>
+/// Writes the text of the journals, a page at a time. No text is read here, so the caller chooses the causes `C` of its own fault.
+///
+/// # Errors
+///
+/// Want of memory for the page (`Memory`), a failed write or 1000 interrupted ones in a row (`Write`). A prefix of the text may be
+/// written. Nothing is tried behind a failed write.
+pub fn write_journal<C, S: Sink>(
+    alloc: Global,
+    assembly: &Assembly,
+    sink: &mut S,
+) -> Result<(), Fault<C>>
     requires { IsSpelled assembly.now }
     ensures ok { OnOk result (Appends (S.contents sink.old) (S.contents sink.new) (spec.journal_text assembly.now)) }
     ensures err { OnErr result (AppendsFront (S.contents sink.old) (S.contents sink.new) (spec.journal_text assembly.now)) }
+    ensures device { IfErr result (IfUnread ⊥) }
+    ensures failed { IfErr result (IfUnwritten (HasJustFailed S.tries S.interrupts S.fails sink.new)) }
 {
-    let mut page = Page::new();
+    let mut page = String::with_capacity(alloc, FULL + LONGEST_LINE)?;
     put_head(assembly, &mut page)?;
-    put_journals(assembly, &mut page, sink)?;
+    put_journals::<C, S>(assembly, &mut page, sink)?;
     put_end(&mut page)?;
     write_page(&mut page, sink)
 }
 
 /// Puts the first two lines.
-fn put_head(assembly: &Assembly, page: &mut Page) -> Result<(), WriteError>
-    ensures { OnOk result (page.new.items ≡ page.old.items ++ spec.head_text assembly.now) }
+fn put_head(assembly: &Assembly, page: &mut String) -> Result<(), AllocError>
+    ensures { OnOk result (string_bytes page.new ≡ string_bytes page.old ++ spec.head_text assembly.now) }
 {
     let cores = assembly.cores();
     let cap = assembly.cap();
     match writeln!(page, "journal 1\ncores {cores} cap {cap}") {
         Ok(()) => Ok(()),
-        Err(_) => Err(WriteError),
+        Err(_) => Err(AllocError),
     }
 }
 
 /// Puts the last line.
-fn put_end(page: &mut Page) -> Result<(), WriteError>
-    ensures { OnOk result (page.new.items ≡ page.old.items ++ (spec.end_line ++ codes "\n")) }
+fn put_end(page: &mut String) -> Result<(), AllocError>
+    ensures { OnOk result (string_bytes page.new ≡ string_bytes page.old ++ (spec.end_line ++ codes "\n")) }
 {
     match writeln!(page, "end") {
         Ok(()) => Ok(()),
-        Err(_) => Err(WriteError),
+        Err(_) => Err(AllocError),
     }
 }
 
 /// Puts the notes of all actors, actor after actor.
-fn put_journals<S: Sink>(
+fn put_journals<C, S: Sink>(
     assembly: &Assembly,
-    page: &mut Page,
+    page: &mut String,
     sink: &mut S,
-) -> Result<(), WriteError>
+) -> Result<(), Fault<C>>
     requires { IsSpelled assembly.now }
-    ensures ok { OnOk result (Puts page.old.items page.new.items (S.contents sink.old) (S.contents sink.new)
+    ensures ok { OnOk result (Puts (string_bytes page.old) (string_bytes page.new) (S.contents sink.old) (S.contents sink.new)
         (spec.text_of (spec.journal_lines 0 assembly.now.journals))) }
     ensures err { OnErr result (AppendsFront (S.contents sink.old) (S.contents sink.new)
-        (page.old.items ++ spec.text_of (spec.journal_lines 0 assembly.now.journals))) }
+        (string_bytes page.old ++ spec.text_of (spec.journal_lines 0 assembly.now.journals))) }
+    ensures device { IfErr result (IfUnread ⊥) }
+    ensures failed { IfErr result (IfUnwritten (HasJustFailed S.tries S.interrupts S.fails sink.new)) }
 {
     for actor in 0..assembly.cores() + 1 {
         let actor = ActorNo(actor);
-        put_notes(actor, assembly.journal(actor), page, sink)?;
+        put_notes::<C, S>(actor, assembly.journal(actor), page, sink)?;
     }
     Ok(())
 }
 
 /// Puts the notes of one actor, the oldest first.
-fn put_notes<S: Sink>(
+fn put_notes<C, S: Sink>(
     actor: ActorNo,
     journal: &Journal<u64>,
-    page: &mut Page,
+    page: &mut String,
     sink: &mut S,
-) -> Result<(), WriteError>
-    ensures ok { OnOk result (Puts page.old.items page.new.items (S.contents sink.old) (S.contents sink.new)
+) -> Result<(), Fault<C>>
+    ensures ok { OnOk result (Puts (string_bytes page.old) (string_bytes page.new) (S.contents sink.old) (S.contents sink.new)
         (spec.text_of (spec.actor_lines actor journal.now.notes))) }
     ensures err { OnErr result (AppendsFront (S.contents sink.old) (S.contents sink.new)
-        (page.old.items ++ spec.text_of (spec.actor_lines actor journal.now.notes))) }
+        (string_bytes page.old ++ spec.text_of (spec.actor_lines actor journal.now.notes))) }
+    ensures device { IfErr result (IfUnread ⊥) }
+    ensures failed { IfErr result (IfUnwritten (HasJustFailed S.tries S.interrupts S.fails sink.new)) }
 {
     for note in journal.as_slice() {
         put_note(actor, *note, page)?;
         if page.len() >= FULL {
-            write_page(page, sink)?;
+            write_page::<C, S>(page, sink)?;
         }
     }
     Ok(())
 }
 
 /// Puts one note.
-fn put_note(actor: ActorNo, note: Note<u64>, page: &mut Page) -> Result<(), WriteError>
-    ensures { OnOk result (page.new.items ≡ page.old.items ++ (note_line actor note ++ codes "\n")) }
+fn put_note(actor: ActorNo, note: Note<u64>, page: &mut String) -> Result<(), AllocError>
+    ensures { OnOk result (string_bytes page.new ≡ string_bytes page.old ++ (note_line actor note ++ codes "\n")) }
 {
     let line = NoteLine(actor, note);
     match writeln!(page, "{line}") {
         Ok(()) => Ok(()),
-        Err(_) => Err(WriteError),
+        Err(_) => Err(AllocError),
     }
 }
 
 /// Writes the page, and empties it.
-fn write_page<S: Sink>(page: &mut Page, sink: &mut S) -> Result<(), WriteError>
-    ensures ok { OnOk result (Appends (S.contents sink.old) (S.contents sink.new) page.old.items) }
-    ensures empty { OnOk result (page.new.items ≡ []) }
-    ensures err { OnErr result (AppendsFront (S.contents sink.old) (S.contents sink.new) page.old.items) }
+fn write_page<C, S: Sink>(page: &mut String, sink: &mut S) -> Result<(), Fault<C>>
+    ensures ok { OnOk result (Appends (S.contents sink.old) (S.contents sink.new) (string_bytes page.old)) }
+    ensures empty { OnOk result (string_bytes page.new ≡ []) }
+    ensures err { OnErr result (AppendsFront (S.contents sink.old) (S.contents sink.new) (string_bytes page.old)) }
+    ensures device { IfErr result (IfUnread ⊥) }
+    ensures failed { OnErr result (HasJustFailed S.tries S.interrupts S.fails sink.new) }
 {
-    match write_all(sink, page.as_slice()) {
+    match write_all(sink, page.as_bytes()) {
         Ok(()) => {
             page.clear();
             Ok(())
         }
-        Err(_) => Err(WriteError),
+        Err(_) => Err(Fault::Write),
     }
 }

@@ -2,8 +2,8 @@
 use Rattle.std.proofs.Common.{ℕ, ◌≤◌, List, [], ◌∷◌, ◌++◌, length, Option, refl, subst}
 use Rattle.std.proofs.KnownBytes.{Consumes-trans}
 use Rattle.std.specs.Io.KnownBytes.{Consumes}
-use Rattle.rt_lines.specs.declared.fault.LineFault.{LineFault}
-use Rattle.rt_lines.specs.declared.fault.LineFault.TheVariants.{Text, Read, Memory}
+use Rattle.rt_text.specs.declared.fault.Fault.{Fault}
+use Rattle.rt_text.specs.declared.fault.Fault.TheVariants.{Text, Read, Write, Memory}
 use Rattle.rt_lines.specs.Faults.{IfFaulty}
 use Rattle.rt_lines.specs.Readings.{at}
 use Rattle.rt_lines.specs.Texts.{Judge, Reading}
@@ -18,7 +18,7 @@ module _ {D C : Type 0} (judge : Judge D C) where
   takes_more xs byte a b c first second = takes_append xs (byte ∷ []) a b c first (c, second, refl)
 
   -- a fault is told at once, where what was read before it is faultless and it ends in at most a page more
-  pub fault_is_prompt : (draft : D) (old between new : Option (List ℕ)) (before last : List ℕ) (reading : Reading D) (fact : ℕ × C → Type 0) (fault : LineFault C) →
+  pub fault_is_prompt : (draft : D) (old between new : Option (List ℕ)) (before last : List ℕ) (reading : Reading D) (fact : ℕ × C → Type 0) (fault : Fault C) →
       Consumes old between before → Consumes between new last → length last ≤ 8192 → TakesAll judge before (at draft 1 []) reading → IfFaulty fact fault → IsPrompt judge draft old new fault
   fault_is_prompt draft old between new before last reading fact (Text line cause) first second short takes faulty = record {
     before = before;
@@ -28,4 +28,5 @@ module _ {D C : Type 0} (judge : Judge D C) where
     faultless = record { reading = reading; takes = takes };
   }
   fault_is_prompt draft old between new before last reading fact Read first second short takes faulty = elim faulty [ ]
+  fault_is_prompt draft old between new before last reading fact Write first second short takes faulty = elim faulty [ ]
   fault_is_prompt draft old between new before last reading fact Memory first second short takes faulty = tt

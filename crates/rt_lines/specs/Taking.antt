@@ -1,8 +1,8 @@
 -- A text so far, as long as nothing in it is faulty.
 use Rattle.std.specs.Prelude.{◌≡◌, ◌≢◌, ◌⊎◌, ℕ, ◌+◌, ◌<◌, ◌≤◌, ◌++◌, List, [], ◌∷◌, length, Option, Ok, Err}
 use Rattle.std.specs.Io.KnownBytes.{Consumes}
-use Rattle.rt_lines.specs.declared.fault.LineFault.{LineFault}
-use Rattle.rt_lines.specs.declared.fault.LineFault.TheVariants.{Text, Read, Memory}
+use Rattle.rt_text.specs.declared.fault.Fault.{Fault}
+use Rattle.rt_text.specs.declared.fault.Fault.TheVariants.{Text, Read, Write, Memory}
 use Rattle.rt_lines.specs.Texts.{Judge, Reading}
 use Rattle.rt_lines.specs.Readings.{at}
 use Rattle.rt_lines.specs.Sources.{ReadsSome}
@@ -47,12 +47,12 @@ pub record IsToldAtOnce {D C : Type 0} (judge : Judge D C) (draft : D) (old new 
   pub faultless : IsFaultless judge draft before
 
 -- what was read before the last read is faultless: nothing was read on
-pub record IsToldByRead {D C S : Type 0} (judge : Judge D C) (draft : D) (remaining : S → Option (List ℕ)) (reads : S → List ℕ → S → Type 0) (interrupts : S → S → Type 0) (old new : S) : Type 0 where
+pub record IsToldByRead {D C S : Type 0} (judge : Judge D C) (draft : D) (remaining : S → Option (List ℕ)) (tries : S → Option ℕ) (reads : S → List ℕ → S → Type 0) (interrupts : S → S → Type 0) (old new : S) : Type 0 where
   pub between : S
   pub before : List ℕ
   pub last : List ℕ
   pub consumed : Consumes (remaining old) (remaining between) before
-  pub reads_last : ReadsSome reads interrupts between last new
+  pub reads_last : ReadsSome tries reads interrupts between last new
   pub faultless : IsFaultless judge draft before
 
 -- all that was read is faultless
@@ -62,7 +62,8 @@ pub record IsReadSoFar {D C : Type 0} (judge : Judge D C) (draft : D) (old new :
   pub faultless : IsFaultless judge draft before
 
 -- a faulty line is told before more is read than the page that it ends in; a failed read is told only behind faultless text
-abbrev pub IsPrompt : {D C : Type 0} → Judge D C → D → Option (List ℕ) → Option (List ℕ) → LineFault C → Type 0
+abbrev pub IsPrompt : {D C : Type 0} → Judge D C → D → Option (List ℕ) → Option (List ℕ) → Fault C → Type 0
 IsPrompt judge draft old new (Text line cause) = IsToldAtOnce judge draft old new
 IsPrompt judge draft old new Read = IsReadSoFar judge draft old new
+IsPrompt judge draft old new Write = Unit {0}
 IsPrompt judge draft old new Memory = Unit {0}

@@ -4,7 +4,8 @@ ghost use Rattle.std.specs.Prelude.{ℕ, List, ◌≡◌, ◌≤◌, ◌<◌, �
 ghost use Rattle.rt_lines.specs.Faults.{IfCause, IfFaulty};
 ghost use Rattle.rt_lines.specs.Texts.{Judge};
 
-use crate::fault::{LineFault, Stop};
+use crate::fault::Stop;
+use rt_text::Fault;
 
 /// What the lines of a text become, as far as they are judged.
 ///
@@ -12,7 +13,7 @@ use crate::fault::{LineFault, Stop};
 /// the lines that still may. `makes` tells the whole by the draft that the text ends with.
 pub trait LineDraft: Drop {
     /// What can be wrong with a line.
-    type Cause: Drop;
+    type Cause: Copy;
 
     /// What a text is read as.
     type Whole: Drop;
@@ -46,7 +47,7 @@ pub trait LineDraft: Drop {
             → judge.at_end self.now number line ≡ Err (number, result) };
 
     /// The whole, where the text ends with these bytes behind its last line feed.
-    fn finish(self, number: u32, rest: &[u8]) -> Result<Self::Whole, LineFault<Self::Cause>>
+    fn finish(self, number: u32, rest: &[u8]) -> Result<Self::Whole, Fault<Self::Cause>>
         requires fits { fits number self }
         requires short { length rest.now ≤ judge.longest }
         ensures ok { IfOk result (λ whole. (draft : Self) × (judge.at_end self number rest.now ≡ Ok draft) × makes whole draft) }

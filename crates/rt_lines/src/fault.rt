@@ -1,8 +1,9 @@
-//! Why a line isn't taken, and why no whole text is read.
+//! Why a line isn't taken.
 
 ghost use Rattle.std.specs.Prelude.{◌≡◌};
 ghost use Rattle.rt_lines.specs.Faults as spec;
 
+use rt_text::Fault;
 use std::alloc::{AllocError, AllocFailed};
 
 /// Why a draft doesn't take a line.
@@ -34,23 +35,12 @@ impl<C, T: Drop> From<AllocFailed<T>> for Stop<C> {
     }
 }
 
-/// Why no whole text is read.
-#[derive(Drop)]
-pub enum LineFault<C> {
-    /// A line of the text, by its number from 1, is faulty.
-    Text { line: u32, cause: C },
-    /// The text couldn't be read.
-    Read,
-    /// There is no memory.
-    Memory,
-}
-
 /// The fault of a draft that stops at this line.
-pub fn stopped<C>(line: u32, stop: Stop<C>) -> LineFault<C>
+pub fn stopped<C>(line: u32, stop: Stop<C>) -> Fault<C>
     ensures { result ≡ spec.stopped line stop }
 {
     match stop {
-        Stop::Cause(cause) => LineFault::Text { line, cause },
-        Stop::Memory => LineFault::Memory,
+        Stop::Cause(cause) => Fault::Text { line, cause },
+        Stop::Memory => Fault::Memory,
     }
 }

@@ -8,6 +8,6 @@ mod reader;
 pub mod source;
 
 pub use draft::LineDraft;
-pub use fault::{LineFault, Stop};
+pub use fault::Stop;
 pub use lines::{read_lines, read_text};
-pub use source::{Once, Source, TextSource};
+pub use source::{Source, TextSource};

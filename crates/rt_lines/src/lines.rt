@@ -1,16 +1,16 @@
 //! Reads a whole text.
 
 ghost use Rattle.std.specs.Prelude.{ℕ, List, ◌≡◌, ◌+◌, ◌<◌, ◌^◌, Ok, Err, IfOk, IfErr, IfSome};
-ghost use Rattle.rt_lines.specs.Faults.{IfText, IfRead};
 ghost use Rattle.rt_lines.specs.Readings.{IsLongest};
-ghost use Rattle.rt_lines.specs.Sources.{HasFailed};
 ghost use Rattle.rt_lines.specs.Taking.{IsPrompt, IsToldByRead};
 ghost use Rattle.rt_lines.specs.Texts.{text_judged};
+ghost use Rattle.rt_sink.specs.Tries.{HasFailed};
+ghost use Rattle.rt_text.specs.Faults.{IfText, IfRead, IfUnwritten};
 
 use crate::draft::LineDraft;
-use crate::fault::LineFault;
 use crate::reader::LineReader;
 use crate::source::{Source, TextSource, read_some};
+use rt_text::Fault;
 
 /// The most bytes that are read at once.
 const PAGE: usize = 8192;
@@ -23,7 +23,7 @@ const PAGE: usize = 8192;
 pub fn read_lines<D: LineDraft, S: Source>(
     mut draft: D,
     source: &mut S,
-) -> Result<D::Whole, LineFault<D::Cause>>
+) -> Result<D::Whole, Fault<D::Cause>>
     requires longest { IsLongest D.judge.longest D.LONGEST }
     requires fits { D.fits 1 draft }
     requires few { 1 + D.lines_left 1 draft < 2 ^ 32 }
@@ -33,14 +33,15 @@ pub fn read_lines<D: LineDraft, S: Source>(
         IfSome (S.remaining source.old) (λ text. text_judged D.judge draft text ≡ Err fault))) }
     ensures prompt { IfErr result (IsPrompt D.judge draft (S.remaining source.old) (S.remaining source.new)) }
     ensures at_once { IfErr result (IfText (λ fault.
-        IsToldByRead D.judge draft S.remaining S.reads S.interrupts source.old source.new)) }
-    ensures failed { IfErr result (IfRead ((from : S) × HasFailed S.interrupts S.fails from source.new)) }
+        IsToldByRead D.judge draft S.remaining S.tries S.reads S.interrupts source.old source.new)) }
+    ensures device { IfErr result (IfUnwritten ⊥) }
+    ensures failed { IfErr result (IfRead ((from : S) × HasFailed S.tries S.interrupts S.fails from source.new)) }
 {
     let mut page = [0u8; PAGE];
     let mut reader = LineReader::new();
     loop {
         let Ok(count) = read_some(source, &mut page) else {
-            return Err(LineFault::Read);
+            return Err(Fault::Read);
         };
         if count == 0 {
             return reader.finish(draft);
@@ -56,12 +57,13 @@ pub fn read_lines<D: LineDraft, S: Source>(
 /// # Errors
 ///
 /// The first faulty line and its cause (`Text`), want of memory (`Memory`).
-pub fn read_text<D: LineDraft>(draft: D, text: &[u8]) -> Result<D::Whole, LineFault<D::Cause>>
+pub fn read_text<D: LineDraft>(draft: D, text: &[u8]) -> Result<D::Whole, Fault<D::Cause>>
     requires longest { IsLongest D.judge.longest D.LONGEST }
     requires fits { D.fits 1 draft }
     requires few { 1 + D.lines_left 1 draft < 2 ^ 32 }
     ensures ok { IfOk result (λ whole. (last : D) × (text_judged D.judge draft text.now ≡ Ok last) × D.makes whole last) }
     ensures faulty { IfErr result (IfText (λ fault. text_judged D.judge draft text.now ≡ Err fault)) }
+    ensures device { IfErr result (IfUnwritten ⊥) }
     ensures unread { IfErr result (IfRead ⊥) }
 {
     read_lines(draft, &mut TextSource::of(text))

@@ -8,8 +8,9 @@ ghost use Rattle.rt_lines.specs.Taking.{IsTaken, IsRefused, TakesByte, TakesAll}
 ghost use Rattle.rt_lines.specs.Texts.{text_from};
 
 use crate::draft::LineDraft;
-use crate::fault::{LineFault, stopped};
+use crate::fault::stopped;
 use arrayvec::ArrayVec;
+use rt_text::Fault;
 
 /// What ends a line.
 const LINE_FEED: u8 = b'\n';
@@ -41,7 +42,7 @@ impl LineReader {
         &mut self,
         draft: &mut D,
         bytes: &[u8],
-    ) -> Result<(), LineFault<D::Cause>>
+    ) -> Result<(), Fault<D::Cause>>
         requires longest { IsLongest D.judge.longest D.LONGEST }
         requires ready { IsReady D.judge.longest D.fits D.lines_left (at draft.old self.old.number self.old.line.items) }
         ensures ready { OnOk result (IsReady D.judge.longest D.fits D.lines_left (at draft.new self.new.number self.new.line.items)) }
@@ -63,11 +64,7 @@ impl LineReader {
     }
 
     /// Takes one byte of the text.
-    fn take_byte<D: LineDraft>(
-        &mut self,
-        draft: &mut D,
-        byte: u8,
-    ) -> Result<(), LineFault<D::Cause>>
+    fn take_byte<D: LineDraft>(&mut self, draft: &mut D, byte: u8) -> Result<(), Fault<D::Cause>>
         requires longest { IsLongest D.judge.longest D.LONGEST }
         requires ready { IsReady D.judge.longest D.fits D.lines_left (at draft.old self.old.number self.old.line.items) }
         ensures ready { OnOk result (IsReady D.judge.longest D.fits D.lines_left (at draft.new self.new.number self.new.line.items)) }
@@ -86,7 +83,7 @@ impl LineReader {
             return self.end_line(draft);
         }
         if self.line.len() >= D::LONGEST {
-            return Err(LineFault::Text {
+            return Err(Fault::Text {
                 line: self.number,
                 cause: draft.too_long(self.number),
             });
@@ -96,7 +93,7 @@ impl LineReader {
     }
 
     /// Judges the line that is read, and begins the next one.
-    fn end_line<D: LineDraft>(&mut self, draft: &mut D) -> Result<(), LineFault<D::Cause>>
+    fn end_line<D: LineDraft>(&mut self, draft: &mut D) -> Result<(), Fault<D::Cause>>
         requires longest { IsLongest D.judge.longest D.LONGEST }
         requires ready { IsReady D.judge.longest D.fits D.lines_left (at draft.old self.old.number self.old.line.items) }
         ensures ready { OnOk result (IsReady D.judge.longest D.fits D.lines_left (at draft.new self.new.number self.new.line.items)) }
@@ -117,7 +114,7 @@ impl LineReader {
     }
 
     /// The whole, where the text ends here.
-    pub(crate) fn finish<D: LineDraft>(&self, draft: D) -> Result<D::Whole, LineFault<D::Cause>>
+    pub(crate) fn finish<D: LineDraft>(&self, draft: D) -> Result<D::Whole, Fault<D::Cause>>
         requires longest { IsLongest D.judge.longest D.LONGEST }
         requires ready { IsReady D.judge.longest D.fits D.lines_left (at draft self.now.number self.now.line.items) }
         ensures ok { IfOk result (λ whole. (last : D)

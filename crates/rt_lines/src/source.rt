@@ -1,32 +1,21 @@
 //! What a text is read from.
 
-ghost use Rattle.std.specs.Prelude.{ℕ, List, Option, ◌≡◌, ◌≤◌, ◌<◌, IfOk, OnErr, length, take};
+ghost use Rattle.std.specs.Prelude.{ℕ, List, Option, None, ◌≡◌, ◌≤◌, ◌<◌, IfOk, OnErr, length, take};
 ghost use Rattle.std.specs.Io.KnownBytes.{Consumes, Keeps, IsAtEnd};
-ghost use Rattle.rt_lines.specs.Sources.{IfCount, IfNoCount, IfInterrupted, IfFailed, ReadsSome, HasFailed};
+ghost use Rattle.rt_lines.specs.Sources.{ReadsSome};
+ghost use Rattle.rt_sink.specs.Tries.{IfMade, IfNotMade, IfInterrupted, IfFailed, IsOneMore, HasFailed};
 
-use rt_text::steady::DeviceFault;
+use rt_sink::{DeviceFault, MOST_INTERRUPTIONS, Once};
 use std::io::{ErrorKind, Read};
-
-/// This many interruptions in a row are a fault.
-const MOST_INTERRUPTIONS: u32 = 1000;
-
-/// What became of one read.
-#[derive(Clone, Copy)]
-pub enum Once {
-    /// It gave so many bytes. None are the end of the input.
-    Count(usize),
-    /// A signal interrupted it.
-    Interrupted,
-    /// It failed.
-    Failed,
-}
 
 /// What a text is read from. A contract sees the bytes that are left, if they are known, and what one read may do.
 ///
-/// `reads` says that a read that gives these bytes leads from one state to another. `interrupts` and `fails` say the same of a read that is
-/// interrupted, and of one that fails.
+/// `tries` is how many reads were tried, if the source counts them. `reads` says that a read that gives these bytes leads from one state to
+/// another. `interrupts` and `fails` say the same of a read that is interrupted, and of one that fails.
 pub trait Source {
     ghost remaining: { Self → Option (List ℕ) };
+
+    ghost tries: { Self → Option ℕ };
 
     ghost reads: { Self → List ℕ → Self → Type 0 };
 
@@ -34,16 +23,17 @@ pub trait Source {
 
     ghost fails: { Self → Self → Type 0 };
 
-    /// One read of what comes next, at most as much as there is room for.
-    fn read_once(&mut self, room: &mut [u8]) -> Once
+    /// One read of what comes next, at most as much as there is room for. None are the end of the input, if there is room.
+    fn read_once(&mut self, room: &mut [u8]) -> Once<usize>
         ensures room { length room.new ≡ length room.old }
-        ensures within { IfCount result (λ count. count ≤ length room.new) }
-        ensures bytes { IfCount result (λ count.
+        ensures within { IfMade result (λ count. count ≤ length room.new) }
+        ensures bytes { IfMade result (λ count.
             Consumes (remaining self.old) (remaining self.new) (take count room.new)) }
-        ensures end { IfCount result (λ count.
+        ensures end { IfMade result (λ count.
             count ≡ 0 → 0 < length room.old → IsAtEnd (remaining self.new)) }
-        ensures kept { IfNoCount result (Keeps (remaining self.old) (remaining self.new)) }
-        ensures gives { IfCount result (λ count. reads self.old (take count room.new) self.new) }
+        ensures tried { IsOneMore (tries self.old) (tries self.new) }
+        ensures kept { IfNotMade result (Keeps (remaining self.old) (remaining self.new)) }
+        ensures gives { IfMade result (λ count. reads self.old (take count room.new) self.new) }
         ensures interrupted { IfInterrupted result (interrupts self.old self.new) }
         ensures failed { IfFailed result (fails self.old self.new) };
 }
@@ -52,15 +42,17 @@ pub trait Source {
 impl<R: Read> Source for R {
     ghost remaining = { R.remaining };
 
+    ghost tries = { λ source. None };
+
     ghost reads = { λ old bytes new. Unit {0} };
 
     ghost interrupts = { λ old new. Unit {0} };
 
     ghost fails = { λ old new. Unit {0} };
 
-    fn read_once(&mut self, room: &mut [u8]) -> Once {
+    fn read_once(&mut self, room: &mut [u8]) -> Once<usize> {
         match self.read(room) {
-            Ok(count) => Once::Count(count),
+            Ok(count) => Once::Made(count),
             Err(error) => {
                 if error.kind() == ErrorKind::Interrupted {
                     Once::Interrupted
@@ -88,9 +80,11 @@ impl<'a> TextSource<'a> {
 }
 
 impl<'a> Source for TextSource<'a> {
-    ghost use Rattle.std.specs.Prelude.{◌≡◌, ◌++◌, Some};
+    ghost use Rattle.std.specs.Prelude.{◌≡◌, ◌++◌, None, Some};
 
     ghost remaining = { λ source. Some source.left.now };
+
+    ghost tries = { λ source. None };
 
     ghost reads = { λ old bytes new. old.left.now ≡ bytes ++ new.left.now };
 
@@ -98,12 +92,12 @@ impl<'a> Source for TextSource<'a> {
 
     ghost fails = { λ old new. ⊥ };
 
-    fn read_once(&mut self, room: &mut [u8]) -> Once {
+    fn read_once(&mut self, room: &mut [u8]) -> Once<usize> {
         let count = self.left.len().min(room.len());
         let (now, later) = self.left.split_at(count);
         room[..count].copy_from_slice(now);
         self.left = later;
-        Once::Count(count)
+        Once::Made(count)
     }
 }
 
@@ -116,13 +110,13 @@ pub(crate) fn read_some<S: Source>(source: &mut S, room: &mut [u8]) -> Result<us
     ensures end { IfOk result (λ count.
         count ≡ 0 → 0 < length room.old → IsAtEnd (S.remaining source.new)) }
     ensures gives { IfOk result (λ count.
-        ReadsSome S.reads S.interrupts source.old (take count room.new) source.new) }
+        ReadsSome S.tries S.reads S.interrupts source.old (take count room.new) source.new) }
     ensures kept { OnErr result (Keeps (S.remaining source.old) (S.remaining source.new)) }
-    ensures failed { OnErr result (HasFailed S.interrupts S.fails source.old source.new) }
+    ensures failed { OnErr result (HasFailed S.tries S.interrupts S.fails source.old source.new) }
 {
     for _i in 0..MOST_INTERRUPTIONS {
         match source.read_once(room) {
-            Once::Count(count) => return Ok(count),
+            Once::Made(count) => return Ok(count),
             Once::Failed => return Err(DeviceFault),
             Once::Interrupted => {}
         }

@@ -1,5 +1,5 @@
 -- What became of reads, writes and flushes that are made again where a signal interrupts them.
-use Rattle.std.specs.Prelude.{◌≡◌, ◌⊎◌, ℕ, zero, suc, ◌<◌}
+use Rattle.std.specs.Prelude.{◌≡◌, ◌⊎◌, ℕ, zero, suc, ◌+◌, ◌<◌, Option, None, Some}
 use Rattle.rt_sink.specs.declared.once.Once.{Once}
 use Rattle.rt_sink.specs.declared.once.Once.TheVariants.{Made, Interrupted, Failed}
 
@@ -27,23 +27,31 @@ IfFailed (Made what) fact = Unit {0}
 IfFailed Interrupted fact = Unit {0}
 IfFailed Failed fact = fact
 
--- so many tries in a row were interrupted, and lead from one state to the other
-abbrev pub AreInterrupted : {S : Type 0} → (S → S → Type 0) → ℕ → S → S → Type 0
-AreInterrupted interrupts zero old new = new ≡ old
-AreInterrupted {S} interrupts (suc more) old new = (between : S) × AreInterrupted interrupts more old between × interrupts between new
+-- one try more is counted, if the device counts its tries
+abbrev pub IsOneMore : Option ℕ → Option ℕ → Type 0
+IsOneMore None new = Unit {0}
+IsOneMore (Some old) None = ⊥
+IsOneMore (Some old) (Some new) = new ≡ old + 1
+
+-- so many tries in a row were interrupted, and lead from one state to the other; each is counted
+abbrev pub AreInterrupted : {S : Type 0} → (S → Option ℕ) → (S → S → Type 0) → ℕ → S → S → Type 0
+AreInterrupted tries interrupts zero old new = new ≡ old
+AreInterrupted {S} tries interrupts (suc more) old new =
+    (between : S) × AreInterrupted tries interrupts more old between × interrupts between new × IsOneMore (tries between) (tries new)
 
 -- fewer than 1000 tries in a row were interrupted, and the one after them failed
-pub record FailsAfter {S : Type 0} (interrupts fails : S → S → Type 0) (old new : S) : Type 0 where
+pub record FailsAfter {S : Type 0} (tries : S → Option ℕ) (interrupts fails : S → S → Type 0) (old new : S) : Type 0 where
   pub count : ℕ
   pub few : count < 1000
   pub between : S
-  pub interrupted : AreInterrupted interrupts count old between
+  pub interrupted : AreInterrupted tries interrupts count old between
   pub failed : fails between new
+  pub counted : IsOneMore (tries between) (tries new)
 
 -- a try failed, or 1000 in a row were interrupted
-abbrev pub HasFailed : {S : Type 0} → (S → S → Type 0) → (S → S → Type 0) → S → S → Type 0
-HasFailed interrupts fails old new = FailsAfter interrupts fails old new ⊎ AreInterrupted interrupts 1000 old new
+abbrev pub HasFailed : {S : Type 0} → (S → Option ℕ) → (S → S → Type 0) → (S → S → Type 0) → S → S → Type 0
+HasFailed tries interrupts fails old new = FailsAfter tries interrupts fails old new ⊎ AreInterrupted tries interrupts 1000 old new
 
 -- the device has just failed, and nothing was tried behind that
-abbrev pub HasJustFailed : {S : Type 0} → (S → S → Type 0) → (S → S → Type 0) → S → Type 0
-HasJustFailed {S} interrupts fails new = (from : S) × HasFailed interrupts fails from new
+abbrev pub HasJustFailed : {S : Type 0} → (S → Option ℕ) → (S → S → Type 0) → (S → S → Type 0) → S → Type 0
+HasJustFailed {S} tries interrupts fails new = (from : S) × HasFailed tries interrupts fails from new

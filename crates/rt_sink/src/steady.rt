@@ -12,7 +12,7 @@ pub fn write_all<S: Sink>(sink: &mut S, bytes: &[u8]) -> Result<(), DeviceFault>
     ensures ok { OnOk result (Appends (S.contents sink.old) (S.contents sink.new) bytes.now) }
     ensures err { OnErr result ((count : ℕ) × (count < length bytes.now)
         × Appends (S.contents sink.old) (S.contents sink.new) (take count bytes.now)) }
-    ensures failed { OnErr result (HasJustFailed S.interrupts S.fails sink.new) }
+    ensures failed { OnErr result (HasJustFailed S.tries S.interrupts S.fails sink.new) }
 {
     let mut written = 0;
     while written < bytes.len() {
@@ -29,7 +29,7 @@ fn write_some<S: Sink>(sink: &mut S, bytes: &[u8]) -> Result<usize, DeviceFault>
     ensures bytes { IfOk result (λ count.
         Appends (S.contents sink.old) (S.contents sink.new) (take count bytes.now)) }
     ensures err { OnErr result (Keeps (S.contents sink.old) (S.contents sink.new)) }
-    ensures failed { OnErr result (HasFailed S.interrupts S.fails sink.old sink.new) }
+    ensures failed { OnErr result (HasFailed S.tries S.interrupts S.fails sink.old sink.new) }
 {
     for _i in 0..MOST_INTERRUPTIONS {
         match sink.write_once(bytes) {
@@ -44,7 +44,7 @@ fn write_some<S: Sink>(sink: &mut S, bytes: &[u8]) -> Result<usize, DeviceFault>
 /// Tells the writer that no more comes.
 pub fn flush<S: Sink>(sink: &mut S) -> Result<(), DeviceFault>
     ensures kept { Keeps (S.contents sink.old) (S.contents sink.new) }
-    ensures failed { OnErr result (HasFailed S.interrupts S.fails sink.old sink.new) }
+    ensures failed { OnErr result (HasFailed S.tries S.interrupts S.fails sink.old sink.new) }
 {
     for _i in 0..MOST_INTERRUPTIONS {
         match sink.flush_once() {

@@ -1,4 +1,5 @@
 pub mod Notes
 pub mod Replies
+pub mod Causes
 pub mod Faults
 pub mod Statuses

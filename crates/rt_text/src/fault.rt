@@ -1,7 +1,7 @@
 //! What can be wrong with a text, and with a run.
 
-ghost use Rattle.std.specs.Prelude.{◌≡◌, Some};
-ghost use Rattle.rt_text.specs.Faults.{cause_text, fault_text};
+ghost use Rattle.std.specs.Prelude.{ℕ, List, ◌≡◌, Some};
+ghost use Rattle.rt_text.specs.Causes.{cause_text};
 
 use std::alloc::{AllocError, AllocFailed};
 use std::fmt;
@@ -29,11 +29,10 @@ pub enum Cause {
     TooManyQueues,
 }
 
-impl Cause {
-    /// The words that are printed of it.
-    pub fn words(self) -> &'static str
-        ensures { result.now ≡ cause_text self }
-    {
+impl CauseWords for Cause {
+    ghost cause_words = { cause_text };
+
+    fn words(&self) -> &'static str {
         match self {
             Cause::TooManyLines => "too many lines",
             Cause::LineTooLong => "line too long",
@@ -48,11 +47,20 @@ impl Cause {
     }
 }
 
-/// Why an engine stops.
+/// What can be wrong with a line of a text of some kind.
+pub trait CauseWords {
+    ghost cause_words: { Self → List ℕ };
+
+    /// The words that are printed of it.
+    fn words(&self) -> &'static str
+        ensures { result.now ≡ cause_words self.now };
+}
+
+/// Why a call that reads a text and writes another stops.
 #[derive(Clone, Copy, PartialEq, Eq)]
-pub enum EngineFault {
+pub enum Fault<C> {
     /// A line of the text, by its number from 1, is faulty.
-    Text { line: u32, cause: Cause },
+    Text { line: u32, cause: C },
     /// The text couldn't be read.
     Read,
     /// The output couldn't be written.
@@ -62,38 +70,40 @@ pub enum EngineFault {
 }
 
 /// What is printed of a fault.
-impl fmt::Display for EngineFault {
-    ghost output = { λ fault. Some (fault_text fault) };
+impl<C: CauseWords> fmt::Display for Fault<C> {
+    ghost use Rattle.rt_text.specs.Faults.{fault_text};
+
+    ghost output = { λ fault. Some (fault_text C.cause_words fault) };
 
     fn fmt<W: fmt::Write>(&self, f: &mut fmt::Formatter<W>) -> fmt::Result {
         match self {
-            EngineFault::Text { line, cause } => {
+            Fault::Text { line, cause } => {
                 let words = cause.words();
                 write!(f, "line {line}: {words}")
             }
-            EngineFault::Read => f.write_str("read failed"),
-            EngineFault::Write => f.write_str("write failed"),
-            EngineFault::Memory => f.write_str("out of memory"),
+            Fault::Read => f.write_str("read failed"),
+            Fault::Write => f.write_str("write failed"),
+            Fault::Memory => f.write_str("out of memory"),
         }
     }
 }
 
-impl From<AllocError> for EngineFault {
-    ghost use Rattle.rt_text.specs.declared.fault.EngineFault.TheVariants.{Memory};
+impl<C> From<AllocError> for Fault<C> {
+    ghost use Rattle.rt_text.specs.declared.fault.Fault.TheVariants.{Memory};
 
-    ghost from_gives = { λ _ engine. engine ≡ Memory };
+    ghost from_gives = { λ _ fault. fault ≡ Memory };
 
-    fn from(_error: AllocError) -> EngineFault {
-        EngineFault::Memory
+    fn from(_error: AllocError) -> Fault<C> {
+        Fault::Memory
     }
 }
 
-impl<T: Drop> From<AllocFailed<T>> for EngineFault {
-    ghost use Rattle.rt_text.specs.declared.fault.EngineFault.TheVariants.{Memory};
+impl<C, T: Drop> From<AllocFailed<T>> for Fault<C> {
+    ghost use Rattle.rt_text.specs.declared.fault.Fault.TheVariants.{Memory};
 
-    ghost from_gives = { λ _ engine. engine ≡ Memory };
+    ghost from_gives = { λ _ fault. fault ≡ Memory };
 
-    fn from(_failed: AllocFailed<T>) -> EngineFault {
-        EngineFault::Memory
+    fn from(_failed: AllocFailed<T>) -> Fault<C> {
+        Fault::Memory
     }
 }

@@ -11,7 +11,7 @@ pub mod status;
 pub mod steady;
 pub mod word;
 
-pub use fault::{Cause, EngineFault};
+pub use fault::{Cause, CauseWords, Fault};
 pub use note::NoteLine;
 pub use reply::{Ends, Quiet, ReplyLine};
 pub use status::Status;

@@ -3,7 +3,7 @@
 ghost use Rattle.std.specs.Prelude.{◌≡◌};
 ghost use Rattle.rt_text.specs.Statuses as spec;
 
-use crate::fault::EngineFault;
+use crate::fault::Fault;
 
 /// How a call of the program ends.
 #[derive(Clone, Copy, PartialEq, Eq)]
@@ -21,17 +21,26 @@ pub enum Status {
 }
 
 impl Status {
-    /// The status that an engine's answer is.
-    pub fn of(answer: &Result<bool, EngineFault>) -> Status
+    /// The status of an answer, which is false if what was asked for was judged and has a fault.
+    pub fn of<C>(answer: &Result<bool, Fault<C>>) -> Status
         ensures { result ≡ spec.status_of answer.now }
     {
         match answer {
             Ok(true) => Status::Done,
             Ok(false) => Status::FaultFound,
-            Err(EngineFault::Text { .. }) => Status::Refused,
-            Err(EngineFault::Read) => Status::Device,
-            Err(EngineFault::Write) => Status::Device,
-            Err(EngineFault::Memory) => Status::Memory,
+            Err(fault) => Status::of_fault(fault),
+        }
+    }
+
+    /// The status of a fault.
+    pub fn of_fault<C>(fault: &Fault<C>) -> Status
+        ensures { result ≡ spec.fault_status fault.now }
+    {
+        match fault {
+            Fault::Text { .. } => Status::Refused,
+            Fault::Read => Status::Device,
+            Fault::Write => Status::Device,
+            Fault::Memory => Status::Memory,
         }
     }
 

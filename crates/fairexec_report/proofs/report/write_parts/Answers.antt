@@ -1,7 +1,6 @@
 use Rattle.std.proofs.Common.{◌++◌}
 use Rattle.rt_journal_write.proofs.PageLemmas.{OnErr-any}
 use Rattle.rt_sink.proofs.KnownLemmas.{Appends-more_kept}
-use Rattle.fairexec_report.specs.Writing.{journal_if}
 use Rattle.fairexec_report.proofs.AuditLemmas.{OnOk-any, front_of_count, front_of_all, failed_now}
 use Rattle.fairexec_report.proofs.ReportLemmas.{front_before, front_behind, three_out}
 use Rattle.fairexec_report.proofs.report.write_parts.Goals as goal
@@ -9,45 +8,34 @@ use Rattle.fairexec_report.proofs.report.write_parts.Goals as goal
 pub returns-in_err-write_all-clause-err : goal.returns-in_err-write_all-clause-err
 returns-in_err-write_all-clause-err g c =
     let out = c.in_err-write_all.ensures.err in
-    OnErr-any c.from_residual.result (front_before _ _ c.args.front.now (journal_if c.args.journal c.args.assembly.now ++ c.args.rear.now) (front_of_count _ _ c.args.front.now out.0 out.2))
-
-pub returns-in_err-write_journal_if-clause-err : goal.returns-in_err-write_journal_if-clause-err
-returns-in_err-write_journal_if-clause-err g c =
-    let journals = journal_if c.args.journal c.args.assembly.now in
-    OnErr-any c.from_residual-in_err-write_journal_if.result
-    (front_behind _ _ _ c.args.front.now (journals ++ c.args.rear.now) c.in_ok-write_all.ensures.ok (front_before _ _ journals c.args.rear.now c.in_err-write_journal_if.ensures.err))
+    OnErr-any c.from_residual.result (front_before _ _ c.args.front.now (c.args.middle.now ++ c.args.rear.now) (front_of_count _ _ c.args.front.now out.0 out.2))
 
 pub returns-in_err-write_all-2-clause-err : goal.returns-in_err-write_all-2-clause-err
 returns-in_err-write_all-2-clause-err g c =
-    let journals = journal_if c.args.journal c.args.assembly.now in
     let out = c.in_err-write_all-2.ensures.err in
     OnErr-any c.from_residual-in_err-write_all-2.result
-    (front_behind _ _ _ c.args.front.now (journals ++ c.args.rear.now) c.in_ok-write_all.ensures.ok
-    (front_behind _ _ _ journals c.args.rear.now c.in_ok-write_journal_if.ensures.ok (front_of_count _ _ c.args.rear.now out.0 out.2)))
+    (front_behind _ _ _ c.args.front.now (c.args.middle.now ++ c.args.rear.now) c.in_ok-write_all.ensures.ok
+    (front_before _ _ c.args.middle.now c.args.rear.now (front_of_count _ _ c.args.middle.now out.0 out.2)))
+
+pub returns-in_err-write_all-3-clause-err : goal.returns-in_err-write_all-3-clause-err
+returns-in_err-write_all-3-clause-err g c =
+    let out = c.in_err-write_all-3.ensures.err in
+    OnErr-any c.from_residual-in_err-write_all-3.result
+    (front_behind _ _ _ c.args.front.now (c.args.middle.now ++ c.args.rear.now) c.in_ok-write_all.ensures.ok
+    (front_behind _ _ _ c.args.middle.now c.args.rear.now c.in_ok-write_all-2.ensures.ok (front_of_count _ _ c.args.rear.now out.0 out.2)))
 
 pub returns-clause-ok : goal.returns-clause-ok
 returns-clause-ok g c =
-    let journals = journal_if c.args.journal c.args.assembly.now in
     OnOk-any c.flush.result
-    (Appends-more_kept _ _ _ (c.args.front.now ++ (journals ++ c.args.rear.now))
-    (three_out _ _ _ _ c.args.front.now journals c.args.rear.now c.in_ok-write_all.ensures.ok c.in_ok-write_journal_if.ensures.ok c.in_ok-write_all-2.ensures.ok) c.flush.ensures.kept)
+    (Appends-more_kept _ _ _ (c.args.front.now ++ (c.args.middle.now ++ c.args.rear.now))
+    (three_out _ _ _ _ c.args.front.now c.args.middle.now c.args.rear.now c.in_ok-write_all.ensures.ok c.in_ok-write_all-2.ensures.ok c.in_ok-write_all-3.ensures.ok) c.flush.ensures.kept)
 
 pub returns-clause-err : goal.returns-clause-err
 returns-clause-err g c =
-    let journals = journal_if c.args.journal c.args.assembly.now in
     OnErr-any c.flush.result
-    (front_of_all _ _ (c.args.front.now ++ (journals ++ c.args.rear.now))
-    (Appends-more_kept _ _ _ (c.args.front.now ++ (journals ++ c.args.rear.now))
-    (three_out _ _ _ _ c.args.front.now journals c.args.rear.now c.in_ok-write_all.ensures.ok c.in_ok-write_journal_if.ensures.ok c.in_ok-write_all-2.ensures.ok) c.flush.ensures.kept))
-
-pub returns-in_err-write_all-clause-failed : goal.returns-in_err-write_all-clause-failed
-returns-in_err-write_all-clause-failed g c = λ unasked. OnErr-any c.from_residual.result c.in_err-write_all.ensures.failed
-
-pub returns-in_err-write_journal_if-clause-failed : goal.returns-in_err-write_journal_if-clause-failed
-returns-in_err-write_journal_if-clause-failed g c = λ unasked. absurd (c.in_err-write_journal_if.ensures.unasked unasked)
-
-pub returns-in_err-write_all-2-clause-failed : goal.returns-in_err-write_all-2-clause-failed
-returns-in_err-write_all-2-clause-failed g c = λ unasked. OnErr-any c.from_residual-in_err-write_all-2.result c.in_err-write_all-2.ensures.failed
+    (front_of_all _ _ (c.args.front.now ++ (c.args.middle.now ++ c.args.rear.now))
+    (Appends-more_kept _ _ _ (c.args.front.now ++ (c.args.middle.now ++ c.args.rear.now))
+    (three_out _ _ _ _ c.args.front.now c.args.middle.now c.args.rear.now c.in_ok-write_all.ensures.ok c.in_ok-write_all-2.ensures.ok c.in_ok-write_all-3.ensures.ok) c.flush.ensures.kept))
 
 pub returns-clause-failed : goal.returns-clause-failed
-returns-clause-failed g c = λ unasked. failed_now g.S.Sink.interrupts g.S.Sink.fails c.write_all-2.new.sink c.flush.new.sink c.flush.result c.flush.ensures.failed
+returns-clause-failed g c = failed_now g.S.Sink.tries g.S.Sink.interrupts g.S.Sink.fails c.write_all-3.new.sink c.flush.new.sink c.flush.result c.flush.ensures.failed

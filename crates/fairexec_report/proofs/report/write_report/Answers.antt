@@ -11,8 +11,8 @@ returns-in-Ok-clause-done g c =
     record {
       verdict = c.in_ok-verdict.verdict;
       text = _;
-      report = reported c.args.journal c.args.stats c.args.assembly.now c.in_ok-verdict.verdict _ _ _ _ _ judged
-          c.new-front.ensures.bytes (c.as_bytes.ensures.value ∙ c.in_ok-put_outcomes.ensures) c.new-rear.ensures.bytes c.in_ok-put_stats_if.ensures (c.as_bytes-2.ensures.value ∙ c.in_ok-put_verdict.ensures);
+      report = reported c.args.journal c.args.stats c.args.assembly.now c.in_ok-verdict.verdict _ _ _ _ _ _ judged
+          c.new-front.ensures.bytes (c.as_bytes.ensures.value ∙ c.in_ok-put_outcomes.ensures) (c.as_slice.ensures.value ∙ c.in_ok-middle.ensures) c.new-rear.ensures.bytes c.in_ok-put_stats_if.ensures (c.as_bytes-2.ensures.value ∙ c.in_ok-put_verdict.ensures);
       answered = c.is_sound.ensures;
       appends = c.in-Ok.ensures.ok;
     }

@@ -4,7 +4,7 @@ use Rattle.fairexec_threads.proofs.run.threads_script.Goals as goal
 pub returns-in-Ok-clause-done : goal.returns-in-Ok-clause-done
 returns-in-Ok-clause-done g c = record {
   assembly = c.in_ok-assembly.assembly;
-  runs = tells_run (g.R.Read.remaining c.args.source.now) c.in_ok-script.script c.in_ok-assembly.assembly c.in_ok-script.ensures.ok c.in_ok-assembly.ensures.ok;
+  runs = tells_run (g.R.Source.remaining c.args.source.now) c.in_ok-script.script c.in_ok-assembly.assembly c.in_ok-script.ensures.ok c.in_ok-assembly.ensures.ok;
   told = c.in-Ok.ensures.done;
 }
 

@@ -1,5 +1,6 @@
+use Rattle.std.proofs.lemmas.Result.{IfOk-weaker}
 use Rattle.rt_journal_read.proofs.OnlyTexts.{same_text}
 use Rattle.rt_journal_read.proofs.source.read_journal.Goals as goal
 
-pub returns-in-Ok-clause-same_text : goal.returns-in-Ok-clause-same_text
-returns-in-Ok-clause-same_text g c = same_text (g.S.Source.remaining c.args.source.now) c.in-Ok.assembly (rw c.new.ensures at c.in-Ok.ensures.ok)
+pub returns-clause-same_text : goal.returns-clause-same_text
+returns-clause-same_text g c = IfOk-weaker c.read_lines.result _ _ (λ assembly. same_text (g.S.Source.remaining c.args.source.now) assembly) (rw c.new.ensures at c.read_lines.ensures.ok)

@@ -1,4 +1,5 @@
 use Rattle.std.proofs.Common.{arith, subst}
+use Rattle.std.specs.Prelude.{string_bytes}
 use Rattle.rt_journal_write.specs.Pages.{Puts}
 use Rattle.rt_journal_write.proofs.PageLemmas.{puts_then, front_then, OnErr-any}
 use Rattle.rt_journal_write.proofs.LineLemmas.{journals_text_whole, journals_text_next, front_journals_more}
@@ -20,6 +21,6 @@ loop-actor-preserved g c =
 pub returns-clause-ok : goal.returns-clause-ok
 returns-clause-ok g c =
     let count = c.cores-actor-end.ensures in
-    subst (Puts c.args.page.now.items c.loop-actor.page.items (g.S.Sink.contents c.args.sink.now) (g.S.Sink.contents c.loop-actor.sink))
+    subst (Puts (string_bytes c.args.page.now) (string_bytes c.loop-actor.page) (g.S.Sink.contents c.args.sink.now) (g.S.Sink.contents c.loop-actor.sink))
     (journals_text_whole c.args.assembly.now.journals c.loop-actor.actor (omega arith))
     c.loop-actor.invariant

@@ -1,4 +1,5 @@
 use Rattle.std.proofs.Common.{sym, ◌+◌, subst, ap, ◌∙◌}
+use Rattle.std.specs.Prelude.{string_bytes}
 use Rattle.rt_journal_write.specs.Pages.{Puts}
 use Rattle.rt_journal_write.proofs.PageLemmas.{puts_more, puts_out, front_now, front_of_page, OnErr-any}
 use Rattle.rt_journal_write.proofs.LineLemmas.{front_text, actor_text_split, actor_text_whole, front_text_more}
@@ -15,8 +16,8 @@ returns-in_err-write_page-clause-err g c =
     let notes = c.as_slice-note-items.result.now in
     let more = front_text_more c.args.actor notes c.loop-note.note-index c.note-item.result c.loop-note-test.true c.note-item.is in
     OnErr-any c.from_residual-in_err-write_page.result
-    (front_of_page _ c.put_note.new.page.items _ _ _ _ _ _
-    (puts_more _ _ c.put_note.new.page.items _ _ _ _ _ c.loop-note.invariant c.in_ok-put_note.ensures more)
+    (front_of_page _ (string_bytes c.put_note.new.page) _ _ _ _ _ _
+    (puts_more _ _ (string_bytes c.put_note.new.page) _ _ _ _ _ c.loop-note.invariant c.in_ok-put_note.ensures more)
     c.in_err-write_page.ensures.err
     (actor_text_split c.args.actor c.args.journal.now.notes notes (c.loop-note.note-index + 1) c.as_slice-note-items.ensures))
 
@@ -24,20 +25,20 @@ pub loop-note-preserved : goal.loop-note-preserved
 loop-note-preserved g c =
     let notes = c.as_slice-note-items.result.now in
     let more = front_text_more c.args.actor notes c.loop-note.note-index c.note-item.result c.loop-note-test.true c.note-item.is in
-    let puts = puts_more _ _ c.put_note.new.page.items _ _ _ _ _ c.loop-note.invariant c.in_ok-put_note.ensures more in
-    let Put = Puts c.args.page.now.items in
+    let puts = puts_more _ _ (string_bytes c.put_note.new.page) _ _ _ _ _ c.loop-note.invariant c.in_ok-put_note.ensures more in
+    let Put = Puts (string_bytes c.args.page.now) in
     let text = front_text c.args.actor notes (c.loop-note.note-index + 1) in
     elim c.if-len-ge-FULL.branch [
       | then-len-ge-FULL+in_ok-write_page w ↦
-          subst (λ sink. Put c.if-len-ge-FULL.page.items (g.S.Sink.contents c.args.sink.now) (g.S.Sink.contents sink) text) (sym w.sink-is)
-          (puts_out _ _ c.if-len-ge-FULL.page.items _ _ _ _ puts w.in_ok-write_page.ensures.ok (ap (λ page. page.items) w.page-is ∙ w.in_ok-write_page.ensures.empty))
+          subst (λ sink. Put (string_bytes c.if-len-ge-FULL.page) (g.S.Sink.contents c.args.sink.now) (g.S.Sink.contents sink) text) (sym w.sink-is)
+          (puts_out _ _ (string_bytes c.if-len-ge-FULL.page) _ _ _ _ puts w.in_ok-write_page.ensures.ok (ap (λ page. string_bytes page) w.page-is ∙ w.in_ok-write_page.ensures.empty))
       | else-len-ge-FULL w ↦
-          subst (λ sink. Put c.if-len-ge-FULL.page.items (g.S.Sink.contents c.args.sink.now) (g.S.Sink.contents sink) text) (sym w.sink-is)
-          (subst (λ page. Put page.items (g.S.Sink.contents c.args.sink.now) (g.S.Sink.contents c.loop-note.sink) text) (sym w.page-is) puts)
+          subst (λ sink. Put (string_bytes c.if-len-ge-FULL.page) (g.S.Sink.contents c.args.sink.now) (g.S.Sink.contents sink) text) (sym w.sink-is)
+          (subst (λ page. Put (string_bytes page) (g.S.Sink.contents c.args.sink.now) (g.S.Sink.contents c.loop-note.sink) text) (sym w.page-is) puts)
     ]
 
 pub returns-clause-ok : goal.returns-clause-ok
 returns-clause-ok g c =
-    subst (Puts c.args.page.now.items c.loop-note.page.items (g.S.Sink.contents c.args.sink.now) (g.S.Sink.contents c.loop-note.sink))
+    subst (Puts (string_bytes c.args.page.now) (string_bytes c.loop-note.page) (g.S.Sink.contents c.args.sink.now) (g.S.Sink.contents c.loop-note.sink))
     (actor_text_whole c.args.actor c.args.journal.now.notes c.as_slice-note-items.result.now c.loop-note.note-index c.as_slice-note-items.ensures c.loop-note-test.false)
     c.loop-note.invariant

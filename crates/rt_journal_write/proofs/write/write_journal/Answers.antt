@@ -8,21 +8,21 @@ use Rattle.rt_journal_write.proofs.write.write_journal.Goals as goal
 pub returns-in_err-put_journals-clause-err : goal.returns-in_err-put_journals-clause-err
 returns-in_err-put_journals-clause-err g c =
     OnErr-any c.from_residual-in_err-put_journals.result
-    (front_then _ _ _ _ _ _ _ _ _ (puts_first _ _ _ _ c.new-page.ensures c.in_ok-put_head.ensures) c.in_err-put_journals.ensures.err (journal_text-parts c.args.assembly.now))
+    (front_then _ _ _ _ _ _ _ _ _ (puts_first _ _ _ _ c.in_ok-page.ensures.bytes c.in_ok-put_head.ensures) c.in_err-put_journals.ensures.err (journal_text-parts c.args.assembly.now))
 
 pub returns-in_err-put_end-clause-err : goal.returns-in_err-put_end-clause-err
 returns-in_err-put_end-clause-err g c =
     let head = head_text c.args.assembly.now in
     let body = text_of (journal_lines 0 c.args.assembly.now.journals) in
     OnErr-any c.from_residual-in_err-put_end.result
-    (front_now _ _ _ _ _ _ _ (puts_then _ _ _ _ _ _ _ _ (head ++ body) (puts_first _ _ _ _ c.new-page.ensures c.in_ok-put_head.ensures) c.in_ok-put_journals.ensures.ok refl)
+    (front_now _ _ _ _ _ _ _ (puts_then _ _ _ _ _ _ _ _ (head ++ body) (puts_first _ _ _ _ c.in_ok-page.ensures.bytes c.in_ok-put_head.ensures) c.in_ok-put_journals.ensures.ok refl)
     (journal_text-parts c.args.assembly.now ∙ sym (append_assoc head body (end_line ++ codes "\n"))))
 
 pub returns-clause-ok : goal.returns-clause-ok
 returns-clause-ok g c =
     let head = head_text c.args.assembly.now in
     let body = text_of (journal_lines 0 c.args.assembly.now.journals) in
-    let two = puts_then _ _ _ _ _ _ _ _ (head ++ body) (puts_first _ _ _ _ c.new-page.ensures c.in_ok-put_head.ensures) c.in_ok-put_journals.ensures.ok refl in
+    let two = puts_then _ _ _ _ _ _ _ _ (head ++ body) (puts_first _ _ _ _ c.in_ok-page.ensures.bytes c.in_ok-put_head.ensures) c.in_ok-put_journals.ensures.ok refl in
     let three = puts_more _ _ _ _ _ _ _ ((head ++ body) ++ (end_line ++ codes "\n")) two c.in_ok-put_end.ensures refl in
     on_ok_weaker c.write_page.result (all_written _ _ _ _ _ _ three (journal_text-parts c.args.assembly.now ∙ sym (append_assoc head body (end_line ++ codes "\n")))) c.write_page.ensures.ok
 
@@ -30,6 +30,6 @@ pub returns-clause-err : goal.returns-clause-err
 returns-clause-err g c =
     let head = head_text c.args.assembly.now in
     let body = text_of (journal_lines 0 c.args.assembly.now.journals) in
-    let two = puts_then _ _ _ _ _ _ _ _ (head ++ body) (puts_first _ _ _ _ c.new-page.ensures c.in_ok-put_head.ensures) c.in_ok-put_journals.ensures.ok refl in
+    let two = puts_then _ _ _ _ _ _ _ _ (head ++ body) (puts_first _ _ _ _ c.in_ok-page.ensures.bytes c.in_ok-put_head.ensures) c.in_ok-put_journals.ensures.ok refl in
     let three = puts_more _ _ _ _ _ _ _ ((head ++ body) ++ (end_line ++ codes "\n")) two c.in_ok-put_end.ensures refl in
     on_err_weaker c.write_page.result (λ front. front_of_page _ _ _ _ _ _ _ _ three front (journal_text-parts c.args.assembly.now ∙ sym (append_assoc head body (end_line ++ codes "\n")) ∙ sym (append-nil ((head ++ body) ++ (end_line ++ codes "\n"))))) c.write_page.ensures.err

@@ -7,7 +7,7 @@ use Rattle.std.specs.Option.{IfSome}
 use Rattle.rt_lines.specs.Readings.{at}
 use Rattle.rt_lines.specs.Taking.{IsToldByRead}
 use Rattle.rt_lines.specs.Texts.{text_from, text_judged}
-use Rattle.rt_lines.proofs.FaultLemmas.{told_of, not_read}
+use Rattle.rt_lines.proofs.FaultLemmas.{told_of, not_read, not_written}
 use Rattle.rt_lines.proofs.SourceLemmas.{consumes_kept, told_at_end, told_in_page}
 use Rattle.rt_lines.proofs.TakingLemmas.{takes_append, fault_is_prompt}
 use Rattle.rt_lines.proofs.lines.read_lines.Goals as goal
@@ -96,7 +96,7 @@ returns-then-count-eq0-clause-at_once g c =
     let judge = g.D.LineDraft.judge in
     let here = at c.loop-count.draft c.loop-count.reader.number c.loop-count.reader.line.items in
     let seen = c.loop-count.invariant.seen in
-    let AtOnce = IsToldByRead judge c.args.draft g.S.Source.remaining g.S.Source.reads g.S.Source.interrupts c.args.source.now c.read_some.new.source in
+    let AtOnce = IsToldByRead judge c.args.draft g.S.Source.remaining g.S.Source.tries g.S.Source.reads g.S.Source.interrupts c.args.source.now c.read_some.new.source in
     IfErr-weaker c.finish.result _ _
     (λ fault. told_of (λ told. text_from judge here [] ≡ Err told) (λ told. AtOnce) fault
     (λ told is. record { between = c.loop-count.source; before = seen.0; last = take c.in-Ok.count c.read_some.new.room; consumed = seen.1; reads_last = c.in-Ok.ensures.gives; faultless = record { reading = here; takes = seen.2 } }))
@@ -112,7 +112,7 @@ returns-in-Err-clause-at_once g c =
     let judge = g.D.LineDraft.judge in
     let here = at c.loop-count.draft c.loop-count.reader.number c.loop-count.reader.line.items in
     let seen = c.loop-count.invariant.seen in
-    let AtOnce = IsToldByRead judge c.args.draft g.S.Source.remaining g.S.Source.reads g.S.Source.interrupts c.args.source.now c.read_some.new.source in
+    let AtOnce = IsToldByRead judge c.args.draft g.S.Source.remaining g.S.Source.tries g.S.Source.reads g.S.Source.interrupts c.args.source.now c.read_some.new.source in
     let page = take c.in-Ok.count c.read_some.new.room in
     told_of (λ told. (rest : List ℕ) → text_from judge here (page ++ rest) ≡ Err told) (λ told. AtOnce) c.in-Err.fault
     (λ told is. record { between = c.loop-count.source; before = seen.0; last = page; consumed = seen.1; reads_last = c.in-Ok.ensures.gives; faultless = record { reading = here; takes = seen.2 } })
@@ -123,3 +123,14 @@ returns-in-Err-clause-failed g c =
     let here = at c.loop-count.draft c.loop-count.reader.number c.loop-count.reader.line.items in
     let page = take c.in-Ok.count c.read_some.new.room in
     not_read (λ told. (rest : List ℕ) → text_from g.D.LineDraft.judge here (page ++ rest) ≡ Err told) _ c.in-Err.fault c.in-Err.ensures.faulty
+
+pub returns-then-count-eq0-clause-device : goal.returns-then-count-eq0-clause-device
+returns-then-count-eq0-clause-device g c =
+    let here = at c.loop-count.draft c.loop-count.reader.number c.loop-count.reader.line.items in
+    IfErr-weaker c.finish.result _ _ (λ fault. not_written (λ told. text_from g.D.LineDraft.judge here [] ≡ Err told) fault) c.finish.ensures.faulty
+
+pub returns-in-Err-clause-device : goal.returns-in-Err-clause-device
+returns-in-Err-clause-device g c =
+    let here = at c.loop-count.draft c.loop-count.reader.number c.loop-count.reader.line.items in
+    let page = take c.in-Ok.count c.read_some.new.room in
+    not_written (λ told. (rest : List ℕ) → text_from g.D.LineDraft.judge here (page ++ rest) ≡ Err told) c.in-Err.fault c.in-Err.ensures.faulty

@@ -6,5 +6,5 @@ use Rattle.rt_sink.proofs.steady.write_some.Given as goal
 abbrev pub invariant-loop-i : goal.invariant-loop-i
 invariant-loop-i g l = record {
   kept : Keeps (g.S.Sink.contents l.initial.sink) (g.S.Sink.contents l.sink);
-  interrupted : AreInterrupted g.S.Sink.interrupts l._i l.initial.sink l.sink;
+  interrupted : AreInterrupted g.S.Sink.tries g.S.Sink.interrupts l._i l.initial.sink l.sink;
 }

@@ -1,0 +1,18 @@
+use Rattle.std.proofs.Common.{◌∙◌, ap}
+use Rattle.clap.specs.Words.{rule_of}
+use Rattle.clap.specs.Simple.{app_of_fields}
+use Rattle.clap.specs.declared.builder.arg.Arg.{Arg}
+use Rattle.fairview_args.specs.CommandLine.{gantt_app}
+use Rattle.fairview_args.proofs.Adds.{arg_added}
+use Rattle.fairview_args.proofs.command.gantt_command.Goals as goal
+
+pub returns-clause-app : goal.returns-clause-app
+unfolding gantt_app
+returns-clause-app c = ap app_of_fields c.after_help.ensures
+    ∙ arg_added _ _ _ _ _ c.in_ok-arg-4.ensures (ap (λ (arg : Arg). arg.global) c.help-file.ensures ∙ c.new.ensures.optional.1)
+    (arg_added _ _ _ _ _ c.in_ok-arg-3.ensures c.option-to.ensures.local
+    (arg_added _ _ _ _ _ c.in_ok-arg-2.ensures c.option-from.ensures.local
+    (arg_added _ _ _ _ _ c.in_ok-arg.ensures c.option-core.ensures.local (ap app_of_fields c.about.ensures ∙ c.new-2.ensures.app) c.option-core.ensures.rule)
+    c.option-from.ensures.rule)
+    c.option-to.ensures.rule)
+    (ap rule_of c.help-file.ensures ∙ c.new.ensures.rule)

@@ -1,0 +1,10 @@
+//! What is said of a fault can't be met by no try.
+
+ghost use Rattle.rt_sink.specs.Laws.{FaultsAreTried};
+
+use crate::sink::Sink;
+
+/// A sink that counts its tries has made each interrupted one that a fault is told by, and the one that failed.
+pub fn faults_are_tried<S: Sink>()
+    ensures { FaultsAreTried S.tries S.interrupts S.fails }
+{}
