@@ -1,0 +1,42 @@
+-- Answers that no call may give, each refused by the definition that judges it.
+use Rattle.std.specs.Prelude.{◌≡◌, ℕ, Some, None, [], ◌∷◌, Err}
+use Rattle.rt_ids.specs.declared.names.JobId.{JobId}
+use Rattle.rt_ids.specs.declared.names.TicketError.TheVariants.{Pending}
+use Rattle.rt_jobs.specs.declared.job.Step.TheVariants.{Done, Yield}
+use Rattle.rt_jobs.specs.Calls.Call.{Redeem}
+use Rattle.rt_core.specs.State.{CoreView}
+use Rattle.fairexec_c.specs.declared.code.Code.{Code}
+use Rattle.fairexec_c.specs.declared.code.Code.TheVariants as code
+use Rattle.fairexec_c.specs.declared.job.HostJob.{HostJob}
+use Rattle.fairexec_c.specs.Handles.{OnCore}
+use Rattle.fairexec_c.specs.Jobs.{AsksOnce}
+use Rattle.fairexec_c.specs.Opening.{Opens, OpensCore}
+use Rattle.fairexec_c.specs.Running.{SettlesStep, step_of}
+
+-- an empty handle is told that all went well
+pub empty_is_ok : (does : CoreView HostJob → Code → CoreView HostJob → Type 0) → OnCore None None 0 does → ⊥
+empty_is_ok does told = cc told
+
+-- a call loses the core
+pub core_is_lost : (old : CoreView HostJob) (number : ℕ) (does : CoreView HostJob → Code → CoreView HostJob → Type 0) → OnCore (Some old) None number does → ⊥
+core_is_lost old number does told = told
+
+-- a handle that has a core is opened
+pub occupied_is_ok : (old new : CoreView HostJob) → Opens (Some old) 4 0 (Some new) → ⊥
+occupied_is_ok old new told = cc told.0
+
+-- an opening is told that the handle has no core
+pub opening_is_empty : OpensCore 4 code.Empty None → ⊥
+opening_is_empty told = told
+
+-- a run comes to a step that isn't one
+pub no_step_is_ok : (old new : CoreView HostJob) → SettlesStep old (step_of 2) 10 code.Ok new → ⊥
+no_step_is_ok old new told = told
+
+-- a job is done that hears that its run isn't
+pub done_unheard : (name : JobId) → AsksOnce (Redeem name (Err Pending) ∷ []) (Done 0) → ⊥
+done_unheard name told = cc told
+
+-- a job doesn't ask
+pub unasked : AsksOnce [] Yield → ⊥
+unasked told = told

@@ -1,0 +1,202 @@
+//! A core for programs in C, C++ and Rust, whose jobs the host runs.
+//!
+//! Each call takes a handle, does what `Hosted` does, and answers the number of a code. hosts/c/fairexec.h declares them.
+#![tactic(auto)]
+
+ghost use Rattle.std.specs.Prelude.{◌≡◌, None};
+ghost use Rattle.fairexec_c.specs.Figures.{TellsCore, TellsQueue};
+ghost use Rattle.fairexec_c.specs.Handles.{OnCore};
+ghost use Rattle.fairexec_c.specs.Hosting.{Submits};
+ghost use Rattle.fairexec_c.specs.Opening.{Opens, OpensCore, Frees};
+ghost use Rattle.fairexec_c.specs.Queueing.{MakesQueue, Reweighs, ClosesLine, ClosesAll, mode_of_number};
+ghost use Rattle.fairexec_c.specs.Running.{Nexts, SettlesStep, step_of};
+
+pub mod code;
+pub mod figures;
+pub mod handle;
+pub mod hosted;
+pub mod job;
+pub mod orders;
+pub mod word;
+
+use crate::code::{Code, number};
+use crate::figures::{CoreFigures, QueueFigures};
+use crate::handle::{Handle, put, take};
+use crate::hosted::open_for;
+use std::alloc::Global;
+
+/// The version of the interface, `FX_VERSION` of the header.
+#[unsafe(no_mangle)]
+pub extern "C" fn fx_version() -> u32
+    ensures { result ≡ 1 }
+{
+    1
+}
+
+/// Opens a core with room for so many jobs.
+#[unsafe(no_mangle)]
+pub extern "C" fn fx_open(alloc: Global, core: &mut Handle, jobs: u32) -> u32
+    ensures { Opens core.old.value jobs result core.new.value }
+{
+    match take(alloc, core) {
+        Some(hosted) => {
+            put(core, hosted);
+            number(Code::Occupied)
+        }
+        None => number(fill(alloc, core, jobs)),
+    }
+}
+
+/// Opens a core for an empty handle.
+fn fill(alloc: Global, core: &mut Handle, jobs: u32) -> Code
+    requires { core.old.value ≡ None }
+    ensures { OpensCore jobs result core.new.value }
+{
+    match open_for(alloc, jobs) {
+        Ok(hosted) => {
+            put(core, hosted);
+            Code::Ok
+        }
+        Err(code) => code,
+    }
+}
+
+/// Frees a core and forgets its jobs.
+#[unsafe(no_mangle)]
+pub extern "C" fn fx_free(alloc: Global, core: &mut Handle) -> u32
+    ensures { Frees core.old.value result core.new.value }
+{
+    match take(alloc, core) {
+        Some(hosted) => {
+            drop(hosted);
+            number(Code::Ok)
+        }
+        None => number(Code::Empty),
+    }
+}
+
+/// Makes a queue with these shares, and tells its number.
+#[unsafe(no_mangle)]
+pub extern "C" fn fx_create(alloc: Global, core: &mut Handle, shares: u32, queue: &mut u32) -> u32
+    ensures core { OnCore core.old.value core.new.value result (λ old told new. MakesQueue old shares queue.old told queue.new new) }
+    ensures empty { core.old.value ≡ None → queue.new ≡ queue.old }
+{
+    let Some(mut hosted) = take(alloc, core) else {
+        return number(Code::Empty);
+    };
+    let code = hosted.create(shares, queue);
+    put(core, hosted);
+    number(code)
+}
+
+/// Gives a queue these shares.
+#[unsafe(no_mangle)]
+pub extern "C" fn fx_set_shares(alloc: Global, core: &mut Handle, queue: u32, shares: u32) -> u32
+    ensures { OnCore core.old.value core.new.value result (λ old told new. Reweighs old queue shares told new) }
+{
+    let Some(mut hosted) = take(alloc, core) else {
+        return number(Code::Empty);
+    };
+    let code = hosted.set_shares(queue, shares);
+    put(core, hosted);
+    number(code)
+}
+
+/// Hands a job to the tail of a queue.
+#[unsafe(no_mangle)]
+pub extern "C" fn fx_submit(alloc: Global, core: &mut Handle, queue: u32, job: u64) -> u32
+    ensures { OnCore core.old.value core.new.value result (λ old told new. Submits old queue job told new) }
+{
+    let Some(mut hosted) = take(alloc, core) else {
+        return number(Code::Empty);
+    };
+    let code = hosted.submit(queue, job);
+    put(core, hosted);
+    number(code)
+}
+
+/// Tells which job to run now.
+#[unsafe(no_mangle)]
+pub extern "C" fn fx_next(alloc: Global, core: &mut Handle, job: &mut u64) -> u32
+    ensures core { OnCore core.old.value core.new.value result (λ old told new. Nexts old job.old told job.new new) }
+    ensures empty { core.old.value ≡ None → job.new ≡ job.old }
+{
+    let Some(mut hosted) = take(alloc, core) else {
+        return number(Code::Empty);
+    };
+    let code = hosted.next(job);
+    put(core, hosted);
+    number(code)
+}
+
+/// Settles the run of the job that `fx_next` told. It took `spent` nanoseconds.
+#[unsafe(no_mangle)]
+pub extern "C" fn fx_settle(alloc: Global, core: &mut Handle, step: u32, spent: u64) -> u32
+    ensures { OnCore core.old.value core.new.value result (λ old told new. SettlesStep old (step_of step) spent told new) }
+{
+    let Some(mut hosted) = take(alloc, core) else {
+        return number(Code::Empty);
+    };
+    let code = hosted.settle(step, spent);
+    put(core, hosted);
+    number(code)
+}
+
+/// Closes a queue.
+#[unsafe(no_mangle)]
+pub extern "C" fn fx_close_queue(alloc: Global, core: &mut Handle, queue: u32, mode: u32) -> u32
+    ensures { OnCore core.old.value core.new.value result (λ old told new. ClosesLine old queue (mode_of_number mode) told new) }
+{
+    let Some(mut hosted) = take(alloc, core) else {
+        return number(Code::Empty);
+    };
+    let code = hosted.close_queue(queue, mode);
+    put(core, hosted);
+    number(code)
+}
+
+/// Closes a core with all its queues.
+#[unsafe(no_mangle)]
+pub extern "C" fn fx_close(alloc: Global, core: &mut Handle, mode: u32) -> u32
+    ensures { OnCore core.old.value core.new.value result (λ old told new. ClosesAll old (mode_of_number mode) told new) }
+{
+    let Some(mut hosted) = take(alloc, core) else {
+        return number(Code::Empty);
+    };
+    let code = hosted.close(mode);
+    put(core, hosted);
+    number(code)
+}
+
+/// Tells the counts of a core.
+#[unsafe(no_mangle)]
+pub extern "C" fn fx_stats(alloc: Global, core: &mut Handle, stats: &mut CoreFigures) -> u32
+    ensures core { OnCore core.old.value core.new.value result (λ old told new. (new ≡ old) × TellsCore old stats.old told stats.new) }
+    ensures empty { core.old.value ≡ None → stats.new ≡ stats.old }
+{
+    let Some(hosted) = take(alloc, core) else {
+        return number(Code::Empty);
+    };
+    let code = hosted.tell(stats);
+    put(core, hosted);
+    number(code)
+}
+
+/// Tells the counts of a queue.
+#[unsafe(no_mangle)]
+pub extern "C" fn fx_stats_of_queue(
+    alloc: Global,
+    core: &mut Handle,
+    queue: u32,
+    stats: &mut QueueFigures,
+) -> u32
+    ensures core { OnCore core.old.value core.new.value result (λ old told new. (new ≡ old) × TellsQueue old queue stats.old told stats.new) }
+    ensures empty { core.old.value ≡ None → stats.new ≡ stats.old }
+{
+    let Some(hosted) = take(alloc, core) else {
+        return number(Code::Empty);
+    };
+    let code = hosted.tell_queue(queue, stats);
+    put(core, hosted);
+    number(code)
+}

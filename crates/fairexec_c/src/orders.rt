@@ -1,0 +1,127 @@
+//! What the host asks of its core: jobs that enter, queues, shares, and closing.
+
+ghost use Rattle.std.specs.Prelude.{◌≡◌};
+ghost use Rattle.fairexec_c.specs.Hosting.{Submits};
+ghost use Rattle.fairexec_c.specs.Queueing.{MakesQueue, Reweighs, ClosesLine, ClosesAll, mode_of_number};
+
+use crate::code::Code;
+use crate::hosted::Hosted;
+use crate::job::HostJob;
+use rt_core::Delivered;
+use rt_ids::{Answer, Mode, Order, QueueNo, Reason};
+use rt_shares::Shares;
+use rt_taskqueue::CreateError;
+
+impl Hosted {
+    /// Hands a job to a queue.
+    pub fn submit(&mut self, queue: u32, handle: u64) -> Code
+        ensures { Submits self.old queue handle result self.new }
+    {
+        if self.core.is_closed() {
+            return Code::CoreClosed;
+        }
+        if !self.core.has_room() {
+            return Code::Full;
+        }
+        if self.sent == u64::MAX {
+            return Code::Spent;
+        }
+        let Ok(number) = u8::try_from(queue) else {
+            return Code::NoQueue;
+        };
+        let order = Order::Job(QueueNo(number), HostJob::new(handle));
+        match self.hand_in(order) {
+            Delivered::Took => Code::Ok,
+            Delivered::Back(Reason::NoQueue, _) => Code::NoQueue,
+            Delivered::Back(_, _) => Code::QueueClosed,
+            Delivered::Answered(_) => unreachable!(),
+        }
+    }
+
+    /// Makes a queue with these shares, and tells its number.
+    pub fn create(&mut self, shares: u32, queue: &mut u32) -> Code
+        ensures { MakesQueue self.old shares queue.old result queue.new self.new }
+    {
+        let Ok(shares) = Shares::try_new(shares) else {
+            return Code::BadShares;
+        };
+        let _in_range = shares.get();
+        if self.core.is_closed() {
+            return Code::CoreClosed;
+        }
+        let (made, _notes) = self.core.create(shares);
+        match made {
+            Ok(number) => {
+                *queue = u32::from(number.0);
+                Code::Ok
+            }
+            Err(CreateError::TooMany) => Code::TooMany,
+            Err(CreateError::Memory) => Code::NoMemory,
+        }
+    }
+
+    /// Gives a queue these shares, for the runs that are settled from then on.
+    pub fn set_shares(&mut self, queue: u32, shares: u32) -> Code
+        ensures { Reweighs self.old queue shares result self.new }
+    {
+        let Ok(shares) = Shares::try_new(shares) else {
+            return Code::BadShares;
+        };
+        let _in_range = shares.get();
+        if !self.core.has_room() {
+            return Code::Full;
+        }
+        if self.sent == u64::MAX {
+            return Code::Spent;
+        }
+        let Ok(number) = u8::try_from(queue) else {
+            return Code::NoQueue;
+        };
+        match self.hand_in(Order::SetShares(QueueNo(number), shares)) {
+            Delivered::Answered(Answer::SharesSet) => Code::Ok,
+            Delivered::Answered(Answer::NoQueue) => Code::NoQueue,
+            _ => unreachable!(),
+        }
+    }
+
+    /// Closes a queue, by the number of a mode.
+    pub fn close_queue(&mut self, queue: u32, mode: u32) -> Code
+        ensures { ClosesLine self.old queue (mode_of_number mode) result self.new }
+    {
+        let Some(mode) = mode_numbered(mode) else {
+            return Code::BadNumber;
+        };
+        let Ok(number) = u8::try_from(queue) else {
+            return Code::NoQueue;
+        };
+        let (answer, _notes) = self.core.close_queue(QueueNo(number), mode);
+        match answer {
+            Answer::Closed => Code::Ok,
+            Answer::NoQueue => Code::NoQueue,
+            Answer::AlreadyClosed => Code::QueueClosed,
+            _ => unreachable!(),
+        }
+    }
+
+    /// Closes the core, by the number of a mode.
+    pub fn close(&mut self, mode: u32) -> Code
+        ensures { ClosesAll self.old (mode_of_number mode) result self.new }
+    {
+        let Some(mode) = mode_numbered(mode) else {
+            return Code::BadNumber;
+        };
+        let (closed, _notes) = self.core.close(mode);
+        if closed { Code::Ok } else { Code::CoreClosed }
+    }
+}
+
+/// The mode of this number.
+fn mode_numbered(number: u32) -> Option<Mode>
+    ensures { result ≡ mode_of_number number }
+{
+    match number {
+        0 => Some(Mode::Finish),
+        1 => Some(Mode::Return),
+        _ => None,
+    }
+}

@@ -1,0 +1,252 @@
+// fairexec.hpp: the calls of fairexec.h for C++17, header only.
+//
+//     fairexec::house<fairexec::job> house(64);
+//     if (house.submit(0, [n = 0]() mutable { return ++n == 3 ? fairexec::step::done : fairexec::step::yield; }) != FX_OK) return;
+//     while (house.run_turn().code != FX_IDLE) {}
+//
+// `core` is a core whose jobs are numbers. `house` is a core that keeps what its jobs are: `job` is any callable, and `task` a coroutine,
+// where the compiler has them (C++20). Nothing here is shared or locked: a core and a house belong to one thread at a time, and move
+// between threads as fairexec.h says.
+#ifndef FAIREXEC_HPP
+#define FAIREXEC_HPP
+
+#include "fairexec.h"
+#include <chrono>
+#include <cstddef>
+#include <memory>
+#include <new>
+#include <optional>
+#include <stdexcept>
+#include <type_traits>
+#include <utility>
+#include <vector>
+#if defined(__cpp_impl_coroutine)
+#include <coroutine>
+#include <exception>
+#endif
+
+namespace fairexec {
+
+// What the run of a job came to: it wants to run again, or it is done.
+enum class step : uint32_t { yield = FX_STEP_YIELD, done = FX_STEP_DONE };
+
+// How a queue or a core closes: its jobs run on, or each goes back.
+enum class mode : uint32_t { finish = FX_MODE_FINISH, give_back = FX_MODE_RETURN };
+
+// A call that was refused.
+class error : public std::runtime_error {
+    fx_code code_;
+
+public:
+    explicit error(uint32_t code) : std::runtime_error(fx_text(code)), code_(static_cast<fx_code>(code)) {}
+    fx_code code() const noexcept { return code_; }
+};
+
+// A core whose jobs are numbers. It is moved, and never copied. One that was moved from has no core: its calls answer FX_EMPTY.
+class core {
+    fx_core handle = FX_NO_CORE;
+
+    static void check(uint32_t code) {
+        if (code == FX_NO_MEMORY) throw std::bad_alloc();
+        if (code != FX_OK) throw error(code);
+    }
+
+public:
+    // Room for this many jobs, 1 to 131070.
+    explicit core(uint32_t jobs) {
+        if (fx_version() != FX_VERSION) throw std::runtime_error("libfairexec.a has another version than fairexec.h");
+        check(fx_open(&handle, jobs));
+    }
+    core(core &&other) noexcept { std::swap(handle, other.handle); }
+    core &operator=(core &&other) noexcept {
+        core taken(std::move(other));
+        std::swap(handle, taken.handle);
+        return *this;
+    }
+    core(const core &) = delete;
+    core &operator=(const core &) = delete;
+    ~core() { fx_free(&handle); }
+
+    // These throw `error`, or std::bad_alloc, if they are refused.
+    uint32_t create(uint32_t shares) {
+        uint32_t queue = 0;
+        check(fx_create(&handle, shares, &queue));
+        return queue;
+    }
+    void set_shares(uint32_t queue, uint32_t shares) { check(fx_set_shares(&handle, queue, shares)); }
+    fx_core_stats stats() {
+        fx_core_stats stats{};
+        stats.size = sizeof stats;
+        check(fx_stats(&handle, &stats));
+        return stats;
+    }
+    fx_queue_stats stats_of(uint32_t queue) {
+        fx_queue_stats stats{};
+        stats.size = sizeof stats;
+        check(fx_stats_of_queue(&handle, queue, &stats));
+        return stats;
+    }
+
+    // These answer the codes of fairexec.h.
+    [[nodiscard]] fx_code submit(uint32_t queue, uint64_t job) noexcept { return static_cast<fx_code>(fx_submit(&handle, queue, job)); }
+    [[nodiscard]] fx_code next(uint64_t &job) noexcept { return static_cast<fx_code>(fx_next(&handle, &job)); }
+    fx_code settle(step step, uint64_t spent) noexcept { return static_cast<fx_code>(fx_settle(&handle, static_cast<uint32_t>(step), spent)); }
+    fx_code close_queue(uint32_t queue, mode mode) noexcept { return static_cast<fx_code>(fx_close_queue(&handle, queue, static_cast<uint32_t>(mode))); }
+    fx_code close(mode mode) noexcept { return static_cast<fx_code>(fx_close(&handle, static_cast<uint32_t>(mode))); }
+};
+
+// A core that keeps its jobs. `Clock` is what their runs are measured by.
+//
+// An exception of a job leaves run_turn: the job is then done, and destroyed. What a house still has when it ends is destroyed with it.
+// A house isn't moved or freed while a job of it runs.
+template <class Job, class Clock = std::chrono::steady_clock> class house {
+    static_assert(std::is_nothrow_move_constructible_v<Job>, "a job moves in and out without an exception");
+    static_assert(noexcept(Clock::now()), "a clock tells the time without an exception");
+
+    // Places are never added, so a job that submits another one stays where it is.
+    std::vector<std::optional<Job>> places;
+    std::vector<uint32_t> vacant;
+    core inner;
+
+    // Settles the run that it saw begin, also if an exception ends it.
+    struct running {
+        house &of;
+        uint64_t place;
+        typename Clock::time_point began = Clock::now();
+        step came_to = step::done;
+
+        ~running() {
+            auto spent = std::chrono::duration_cast<std::chrono::nanoseconds>(Clock::now() - began).count();
+            of.inner.settle(came_to, spent < 0 ? 0 : static_cast<uint64_t>(spent));
+            if (came_to == step::done) of.vacate(place);
+        }
+    };
+
+    std::optional<Job> vacate(uint64_t place) noexcept {
+        std::optional<Job> job = std::move(places[static_cast<std::size_t>(place)]);
+        places[static_cast<std::size_t>(place)].reset();
+        vacant.push_back(static_cast<uint32_t>(place));
+        return job;
+    }
+
+public:
+    // What a turn came to: FX_OK (the job yielded), FX_DONE, FX_IDLE, FX_SPENT, FX_BUSY, or FX_BACK, with the job that came back.
+    struct turn {
+        fx_code code;
+        std::optional<Job> back;
+    };
+
+    explicit house(uint32_t jobs) : inner(jobs) {
+        std::size_t room = static_cast<std::size_t>(inner.stats().room);
+        places.resize(room);
+        vacant.reserve(room);
+        for (std::size_t place = room; place > 0; place--) vacant.push_back(static_cast<uint32_t>(place - 1));
+    }
+
+    uint32_t create(uint32_t shares) { return inner.create(shares); }
+    void set_shares(uint32_t queue, uint32_t shares) { inner.set_shares(queue, shares); }
+    fx_core_stats stats() { return inner.stats(); }
+    fx_queue_stats stats_of(uint32_t queue) { return inner.stats_of(queue); }
+    fx_code close_queue(uint32_t queue, mode mode) noexcept { return inner.close_queue(queue, mode); }
+    fx_code close(mode mode) noexcept { return inner.close(mode); }
+
+    // Takes the job if it answers FX_OK, and leaves it as it was if it answers FX_CLOSED, FX_FULL, FX_SPENT or FX_NO_QUEUE. A job that
+    // tells that it is empty, as one that was moved from, isn't taken: FX_BAD_NUMBER.
+    [[nodiscard]] fx_code submit(uint32_t queue, Job &&job) noexcept {
+        if constexpr (std::is_class_v<Job> && std::is_constructible_v<bool, const Job &>) {
+            if (!static_cast<bool>(job)) return FX_BAD_NUMBER;
+        }
+        uint32_t place = vacant.empty() ? 0 : vacant.back();
+        fx_code code = inner.submit(queue, place);
+        if (code != FX_OK) return code;
+        vacant.pop_back();
+        places[place].emplace(std::move(job));
+        return FX_OK;
+    }
+
+    // Runs the next job once: `run` is called with the job and the house, and answers a step.
+    template <class Run> turn run_turn(Run &&run) {
+        uint64_t place = 0;
+        fx_code code = inner.next(place);
+        if (code == FX_BACK) return {code, vacate(place)};
+        if (code != FX_START && code != FX_RESUME) return {code, std::nullopt};
+        running now{*this, place};
+        now.came_to = run(*places[static_cast<std::size_t>(place)], *this);
+        return {now.came_to == step::done ? FX_DONE : FX_OK, std::nullopt};
+    }
+
+    // The same for jobs that are callables.
+    turn run_turn() {
+        return run_turn([](Job &job, house &house) {
+            if constexpr (std::is_invocable_r_v<step, Job &, fairexec::house<Job, Clock> &>) return job(house);
+            else return job();
+        });
+    }
+};
+
+// Any callable that answers a step, also one that can only be moved. It is called with its house if it takes one.
+template <class Clock> class any_job {
+    struct base {
+        virtual ~base() = default;
+        virtual step run(house<any_job, Clock> &house) = 0;
+    };
+    template <class Call> struct holding final : base {
+        Call call;
+        explicit holding(Call &&given) : call(std::move(given)) {}
+        step run(house<any_job, Clock> &house) override {
+            if constexpr (std::is_invocable_r_v<step, Call &, fairexec::house<any_job, Clock> &>) return call(house);
+            else return call();
+        }
+    };
+    std::unique_ptr<base> held;
+
+public:
+    template <class Call, class = std::enable_if_t<!std::is_same_v<std::decay_t<Call>, any_job>>>
+    any_job(Call call) : held(std::make_unique<holding<Call>>(std::move(call))) {}
+    explicit operator bool() const noexcept { return held != nullptr; }
+    step operator()(house<any_job, Clock> &house) { return held->run(house); }
+};
+
+using job = any_job<std::chrono::steady_clock>;
+
+#if defined(__cpp_impl_coroutine)
+// `co_await fairexec::again;` ends the run of a task, which wants to run again.
+struct again_type {};
+inline constexpr again_type again{};
+
+// A coroutine as a job. It starts with its first run. An exception of it leaves run_turn. It awaits nothing but `again`: each run resumes
+// it, whatever it waits for.
+class task {
+public:
+    struct promise_type {
+        std::exception_ptr thrown;
+        task get_return_object() { return task(std::coroutine_handle<promise_type>::from_promise(*this)); }
+        std::suspend_always initial_suspend() noexcept { return {}; }
+        std::suspend_always final_suspend() noexcept { return {}; }
+        std::suspend_always await_transform(again_type) noexcept { return {}; }
+        void return_void() noexcept {}
+        void unhandled_exception() noexcept { thrown = std::current_exception(); }
+    };
+
+    task(task &&other) noexcept : at(std::exchange(other.at, nullptr)) {}
+    task &operator=(task &&) = delete;
+    ~task() {
+        if (at) at.destroy();
+    }
+    explicit operator bool() const noexcept { return at != nullptr; }
+
+    step operator()() {
+        at.resume();
+        if (at.promise().thrown) std::rethrow_exception(std::exchange(at.promise().thrown, nullptr));
+        return at.done() ? step::done : step::yield;
+    }
+
+private:
+    std::coroutine_handle<promise_type> at;
+    explicit task(std::coroutine_handle<promise_type> at) : at(at) {}
+};
+#endif
+
+} // namespace fairexec
+
+#endif

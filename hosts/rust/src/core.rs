@@ -1,0 +1,362 @@
+//! A core whose jobs are numbers.
+
+use crate::raw;
+use std::fmt;
+use std::thread::JoinHandle;
+
+/// Why a call was refused. Nothing changed.
+#[derive(Clone, Copy, PartialEq, Eq, Debug)]
+pub enum Error {
+    /// The core made 2^64 - 1 turns, or was handed 2^64 - 1 jobs and new shares: it takes no more of that.
+    Spent,
+    /// A job of this core runs.
+    Busy,
+    /// No job of this core runs.
+    NoJob,
+    /// The core holds as many jobs as it has room for.
+    Full,
+    /// There is no memory.
+    NoMemory,
+    /// Shares are 1 to 10000.
+    BadShares,
+    /// The core has no queue of that number.
+    NoQueue,
+    /// The queue or the core is closed, or was closed before.
+    Closed,
+    /// The core has 256 queues.
+    TooMany,
+    /// Room is for 1 to 131070 jobs.
+    BadNumber,
+}
+
+impl Error {
+    fn of(code: u32) -> Error {
+        match code {
+            raw::FX_SPENT => Error::Spent,
+            raw::FX_BUSY => Error::Busy,
+            raw::FX_NO_JOB => Error::NoJob,
+            raw::FX_FULL => Error::Full,
+            raw::FX_NO_MEMORY => Error::NoMemory,
+            raw::FX_BAD_SHARES => Error::BadShares,
+            raw::FX_NO_QUEUE => Error::NoQueue,
+            raw::FX_CLOSED => Error::Closed,
+            raw::FX_TOO_MANY => Error::TooMany,
+            raw::FX_BAD_NUMBER => Error::BadNumber,
+            // Whoever has a `Core` has an open one, so FX_EMPTY and FX_OCCUPIED don't come here.
+            _ => unreachable!("the library answered code {code}"),
+        }
+    }
+}
+
+impl fmt::Display for Error {
+    fn fmt(&self, f: &mut fmt::Formatter<'_>) -> fmt::Result {
+        f.write_str(match self {
+            Error::Spent => "the core did as much as it may",
+            Error::Busy => "a job of this core runs",
+            Error::NoJob => "no job of this core runs",
+            Error::Full => "the core is full",
+            Error::NoMemory => "there is no memory",
+            Error::BadShares => "shares are 1 to 10000",
+            Error::NoQueue => "the core has no queue of that number",
+            Error::Closed => "the queue or the core is closed",
+            Error::TooMany => "the core has 256 queues",
+            Error::BadNumber => "a number is out of its range",
+        })
+    }
+}
+
+impl std::error::Error for Error {}
+
+/// What the run of a job came to.
+#[derive(Clone, Copy, PartialEq, Eq, Debug)]
+pub enum Step {
+    /// It wants to run again: it goes to the tail of its queue.
+    Yield,
+    /// It is done.
+    Done,
+}
+
+/// How a queue or a core closes. Either way it takes no new job.
+#[derive(Clone, Copy, PartialEq, Eq, Debug)]
+pub enum Mode {
+    /// The jobs inside run on.
+    Finish,
+    /// Each later turn of it hands a job back.
+    Return,
+}
+
+impl Mode {
+    fn number(self) -> u32 {
+        match self {
+            Mode::Finish => raw::FX_MODE_FINISH,
+            Mode::Return => raw::FX_MODE_RETURN,
+        }
+    }
+}
+
+/// What comes next.
+#[derive(Clone, Copy, PartialEq, Eq, Debug)]
+pub enum Next {
+    /// Run this job for the first time, and then settle it.
+    Start(u64),
+    /// Run this job again, and then settle it.
+    Resume(u64),
+    /// This job goes back, unrun or unfinished, since its queue or its core hands back.
+    Back(u64),
+    /// No queue has work.
+    Idle,
+}
+
+/// The counts of a core.
+#[derive(Clone, Copy, PartialEq, Eq, Debug)]
+pub struct CoreStats {
+    /// Queues, 1 to 256.
+    pub queues: u32,
+    /// How many jobs the core has room for.
+    pub room: u64,
+    /// Jobs inside, one that runs counted too.
+    pub held: u64,
+    /// Turns, those that handed a job back counted too.
+    pub turns: u64,
+    /// The greatest virtual runtime at which a queue was picked.
+    pub floor: u128,
+    /// Whether a job runs.
+    pub is_running: bool,
+    /// How the core was closed, if it was.
+    pub closed: Option<Mode>,
+}
+
+/// The counts of a queue. Times are nanoseconds.
+#[derive(Clone, Copy, PartialEq, Eq, Debug)]
+pub struct QueueStats {
+    /// 1 to 10000.
+    pub shares: u32,
+    /// Turns of this queue, those that handed a job back counted too.
+    pub picks: u64,
+    /// Jobs inside that don't run.
+    pub waiting: u64,
+    /// Jobs that are done.
+    pub done: u64,
+    /// Jobs that a turn handed back.
+    pub back: u64,
+    /// The sum of the times of its runs, each as it counts.
+    pub time: u128,
+    /// Its virtual runtime.
+    pub virtual_runtime: u128,
+}
+
+fn wide(low: u64, high: u64) -> u128 {
+    u128::from(low) | u128::from(high) << 64
+}
+
+/// A core with fair task queues, whose jobs are numbers. hosts/c/fairexec.h tells what each call does.
+///
+/// It isn't `Send`: the library asks that a lock, the start or the join of a thread, or a sequentially consistent atomic stands between two
+/// calls on different threads, and a channel may hand a value over by less. So a core is opened on its thread, or goes to a new one by
+/// [`Core::start`]. It isn't `Sync` either. It is freed as it is dropped.
+///
+/// ```compile_fail,E0277
+/// fn is_send<T: Send>() {}
+/// is_send::<fairexec::Core>();
+/// ```
+///
+/// ```compile_fail,E0277
+/// fn is_sync<T: Sync>() {}
+/// is_sync::<fairexec::Core>();
+/// ```
+pub struct Core {
+    handle: raw::fx_core,
+}
+
+/// What goes to a new thread by its start, and by nothing else.
+pub(crate) struct Starts<T>(T);
+
+// SAFETY: only `start_with` makes one, of a value whose parts but cores are `Send`, and hands it to a thread that it starts.
+unsafe impl<T> Send for Starts<T> {}
+
+impl<T> Starts<T> {
+    fn value(self) -> T {
+        self.0
+    }
+}
+
+/// Starts a thread with this value, whose parts but cores are `Send`: the callers in this crate see to that.
+pub(crate) fn start_with<T: 'static, R: Send + 'static>(value: T, run: impl FnOnce(T) -> R + Send + 'static) -> JoinHandle<R> {
+    let starts = Starts(value);
+    std::thread::spawn(move || run(starts.value()))
+}
+
+// In each call below the handle is that of an open core and of this `Core` alone, `&mut self` keeps a second call away, and every pointer is
+// to a local value that outlives the call.
+impl Core {
+    /// Starts a thread that has this core.
+    pub fn start<R: Send + 'static>(self, run: impl FnOnce(Core) -> R + Send + 'static) -> JoinHandle<R> {
+        start_with(self, run)
+    }
+
+    /// Opens a core with queue 0, which has 1000 shares, and with room for this many jobs, 1 to 131070; an odd number is rounded up.
+    ///
+    /// # Errors
+    ///
+    /// `BadNumber`, `NoMemory`.
+    ///
+    /// # Panics
+    ///
+    /// If the library that was linked has another version than these declarations.
+    pub fn open(jobs: u32) -> Result<Core, Error> {
+        // SAFETY: it takes nothing.
+        let version = unsafe { raw::fx_version() };
+        assert_eq!(version, raw::FX_VERSION, "libfairexec.a has another version");
+        let mut handle = raw::fx_core { at: std::ptr::null_mut() };
+        // SAFETY: the handle is empty, and lives through the call.
+        refused(unsafe { raw::fx_open(&mut handle, jobs) })?;
+        Ok(Core { handle })
+    }
+
+    /// Makes a queue with these shares. The answer: its number, 1 to 255. It asks for memory.
+    ///
+    /// # Errors
+    ///
+    /// `BadShares`, `Closed`, `TooMany`, `NoMemory`.
+    pub fn create(&mut self, shares: u32) -> Result<u32, Error> {
+        let mut queue = 0;
+        // SAFETY: as above.
+        refused(unsafe { raw::fx_create(&mut self.handle, shares, &mut queue) })?;
+        Ok(queue)
+    }
+
+    /// Gives a queue these shares.
+    ///
+    /// # Errors
+    ///
+    /// `BadShares`, `Full`, `Spent`, `NoQueue`.
+    pub fn set_shares(&mut self, queue: u32, shares: u32) -> Result<(), Error> {
+        // SAFETY: as above.
+        refused(unsafe { raw::fx_set_shares(&mut self.handle, queue, shares) })
+    }
+
+    /// Hands a job to the tail of a queue, also while a job runs.
+    ///
+    /// # Errors
+    ///
+    /// `Closed`, `Full`, `Spent`, `NoQueue`.
+    pub fn submit(&mut self, queue: u32, job: u64) -> Result<(), Error> {
+        // SAFETY: as above.
+        refused(unsafe { raw::fx_submit(&mut self.handle, queue, job) })
+    }
+
+    /// Tells which job to run now.
+    ///
+    /// # Errors
+    ///
+    /// `Busy`, `Spent`.
+    pub fn next_job(&mut self) -> Result<Next, Error> {
+        let mut job = 0;
+        // SAFETY: as above.
+        match unsafe { raw::fx_next(&mut self.handle, &mut job) } {
+            raw::FX_START => Ok(Next::Start(job)),
+            raw::FX_RESUME => Ok(Next::Resume(job)),
+            raw::FX_BACK => Ok(Next::Back(job)),
+            raw::FX_IDLE => Ok(Next::Idle),
+            code => Err(Error::of(code)),
+        }
+    }
+
+    /// Settles the run of the job that `next_job` told, which took so many nanoseconds: they count as at least 1 and at most 2^40 - 1.
+    ///
+    /// # Errors
+    ///
+    /// `NoJob`.
+    pub fn settle(&mut self, step: Step, spent: u64) -> Result<(), Error> {
+        let number = match step {
+            Step::Yield => raw::FX_STEP_YIELD,
+            Step::Done => raw::FX_STEP_DONE,
+        };
+        // SAFETY: as above.
+        match unsafe { raw::fx_settle(&mut self.handle, number, spent) } {
+            raw::FX_DONE => Ok(()),
+            code => refused(code),
+        }
+    }
+
+    /// Closes a queue. One that finishes may be closed once more, with `Return`.
+    ///
+    /// # Errors
+    ///
+    /// `NoQueue`; `Closed` if it was so, or more strictly, before.
+    pub fn close_queue(&mut self, queue: u32, mode: Mode) -> Result<(), Error> {
+        // SAFETY: as above.
+        refused(unsafe { raw::fx_close_queue(&mut self.handle, queue, mode.number()) })
+    }
+
+    /// Closes the core with all its queues, by the same rule.
+    ///
+    /// # Errors
+    ///
+    /// `Closed` if it was so, or more strictly, before.
+    pub fn close(&mut self, mode: Mode) -> Result<(), Error> {
+        // SAFETY: as above.
+        refused(unsafe { raw::fx_close(&mut self.handle, mode.number()) })
+    }
+
+    /// The counts of the core.
+    pub fn stats(&mut self) -> CoreStats {
+        let mut stats = raw::fx_core_stats {
+            size: size_of::<raw::fx_core_stats>() as u32,
+            ..raw::fx_core_stats::default()
+        };
+        // SAFETY: as above.
+        let code = unsafe { raw::fx_stats(&mut self.handle, &mut stats) };
+        assert_eq!(code, raw::FX_OK);
+        CoreStats {
+            queues: stats.queues,
+            room: stats.room,
+            held: stats.held,
+            turns: stats.turns,
+            floor: wide(stats.floor_low, stats.floor_high),
+            is_running: stats.running == 1,
+            closed: match stats.closed {
+                0 => None,
+                1 => Some(Mode::Finish),
+                _ => Some(Mode::Return),
+            },
+        }
+    }
+
+    /// The counts of a queue.
+    ///
+    /// # Errors
+    ///
+    /// `NoQueue`.
+    pub fn stats_of(&mut self, queue: u32) -> Result<QueueStats, Error> {
+        let mut stats = raw::fx_queue_stats {
+            size: size_of::<raw::fx_queue_stats>() as u32,
+            ..raw::fx_queue_stats::default()
+        };
+        // SAFETY: as above.
+        refused(unsafe { raw::fx_stats_of_queue(&mut self.handle, queue, &mut stats) })?;
+        Ok(QueueStats {
+            shares: stats.shares,
+            picks: stats.picks,
+            waiting: stats.waiting,
+            done: stats.done,
+            back: stats.back,
+            time: wide(stats.time_low, stats.time_high),
+            virtual_runtime: wide(stats.virtual_low, stats.virtual_high),
+        })
+    }
+}
+
+impl Drop for Core {
+    fn drop(&mut self) {
+        // SAFETY: as above, and nobody uses the handle any more.
+        unsafe { raw::fx_free(&mut self.handle) };
+    }
+}
+
+fn refused(code: u32) -> Result<(), Error> {
+    match code {
+        raw::FX_OK => Ok(()),
+        code => Err(Error::of(code)),
+    }
+}

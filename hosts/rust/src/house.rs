@@ -1,0 +1,298 @@
+//! A core that keeps what its jobs are.
+
+use crate::core::{start_with, Core, CoreStats, Error, Mode, Next, QueueStats, Step};
+use std::panic::{catch_unwind, AssertUnwindSafe};
+use std::sync::OnceLock;
+use std::thread::JoinHandle;
+use std::time::Instant;
+
+/// A clock that jobs are measured by, in nanoseconds from any start. It may be the time of the wall or that of the thread.
+pub type Clock = fn() -> u64;
+
+/// The time of the wall since the first call.
+pub fn wall_clock() -> u64 {
+    static START: OnceLock<Instant> = OnceLock::new();
+    START.get_or_init(Instant::now).elapsed().as_nanos() as u64
+}
+
+/// What a turn came to.
+#[derive(PartialEq, Eq, Debug)]
+pub enum Turn<J> {
+    /// A job ran, and wants to run again.
+    Yielded,
+    /// This job ran, and is done.
+    Done(J),
+    /// This job goes back, unrun or unfinished, since its queue or its core hands back.
+    Back(J),
+    /// No queue has work.
+    Idle,
+}
+
+/// A core and its jobs. `Cx` and `House` are the same but for the turns.
+struct Inside<J> {
+    core: Core,
+    // A job's number is its place here.
+    places: Vec<Option<J>>,
+    vacant: Vec<usize>,
+}
+
+impl<J> Inside<J> {
+    fn submit(&mut self, queue: u32, job: J) -> Result<(), (Error, J)> {
+        // If no place is vacant the core is full, and says so.
+        let place = self.vacant.last().copied().unwrap_or(0);
+        if let Err(error) = self.core.submit(queue, place as u64) {
+            return Err((error, job));
+        }
+        self.vacant.pop();
+        self.places[place] = Some(job);
+        Ok(())
+    }
+
+    fn vacate(&mut self, place: usize) -> J {
+        self.vacant.push(place);
+        self.places[place].take().expect("a job that the core holds has its place")
+    }
+}
+
+/// The run of a job. If it ends by a panic, also of the clock, the job counts as done, and is dropped.
+struct Running<'a, J> {
+    inside: &'a mut Inside<J>,
+    place: usize,
+    // The job is out of its place while it runs.
+    job: Option<J>,
+    clock: Clock,
+    began: u64,
+    step: Step,
+}
+
+impl<J> Drop for Running<'_, J> {
+    fn drop(&mut self) {
+        // A clock that panics here is charged as little as may be: nothing leaves the core with a job that nobody runs.
+        let spent = catch_unwind(AssertUnwindSafe(|| (self.clock)().saturating_sub(self.began))).unwrap_or(0);
+        let settled = self.inside.core.settle(self.step, spent);
+        debug_assert_eq!(settled, Ok(()));
+        match self.step {
+            Step::Yield => self.inside.places[self.place] = self.job.take(),
+            Step::Done => self.inside.vacant.push(self.place),
+        }
+    }
+}
+
+/// What a running job may do with its core.
+pub struct Cx<'a, J> {
+    inside: &'a mut Inside<J>,
+}
+
+impl<J> Cx<'_, J> {
+    /// Hands another job to the core.
+    ///
+    /// # Errors
+    ///
+    /// `Closed`, `Full`, `Spent`, `NoQueue`, each with the job.
+    pub fn submit(&mut self, queue: u32, job: J) -> Result<(), (Error, J)> {
+        self.inside.submit(queue, job)
+    }
+
+    /// The core, without its turns: see `Core::create`.
+    ///
+    /// # Errors
+    ///
+    /// `BadShares`, `Closed`, `TooMany`, `NoMemory`.
+    pub fn create(&mut self, shares: u32) -> Result<u32, Error> {
+        self.inside.core.create(shares)
+    }
+
+    /// See `Core::set_shares`.
+    ///
+    /// # Errors
+    ///
+    /// `BadShares`, `Full`, `Spent`, `NoQueue`.
+    pub fn set_shares(&mut self, queue: u32, shares: u32) -> Result<(), Error> {
+        self.inside.core.set_shares(queue, shares)
+    }
+
+    /// See `Core::close_queue`.
+    ///
+    /// # Errors
+    ///
+    /// `NoQueue`, `Closed`.
+    pub fn close_queue(&mut self, queue: u32, mode: Mode) -> Result<(), Error> {
+        self.inside.core.close_queue(queue, mode)
+    }
+
+    /// See `Core::close`.
+    ///
+    /// # Errors
+    ///
+    /// `Closed`.
+    pub fn close(&mut self, mode: Mode) -> Result<(), Error> {
+        self.inside.core.close(mode)
+    }
+}
+
+/// A core that keeps its jobs, which are of any type.
+///
+/// Like its core it isn't `Send`: it is opened on its thread, or goes to a new one by [`House::start`]. Whatever is inside is dropped with it.
+pub struct House<J> {
+    inside: Inside<J>,
+    clock: Clock,
+}
+
+impl<J> House<J> {
+    /// Opens a house with queue 0, which has 1000 shares, and with room for this many jobs. Runs are measured by the wall's time.
+    ///
+    /// # Errors
+    ///
+    /// `BadNumber`, `NoMemory`.
+    pub fn open(jobs: u32) -> Result<House<J>, Error> {
+        House::open_with(jobs, wall_clock)
+    }
+
+    /// The same, and runs are measured by this clock.
+    ///
+    /// # Errors
+    ///
+    /// `BadNumber`, `NoMemory`.
+    pub fn open_with(jobs: u32, clock: Clock) -> Result<House<J>, Error> {
+        let mut core = Core::open(jobs)?;
+        let room = core.stats().room as usize;
+        Ok(House {
+            inside: Inside {
+                core,
+                places: (0..room).map(|_| None).collect(),
+                vacant: (0..room).rev().collect(),
+            },
+            clock,
+        })
+    }
+
+    /// Starts a thread that has this house.
+    pub fn start<R: Send + 'static>(self, run: impl FnOnce(House<J>) -> R + Send + 'static) -> JoinHandle<R>
+    where
+        J: Send + 'static,
+    {
+        start_with(self, run)
+    }
+
+    /// What a job may do between two turns as well.
+    pub fn cx(&mut self) -> Cx<'_, J> {
+        Cx { inside: &mut self.inside }
+    }
+
+    /// See `Cx::submit`.
+    ///
+    /// # Errors
+    ///
+    /// `Closed`, `Full`, `Spent`, `NoQueue`, each with the job.
+    pub fn submit(&mut self, queue: u32, job: J) -> Result<(), (Error, J)> {
+        self.inside.submit(queue, job)
+    }
+
+    /// See `Core::create`.
+    ///
+    /// # Errors
+    ///
+    /// `BadShares`, `Closed`, `TooMany`, `NoMemory`.
+    pub fn create(&mut self, shares: u32) -> Result<u32, Error> {
+        self.inside.core.create(shares)
+    }
+
+    /// See `Core::set_shares`.
+    ///
+    /// # Errors
+    ///
+    /// `BadShares`, `Full`, `Spent`, `NoQueue`.
+    pub fn set_shares(&mut self, queue: u32, shares: u32) -> Result<(), Error> {
+        self.inside.core.set_shares(queue, shares)
+    }
+
+    /// See `Core::close_queue`.
+    ///
+    /// # Errors
+    ///
+    /// `NoQueue`, `Closed`.
+    pub fn close_queue(&mut self, queue: u32, mode: Mode) -> Result<(), Error> {
+        self.inside.core.close_queue(queue, mode)
+    }
+
+    /// See `Core::close`.
+    ///
+    /// # Errors
+    ///
+    /// `Closed`.
+    pub fn close(&mut self, mode: Mode) -> Result<(), Error> {
+        self.inside.core.close(mode)
+    }
+
+    /// See `Core::stats`.
+    pub fn stats(&mut self) -> CoreStats {
+        self.inside.core.stats()
+    }
+
+    /// See `Core::stats_of`.
+    ///
+    /// # Errors
+    ///
+    /// `NoQueue`.
+    pub fn stats_of(&mut self, queue: u32) -> Result<QueueStats, Error> {
+        self.inside.core.stats_of(queue)
+    }
+
+    /// Runs the next job once. A panic of `run` goes on after the job was settled as done and dropped.
+    ///
+    /// # Errors
+    ///
+    /// `Spent`.
+    pub fn run_turn<R>(&mut self, run: R) -> Result<Turn<J>, Error>
+    where
+        R: FnOnce(&mut J, &mut Cx<'_, J>) -> Step,
+    {
+        let place = match self.inside.core.next_job()? {
+            Next::Start(place) | Next::Resume(place) => place as usize,
+            Next::Back(place) => return Ok(Turn::Back(self.inside.vacate(place as usize))),
+            Next::Idle => return Ok(Turn::Idle),
+        };
+        let job = self.inside.places[place].take();
+        let mut running = Running {
+            inside: &mut self.inside,
+            place,
+            job,
+            clock: self.clock,
+            began: u64::MAX,
+            step: Step::Done,
+        };
+        running.began = (running.clock)();
+        if let Some(job) = &mut running.job {
+            running.step = run(job, &mut Cx { inside: running.inside });
+        }
+        match running.step {
+            Step::Yield => Ok(Turn::Yielded),
+            Step::Done => {
+                let job = running.job.take();
+                drop(running);
+                Ok(Turn::Done(job.expect("a job that ran is there")))
+            }
+        }
+    }
+}
+
+/// A closure as a job: it is called with its core, and answers whether it wants to run again.
+pub struct Job(Box<dyn FnMut(&mut Cx<'_, Job>) -> Step + Send>);
+
+impl Job {
+    /// This closure as a job.
+    pub fn new(run: impl FnMut(&mut Cx<'_, Job>) -> Step + Send + 'static) -> Job {
+        Job(Box::new(run))
+    }
+}
+
+impl House<Job> {
+    /// Runs the next closure once.
+    ///
+    /// # Errors
+    ///
+    /// `Spent`.
+    pub fn turn(&mut self) -> Result<Turn<Job>, Error> {
+        self.run_turn(|job, cx| (job.0)(cx))
+    }
+}

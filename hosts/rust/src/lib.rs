@@ -1,0 +1,30 @@
+//! Cores with fair task queues, whose jobs the host runs: safe calls over libfairexec.a. It uses nothing but std.
+//!
+//! ```
+//! use fairexec::{House, Job, Step, Turn};
+//!
+//! let mut house = House::open(64)?;
+//! let background = house.create(100)?;
+//! let mut runs = 0;
+//! let job = Job::new(move |cx| {
+//!     runs += 1;
+//!     if runs < 3 { Step::Yield } else { Step::Done }
+//! });
+//! house.submit(background, job).map_err(|(error, _)| error)?;
+//! while !matches!(house.turn()?, Turn::Idle) {}
+//! assert_eq!(house.stats_of(background)?.picks, 3);
+//! # Ok::<(), fairexec::Error>(())
+//! ```
+//!
+//! - [`Core`]: a core whose jobs are numbers.
+//! - [`House`]: a core that keeps its jobs, which are of any type; [`Job`] is a closure.
+//! - [`Tasks`]: a house whose jobs are futures.
+
+mod core;
+mod house;
+pub mod raw;
+mod tasks;
+
+pub use crate::core::{Core, CoreStats, Error, Mode, Next, QueueStats, Step};
+pub use house::{wall_clock, Clock, Cx, House, Job, Turn};
+pub use tasks::{again, Tasks};

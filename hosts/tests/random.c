@@ -1,0 +1,183 @@
+/*
+ * A caller that picks its calls and their numbers at random, against model.h: random CALLS SEED. Three cores are in use, each with its
+ * model, and often a call is one that is refused. Each call has to answer the model's code, and to write what the model writes: nothing
+ * if it is refused. At times all counts of a core are compared.
+ * It stops at the first difference, which it tells. The last line is 'N passed, M failed', and the status is 0 if nothing failed.
+ */
+#include "model.h"
+#include <stdio.h>
+
+enum { CORES = 3, CALLS = 11, CODES = 18 };
+
+static uint64_t state;
+static uint64_t seen[CODES];
+
+static uint64_t any(void) {
+    state ^= state << 13;
+    state ^= state >> 7;
+    state ^= state << 17;
+    return state;
+}
+
+static uint32_t below(uint32_t limit) { return (uint32_t)((any() >> 32) % limit); }
+
+static bool rarely(uint32_t times) { return below(times) == 0; }
+
+/* The handle stands at places[at], and moves at times. */
+typedef struct {
+    fx_core places[2];
+    uint32_t at;
+    model model;
+} pair;
+
+/* What a call answers, and what it writes. */
+typedef struct {
+    uint32_t code, queue;
+    uint64_t job;
+    fx_core_stats core;
+    fx_queue_stats of_queue;
+} answer;
+
+/* A call with its numbers. */
+typedef struct {
+    uint32_t kind, queue, shares, jobs, step, mode, size_off;
+    uint64_t job, spent;
+} call;
+
+static const char *const names[CALLS] = {"open", "free", "create", "set_shares", "submit", "next", "settle", "close_queue", "close", "stats", "stats_of_queue"};
+
+/* How many creations come next, and whose core they are for: without them no core has 256 queues. */
+static uint32_t creations, whose;
+
+static uint32_t any_kind(const model *m) {
+    static const uint32_t weights[CALLS] = {6, 1, 10, 20, 380, 400, 400, 3, 1, 10, 20};
+    if (creations > 0) return 2;
+    if (!m->has_core && rarely(2)) return 0;
+    if (m->closed && rarely(60)) return 1;
+    uint32_t at = below(1251), kind = 0;
+    while (at >= weights[kind]) at -= weights[kind++];
+    return kind;
+}
+
+static call any_call(const model *m) {
+    static const uint32_t far[] = {255, 256, 257, 65536, UINT32_MAX};
+    call c;
+    memset(&c, 0, sizeof c);
+    c.kind = any_kind(m);
+    c.queue = rarely(50) ? far[below(5)] : below(m->queue_count + (m->queue_count == 0 || rarely(10)));
+    c.shares = rarely(50) ? (rarely(2) ? 0 : 10001 + below(100000)) : 1 + below(rarely(3) ? 10000 : 5);
+    c.jobs = rarely(20) ? (rarely(2) ? 0 : 131071 + below(9)) : 1 + below(rarely(4) ? 400 : 12);
+    c.step = rarely(50) ? 2 + below(1000) : below(2);
+    c.mode = rarely(20) ? 2 + below(1000) : below(2);
+    c.size_off = rarely(20) ? 1 + below(8) : 0;
+    c.job = any();
+    c.spent = rarely(20) ? any() >> below(64) : below(3000);
+    return c;
+}
+
+static void prepare(answer *a, const call *c) {
+    memset(a, 0, sizeof *a);
+    a->job = 77;
+    a->queue = 77;
+    a->core.size = (uint32_t)sizeof a->core + c->size_off;
+    a->of_queue.size = (uint32_t)sizeof a->of_queue + c->size_off;
+}
+
+static answer by_library(fx_core *core, const call *c) {
+    answer a;
+    prepare(&a, c);
+    switch (c->kind) {
+    case 0: a.code = fx_open(core, c->jobs); break;
+    case 1: a.code = fx_free(core); break;
+    case 2: a.code = fx_create(core, c->shares, &a.queue); break;
+    case 3: a.code = fx_set_shares(core, c->queue, c->shares); break;
+    case 4: a.code = fx_submit(core, c->queue, c->job); break;
+    case 5: a.code = fx_next(core, &a.job); break;
+    case 6: a.code = fx_settle(core, c->step, c->spent); break;
+    case 7: a.code = fx_close_queue(core, c->queue, c->mode); break;
+    case 8: a.code = fx_close(core, c->mode); break;
+    case 9: a.code = fx_stats(core, &a.core); break;
+    default: a.code = fx_stats_of_queue(core, c->queue, &a.of_queue); break;
+    }
+    return a;
+}
+
+static answer by_model(model *m, const call *c) {
+    answer a;
+    prepare(&a, c);
+    switch (c->kind) {
+    case 0: a.code = model_open(m, c->jobs); break;
+    case 1: a.code = model_free(m); break;
+    case 2: a.code = model_create(m, c->shares, &a.queue); break;
+    case 3: a.code = model_set_shares(m, c->queue, c->shares); break;
+    case 4: a.code = model_submit(m, c->queue, c->job); break;
+    case 5: a.code = model_next(m, &a.job); break;
+    case 6: a.code = model_settle(m, c->step, c->spent); break;
+    case 7: a.code = model_close_queue(m, c->queue, c->mode); break;
+    case 8: a.code = model_close(m, c->mode); break;
+    case 9: a.code = model_stats(m, &a.core); break;
+    default: a.code = model_stats_of_queue(m, c->queue, &a.of_queue); break;
+    }
+    return a;
+}
+
+static bool agrees(pair *p, const call *c, uint64_t number) {
+    answer wanted = by_model(&p->model, c);
+    answer found = by_library(&p->places[p->at], c);
+    if (wanted.code < CODES) seen[wanted.code]++;
+    if (memcmp(&wanted, &found, sizeof found) == 0) return true;
+    printf("FAILED: call %llu, fx_%s of queue %u, shares %u, jobs %u, step %u, mode %u, spent %llu: %u (%s), job %llu, queue %u, and not %u (%s), job %llu, queue %u\n",
+           (unsigned long long)number, names[c->kind], c->queue, c->shares, c->jobs, c->step, c->mode, (unsigned long long)c->spent,
+           found.code, fx_text(found.code), (unsigned long long)found.job, found.queue,
+           wanted.code, fx_text(wanted.code), (unsigned long long)wanted.job, wanted.queue);
+    return false;
+}
+
+/* Compares all counts of a core. */
+static bool all_agree(pair *p, uint64_t number) {
+    call c = {9, 0, 0, 0, 0, 0, 0, 0, 0};
+    if (!agrees(p, &c, number)) return false;
+    c.kind = 10;
+    for (uint32_t queue = 0; p->model.has_core && queue < p->model.queue_count; queue++) {
+        c.queue = queue;
+        if (!agrees(p, &c, number)) return false;
+    }
+    return true;
+}
+
+int main(int count, char **words) {
+    static pair pairs[CORES];
+    uint64_t calls = count > 1 ? strtoull(words[1], NULL, 10) : 1000000;
+    state = count > 2 ? strtoull(words[2], NULL, 10) : 88172645463325252u;
+    for (uint64_t number = 0; number < calls; number++) {
+        if (creations > 0) {
+            creations--;
+        } else {
+            whose = below(CORES);
+            creations = rarely(10000) ? 300 : 0;
+        }
+        pair *p = &pairs[whose];
+        call c = any_call(&p->model);
+        if (!agrees(p, &c, number) || (rarely(500) && !all_agree(p, number))) {
+            printf("%llu passed, 1 failed\n", (unsigned long long)number);
+            return 1;
+        }
+        if (rarely(1000)) {
+            memcpy(&p->places[1 - p->at], &p->places[p->at], sizeof p->places[0]);
+            memset(&p->places[p->at], 0, sizeof p->places[0]);
+            p->at = 1 - p->at;
+        }
+    }
+    for (int each = 0; each < CORES; each++) {
+        fx_free(&pairs[each].places[pairs[each].at]);
+        model_free(&pairs[each].model);
+    }
+    uint64_t unseen = 0;
+    for (uint32_t code = 0; code < CODES; code++) {
+        if (seen[code] > 0 || code == FX_SPENT || code == FX_NO_MEMORY) continue;
+        printf("FAILED: no call was answered %u (%s)\n", code, fx_text(code));
+        unseen++;
+    }
+    printf("%llu passed, %llu failed\n", (unsigned long long)calls, (unsigned long long)unseen);
+    return unseen != 0;
+}
