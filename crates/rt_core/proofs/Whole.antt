@@ -9,7 +9,7 @@ use Rattle.rt_ids.specs.Work.{number_if}
 use Rattle.rt_jobs.specs.declared.job.Step.{Step}
 use Rattle.rt_jobs.specs.declared.job.Step.TheVariants as steps
 use Rattle.rt_jobs.specs.Ready.{IsReady}
-use Rattle.rt_jobs.specs.Steps.{OnYield, is_done_step}
+use Rattle.rt_jobs.specs.Steps.{IfUndone, is_done_step}
 use Rattle.rt_timeline.specs.Rising.{LacksQueue, inserted}
 use Rattle.rt_taskqueue.specs.Queues.{QueuesView, queue_count, waiting_of, shares_of, ChangesLine, IsWithinLimits}
 use Rattle.rt_taskqueue.specs.Fronts.{IsFrontReady, JoinsAgain}
@@ -113,7 +113,7 @@ module _ {J T : Type 0} (meaning : Meaning J T) where
   pub IsCore-settled : {T : Type 0} (mid new : CoreView J) (slips : List Bool) (keys : List Key) (inside room places : ℕ) (out : JobOut J) (job : J) (tally : Tally) (any : Bool) (step : Step T) →
       IsCore meaning mid slips keys inside room places → mid.out ≡ Some out → new.out ≡ None → JoinsAgain step mid.queues out.queue out.name job new.queues → IsWithinLimits new.queues →
       new.tallies ≡ slice_set mid.tallies out.queue tally → FitsTurns mid.turns 0 tally → new.cores ≡ mid.cores → new.delivered ≡ mid.delivered → new.turns ≡ mid.turns → new.floor ≡ mid.floor →
-      meaning.done job ≡ is_done_step step → OnYield step (meaning.can_poll job) → is_any (waiting_of out.queue new.queues) ≡ any →
+      meaning.done job ≡ is_done_step step → IfUndone step (meaning.can_poll job) → is_any (waiting_of out.queue new.queues) ≡ any →
       IsCore meaning new (slips_after any out.queue slips) (keys_after any tally.runtime out.queue keys) (inside - number_if (is_done_step step)) room places
   IsCore-settled mid new slips keys inside room places out job tally true steps.Yield core was_out free joins limits tallies fits cores delivered turns floor still ready some =
       let all : inside ≡ inside - 0 = omega arith in

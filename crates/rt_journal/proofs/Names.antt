@@ -49,7 +49,7 @@ pub use Rattle.rt_ids.specs.declared.note.Note.TheVariants.{Done, Pick, Returned
 pub use Rattle.rt_ids.specs.declared.order.Envelope.{Envelope}
 pub use Rattle.rt_ids.specs.declared.order.Order.TheVariants.{Close, CloseCore, Create, Job, SetShares}
 pub use Rattle.rt_jobs.specs.Meanings.{Meaning, IsMeaning}
-pub use Rattle.rt_jobs.specs.Steps.{AfterPoll, IfDone, OnYield, OwesOn}
+pub use Rattle.rt_jobs.specs.Steps.{AfterPoll, IfDone, IfUndone, OwesOn}
 pub use Rattle.rt_jobs.specs.declared.job.Step.{Step}
 pub use Rattle.rt_journal.specs.Deliveries.{IsDelivery, entry_note, outcome_delivered}
 pub use Rattle.rt_journal.specs.Ends.{Gives, GivesMore, IsInOf, IsInOwing, IsSameSeat, IsUngiven, KeepsIn, LeavesOwed}

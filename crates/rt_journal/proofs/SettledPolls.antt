@@ -3,7 +3,7 @@ use Rattle.rt_journal.proofs.Names.{◌≡◌, ℕ, ◌+◌, ◌<◌, ◌≤◌,
 use Rattle.rt_journal.proofs.Names.{◌∙◌, ap, subst, arith, add-zero, get_or, ◌==◌, Option, Some, None, All, is_some}
 use Rattle.rt_journal.proofs.Names.{unwrap_or, false_from_ne_true, length-append, All-append, All-cons, All-nil}
 use Rattle.rt_journal.proofs.Names.{JobId, Note, same_name, Journal, jobs_out, number_if, alone_out, apart_of, among}
-use Rattle.rt_journal.proofs.Names.{same_as_itself, Step, Call, Meaning, AfterPoll, IsMeaning, IfDone, OnYield, OwesOn}
+use Rattle.rt_journal.proofs.Names.{same_as_itself, Step, Call, Meaning, AfterPoll, IsMeaning, IfDone, IfUndone, OwesOn}
 use Rattle.rt_journal.proofs.Names.{waiting_of, held_count, ChangesLine, Settled, Yielded, CoreView, JobOut}
 use Rattle.rt_journal.proofs.Names.{inside_count, IsTaskOut, settled_view, IsJobOut, polls_made, settle_note}
 use Rattle.rt_journal.proofs.Names.{RecordedView, terms_at, IsRecorded, HasTask, note_taken, OwesAfter, sum_upto}
@@ -153,7 +153,7 @@ module _ {J T : Type 0} {meaning : Meaning J T} (laws : IsMeaning meaning)
 
     pub settled_did : HasDone meaning old core everyone (given_settled out.name ran.step) 1 (λ old new. Settles meaning old ran spent settled new) notes
     settled_did = done_so its_step.0
-        (by_step ran.step (subst (λ job. OnYield ran.step (meaning.same job ran.job)) (sym its_job) polled.same_task) (subst (λ job. OnYield ran.step (OwesOn meaning job ran.job)) (sym its_job) polled.later) settled settles)
+        (by_step ran.step (subst (λ job. IfUndone ran.step (meaning.same job ran.job)) (sym its_job) polled.same_task) (subst (λ job. IfUndone ran.step (OwesOn meaning job ran.job)) (sym its_job) polled.later) settled settles)
         (omega arith) (record {
           out = out;
           was_out = was_out;
@@ -167,7 +167,7 @@ module _ {J T : Type 0} {meaning : Meaning J T} (laws : IsMeaning meaning)
           took = refl;
         })
       where
-        by_step : (step : Step T) → OnYield step (meaning.same out.job ran.job) → OnYield step (OwesOn meaning out.job ran.job) → (settled : Settled T) → CoreSettles old.core out ran spent step settled core notes → SettlesIt step core
+        by_step : (step : Step T) → IfUndone step (meaning.same out.job ran.job) → IfUndone step (OwesOn meaning out.job ran.job) → (settled : Settled T) → CoreSettles old.core out ran spent step settled core notes → SettlesIt step core
         by_step (steps.Done value) task later (Finished answer) settles = subst (SettlesIt (steps.Done value)) (sym settles.1) (ended value)
         by_step (steps.Done value) task later Yielded settles = absurd settles
         by_step steps.Yield task later (Finished answer) settles = absurd settles

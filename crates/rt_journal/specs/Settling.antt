@@ -6,7 +6,7 @@ use Rattle.rt_jobs.specs.declared.job.Step.{Step}
 use Rattle.rt_jobs.specs.Calls.{Call}
 use Rattle.rt_jobs.specs.declared.job.Step.TheVariants as step
 use Rattle.rt_jobs.specs.Meanings.{Meaning}
-use Rattle.rt_jobs.specs.Steps.{AfterPoll, IfDone, OnYield, OwesOn}
+use Rattle.rt_jobs.specs.Steps.{AfterPoll, IfDone, IfUndone, OwesOn}
 use Rattle.rt_core.specs.State.{JobOut}
 use Rattle.rt_core.specs.declared.turn.Settled.{Settled}
 use Rattle.rt_core.specs.declared.turn.Settled.TheVariants.{Yielded, Finished}
@@ -27,8 +27,8 @@ IsOutUnder (Some out) name = out.name ≡ name
 -- what may answer a poll, and what it leaves of its job
 pub record IsPolled {J T : Type 0} (meaning : Meaning J T) (ran : AfterPoll J T) : Type 0 where
   pub answered : IfDone ran.step (meaning.answers ran.before)
-  pub same_task : OnYield ran.step (meaning.same ran.before ran.job)
-  pub later : OnYield ran.step (OwesOn meaning ran.before ran.job)
+  pub same_task : IfUndone ran.step (meaning.same ran.before ran.job)
+  pub later : IfUndone ran.step (OwesOn meaning ran.before ran.job)
 
 -- what the caller of a settled poll is told is the poll's step
 abbrev pub TellsStep : {T : Type 0} → Step T → Settled T → Type 0

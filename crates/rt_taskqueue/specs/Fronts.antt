@@ -7,7 +7,7 @@ use Rattle.rt_jobs.specs.declared.job.Step.{Step}
 use Rattle.rt_jobs.specs.declared.job.Step.TheVariants as steps
 use Rattle.rt_jobs.specs.Ready.{IsReady}
 use Rattle.rt_jobs.specs.Meanings.{Meaning}
-use Rattle.rt_jobs.specs.Steps.{AfterPoll, IfDone, OnYield, OwesOn, is_done_step}
+use Rattle.rt_jobs.specs.Steps.{AfterPoll, IfDone, IfUndone, OwesOn, is_done_step}
 use Rattle.rt_taskqueue.specs.declared.waiting.Waiting.{Waiting}
 use Rattle.rt_taskqueue.specs.Entries.{Renews}
 use Rattle.rt_taskqueue.specs.Queues.{QueuesView, waiting_of, ChangesLine, IsWithinLimits}
@@ -20,9 +20,9 @@ MakesCalls {P} {J} {T} does old new fact = (calls : List (Call J T)) × Makes do
 pub record IsPolled {J T : Type 0} (meaning : Meaning J T) (calls : List (Call J T)) (ran : AfterPoll J T) : Type 0 where
   pub owed : meaning.polls ran.before (meaning.made ran.before) calls ran.step ran.told
   pub answered : IfDone ran.step (meaning.answers ran.before)
-  pub task : OnYield ran.step (meaning.same ran.before ran.job)
-  pub later : OnYield ran.step (OwesOn meaning ran.before ran.job)
-  pub ready : OnYield ran.step (meaning.can_poll ran.job)
+  pub task : IfUndone ran.step (meaning.same ran.before ran.job)
+  pub later : IfUndone ran.step (OwesOn meaning ran.before ran.job)
+  pub ready : IfUndone ran.step (meaning.can_poll ran.job)
   pub ended : meaning.done ran.job ≡ is_done_step ran.step
 
 module _ {J : Type 0} where

@@ -1,6 +1,6 @@
 use Rattle.std.proofs.Common.{sym, ◌∙◌, ap, subst}
 use Rattle.std.specs.Prelude.{unwrap_or}
-use Rattle.rt_jobs.specs.Steps.{is_done_step, IfDone, OnYield}
+use Rattle.rt_jobs.specs.Steps.{is_done_step, IfDone, IfUndone}
 use Rattle.rt_core.proofs.PollsSettled.{settles_yield, settles_done, answers_out, out_if_same, yields_no_answer}
 use Rattle.rt_core.proofs.one_core.Core.settle.Goals as goal
 
@@ -29,7 +29,7 @@ yield_out-name-requires g c =
     let job = c.into_parts-job.result.0 in
     record {
       out = out_if_same g.J.Task.meaning c.args.self.now.out c.args.ran.before c.requires;
-      ready = (parts.done ∙ ap is_done_step c.in-Yield.is, subst (λ step. OnYield step (g.J.Task.meaning.can_poll job)) c.in-Yield.is parts.ready);
+      ready = (parts.done ∙ ap is_done_step c.in-Yield.is, subst (λ step. IfUndone step (g.J.Task.meaning.can_poll job)) c.in-Yield.is parts.ready);
     }
 
 pub finish_out-name-requires : goal.finish_out-name-requires
