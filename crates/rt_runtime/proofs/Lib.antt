@@ -2,6 +2,7 @@ pub mod Parted
 pub mod Orders
 pub mod Fitting
 pub mod Outcomes
+mod InARow
 pub mod Polled
 pub mod PollsOwed
 mod PollsRefused

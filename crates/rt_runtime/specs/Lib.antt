@@ -3,6 +3,7 @@ pub mod State
 pub mod Starting
 pub mod Sends
 pub mod Tickets
+pub mod Waiting
 pub mod Outcomes
 pub mod Calls
 pub mod Errors

@@ -1,12 +1,13 @@
 //! The bells of all cores, and the caller's own, in the caller's hands.
 
-ghost use Rattle.std.specs.Prelude.{◌≡◌};
+ghost use Rattle.std.specs.Prelude.{◌≡◌, ◌<◌, IfOk, length};
 ghost use Rattle.rt_runtime_worker.specs.Bells.{rung_at};
 
-use rt_ids::CoreNo;
+use rt_ids::{ActorNo, CoreNo};
 use rt_jobs::Task;
 use rt_ring_mesh::Ends;
-use rt_runtime_worker::Bells;
+use rt_runtime_worker::{Bell, Bells};
+use std::alloc::AllocError;
 use std::marker::Model;
 use std::snapshot::Snapshot;
 
@@ -36,6 +37,18 @@ impl<J: Task<Out = u64>> Rings<J> {
             bells,
             over: Snapshot::of(ends),
         }
+    }
+
+    /// The bell of this actor, in hands of its own.
+    ///
+    /// # Errors
+    ///
+    /// If it is in too many.
+    pub(crate) fn bell_of(&self, actor: ActorNo) -> Result<Bell, AllocError>
+        requires { actor < length self.now.times }
+        ensures { IfOk result (λ bell. bell.actor ≡ actor) }
+    {
+        self.bells.bell_of(actor)
     }
 
     /// Tells the worker of this core that there is something for it on these ends.

@@ -1,0 +1,7 @@
+use Rattle.rt_link.specs.Fits.{Fits}
+use Rattle.rt_runtime.specs.Waiting.{OneIsPending}
+use Rattle.rt_runtime.proofs.InARow.{no_call}
+use Rattle.rt_runtime.proofs.runtime.Runtime.redeem_first.Goals as goal
+
+pub loop-place-init : goal.loop-place-init
+loop-place-init g c = no_call (OneIsPending (Fits g.J.Task.meaning) c.args.tickets.now) c.args.self.now
