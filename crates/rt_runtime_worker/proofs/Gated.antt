@@ -222,6 +222,12 @@ module _ {J T : Type 0} where
       (ap (λ end. end.inward.taken) (did.others other away), omega (arith, same)))
       (cases_eq other sender)
 
+  -- the same core has heard as much
+  taken_here : (old new : LinkedView J T) → new ≡ old → KeepsTaken old new
+  taken_here old new is other =
+      let same : length (in_at other new.ends).inward.seen ≡ length (in_at other old.ends).inward.seen = ap (λ (view : LinkedView J T). length (in_at other view.ends).inward.seen) is in
+      (ap (λ (view : LinkedView J T). (in_at other view.ends).inward.taken) is, omega (arith, same))
+
   -- the gate is shut, whether it was so before or not
   pub leaves_shut : {meaning : Meaning J T} (sender : ℕ) (old new : LinkedView J T) → WritesShut sender old.recorded.journal new.recorded.journal → StaysLinked old new → KeepsTaken old new →
       IsSome (final_count sender new.recorded.journal.notes) → sender ≤ old.recorded.core.cores → IsLinked meaning new → SoundIn (in_at sender new.ends).inward → LeavesShut sender old new
@@ -247,5 +253,5 @@ module _ {J T : Type 0} where
     -- it was shut before
     pub leaves_else : new ≡ old → IsSome (final_count sender old.recorded.journal.notes) → LeavesShut sender old new
     leaves_else is some =
-        leaves_here (inl (ap (λ view. view.recorded.journal) is)) (subst (StaysLinked old) (sym is) (stays_same old)) (λ other. let same : length (in_at other new.ends).inward.seen ≡ length (in_at other old.ends).inward.seen = ap (λ view. length (in_at other view.ends).inward.seen) is in (ap (λ view. (in_at other view.ends).inward.taken) is, omega (arith, same)))
+        leaves_here (inl (ap (λ view. view.recorded.journal) is)) (subst (StaysLinked old) (sym is) (stays_same old)) (taken_here old new is)
         (subst (λ (view : LinkedView J T). IsSome (final_count sender view.recorded.journal.notes)) (sym is) some)

@@ -7,6 +7,7 @@ pub mod Ended
 pub mod Bells
 pub mod Workers
 pub mod Rounds
+pub mod Turns
 pub mod Asks
 pub mod Looks
 pub mod Opening

@@ -4,7 +4,8 @@ use Rattle.rt_ids.specs.declared.names.JobId.{JobId}
 use Rattle.rt_jobs.specs.Meanings.{Meaning}
 use Rattle.rt_runtime_worker.specs.Ended.{ServedView, IsServed}
 use Rattle.rt_runtime_worker.specs.Readings.{BeginsNext}
-use Rattle.rt_runtime_worker.specs.Rounds.{CollectsFirst, HearsAll, StepsServed, TakesTurn}
+use Rattle.rt_runtime_worker.specs.Rounds.{CollectsFirst, HearsAll, StepsServed}
+use Rattle.rt_runtime_worker.specs.Turns.{TakesTurn}
 
 -- Without a look at the links a turn is made only if polls took little time since the last look, and it counts as one of those that are left.
 abbrev pub PassesLinks : ℕ → ℕ → Bool → ℕ → Type 0
@@ -29,6 +30,10 @@ pub record RoundView (J T C G : Type 0) : Type 0 where
   pub served : ServedView J T
   pub clock : C
   pub gate : G
+
+-- the same, put together
+abbrev pub round_view : {J T C G : Type 0} → ServedView J T → C → G → RoundView J T C G
+round_view served clock gate = record { served = served; clock = clock; gate = gate }
 
 module _ {J T C G : Type 0} (meaning : Meaning J T) (reads : C → ℕ → C → Type 0) (asked : G → ℕ → JobId → G → Type 0) where
   -- the room is looked at, and a turn is made, with this clock and this gate

@@ -1,14 +1,10 @@
 -- What the steps of a round do, and what they tell of it.
 use Rattle.std.specs.Prelude.{◌≡◌, ◌≢◌, ◌⊎◌, ℕ, ◌+◌, ◌<◌, ◌≤◌, Bool, true, false, length, IsSome}
-use Rattle.rt_ids.specs.declared.names.JobId.{JobId}
 use Rattle.rt_ids.specs.Journal.{Journal}
 use Rattle.rt_ids.specs.Closing.{core_mode, final_count}
-use Rattle.rt_jobs.specs.Meanings.{Meaning}
 use Rattle.rt_ring_mesh.specs.Ends.{in_at, out_at}
 use Rattle.rt_runtime_worker.specs.Linked.{LinkedView, StaysLinked}
 use Rattle.rt_runtime_worker.specs.Ended.{ServedView}
-use Rattle.rt_runtime_worker.specs.Rooms.{IsReady}
-use Rattle.rt_runtime_worker.specs.Steps.{MakesTurn}
 use Rattle.rt_runtime_worker.specs.declared.turn.Made.{Made}
 use Rattle.rt_runtime_worker.specs.declared.turn.Made.TheVariants.{Polled, Returned, Idle, Spent}
 
@@ -90,16 +86,3 @@ module _ {J T : Type 0} where
   -- of each of the first cores every outcome was collected, unless the worker is at its end
   abbrev pub CollectsFirst : ℕ → ServedView J T → Type 0
   CollectsFirst count new = new.ending ≡ false → (core : ℕ) → core < count → IsAllGot core new.linked
-
-module _ {J T : Type 0} (meaning : Meaning J T) (tells : ℕ → Type 0) (asked : ℕ → JobId → Type 0) (unasked : Type 0) where
-  -- The room is looked at, and then one turn is made; it tells whether there was work. A worker that is at its end right before the turn was so before, or
-  -- it closed its core and shut each gate just now, and it is at its end behind the turn.
-  pub record TakesTurn (old : ServedView J T) (some : Bool) (new : ServedView J T) : Type 0 where
-    pub before : ServedView J T
-    pub looks : LooksAtRoom old before
-    pub stays : StaysLinked old.linked before.linked
-    pub ready : IsReady before.ending before.linked.recorded
-    pub ended : new.ending ≡ before.ending
-    pub made : Made
-    pub makes : MakesTurn meaning tells asked unasked before.linked made new.linked
-    pub answer : some ≡ is_turn made

@@ -4,7 +4,7 @@ ghost use Rattle.std.specs.Prelude.{◌≡◌, IfSome, IfNone, false, is_none, t
 ghost use Rattle.rt_runtime_worker.specs.Asks.{AsksSince};
 ghost use Rattle.rt_runtime_worker.specs.Bells.{AreRung};
 ghost use Rattle.rt_runtime_worker.specs.Linked.{StaysLinked};
-ghost use Rattle.rt_runtime_worker.specs.Looks.{LooksAtAll};
+ghost use Rattle.rt_runtime_worker.specs.Looks.{LooksAtAll, round_view};
 ghost use Rattle.rt_runtime_worker.specs.Rounds.{StepsServed};
 
 use crate::bell::{Key, sleep};
@@ -35,7 +35,7 @@ pub(crate) fn look_again<'a, J: Job + Task<Out = u64>, C: Clock + Drop, G: Gate 
     requires rung { AreRung rounds.old.served rounds.old.bells }
     ensures some { IfSome result (λ _. StepsServed rounds.old.served false rounds.new.served) }
     ensures none { IfNone result (StepsServed rounds.old.served true rounds.new.served) }
-    ensures looks { LooksAtAll J.meaning C.Reads G.Asked (record { served = rounds.old.served; clock = rounds.old.watch.clock; gate = rounds.old.gate }) (is_none result) rounds.new.turns (record { served = rounds.new.served; clock = rounds.new.watch.clock; gate = rounds.new.gate }) }
+    ensures looks { LooksAtAll J.meaning C.Reads G.Asked (round_view rounds.old.served rounds.old.watch.clock rounds.old.gate) (is_none result) rounds.new.turns (round_view rounds.new.served rounds.new.watch.clock rounds.new.gate) }
     ensures asks { AsksSince G.Asked rounds.old.served.linked.recorded.core.core rounds.old.served.linked.recorded.journal.notes rounds.new.served.linked.recorded.journal.notes rounds.old.gate rounds.new.gate }
     ensures stays { StaysLinked rounds.old.served.linked rounds.new.served.linked }
     ensures rung { AreRung rounds.new.served rounds.new.bells }
