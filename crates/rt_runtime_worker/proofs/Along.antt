@@ -1,5 +1,5 @@
 -- Steps one after another.
-use Rattle.std.proofs.Common.{ℕ, [], ◌++◌, refl, sym, ◌∙◌, ap}
+use Rattle.std.proofs.Common.{ℕ, [], ◌++◌, refl, sym, ◌∙◌, ap, arith}
 use Rattle.std.proofs.lemmas.List.{append_assoc}
 use Rattle.rt_ids.specs.Journal.{Journal}
 use Rattle.rt_journal.specs.Recorded.{RecordedView}
@@ -7,7 +7,8 @@ use Rattle.rt_journal.specs.Ends.{IsSameSeat, KeepsIn}
 use Rattle.rt_journal_desk.specs.Ends.{KeepsOuts}
 use Rattle.rt_journal_desk.specs.Submissions.{DeskView}
 use Rattle.rt_ring_mesh.proofs.Using.{ends_same, ends_along}
-use Rattle.rt_runtime_worker.specs.Linked.{LinkedView, Grows, StaysLinked}
+use Rattle.rt_ring_mesh.specs.Ends.{EndsView}
+use Rattle.rt_runtime_worker.specs.Linked.{LinkedView, Grows, SeesNoLess, StaysLinked}
 
 module _ {T : Type 0} where
   pub grows_same : (notes : Journal T) → Grows notes notes
@@ -34,13 +35,23 @@ module _ {J T : Type 0} where
   pub seat_same : (view : RecordedView J T) → IsSameSeat view view
   seat_same view = record { number = refl; cores = refl; cap = refl; room = refl }
 
+  pub sees_same : (ends : EndsView J T) → SeesNoLess ends ends
+  sees_same ends = record { ins = λ sender. omega arith; outs = λ core. omega arith }
+
+  pub sees_along : (old middle new : EndsView J T) → SeesNoLess old middle → SeesNoLess middle new → SeesNoLess old new
+  sees_along old middle new one two = record {
+    ins = λ sender. let was = one.ins sender in let now = two.ins sender in omega (arith, was, now);
+    outs = λ core. let was = one.outs core in let now = two.outs core in omega (arith, was, now);
+  }
+
   pub stays_same : (view : LinkedView J T) → StaysLinked view view
-  stays_same view = record { seat = seat_same view.recorded; ends = ends_same view.ends; opening = refl; grows = grows_same view.recorded.journal.notes }
+  stays_same view = record { seat = seat_same view.recorded; ends = ends_same view.ends; sees = sees_same view.ends; opening = refl; grows = grows_same view.recorded.journal.notes }
 
   pub stays_along : (old middle new : LinkedView J T) → StaysLinked old middle → StaysLinked middle new → StaysLinked old new
   stays_along old middle new one two = record {
     seat = seat_along old.recorded middle.recorded new.recorded one.seat two.seat;
     ends = ends_along old.ends middle.ends new.ends one.ends two.ends;
+    sees = sees_along old.ends middle.ends new.ends one.sees two.sees;
     opening = two.opening ∙ one.opening;
     grows = grows_along old.recorded.journal.notes middle.recorded.journal.notes new.recorded.journal.notes one.grows two.grows;
   }

@@ -1,7 +1,7 @@
 -- Which steps note a poll, and that the gate is asked for each.
-use Rattle.std.proofs.Common.{◌≡◌, inl, inr, ℕ, ◌+◌, ◌≤◌, List, [], ◌∷◌, ◌++◌, length, arith, refl, sym, ◌∙◌, ap, subst}
+use Rattle.std.proofs.Common.{◌≡◌, inl, inr, ℕ, List, [], ◌∷◌, ◌++◌, refl, sym, ◌∙◌, ap, subst}
 use Rattle.std.specs.Prelude.{Bool, true, false, Option, Some, None, unwrap_or}
-use Rattle.std.proofs.lemmas.List.{append_assoc, length-append}
+use Rattle.std.proofs.lemmas.List.{append_assoc}
 use Rattle.rt_ids.specs.declared.names.JobId.{JobId}
 use Rattle.rt_ids.specs.declared.note.Note.{Note}
 use Rattle.rt_ids.specs.declared.note.Note.TheVariants as writes
@@ -10,7 +10,6 @@ use Rattle.rt_ids.specs.declared.order.Answer.TheVariants as answers
 use Rattle.rt_ids.specs.declared.order.Order.{Order}
 use Rattle.rt_ids.specs.declared.order.Order.TheVariants.{Job, Create, SetShares, Close, CloseCore}
 use Rattle.rt_ids.specs.declared.order.Reason.{Reason}
-use Rattle.rt_ids.specs.Assembly.{IsPrefix}
 use Rattle.rt_ids.specs.Commands.{effect_note, refusal}
 use Rattle.rt_ids.specs.Journal.{Journal}
 use Rattle.rt_jobs.specs.declared.job.Step.{Step}
@@ -22,16 +21,11 @@ use Rattle.rt_journal_desk.specs.Posts.{ArePosts}
 use Rattle.rt_journal_desk.specs.Tickets.{AreCollected}
 use Rattle.rt_journal_notes.specs.Journals.{JournalView}
 use Rattle.rt_runtime_worker.specs.Asks.{polls_of, NotesNoPoll, AsksFor, AsksSince}
-use Rattle.rt_runtime_worker.specs.Ended.{ServedView}
 use Rattle.rt_runtime_worker.specs.Gates.{WritesShut, WritesReturn}
 use Rattle.rt_runtime_worker.specs.Linked.{LinkedView}
-use Rattle.rt_runtime_worker.specs.Steps.{DeliversFrom, CollectsOf, HandsBack, MakesTurn, PollsOne}
+use Rattle.rt_runtime_worker.specs.Steps.{DeliversFrom, CollectsOf, MakesTurn, PollsOne}
 use Rattle.rt_runtime_worker.specs.declared.turn.Made.{Made}
 use Rattle.rt_runtime_worker.specs.declared.turn.Made.TheVariants as came
-
--- the beginning of a list is no longer than the list
-pub prefix_shorter : {A : Type 0} (front whole : List A) → IsPrefix front whole → length front ≤ length whole
-prefix_shorter front whole is = let now : length whole ≡ length front + length is.0 = ap length is.1 ∙ length-append front is.0 in omega (arith, now)
 
 module _ {T : Type 0} where
   posts_note_none : (notes before : Journal T) → ArePosts notes → NotesNoPoll before (notes ++ before)

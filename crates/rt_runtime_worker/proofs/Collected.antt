@@ -14,7 +14,7 @@ use Rattle.rt_journal_desk.specs.Posts.{AreOutsOf}
 use Rattle.rt_journal_desk.specs.Tickets.{HasLane, StaysBeside, CollectsFrom, GetsAll}
 use Rattle.rt_ring_mesh.specs.Ends.{EndsView, out_at, no_out, SameEnds}
 use Rattle.rt_ring_mesh.proofs.Using.{out_used}
-use Rattle.rt_runtime_worker.specs.Linked.{AreBeside, IsLinked, PollsAsOwed}
+use Rattle.rt_runtime_worker.specs.Linked.{AreBeside, IsLinked, PollsAsOwed, SeesNoLess}
 use Rattle.rt_runtime_worker.specs.Steps.{CollectsOf}
 use Rattle.rt_journal_notes.specs.Journals.{JournalView}
 use Rattle.rt_journal.specs.OwedPolls.{seen_by}
@@ -24,6 +24,7 @@ use Rattle.rt_runtime_worker.specs.Queues.{opening_of}
 use Rattle.rt_runtime_worker.proofs.Openings.{opening_collected}
 use Rattle.rt_runtime_worker.proofs.Stepping.{Opens}
 use Rattle.rt_runtime_worker.proofs.Posted.{resent_beside}
+use Rattle.rt_runtime_worker.proofs.Seen.{out_put_sees, prefix_shorter}
 use Rattle.rt_link.specs.Fits.{Fits}
 
 module _ {J T : Type 0} (meaning : Meaning J T) (core : ℕ) (recorded : RecordedView J T) (ends : EndsView J T) (known : core < recorded.core.cores) (at : ℕ) (inside : EndsView J T)
@@ -88,6 +89,12 @@ module _ {J T : Type 0} (meaning : Meaning J T) (core : ℕ) (recorded : Recorde
           owed = collected_polls count collects all rest linked.owed;
         }
 
+    sees_more : GetsAll before.out after.out → length (out_at core ends).out.seen ≤ length after.out.seen
+    sees_more all =
+        let more = prefix_shorter before.out.seen after.out.seen all.1 in
+        let same : length before.out.seen ≡ length (out_at core ends).out.seen = ap (λ (end : Sending J T). length end.out.seen) out_here in
+        omega (arith, more, same)
+
     pub collected_does : (count : ℕ) → CollectsFrom core (desk_of recorded) count (desk_of now) → GetsAll before.out after.out → now ≡ record recorded { journal = now.journal; lanes = now.lanes } →
         IsSameSeat recorded now → after.link ≡ before.link → length now.journal.notes ≤ length recorded.journal.notes + recorded.cap →
         CollectsOf core (record { recorded = recorded; ends = ends }) count (record { recorded = now; ends = record inside { outs = set inside.outs at after } })
@@ -102,6 +109,7 @@ module _ {J T : Type 0} (meaning : Meaning J T) (core : ℕ) (recorded : Recorde
       rest = rest;
       stays = record {
         seat = seat;
+        sees = subst (SeesNoLess ends) put_seen (out_put_sees core ends after out_in_place (sees_more all));
         ends = subst (SameEnds ends) put_seen (out_used ends core after out_in_place (link ∙ ap (λ (end : Sending J T). end.link) out_here));
         opening = ap (λ (journal : JournalView T). opening_of journal.notes) collects.3 ∙ opening_collected core collects.0 recorded.journal.notes collects.1;
         grows = (collects.0, ap (λ (journal : JournalView T). journal.notes) collects.3);

@@ -1,5 +1,5 @@
 -- A core and its ends after an order was delivered, a gate shut, or a poll settled, on the end of one sender.
-use Rattle.std.proofs.Common.{◌≡◌, ◌≢◌, ℕ, ◌≤◌, None, sym, subst, ◌∙◌, ap}
+use Rattle.std.proofs.Common.{◌≡◌, ◌≢◌, ℕ, ◌≤◌, length, None, sym, subst, ◌∙◌, ap}
 use Rattle.std.specs.Prelude.{Bool, true, false, [], ◌∷◌}
 use Rattle.rt_ids.specs.declared.note.Note.TheVariants.{Shut}
 use Rattle.rt_jobs.specs.Meanings.{Meaning}
@@ -18,7 +18,8 @@ use Rattle.rt_runtime_worker.specs.Steps.{ShutsGate, DeliversFrom}
 use Rattle.rt_runtime_worker.specs.Queues.{opening_of}
 use Rattle.rt_runtime_worker.proofs.Openings.{opening_delivers, opening_shut}
 use Rattle.rt_runtime_worker.proofs.Growing.{grows_delivers}
-use Rattle.rt_runtime_worker.proofs.Stepping.{StepsOn, Opens, lent, lent_beside, lent_here, put_back, same_ends, put_beside, others_put, end_put}
+use Rattle.rt_runtime_worker.proofs.Seen.{delivers_seen, prefix_shorter}
+use Rattle.rt_runtime_worker.proofs.Stepping.{StepsOn, Opens, lent, lent_beside, lent_here, put_back, put_sees, same_ends, put_beside, others_put, end_put}
 use Rattle.rt_link.specs.Fits.{Fits}
 
 module _ {J T : Type 0} {meaning : Meaning J T} where
@@ -31,8 +32,9 @@ module _ {J T : Type 0} {meaning : Meaning J T} where
     from_is = (lent_beside sender recorded ends at inside before opens linked.beside known is).from
 
     stepped : IsInOf sender now after.inward → ((other : ℕ) → other ≢ sender → KeepsIn other recorded now) → KeepsOuts (desk_of recorded) (desk_of now) → now.lanes ≡ recorded.lanes → IsSameSeat recorded now →
-        after.link ≡ before.link → opening_of now.journal.notes ≡ opening_of recorded.journal.notes → Grows recorded.journal.notes now.journal.notes → StepsOn (Fits meaning) sender recorded now ends after
-    stepped its_own others outs lanes seat link opening grows = record {
+        after.link ≡ before.link → length before.inward.seen ≤ length after.inward.seen → opening_of now.journal.notes ≡ opening_of recorded.journal.notes → Grows recorded.journal.notes now.journal.notes →
+        StepsOn (Fits meaning) sender recorded now ends after
+    stepped its_own others outs lanes seat link longer opening grows = record {
       beside = linked.beside;
       known = known;
       seat = seat;
@@ -41,6 +43,7 @@ module _ {J T : Type 0} {meaning : Meaning J T} where
       outs = outs;
       lanes = lanes;
       link = link ∙ ap (λ end. end.link) before_is;
+      sees = subst (λ (end : Receiving J T). length end.inward.seen ≤ length after.inward.seen) before_is longer;
       opening = opening;
       grows = grows;
     }
@@ -55,7 +58,7 @@ module _ {J T : Type 0} {meaning : Meaning J T} where
       }
 
       pub stays_here : StaysLinked (record { recorded = recorded; ends = ends }) (record { recorded = now; ends = put_back at inside after })
-      stays_here = record { seat = step.seat; ends = same_ends sender recorded now ends at inside after opens step; opening = step.opening; grows = step.grows }
+      stays_here = record { seat = step.seat; ends = same_ends sender recorded now ends at inside after opens step; sees = put_sees sender recorded now ends at inside after opens step; opening = step.opening; grows = step.grows }
 
     at_rest_after : (found : Bool) → Delivers recorded before.inward now after.inward found → now.core.out ≡ None
     at_rest_after true does = does.2.out ∙ linked.at_rest
@@ -66,7 +69,7 @@ module _ {J T : Type 0} {meaning : Meaning J T} where
       delivered_step : StepsOn (Fits meaning) sender recorded now ends after
       delivered_step =
           stepped (subst (λ from. IsInOf from now after.inward) from_is its_own) (λ other away. others other (λ one. away (one ∙ from_is))) outs lanes seat link
-          (opening_delivers recorded now before.inward after.inward found does) (grows_delivers recorded now before.inward after.inward found does)
+          (delivers_seen recorded now before.inward after.inward found does) (opening_delivers recorded now before.inward after.inward found does) (grows_delivers recorded now before.inward after.inward found does)
 
       pub delivers_linked : IsRecorded meaning now → IsLinked meaning (record { recorded = now; ends = put_back at inside after })
       delivers_linked sound =
@@ -84,7 +87,7 @@ module _ {J T : Type 0} {meaning : Meaning J T} where
     module _ (count : ℕ) (shuts : Shuts before.inward after.inward count) (tells : TellsShut recorded sender count now) (its_own : IsInOf sender now after.inward)
         (others : (other : ℕ) → other ≢ sender → KeepsIn other recorded now) (outs : KeepsOuts (desk_of recorded) (desk_of now)) (lanes : now.lanes ≡ recorded.lanes) (seat : IsSameSeat recorded now) (link : after.link ≡ before.link) where
       shut_step : StepsOn (Fits meaning) sender recorded now ends after
-      shut_step = stepped its_own others outs lanes seat link (opening_shut recorded now sender count tells) (Shut sender count ∷ [], ap (λ journal. journal.notes) tells.journal)
+      shut_step = stepped its_own others outs lanes seat link (prefix_shorter before.inward.seen after.inward.seen shuts.1.0) (opening_shut recorded now sender count tells) (Shut sender count ∷ [], ap (λ journal. journal.notes) tells.journal)
 
       pub shuts_linked : IsRecorded meaning now → IsLinked meaning (record { recorded = now; ends = put_back at inside after })
       shuts_linked sound =

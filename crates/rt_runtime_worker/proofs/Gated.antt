@@ -27,8 +27,8 @@ use Rattle.rt_runtime_worker.specs.Queues.{opening_of}
 use Rattle.rt_runtime_worker.specs.Steps.{ShutsGate}
 use Rattle.rt_runtime_worker.specs.Gates.{WritesShut, WritesReturn, IsShutWithin, LeavesShut, LeavesReturning, ShutsFirst, KeepsTaken}
 use Rattle.rt_runtime_worker.specs.Rooms.{last_through, least_free, MayAct, ActsAsItMay, HasSpare, IsShort, IsEnding}
-use Rattle.rt_runtime_worker.proofs.Along.{stays_along, stays_same}
-use Rattle.rt_runtime_worker.proofs.Asking.{prefix_shorter, return_notes_none, shut_notes_none}
+use Rattle.rt_runtime_worker.proofs.Along.{sees_same, stays_along, stays_same}
+use Rattle.rt_runtime_worker.proofs.Asking.{return_notes_none, shut_notes_none}
 use Rattle.rt_runtime_worker.specs.Asks.{NotesNoPoll}
 use Rattle.rt_runtime_worker.proofs.Stepping.{sends_kept}
 use Rattle.rt_runtime_worker.proofs.Spare.{sums_within, places_more}
@@ -92,7 +92,7 @@ module _ {J T : Type 0} where
     polls = refl;
     acts = λ least each. each;
     stays = stays_same old;
-    taken = λ sender. (refl, omega arith);
+    taken = λ sender. refl;
   }
 
   -- the next one is shut
@@ -115,7 +115,7 @@ module _ {J T : Type 0} where
     polls = shut_notes_none count middle.recorded.journal new.recorded.journal next.wrote ∙ first.polls;
     acts = λ least each. shut_acts count least old.recorded.journal.room middle.recorded.journal new.recorded.journal next.wrote (first.acts least each);
     stays = stays_along old middle new first.stays next.stays;
-    taken = λ sender. let was = (first.taken sender).1 in let now = (next.taken sender).1 in ((next.taken sender).0 ∙ (first.taken sender).0, omega (arith, was, now));
+    taken = λ sender. next.taken sender ∙ first.taken sender;
   }
 
   module _ {meaning : Meaning J T} (old middle new : LinkedView J T) (linked : IsLinked meaning old) (spare : HasSpare old.recorded)
@@ -194,12 +194,12 @@ module _ {J T : Type 0} where
   returned_leaves old new ends true closes seat = record {
     wrote = inr closes.1;
     returning = ap (λ journal. core_mode journal.notes) closes.1;
-    stays = record { seat = seat; ends = ends_same ends; opening = ap (λ journal. opening_of journal.notes) closes.1; grows = (CoreClosed Return ∷ [], ap (λ journal. journal.notes) closes.1) };
+    stays = record { seat = seat; ends = ends_same ends; sees = sees_same ends; opening = ap (λ journal. opening_of journal.notes) closes.1; grows = (CoreClosed Return ∷ [], ap (λ journal. journal.notes) closes.1) };
   }
   returned_leaves old new ends false closes seat = record {
     wrote = inl (ap (λ view. view.journal) closes.1);
     returning = ap (λ view. core_mode view.journal.notes) closes.1 ∙ was_returning (core_mode old.journal.notes) closes.0;
-    stays = record { seat = seat; ends = ends_same ends; opening = ap (λ view. opening_of view.journal.notes) closes.1; grows = ([], ap (λ view. view.journal.notes) closes.1) };
+    stays = record { seat = seat; ends = ends_same ends; sees = sees_same ends; opening = ap (λ view. opening_of view.journal.notes) closes.1; grows = ([], ap (λ view. view.journal.notes) closes.1) };
   }
 
   -- a gate that was shut just now
@@ -210,16 +210,13 @@ module _ {J T : Type 0} where
         ∙ ap (λ test. is_some (or_else (cond test (Some did.count) None) (final_count sender old.recorded.journal.notes))) (eq-eqb sender sender refl),
   )
 
-  -- no order is delivered by it, and the end has seen no less
+  -- no order is delivered by it
   taken_same : (sender : ℕ) (old new : LinkedView J T) → ShutsGate sender old new → KeepsTaken old new
   taken_same sender old new did other =
       ⊎_elim
       (λ (is : other ≡ sender).
-      subst (λ one. ((in_at one new.ends).inward.taken ≡ (in_at one old.ends).inward.taken) × (length (in_at one old.ends).inward.seen ≤ length (in_at one new.ends).inward.seen)) (sym is)
-      (ap (λ inward. inward.taken) did.shuts.0, prefix_shorter _ _ did.shuts.1.0))
-      (λ (away : other ≢ sender).
-      let same : length (in_at other new.ends).inward.seen ≡ length (in_at other old.ends).inward.seen = ap (λ end. length end.inward.seen) (did.others other away) in
-      (ap (λ end. end.inward.taken) (did.others other away), omega (arith, same)))
+      subst (λ one. (in_at one new.ends).inward.taken ≡ (in_at one old.ends).inward.taken) (sym is) (ap (λ inward. inward.taken) did.shuts.0))
+      (λ (away : other ≢ sender). ap (λ end. end.inward.taken) (did.others other away))
       (cases_eq other sender)
 
   -- the gate is shut, whether it was so before or not
@@ -247,5 +244,5 @@ module _ {J T : Type 0} where
     -- it was shut before
     pub leaves_else : new ≡ old → IsSome (final_count sender old.recorded.journal.notes) → LeavesShut sender old new
     leaves_else is some =
-        leaves_here (inl (ap (λ view. view.recorded.journal) is)) (subst (StaysLinked old) (sym is) (stays_same old)) (λ other. let same : length (in_at other new.ends).inward.seen ≡ length (in_at other old.ends).inward.seen = ap (λ view. length (in_at other view.ends).inward.seen) is in (ap (λ view. (in_at other view.ends).inward.taken) is, omega (arith, same)))
+        leaves_here (inl (ap (λ view. view.recorded.journal) is)) (subst (StaysLinked old) (sym is) (stays_same old)) (λ other. ap (λ (view : LinkedView J T). (in_at other view.ends).inward.taken) is)
         (subst (λ (view : LinkedView J T). IsSome (final_count sender view.recorded.journal.notes)) (sym is) some)

@@ -10,8 +10,7 @@ use Rattle.rt_runtime_worker.specs.Linked.{LinkedView}
 use Rattle.rt_runtime_worker.specs.Ended.{ServedView}
 use Rattle.rt_runtime_worker.specs.Gates.{KeepsTaken}
 use Rattle.rt_runtime_worker.specs.Steps.{DeliversFrom, CollectsOf}
-use Rattle.rt_runtime_worker.specs.Rounds.{IsAllTaken, IsAllGot, IsHeard, LooksAtRoom, StepsServed, HearsOne, HearsSome, HearsFirst, HearsAll, SeesNoLess, CollectsNext, CollectsFirst}
-use Rattle.rt_runtime_worker.proofs.Asking.{prefix_shorter}
+use Rattle.rt_runtime_worker.specs.Rounds.{IsAllTaken, IsAllGot, IsHeard, LooksAtRoom, StepsServed, HearsOne, HearsSome, HearsFirst, HearsAll, CollectsNext, CollectsFirst}
 use Rattle.rt_runtime_worker.proofs.Telling.{same_between, not_before}
 
 module _ {J T : Type 0} where
@@ -29,39 +28,11 @@ module _ {J T : Type 0} where
   hears_none sender false old new did is = ap (λ inward. inward.taken) did.delivers.0.0 ∙ sym did.delivers.0.2
   hears_none sender true old new did is = cc
 
-  gives_seen : (before : Inward J T) (number : ℕ) (outcome : Option (Outcome J T)) (after : Inward J T) → Gives before number outcome after → after.seen ≡ before.seen
-  gives_seen before number None after gives = ap (λ inward. inward.seen) gives
-  gives_seen before number (Some outcome) after gives = ap (λ inward. inward.seen) gives
-
-  own_seen : (sender : ℕ) (found : Bool) (old new : LinkedView J T) → DeliversFrom sender old found new → length (in_at sender old.ends).inward.seen ≤ length (in_at sender new.ends).inward.seen
-  own_seen sender true old new did =
-      let takes = did.delivers.1 in
-      let same : length (in_at sender new.ends).inward.seen ≡ length takes.0.seen = ap length (gives_seen takes.0 did.delivers.0.name.number takes.1 (in_at sender new.ends).inward takes.3) in
-      let more = prefix_shorter (in_at sender old.ends).inward.seen takes.0.seen takes.2.1.0 in
-      omega (arith, same, more)
-  own_seen sender false old new did = prefix_shorter (in_at sender old.ends).inward.seen (in_at sender new.ends).inward.seen did.delivers.0.1.0
-
-  delivered_sees : (sender : ℕ) (found : Bool) (old new : LinkedView J T) → DeliversFrom sender old found new → SeesNoLess old new
-  delivered_sees sender found old new did other =
-      ⊎_elim
-      (λ (is : other ≡ sender). subst (λ one. length (in_at one old.ends).inward.seen ≤ length (in_at one new.ends).inward.seen) (sym is) (own_seen sender found old new did))
-      (λ (away : other ≢ sender).
-      let same : length (in_at other new.ends).inward.seen ≡ length (in_at other old.ends).inward.seen = ap (λ end. length end.inward.seen) (did.others other away) in
-      omega (arith, same))
-      (cases_eq other sender)
-
-  sees_same : (view : LinkedView J T) → SeesNoLess view view
-  sees_same view sender = omega arith
-
-  sees_along : (old middle new : LinkedView J T) → SeesNoLess old middle → SeesNoLess middle new → SeesNoLess old new
-  sees_along old middle new one two sender = let was = one sender in let now = two sender in omega (arith, was, now)
-
   pub delivered_hears : (sender : ℕ) (found : Bool) (old new : LinkedView J T) → DeliversFrom sender old found new → HearsOne sender old found new
   delivered_hears sender found old new did = record {
     one = hears_found sender found old new did;
     all = hears_none sender found old new did;
     others = did.others;
-    sees = delivered_sees sender found old new did;
   }
 
   -- the room is looked at, and then an order is delivered
@@ -75,10 +46,9 @@ module _ {J T : Type 0} where
   pub record HearsMany (sender count : ℕ) (old new : ServedView J T) : Type 0 where
     pub taken : new.ending ≡ old.ending → (in_at sender new.linked.ends).inward.taken ≡ (in_at sender old.linked.ends).inward.taken + count
     pub others : new.ending ≡ old.ending → (other : ℕ) → other ≢ sender → in_at other new.linked.ends ≡ in_at other old.linked.ends
-    pub sees : new.ending ≡ old.ending → SeesNoLess old.linked new.linked
 
   pub none_heard : (sender : ℕ) (old : ServedView J T) → HearsMany sender 0 old old
-  none_heard sender old = record { taken = λ same. omega arith; others = λ same other away. refl; sees = λ same. sees_same old.linked }
+  none_heard sender old = record { taken = λ same. omega arith; others = λ same other away. refl }
 
   module _ (sender count : ℕ) (old middle new : ServedView J T) (one : old.ending ≡ true → middle.ending ≡ true) (two : middle.ending ≡ true → new.ending ≡ true)
       (many : HearsMany sender count old middle) where
@@ -92,14 +62,12 @@ module _ {J T : Type 0} where
           let now = (next (same ∙ sym (between same))).one refl in
           omega (arith, before, now);
       others = λ same other away. (next (same ∙ sym (between same))).others other away ∙ many.others (between same) other away;
-      sees = λ same. sees_along old.linked middle.linked new.linked (many.sees (between same)) (next (same ∙ sym (between same))).sees;
     }
 
     pub none_left : (new.ending ≡ middle.ending → HearsOne sender middle.linked false new.linked) → HearsSome sender old new
     none_left next = record {
       heard = λ same. inl ((next (same ∙ sym (between same))).all refl);
       others = λ same other away. (next (same ∙ sym (between same))).others other away ∙ many.others (between same) other away;
-      sees = λ same. sees_along old.linked middle.linked new.linked (many.sees (between same)) (next (same ∙ sym (between same))).sees;
     }
 
   -- as many as a link holds
@@ -107,14 +75,12 @@ module _ {J T : Type 0} where
   all_heard sender count old new is many = record {
     heard = λ same. inr (let now = many.taken same in omega (arith, now, is));
     others = many.others;
-    sees = many.sees;
   }
 
   pub first_unheard : (old : ServedView J T) → HearsFirst 0 old old
   first_unheard old = record {
     each = λ same sender low. absurd (omega (arith, low));
     rest = λ same sender there. refl;
-    sees = λ same. sees_same old.linked;
   }
 
   -- the next sender is heard
@@ -139,7 +105,6 @@ module _ {J T : Type 0} where
         (heard.each (between same) sender (omega (arith, low, away))))
         (cases_eq sender count);
     rest = λ same sender there. some.others (after same) sender (λ is. absurd (omega (arith, is, there))) ∙ heard.rest (between same) sender (omega (arith, there));
-    sees = λ same. sees_along old.linked middle.linked new.linked (heard.sees (between same)) (some.sees (after same));
   }
     where
       between : new.ending ≡ old.ending → middle.ending ≡ old.ending
@@ -150,20 +115,17 @@ module _ {J T : Type 0} where
 
   -- gates that are shut before it change nothing of what is heard
   pub heard_behind : (count : ℕ) (old middle new : ServedView J T) {one two : Bool} → StepsServed old one middle → StepsServed middle two new → (middle.ending ≡ old.ending → KeepsTaken old.linked middle.linked) →
-      ((sender : ℕ) → sender < count → new.ending ≡ middle.ending → IsHeard sender middle.linked new.linked) → (new.ending ≡ middle.ending → SeesNoLess middle.linked new.linked) → HearsAll count old new
-  heard_behind count old middle new first next keeps each sees = record {
-    each = λ same sender low.
-        ⊎_elim
-        (λ (all : IsAllTaken sender new.linked). inl all)
-        (λ (many : (in_at sender middle.linked.ends).inward.taken + middle.linked.recorded.cap ≤ (in_at sender new.linked.ends).inward.taken).
-        let before = (keeps (between same) sender).0 in
-        inr (omega (arith, many, before, first.stays.seat.cap)))
-        (each sender low (same ∙ sym (between same)));
-    sees = λ same. sees_along old.linked middle.linked new.linked (λ sender. (keeps (between same) sender).1) (sees (same ∙ sym (between same)));
-  }
+      ((sender : ℕ) → sender < count → new.ending ≡ middle.ending → IsHeard sender middle.linked new.linked) → HearsAll count old new
+  heard_behind count old middle new first next keeps each same sender low =
+      ⊎_elim
+      (λ (all : IsAllTaken sender new.linked). inl all)
+      (λ (many : (in_at sender middle.linked.ends).inward.taken + middle.linked.recorded.cap ≤ (in_at sender new.linked.ends).inward.taken).
+      let before = keeps between sender in
+      inr (omega (arith, many, before, first.stays.seat.cap)))
+      (each sender low (same ∙ sym between))
     where
-      between : new.ending ≡ old.ending → middle.ending ≡ old.ending
-      between same = same_between old.ending middle.ending new.ending first.ended next.ended same
+      between : middle.ending ≡ old.ending
+      between = same_between old.ending middle.ending new.ending first.ended next.ended same
 
   -- the room is looked at, and then the outcomes of a core are collected
   pub looked_collects : (core count : ℕ) (old middle inside : ServedView J T) (new : LinkedView J T) → inside ≡ middle → LooksAtRoom old middle → CollectsOf core inside.linked count new →

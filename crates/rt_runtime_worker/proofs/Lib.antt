@@ -1,10 +1,12 @@
 pub mod Along
 pub mod Growing
+pub mod Seen
 pub mod Openings
 pub mod Rung
 mod QueuesRefused
 mod ActsRefused
 mod BellsRefused
+mod RestsRefused
 pub mod Stepping
 pub mod Delivered
 pub mod Posted
@@ -20,6 +22,7 @@ pub mod Serving
 pub mod Telling
 pub mod Heard
 mod Looked
+mod Resting
 pub mod Opened
 pub mod Creating
 pub mod Ending

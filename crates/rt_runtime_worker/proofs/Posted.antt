@@ -13,8 +13,9 @@ use Rattle.rt_journal.specs.Ends.{IsSameSeat, KeepsIn}
 use Rattle.rt_journal_desk.specs.Posts.{AreOutsOf, HasPosted}
 use Rattle.rt_journal.specs.Whole.{post_of}
 use Rattle.rt_ring_mesh.specs.Ends.{EndsView, SameEnds}
-use Rattle.rt_runtime_worker.specs.Linked.{LinkedView, AreBeside}
+use Rattle.rt_runtime_worker.specs.Linked.{LinkedView, AreBeside, SeesNoLess}
 use Rattle.rt_runtime_worker.specs.Steps.{PollsOne}
+use Rattle.rt_runtime_worker.proofs.Seen.{posted_sees}
 use Rattle.rt_link.specs.Fits.{Fits}
 
 module _ {J T : Type 0} where
@@ -38,6 +39,12 @@ module _ {J T : Type 0} where
         outs = links_same inside.outs later posted.count (λ place was now was_there there. (posted.ends place was now was_there there).0);
         ins = refl;
       })
+
+  pub posted_see : (old new : RecordedView J T) (ends inside : EndsView J T) → inside ≡ ends → (later : List (Sending J T)) →
+      HasPosted (λ (end : Sending J T). end.out) (λ (end : Sending J T). end.link) (post_of old inside.outs) (post_of new later) → SeesNoLess ends (record inside { outs = later })
+  posted_see old new ends inside seen later posted =
+      subst (λ ends. SeesNoLess ends (record inside { outs = later })) seen
+      (posted_sees inside later posted.count (λ place was now was_there there. (posted.ends place was now was_there there).1))
 
   -- the ends are as they were, except those on which the core sends
   pub resent_beside : {fits : Order J → Outcome J T → Type 0} (old new : RecordedView J T) (ends inside : EndsView J T) → inside ≡ ends → (later : List (Sending J T)) → AreBeside fits old ends →

@@ -1,5 +1,5 @@
 -- Bells in their places, and rings one after another.
-use Rattle.std.proofs.Common.{◌≡◌, ◌≢◌, ℕ, ◌+◌, ◌<◌, List, [], ◌∷◌, ◌++◌, length, map, replicate, take, get_or, set, get_or-set_same, get_or-set_other, length-set, length-append, refl, sym, ◌∙◌, ap, subst, arith, ⊎_elim, drop}
+use Rattle.std.proofs.Common.{◌≡◌, ◌≢◌, ℕ, ◌+◌, ◌*◌, ◌<◌, ◌≤◌, List, [], ◌∷◌, ◌++◌, length, map, replicate, take, get_or, set, get_or-set_same, get_or-set_other, length-set, length-append, refl, sym, ◌∙◌, ap, subst, arith, ⊎_elim, drop}
 use Rattle.std.proofs.lemmas.Bool.{cases_eq}
 use Rattle.std.proofs.lemmas.List.{get_or_append_left, get_or_default, get_or-map, take_more, map-append, map-set, length-map, length-reverse, replicate-append-replicate, reverse-append}
 use Rattle.std.proofs.Math.Seq.{drop-append_seam, get_or-append_seam, map-set_same}
@@ -7,7 +7,7 @@ use Rattle.std.specs.Prelude.{Bool, true, reverse}
 use Rattle.rt_ids.specs.declared.note.Note.{Note}
 use Rattle.rt_ids.specs.declared.note.Note.TheVariants.{Created}
 use Rattle.rt_ids.specs.Journal.{Journal}
-use Rattle.rt_runtime_worker.specs.Bells.{BellView, BellsView, no_bell, AreInPlace, bells_view, once_more, rung_at, rung_at_some, told_by, rung_for, HasRung, AreRung}
+use Rattle.rt_runtime_worker.specs.Bells.{BellView, BellsView, no_bell, AreInPlace, AreApart, IsNamedFor, bells_view, once_more, rung_at, rung_at_some, told_by, rung_for, HasRung, AreRung}
 use Rattle.rt_runtime_worker.specs.Ended.{ServedView}
 use Rattle.rt_runtime_worker.specs.Linked.{Grows}
 use Rattle.rt_runtime_worker.specs.Queues.{creations, is_opening}
@@ -20,14 +20,25 @@ pub none_in_place : AreInPlace []
 none_in_place core low = absurd (omega (arith, low))
 
 -- one more bell behind the others
-pub one_more_in_place : (bells : List BellView) (bell : BellView) → AreInPlace bells → bell.actor ≡ length bells → AreInPlace (bells ++ bell ∷ [])
+pub one_more_in_place : (bells : List BellView) (bell : BellView) → AreInPlace bells → IsNamedFor (length bells) bell → AreInPlace (bells ++ bell ∷ [])
 one_more_in_place bells bell are is core low =
     ⊎_elim
-    (λ (one : core ≡ length bells). ap (λ place. (get_or (bells ++ bell ∷ []) place no_bell).actor) one ∙ (ap (λ (bell : BellView). bell.actor) (get_or-append_seam bells bell [] no_bell) ∙ (is ∙ sym one)))
+    (λ (one : core ≡ length bells).
+    subst (λ place. IsNamedFor place (get_or (bells ++ bell ∷ []) place no_bell)) (sym one) (subst (IsNamedFor (length bells)) (sym (get_or-append_seam bells bell [] no_bell)) is))
     (λ (away : core ≢ length bells).
     let before : core < length bells = omega (arith, low, away, length-append bells (bell ∷ [])) in
-    ap (λ (bell : BellView). bell.actor) (get_or_append_left bells (bell ∷ []) no_bell core before) ∙ are core before)
+    subst (IsNamedFor core) (sym (get_or_append_left bells (bell ∷ []) no_bell core before)) (are core before))
     (cases_eq core (length bells))
+
+-- bells in their places have names apart, where no house has more
+pub names_apart : (bells : List BellView) → length bells ≤ 256 → AreInPlace bells → AreApart (map (λ bell. bell.name) bells)
+names_apart bells few are one other low there same =
+    let count : length (map (λ (bell : BellView). bell.name) bells) ≡ length bells = length-map bells (λ (bell : BellView). bell.name) in
+    let one_low : one < length bells = omega (arith, low, count) in
+    let other_low : other < length bells = omega (arith, there, count) in
+    let first : get_or (map (λ (bell : BellView). bell.name) bells) one 0 ≡ 256 * (are one one_low).1.0 + one = get_or-map (λ (bell : BellView). bell.name) bells one no_bell 0 one_low ∙ (are one one_low).1.1 in
+    let second : get_or (map (λ (bell : BellView). bell.name) bells) other 0 ≡ 256 * (are other other_low).1.0 + other = get_or-map (λ (bell : BellView). bell.name) bells other no_bell 0 other_low ∙ (are other other_low).1.1 in
+    omega (arith, first, second, same, one_low, other_low, few)
 
 -- none of them was rung
 pub one_more_unrung : (bells : List BellView) (bell : BellView) (count : ℕ) → map (λ bell. bell.rings) bells ≡ replicate count 0 → bell.rings ≡ 0 → map (λ bell. bell.rings) (bells ++ bell ∷ []) ≡ replicate (count + 1) 0
@@ -49,11 +60,11 @@ pub one_more_again : (all bells new : List BellView) (place : ℕ) (seen bell : 
     (length new ≡ place + 1) × (map (λ bell. bell.rings) new ≡ replicate (place + 1) 0) × (map (λ bell. bell.name) new ≡ take (place + 1) (map (λ bell. bell.name) all)) × AreInPlace new
 one_more_again all bells new place seen bell are low seen_is is new_is count unrung named in_place =
     let here : seen ≡ get_or all place no_bell = seen_is ∙ get_or_default all place seen no_bell low in
-    let actor : bell.actor ≡ length bells = ap (λ (bell : BellView). bell.actor) is ∙ (ap (λ (bell : BellView). bell.actor) here ∙ (are place low ∙ sym count)) in (
+    let its_own : IsNamedFor (length bells) bell = subst (λ actor. IsNamedFor actor bell) (sym count) (subst (IsNamedFor place) (sym is) (subst (IsNamedFor place) (sym here) (are place low))) in (
       (let longer : length new ≡ length bells + length (bell ∷ []) = ap length new_is ∙ length-append bells (bell ∷ []) in omega (arith, longer, count)),
       ap (map (λ (bell : BellView). bell.rings)) new_is ∙ one_more_unrung bells bell place unrung (ap (λ (bell : BellView). bell.rings) is),
       ap (map (λ (bell : BellView). bell.name)) new_is ∙ one_more_named bells all bell place named low (ap (λ (bell : BellView). bell.name) is ∙ ap (λ (bell : BellView). bell.name) here),
-      subst AreInPlace (sym new_is) (one_more_in_place bells bell in_place actor),
+      subst AreInPlace (sym new_is) (one_more_in_place bells bell in_place its_own),
     )
 
 module _ (bells : List BellView) (core : ℕ) (bell new : BellView) (low : core < length bells) (is : bell ≡ get_or bells core bell) (rung : new ≡ record bell { rings = once_more bell.rings }) where
@@ -77,10 +88,10 @@ module _ (bells : List BellView) (core : ℕ) (bell new : BellView) (low : core 
   still_in_place are other there =
       ⊎_elim
       (λ (one : other ≡ core).
-      ap (λ place. (get_or (set bells core new) place no_bell).actor) one
-      ∙ (ap (λ (bell : BellView). bell.actor) (get_or-set_same bells core new no_bell low ∙ rung) ∙ (ap (λ (bell : BellView). bell.actor) its_bell ∙ (are core low ∙ sym one))))
+      subst (λ place. IsNamedFor place (get_or (set bells core new) place no_bell)) (sym one)
+      (subst (IsNamedFor core) (sym (get_or-set_same bells core new no_bell low ∙ rung)) (subst (IsNamedFor core) (sym its_bell) (are core low))))
       (λ (away : other ≢ core).
-      ap (λ (bell : BellView). bell.actor) (get_or-set_other bells core other new no_bell away) ∙ are other (omega (arith, there, length-set bells core new)))
+      subst (IsNamedFor other) (sym (get_or-set_other bells core other new no_bell away)) (are other (omega (arith, there, length-set bells core new))))
       (cases_eq other core)
 
 module _ {T : Type 0} where

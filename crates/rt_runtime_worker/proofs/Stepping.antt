@@ -13,8 +13,9 @@ use Rattle.rt_journal.specs.Ends.{IsInOf, IsInOwing, IsSameSeat, KeepsIn}
 use Rattle.rt_journal_desk.specs.Ends.{KeepsOuts}
 use Rattle.rt_ring_mesh.specs.Ends.{EndsView, in_at, no_in, SameEnds}
 use Rattle.rt_ring_mesh.proofs.Using.{in_used}
-use Rattle.rt_runtime_worker.specs.Linked.{AreBeside, AreOwing, Grows, SendsOn}
+use Rattle.rt_runtime_worker.specs.Linked.{AreBeside, AreOwing, Grows, SeesNoLess, SendsOn}
 use Rattle.rt_runtime_worker.specs.Queues.{opening_of}
+use Rattle.rt_runtime_worker.proofs.Seen.{in_put_sees}
 
 module _ {J T : Type 0} where
   -- the end in its place
@@ -54,6 +55,7 @@ module _ {J T : Type 0} (fits : Order J → Outcome J T → Type 0) where
     pub outs : KeepsOuts (desk_of recorded) (desk_of now)
     pub lanes : now.lanes ≡ recorded.lanes
     pub link : end.link ≡ (in_at sender ends).link
+    pub sees : length (in_at sender ends).inward.seen ≤ length end.inward.seen
     pub opening : opening_of now.journal.notes ≡ opening_of recorded.journal.notes
     pub grows : Grows recorded.journal.notes now.journal.notes
 
@@ -111,6 +113,9 @@ module _ {J T : Type 0} {fits : Order J → Outcome J T → Type 0} where
     pub same_ends : SameEnds ends (put_back at inside end)
     same_ends = subst (SameEnds ends) (put_seen sender ends at inside end opens) (in_used ends sender end here step.link)
 
+    pub put_sees : SeesNoLess ends (put_back at inside end)
+    put_sees = subst (SeesNoLess ends) (put_seen sender ends at inside end opens) (in_put_sees sender ends end here step.sees)
+
     pub put_beside : AreBeside fits now (put_back at inside end)
     put_beside = subst (AreBeside fits now) (put_seen sender ends at inside end opens) beside_now
 
@@ -155,3 +160,8 @@ module _ {J T : Type 0} {fits : Order J → Outcome J T → Type 0} where
 
       pub given_ends : SameEnds ends (put_back at inside end)
       given_ends = subst (SameEnds ends) (put_seen from ends at inside end opens) (in_used ends from end here_owing link)
+
+      pub given_sees : end.inward.seen ≡ (in_at from ends).inward.seen → SeesNoLess ends (put_back at inside end)
+      given_sees same =
+          let count : length end.inward.seen ≡ length (in_at from ends).inward.seen = ap length same in
+          subst (SeesNoLess ends) (put_seen from ends at inside end opens) (in_put_sees from ends end here_owing (omega (arith, count)))

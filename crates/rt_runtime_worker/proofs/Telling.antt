@@ -1,5 +1,5 @@
 -- What the steps of a round tell of their notes, one after another.
-use Rattle.std.proofs.Common.{◌≡◌, ℕ, zero, suc, ◌+◌, ◌<◌, List, [], ◌∷◌, ◌++◌, length, refl, sym, ◌∙◌, ap, subst, arith}
+use Rattle.std.proofs.Common.{◌≡◌, ℕ, zero, suc, ◌+◌, ◌*◌, ◌<◌, List, [], ◌∷◌, ◌++◌, length, refl, sym, ◌∙◌, ap, subst, arith}
 use Rattle.std.specs.Prelude.{◌||◌, Bool, true, false, Option, Some, None, nat_lt}
 use Rattle.std.proofs.lemmas.Bool.{lt-ltb}
 use Rattle.std.proofs.lemmas.List.{length-append}
@@ -18,6 +18,7 @@ use Rattle.rt_runtime_worker.specs.declared.turn.Made.TheVariants as came
 use Rattle.rt_runtime_worker.specs.Linked.{LinkedView, Grows, StaysLinked}
 use Rattle.rt_runtime_worker.specs.Ended.{ServedView}
 use Rattle.rt_runtime_worker.specs.Steps.{DeliversFrom, CollectsOf, HandsBack, MakesTurn, PollsOne}
+use Rattle.rt_runtime_worker.specs.Rooms.{IsShort}
 use Rattle.rt_runtime_worker.specs.Rounds.{TellsNotes, LooksAtRoom, StepsServed, is_turn}
 use Rattle.rt_runtime_worker.proofs.Along.{stays_along, stays_same}
 use Rattle.rt_runtime_worker.proofs.Growing.{no_shorter}
@@ -109,12 +110,20 @@ not_before false new one is = refl
 not_before true new one is = sym (one refl) ∙ is
 
 module _ {J T : Type 0} where
+  -- a short journal stays short
+  still_short : (old new : LinkedView J T) → StaysLinked old new → IsShort old.recorded → IsShort new.recorded
+  still_short old new stays short =
+      let longer = no_shorter old.recorded.journal.notes new.recorded.journal.notes stays.grows in
+      let same : (new.recorded.core.cores + 1) * (new.recorded.cap + 1) ≡ (old.recorded.core.cores + 1) * (old.recorded.cap + 1) = ap (λ cores. (cores + 1) * (new.recorded.cap + 1)) stays.seat.cores ∙ ap (λ cap. (old.recorded.core.cores + 1) * (cap + 1)) stays.seat.cap in
+      omega (arith, short, longer, same, stays.seat.room)
+
   -- the room is looked at, and then a step is made
   pub looked_steps : (old middle inside : ServedView J T) (new : LinkedView J T) (some : Bool) → inside ≡ middle → LooksAtRoom old middle → StaysLinked old.linked middle.linked → StaysLinked inside.linked new →
       TellsNotes some inside.linked.recorded.journal.notes new.recorded.journal.notes → StepsServed old some (record { linked = new; ending = inside.ending })
   looked_steps old middle inside new some seen looks stays stepped told = record {
     stays = stays_along old.linked middle.linked new stays (subst (λ (view : ServedView J T). StaysLinked view.linked new) seen stepped);
     ended = λ is. ap (λ view. view.ending) seen ∙ looks.ended is;
+    short = λ was now. still_short old.linked new (stays_along old.linked middle.linked new stays (subst (λ (view : ServedView J T). StaysLinked view.linked new) seen stepped)) (looks.short was (sym (ap (λ view. view.ending) seen) ∙ now));
     tells = λ same.
         let whole : inside ≡ old = seen ∙ looks.same (sym (ap (λ view. view.ending) seen) ∙ same) in
         subst (λ (view : ServedView J T). TellsNotes some view.linked.recorded.journal.notes new.recorded.journal.notes) whole told;
@@ -125,21 +134,27 @@ module _ {J T : Type 0} where
   looked_alone old middle looks stays = record {
     stays = stays;
     ended = looks.ended;
+    short = λ was now. still_short old.linked middle.linked stays (looks.short was now);
     tells = λ same. ap (λ view. view.linked.recorded.journal.notes) (looks.same same);
   }
 
   pub steps_none : (view : ServedView J T) → StepsServed view false view
-  steps_none view = record { stays = stays_same view.linked; ended = λ is. is; tells = λ same. refl }
+  steps_none view = record { stays = stays_same view.linked; ended = λ is. is; short = λ was now. cc; tells = λ same. refl }
 
   -- one step behind others
   pub steps_more : (one two : Bool) (old middle new : ServedView J T) → StepsServed old one middle → StepsServed middle two new → StepsServed old (one || two) new
   steps_more one two old middle new first next = record {
     stays = stays_along old.linked middle.linked new.linked first.stays next.stays;
     ended = λ is. next.ended (first.ended is);
+    short = λ was now. by_middle was now middle.ending refl;
     tells = λ same.
         let between : middle.ending ≡ old.ending = same_between old.ending middle.ending new.ending first.ended next.ended same in
         tells_more one two old.linked.recorded.journal.notes middle.linked.recorded.journal.notes new.linked.recorded.journal.notes first.stays.grows (first.tells between) (next.tells (same ∙ sym between));
   }
+    where
+      by_middle : old.ending ≡ false → new.ending ≡ true → (ending : Bool) → middle.ending ≡ ending → IsShort new.linked.recorded
+      by_middle was now true is = still_short middle.linked new.linked next.stays (first.short was is)
+      by_middle was now false is = next.short is now
 
   pub steps_found : (some : Bool) (old middle new : ServedView J T) → StepsServed old some middle → StepsServed middle true new → StepsServed old true new
   steps_found true old middle new first next = steps_more true true old middle new first next

@@ -1,13 +1,13 @@
 -- Who has something from a note, and how often the bell of each actor was rung.
-use Rattle.std.specs.Prelude.{◌≡◌, ◌==◌, ◌||◌, Bool, false, is_some, ℕ, ◌+◌, ◌-◌, ◌^◌, ◌<◌, Option, Some, None, List, [], ◌∷◌, length, map, min, replicate, reverse, slice_index_or, slice_set}
+use Rattle.std.specs.Prelude.{◌≡◌, ◌==◌, ◌||◌, Bool, false, is_some, ℕ, ◌+◌, ◌*◌, ◌-◌, ◌^◌, ◌<◌, Option, Some, None, List, [], ◌∷◌, length, map, min, replicate, reverse, slice_index_or, slice_set}
 use Rattle.rt_ids.specs.declared.note.Note.{Note}
 use Rattle.rt_ids.specs.declared.note.Note.TheVariants.{Sent, Answered, Back, Returned, Done}
 use Rattle.rt_ids.specs.Filters.{order_sent, outcome_given}
 use Rattle.rt_ids.specs.Journal.{Journal}
 use Rattle.rt_runtime_worker.specs.Ended.{ServedView}
 
--- The bell of an actor in the hands of one who rings it, and how often that one rang it. All handles on one bell have the same name, and a bell that is
--- opened has a name of its own.
+-- The bell of an actor in the hands of one who rings it, and how often that one rang it. All handles on one bell have the same name, and bells of two
+-- actors have two names.
 pub record BellView : Type 0 where
   pub actor : ℕ
   pub name : ℕ
@@ -22,9 +22,21 @@ pub record BellsView : Type 0 where
 abbrev pub no_bell : BellView
 no_bell = record { actor = 0; name = 0; rings = 0 }
 
+-- The name of a bell, by the number of its word and the number of the actor that stands in its word. So one word never has two actors.
+abbrev pub bell_name : ℕ → ℕ → ℕ
+bell_name word actor = 256 * word + actor
+
+-- it is the bell of this actor, and has the name of a word with that actor's number
+abbrev pub IsNamedFor : ℕ → BellView → Type 0
+IsNamedFor actor bell = (bell.actor ≡ actor) × ((word : ℕ) × (bell.name ≡ bell_name word actor))
+
 -- each bell is that of the actor whose number is its place
 abbrev pub AreInPlace : List BellView → Type 0
-AreInPlace bells = (actor : ℕ) → actor < length bells → (slice_index_or bells actor no_bell).actor ≡ actor
+AreInPlace bells = (actor : ℕ) → actor < length bells → IsNamedFor actor (slice_index_or bells actor no_bell)
+
+-- no two of these names are one
+abbrev pub AreApart : List ℕ → Type 0
+AreApart names = (one other : ℕ) → one < length names → other < length names → slice_index_or names one 0 ≡ slice_index_or names other 0 → one ≡ other
 
 -- what is seen of these bells
 abbrev pub bells_view : List BellView → BellsView

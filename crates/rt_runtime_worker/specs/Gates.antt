@@ -23,11 +23,9 @@ module _ {T : Type 0} where
   WritesReturn old new = (new ≡ old) ⊎ (new ≡ with_notes (CoreClosed Return ∷ []) old)
 
 module _ {J T : Type 0} where
-  -- as many orders of each sender were delivered as before, and its end has seen as many as before or more
+  -- as many orders of each sender were delivered as before
   abbrev pub KeepsTaken : LinkedView J T → LinkedView J T → Type 0
-  KeepsTaken old new =
-      (sender : ℕ) → ((in_at sender new.ends).inward.taken ≡ (in_at sender old.ends).inward.taken)
-      × (length (in_at sender old.ends).inward.seen ≤ length (in_at sender new.ends).inward.seen)
+  KeepsTaken old new = (sender : ℕ) → (in_at sender new.ends).inward.taken ≡ (in_at sender old.ends).inward.taken
 
   -- the gate of this sender is shut, and at most as many orders came through as have an outcome and a link holds more
   pub record IsShutWithin (sender : ℕ) (view : RecordedView J T) : Type 0 where

@@ -7,8 +7,10 @@ pub mod Ended
 pub mod Bells
 pub mod Workers
 pub mod Rounds
+pub mod Turns
 pub mod Asks
 pub mod Looks
+pub mod Serves
 pub mod Opening
 pub mod Together
 pub mod Readings

@@ -10,7 +10,7 @@ use Rattle.rt_journal.specs.Recorded.{RecordedView, IsRecorded, desk_of}
 use Rattle.rt_journal.specs.Ends.{IsInOf, IsInOwing, IsSameSeat}
 use Rattle.rt_journal.specs.OwedPolls.{HasOwedPolls, seen_by}
 use Rattle.rt_journal_desk.specs.Posts.{AreOutsOf}
-use Rattle.rt_ring_mesh.specs.Ends.{EndsView, in_at, SameEnds}
+use Rattle.rt_ring_mesh.specs.Ends.{EndsView, in_at, out_at, SameEnds}
 use Rattle.rt_runtime_worker.specs.Queues.{opening_of}
 use Rattle.rt_link.specs.Fits.{Fits}
 
@@ -44,10 +44,17 @@ abbrev pub Grows : {T : Type 0} → Journal T → Journal T → Type 0
 Grows {T} old new = (newer : Journal T) × (new ≡ newer ++ old)
 
 module _ {J T : Type 0} where
-  -- what no step changes: whose core it is, which links its ends are of, what was created at its opening, and each note that stands in its journal
+  -- no end has seen less than before: of each sender as many orders, and of each core as many outcomes
+  pub record SeesNoLess (old new : EndsView J T) : Type 0 where
+    pub ins : (sender : ℕ) → length (in_at sender old).inward.seen ≤ length (in_at sender new).inward.seen
+    pub outs : (core : ℕ) → length (out_at core old).out.seen ≤ length (out_at core new).out.seen
+
+  -- What no step changes: whose core it is, which links its ends are of, what was created at its opening, and each note that stands in its journal. No
+  -- end sees less behind it.
   pub record StaysLinked (old new : LinkedView J T) : Type 0 where
     pub seat : IsSameSeat old.recorded new.recorded
     pub ends : SameEnds old.ends new.ends
+    pub sees : SeesNoLess old.ends new.ends
     pub opening : opening_of new.recorded.journal.notes ≡ opening_of old.recorded.journal.notes
     pub grows : Grows old.recorded.journal.notes new.recorded.journal.notes
 

@@ -1,10 +1,10 @@
 -- When a worker looks at its links, and what a round is.
-use Rattle.std.specs.Prelude.{◌≡◌, ◌⊎◌, ◌&&◌, ◌||◌, ℕ, ◌+◌, ◌≤◌, ◌<◌, Bool, true, false, not}
+use Rattle.std.specs.Prelude.{◌≡◌, ◌⊎◌, ◌&&◌, ◌||◌, ℕ, ◌+◌, ◌<◌, Bool, true, false, not}
 use Rattle.rt_ids.specs.declared.names.JobId.{JobId}
 use Rattle.rt_jobs.specs.Meanings.{Meaning}
 use Rattle.rt_runtime_worker.specs.Ended.{ServedView, IsServed}
-use Rattle.rt_runtime_worker.specs.Readings.{BeginsNext}
-use Rattle.rt_runtime_worker.specs.Rounds.{CollectsFirst, HearsAll, StepsServed, TakesTurn}
+use Rattle.rt_runtime_worker.specs.Rounds.{CollectsFirst, HearsAll, ShutsClosed, StepsServed}
+use Rattle.rt_runtime_worker.specs.Turns.{TurnsWith}
 
 -- Without a look at the links a turn is made only if polls took little time since the last look, and it counts as one of those that are left.
 abbrev pub PassesLinks : ℕ → ℕ → Bool → ℕ → Type 0
@@ -30,13 +30,14 @@ pub record RoundView (J T C G : Type 0) : Type 0 where
   pub clock : C
   pub gate : G
 
-module _ {J T C G : Type 0} (meaning : Meaning J T) (reads : C → ℕ → C → Type 0) (asked : G → ℕ → JobId → G → Type 0) where
-  -- the room is looked at, and a turn is made, with this clock and this gate
-  abbrev pub TurnsWith : C → G → G → ServedView J T → Bool → ServedView J T → Type 0
-  TurnsWith clock before after old some new = TakesTurn meaning (BeginsNext reads clock) (λ core name. asked before core name after) (after ≡ before) old some new
+-- the same, put together
+abbrev pub round_view : {J T C G : Type 0} → ServedView J T → C → G → RoundView J T C G
+round_view served clock gate = record { served = served; clock = clock; gate = gate }
 
-  -- Each sender is heard, then a turn is made, and then the outcomes of each core are collected. Between these steps the core agrees with its journal and
-  -- its ends, and each step leaves the notes that stand. It tells whether anything was done, and how many turns may be made without a look behind it.
+module _ {J T C G : Type 0} (meaning : Meaning J T) (reads : C → ℕ → C → Type 0) (asked : G → ℕ → JobId → G → Type 0) where
+  -- Each gate of a closed core is shut and each sender is heard, then a turn is made, and then the outcomes of each core are collected. Between these steps
+  -- the core agrees with its journal and its ends, and each step leaves the notes that stand and what the ends have seen. It tells whether anything was
+  -- done, and how many turns may be made without a look behind it.
   pub record LooksAtAll (old : RoundView J T C G) (some : Bool) (turns : ℕ) (new : RoundView J T C G) : Type 0 where
     pub heard : ServedView J T
     pub turned : ServedView J T
@@ -44,18 +45,29 @@ module _ {J T C G : Type 0} (meaning : Meaning J T) (reads : C → ℕ → C →
     pub worked : Bool
     pub back : Bool
     pub steps : StepsServed old.served came heard
+    pub shuts : ShutsClosed old.served.linked heard.linked
     pub hears : HearsAll (old.served.linked.recorded.core.cores + 1) old.served heard
     pub sound : IsServed meaning heard
-    pub turn : TurnsWith old.clock old.gate new.gate heard worked turned
+    pub turn : TurnsWith meaning reads asked old.clock old.gate new.gate heard worked turned
+    pub turn_steps : StepsServed heard worked turned
     pub gathers : StepsServed turned back new.served
     pub collects : CollectsFirst old.served.linked.recorded.core.cores new.served
     pub tells : some ≡ (worked || (came || back))
     pub plans : turns ≡ turns_after (found_quiet worked (came || back))
 
-  -- A turn without a look, which counts; a turn for which there was no work, if there was one, and a look at everything; or no look, behind a round in which
-  -- nothing was done.
+  -- no turn without a look, and all is as it was; or one such turn, which counts, and it tells whether there was work
+  abbrev pub TurnsAlone : ℕ → ℕ → RoundView J T C G → Bool → ℕ → RoundView J T C G → Type 0
+  TurnsAlone taken turns old some left new =
+      ((some ≡ false) × (left ≡ turns) × (new ≡ old))
+      ⊎ (PassesLinks taken turns true left × TurnsWith meaning reads asked old.clock old.gate new.gate old.served some new.served × StepsServed old.served some new.served)
+
+  -- a look at everything; or none and nothing else, behind a round in which nothing was done
+  abbrev pub LooksOrRests : Bool → ℕ → RoundView J T C G → Bool → ℕ → RoundView J T C G → Type 0
+  LooksOrRests was_idle turns old some left new =
+      LooksAtAll old some left new ⊎ ((was_idle ≡ true) × (some ≡ false) × (left ≡ turns) × (new ≡ old))
+
+  -- a turn without a look for which there was work; or none, or one for which there was none, and then a look if one is to be
   abbrev pub MakesRound : Bool → ℕ → ℕ → RoundView J T C G → Bool → ℕ → RoundView J T C G → Type 0
   MakesRound was_idle taken turns old some left new =
-      (PassesLinks taken turns true left × (some ≡ true) × TurnsWith old.clock old.gate new.gate old.served true new.served)
-      ⊎ (((before : RoundView J T C G) × StepsServed old.served false before.served × LooksAtAll before some left new)
-      ⊎ ((was_idle ≡ true) × (some ≡ false) × (left ≤ turns) × StepsServed old.served false new.served))
+      ((some ≡ true) × TurnsAlone taken turns old true left new)
+      ⊎ ((middle : RoundView J T C G) × (fewer : ℕ) × TurnsAlone taken turns old false fewer middle × LooksOrRests was_idle fewer middle some left new)

@@ -1,14 +1,11 @@
 -- What the steps of a round do, and what they tell of it.
 use Rattle.std.specs.Prelude.{◌≡◌, ◌≢◌, ◌⊎◌, ℕ, ◌+◌, ◌<◌, ◌≤◌, Bool, true, false, length, IsSome}
-use Rattle.rt_ids.specs.declared.names.JobId.{JobId}
 use Rattle.rt_ids.specs.Journal.{Journal}
 use Rattle.rt_ids.specs.Closing.{core_mode, final_count}
-use Rattle.rt_jobs.specs.Meanings.{Meaning}
 use Rattle.rt_ring_mesh.specs.Ends.{in_at, out_at}
 use Rattle.rt_runtime_worker.specs.Linked.{LinkedView, StaysLinked}
 use Rattle.rt_runtime_worker.specs.Ended.{ServedView}
-use Rattle.rt_runtime_worker.specs.Rooms.{IsReady}
-use Rattle.rt_runtime_worker.specs.Steps.{MakesTurn}
+use Rattle.rt_runtime_worker.specs.Rooms.{IsShort}
 use Rattle.rt_runtime_worker.specs.declared.turn.Made.{Made}
 use Rattle.rt_runtime_worker.specs.declared.turn.Made.TheVariants.{Polled, Returned, Idle, Spent}
 
@@ -43,44 +40,44 @@ module _ {J T : Type 0} where
   HasShutGates view =
       IsSome (core_mode view.recorded.journal.notes) → (sender : ℕ) → sender ≤ view.recorded.core.cores → IsSome (final_count sender view.recorded.journal.notes)
 
-  -- A worker at its end stays there. One that isn't at its end did nothing before the step.
+  -- each gate of a core that was closed before is shut
+  abbrev pub ShutsClosed : LinkedView J T → LinkedView J T → Type 0
+  ShutsClosed old new =
+      IsSome (core_mode old.recorded.journal.notes) → (sender : ℕ) → sender ≤ old.recorded.core.cores → IsSome (final_count sender new.recorded.journal.notes)
+
+  -- A worker at its end stays there. One that isn't at its end did nothing before the step. It comes to its end only where the journal is short.
   pub record LooksAtRoom (old new : ServedView J T) : Type 0 where
     pub ended : old.ending ≡ true → new.ending ≡ true
     pub same : new.ending ≡ old.ending → new ≡ old
+    pub short : old.ending ≡ false → new.ending ≡ true → IsShort old.linked.recorded
 
-  -- what each step keeps, and that it tells whether it did anything, unless its worker came to its end meanwhile
+  -- What each step keeps, and that it tells whether it did anything, unless its worker came to its end meanwhile. A worker comes to its end only if its
+  -- journal is short, and stays there.
   pub record StepsServed (old : ServedView J T) (some : Bool) (new : ServedView J T) : Type 0 where
     pub stays : StaysLinked old.linked new.linked
     pub ended : old.ending ≡ true → new.ending ≡ true
+    pub short : old.ending ≡ false → new.ending ≡ true → IsShort new.linked.recorded
     pub tells : new.ending ≡ old.ending → TellsNotes some old.linked.recorded.journal.notes new.linked.recorded.journal.notes
-
-  -- each end has seen as many orders as before or more
-  abbrev pub SeesNoLess : LinkedView J T → LinkedView J T → Type 0
-  SeesNoLess old new = (sender : ℕ) → length (in_at sender old.ends).inward.seen ≤ length (in_at sender new.ends).inward.seen
 
   -- one more order of this sender was delivered, or all that its end has seen were; no other end was touched
   pub record HearsOne (sender : ℕ) (old : LinkedView J T) (found : Bool) (new : LinkedView J T) : Type 0 where
     pub one : found ≡ true → (in_at sender new.ends).inward.taken ≡ (in_at sender old.ends).inward.taken + 1
     pub all : found ≡ false → IsAllTaken sender new
     pub others : (other : ℕ) → other ≢ sender → in_at other new.ends ≡ in_at other old.ends
-    pub sees : SeesNoLess old new
 
   -- a sender was heard, unless the worker came to its end meanwhile; no other end was touched
   pub record HearsSome (sender : ℕ) (old new : ServedView J T) : Type 0 where
     pub heard : new.ending ≡ old.ending → IsHeard sender old.linked new.linked
     pub others : new.ending ≡ old.ending → (other : ℕ) → other ≢ sender → in_at other new.linked.ends ≡ in_at other old.linked.ends
-    pub sees : new.ending ≡ old.ending → SeesNoLess old.linked new.linked
 
   -- each of the first senders was heard, unless the worker came to its end meanwhile; the ends of the others are as they were
   pub record HearsFirst (count : ℕ) (old new : ServedView J T) : Type 0 where
     pub each : new.ending ≡ old.ending → (sender : ℕ) → sender < count → IsHeard sender old.linked new.linked
     pub rest : new.ending ≡ old.ending → (sender : ℕ) → count ≤ sender → in_at sender new.linked.ends ≡ in_at sender old.linked.ends
-    pub sees : new.ending ≡ old.ending → SeesNoLess old.linked new.linked
 
-  -- each of the first senders was heard, and no end has seen less than before, unless the worker came to its end meanwhile
-  pub record HearsAll (count : ℕ) (old new : ServedView J T) : Type 0 where
-    pub each : new.ending ≡ old.ending → (sender : ℕ) → sender < count → IsHeard sender old.linked new.linked
-    pub sees : new.ending ≡ old.ending → SeesNoLess old.linked new.linked
+  -- each of the first senders was heard, unless the worker came to its end meanwhile
+  abbrev pub HearsAll : ℕ → ServedView J T → ServedView J T → Type 0
+  HearsAll count old new = new.ending ≡ old.ending → (sender : ℕ) → sender < count → IsHeard sender old.linked new.linked
 
   -- of this core every outcome was collected, unless the worker is at its end; no other end was touched
   pub record CollectsNext (core : ℕ) (old new : ServedView J T) : Type 0 where
@@ -90,16 +87,3 @@ module _ {J T : Type 0} where
   -- of each of the first cores every outcome was collected, unless the worker is at its end
   abbrev pub CollectsFirst : ℕ → ServedView J T → Type 0
   CollectsFirst count new = new.ending ≡ false → (core : ℕ) → core < count → IsAllGot core new.linked
-
-module _ {J T : Type 0} (meaning : Meaning J T) (tells : ℕ → Type 0) (asked : ℕ → JobId → Type 0) (unasked : Type 0) where
-  -- The room is looked at, and then one turn is made; it tells whether there was work. A worker that is at its end right before the turn was so before, or
-  -- it closed its core and shut each gate just now, and it is at its end behind the turn.
-  pub record TakesTurn (old : ServedView J T) (some : Bool) (new : ServedView J T) : Type 0 where
-    pub before : ServedView J T
-    pub looks : LooksAtRoom old before
-    pub stays : StaysLinked old.linked before.linked
-    pub ready : IsReady before.ending before.linked.recorded
-    pub ended : new.ending ≡ before.ending
-    pub made : Made
-    pub makes : MakesTurn meaning tells asked unasked before.linked made new.linked
-    pub answer : some ≡ is_turn made

@@ -1,18 +1,30 @@
 -- What is seen of a worker.
-use Rattle.std.specs.Prelude.{◌≡◌, ℕ, List, slice_index_or}
+use Rattle.std.specs.Prelude.{◌≡◌, ℕ, Bool, false, List, slice_index_or}
 use Rattle.rt_runtime_worker.specs.Bells.{BellView}
 use Rattle.rt_runtime_worker.specs.Linked.{LinkedView}
 
--- A core beside its journal and ends, with a clock and a gate of its own. After how many rounds in which nothing was done it parks, and the names of the
--- bells that it rings.
+-- A core beside its journal and ends, with a clock and a gate of its own, and whether the worker is at its end. How long polls took since its last look at
+-- its links, and how many turns it may make before the next. After how many rounds in which nothing was done it parks, and how many such rounds it made in a
+-- row. The names of the bells that it rings.
 pub record WorkerView (J T C G : Type 0) : Type 0 where
   pub linked : LinkedView J T
+  pub ending : Bool
   pub clock : C
   pub gate : G
+  pub taken : ℕ
+  pub turns : ℕ
   pub tries : ℕ
+  pub idle : ℕ
   pub bells : List ℕ
 
 -- it is the bell of this core among those of these names
 pub record IsBellOf (core : ℕ) (names : List ℕ) (bell : BellView) : Type 0 where
   pub actor : bell.actor ≡ core
   pub name : bell.name ≡ slice_index_or names core 0
+
+-- a worker that has made no round yet: it isn't at its end, and it looks at its links first
+pub record HasNotBegun {J T C G : Type 0} (worker : WorkerView J T C G) : Type 0 where
+  pub ending : worker.ending ≡ false
+  pub taken : worker.taken ≡ 0
+  pub turns : worker.turns ≡ 0
+  pub idle : worker.idle ≡ 0

@@ -1,10 +1,9 @@
 //! The bells by which idle workers, and a caller that waits, are woken.
 
 ghost use Rattle.std.specs.Prelude.{◌≡◌, IfOk};
-ghost use Rattle.rt_runtime_worker.specs.Bells.{once_more};
+ghost use Rattle.rt_runtime_worker.specs.Bells.{IsNamedFor, once_more};
 
-use crossbeam_utils::sync::EventCount;
-pub use crossbeam_utils::sync::Key;
+use crossbeam_utils::sync;
 use rt_ids::ActorNo;
 use std::alloc::{AllocError, Global};
 use std::marker::Model;
@@ -13,7 +12,9 @@ use std::sync::{Arc, OnceLock, Wait};
 /// What all handles on one bell share.
 #[derive(Drop)]
 struct Hung {
-    event: EventCount,
+    event: sync::EventCount,
+    /// Whose bell it is. It stands here, so that no bell is that of two actors.
+    actor: u8,
     /// Nothing is ever put in. By its number contracts tell one bell from another.
     name: OnceLock<u8>,
 }
@@ -22,7 +23,6 @@ struct Hung {
 /// rung here.
 #[derive(Drop)]
 pub struct Bell {
-    actor: u8,
     rings: u64,
     hung: Arc<Hung, Global>,
 }
@@ -33,8 +33,9 @@ impl Model for Bell {
     ghost Value = { BellView };
 
     ghost use Rattle.std.specs.Arc.{arc_value};
+    ghost use Rattle.rt_runtime_worker.specs.Bells.{bell_name};
 
-    ghost view = { λ b. record { actor = b.actor; name = (arc_value b.hung).name.id; rings = b.rings } };
+    ghost view = { λ b. record { actor = (arc_value b.hung).actor; name = bell_name (arc_value b.hung).name.id (arc_value b.hung).actor; rings = b.rings } };
 }
 
 impl Bell {
@@ -44,15 +45,15 @@ impl Bell {
     ///
     /// If there is no memory.
     pub fn open(alloc: Global, actor: ActorNo) -> Result<Self, AllocError>
-        ensures { IfOk result (λ bell. (bell.actor ≡ actor) × (bell.rings ≡ 0)) }
+        ensures { IfOk result (λ bell. (bell.rings ≡ 0) × IsNamedFor actor bell) }
     {
         Ok(Bell {
-            actor: actor.0,
             rings: 0,
             hung: Arc::new(
                 alloc,
                 Hung {
-                    event: EventCount::new(),
+                    event: sync::EventCount::new(),
+                    actor: actor.0,
                     name: OnceLock::new(),
                 },
             )?,
@@ -68,7 +69,6 @@ impl Bell {
         ensures { IfOk result (λ bell. bell ≡ record self.now { rings = 0 }) }
     {
         Ok(Bell {
-            actor: self.actor,
             rings: 0,
             hung: Arc::try_clone(&self.hung)?,
         })
@@ -84,14 +84,36 @@ impl Bell {
     }
 
     /// From here on a ring ends the sleep. What came before it is seen by the look that follows. Whoever drops the key gets up.
-    pub fn lie_down(&self) -> Key<'_> {
+    pub fn lie_down(&self) -> Key<'_>
+        ensures { result.bell.now ≡ self.now }
+    {
         // step: lie down
-        self.hung.event.prepare_wait()
+        Key {
+            bell: self,
+            event: self.hung.event.prepare_wait(),
+        }
     }
 }
 
+/// That one lay down on this bell. Whoever drops it gets up.
+#[derive(Drop)]
+pub struct Key<'a> {
+    bell: &'a Bell,
+    event: sync::Key<'a>,
+}
+
+/// That one parked on this bell, and was woken. Only `sleep` makes one.
+#[derive(Drop)]
+pub struct Woken<'a> {
+    bell: &'a Bell,
+}
+
 /// Parks until the bell rings. It doesn't if the bell has rung since `lie_down`.
-pub fn sleep<R: Wait>(rt: &R, key: Key<'_>) {
+pub fn sleep<'a, R: Wait>(rt: &R, key: Key<'a>) -> Woken<'a>
+    ensures { result.bell.now ≡ key.entry.bell.now }
+{
+    let Key { bell, event } = key;
     // step: park, which looks at the word once more
-    key.wait(rt);
+    event.wait(rt);
+    Woken { bell }
 }

@@ -2,7 +2,7 @@
 
 ghost use Rattle.std.specs.Prelude.{◌≡◌, ◌+◌, ◌<◌, IfOk, length, replicate};
 ghost use Rattle.std.specs.Option.{option_map};
-ghost use Rattle.rt_runtime_worker.specs.Bells.{bell_at, rung_at, rung_for, told_by};
+ghost use Rattle.rt_runtime_worker.specs.Bells.{AreApart, bell_at, rung_at, rung_for, told_by};
 
 use crate::bell::Bell;
 use rt_ids::{ActorNo, CoreNo, Note};
@@ -47,11 +47,13 @@ impl Bells {
     ///
     /// If there is no memory.
     pub fn open(alloc: Global, cores: u8) -> Result<Self, AllocError>
-        ensures { IfOk result (λ bells. bells.rings ≡ replicate (cores + 1) 0) }
+        ensures rings { IfOk result (λ bells. bells.rings ≡ replicate (cores + 1) 0) }
+        ensures apart { IfOk result (λ bells. AreApart bells.names) }
     {
         let mut bells = Vec::with_capacity(alloc, cores as usize + 1)?;
         for actor in 0..cores as usize + 1 {
-            bells.push_reserved(Bell::open(alloc, ActorNo(actor as u8))?);
+            let bell = Bell::open(alloc, ActorNo(actor as u8))?;
+            bells.push_reserved(bell);
         }
         Ok(Bells { bells })
     }

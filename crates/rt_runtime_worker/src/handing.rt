@@ -10,7 +10,7 @@ ghost use Rattle.rt_journal.specs.Recorded.{IsRecorded};
 ghost use Rattle.rt_journal.specs.Owed.{IsSentUnder};
 ghost use Rattle.rt_journal.specs.Turns.{IsBack};
 ghost use Rattle.rt_ring_mesh.specs.Ends.{SameEnds};
-ghost use Rattle.rt_runtime_worker.specs.Linked.{AreOwing, IsLinked, PollsAsOwed, StaysLinked};
+ghost use Rattle.rt_runtime_worker.specs.Linked.{AreOwing, IsLinked, PollsAsOwed, SeesNoLess, StaysLinked};
 ghost use Rattle.rt_runtime_worker.specs.Steps.{HandsBack};
 
 use rt_core::{PickError, Turn};
@@ -46,6 +46,7 @@ fn give_on<J: Task<Out = u64>>(
     requires owing { AreOwing (Fits J.meaning) name.from (Some (name, Returned reason)) recorded.now ends.old }
     ensures linked { IsLinked J.meaning (record { recorded = recorded.now; ends = ends.new }) }
     ensures ends { SameEnds ends.old ends.new }
+    ensures sees { SeesNoLess ends.old ends.new }
 {
     recorded.give_back(&mut ends.ins[name.from.0 as usize], name, reason, order);
 }

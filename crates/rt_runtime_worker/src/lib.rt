@@ -7,6 +7,7 @@ pub mod ended;
 mod gates;
 mod handing;
 pub mod laws;
+mod leave;
 mod lent;
 pub mod linked;
 mod opening;
@@ -18,7 +19,7 @@ pub mod stopwatch;
 pub mod turn;
 pub mod worker;
 
-pub use bell::{Bell, Key, sleep};
+pub use bell::{Bell, Key, Woken, sleep};
 pub use bells::Bells;
 pub use ended::Ended;
 pub use linked::Linked;

@@ -1,6 +1,6 @@
 //! How a worker is opened over the ends of its actor.
 
-ghost use Rattle.std.specs.Prelude.{◌≡◌, ◌+◌, ◌<◌, ◌≤◌, ◌∷◌, IfOk, OnOk, length};
+ghost use Rattle.std.specs.Prelude.{◌≡◌, ◌+◌, ◌<◌, ◌≤◌, ◌∷◌, IfOk, OnOk, false, length};
 ghost use Rattle.rt_ids.specs.declared.note.Note.TheVariants.{Created};
 ghost use Rattle.rt_ids.specs.Commands.{IsOpening, created_count};
 ghost use Rattle.rt_runtime_config.specs.Configs.{least_room, queues_of};
@@ -8,6 +8,7 @@ ghost use Rattle.rt_journal.specs.Recorded.{IsRecorded};
 ghost use Rattle.rt_journal.specs.Steps.{opened_beside};
 ghost use Rattle.rt_runtime_worker.specs.Opening.{AreEndsOf, CreatesSince, IsOpenedOver};
 ghost use Rattle.rt_runtime_worker.specs.Queues.{behind_entries, creations};
+ghost use Rattle.rt_runtime_worker.specs.Workers.{HasNotBegun};
 
 use crate::bells::Bells;
 use crate::linked::Linked;
@@ -86,6 +87,7 @@ fn serve_core<J: Task<Out = u64>>(
     requires ends { AreEndsOf config.now.cores config.now.cap ends }
     requires room { least_room config.now.cores config.now.cap + queues_of ends.number config.now.queues.items ≤ config.now.room }
     ensures over { IfOk result (λ served. IsOpenedOver config.now.cores config.now.cap config.now.room ends served.linked) }
+    ensures ending { IfOk result (λ served. served.ending ≡ false) }
     ensures queues { IfOk result (λ served. served.linked.recorded.journal.notes ≡ creations ends.number config.now.queues.items) }
 {
     let number = ends.number;
@@ -122,6 +124,7 @@ impl<J: Task<Out = u64>, C: Drop, G: Drop> Worker<J, C, G> {
         ensures clock { IfOk result (λ worker. worker.clock ≡ clock) }
         ensures gate { IfOk result (λ worker. worker.gate ≡ gate) }
         ensures bells { IfOk result (λ worker. worker.bells ≡ bells.now.names) }
+        ensures begins { IfOk result (λ worker. HasNotBegun worker × (worker.tries ≡ 1024)) }
         ensures queues { IfOk result (λ worker. worker.linked.recorded.journal.notes ≡ creations ends.number config.now.queues.items) }
     {
         let number = ends.number;

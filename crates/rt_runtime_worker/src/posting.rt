@@ -10,10 +10,11 @@ ghost use Rattle.rt_journal.specs.Ends.{told_under, IsSameSeat};
 ghost use Rattle.rt_journal.specs.Owed.{outcome_settled};
 ghost use Rattle.rt_journal.specs.Whole.{MayAnswer};
 ghost use Rattle.rt_ring_mesh.specs.Ends.{SameEnds};
-ghost use Rattle.rt_runtime_worker.specs.Linked.{AreBeside, AreOwing, IsLinked, PollsAsOwed, StaysLinked};
+ghost use Rattle.rt_runtime_worker.specs.Linked.{AreBeside, AreOwing, IsLinked, PollsAsOwed, SeesNoLess, StaysLinked};
 ghost use Rattle.rt_runtime_worker.specs.Rooms.{HasPollRoom};
 ghost use Rattle.rt_runtime_worker.specs.Steps.{PollsOne};
 
+use crate::leave::Leave;
 use rt_core::{Next, Settled};
 use rt_ids::JobId;
 use rt_jobs::{Job, Task};
@@ -22,14 +23,17 @@ use rt_ring_mesh::Ends;
 use rt_taskqueue::Meter;
 use std::alloc::Global;
 
-// Makes the turn. What it owes to the job's sender isn't given yet.
+// Makes the turn, for which the gate was asked. What it owes to the job's sender isn't given yet.
 fn post_turn<J: Job + Task<Out = u64>, M: Meter>(
     alloc: Global,
     recorded: &mut Recorded<J>,
     ends: &mut Ends<J>,
     next: &Next,
+    leave: Leave,
     meter: &mut M,
 ) -> Settled<u64>
+    requires core { leave.core ≡ recorded.old.core.core }
+    requires name { leave.name ≡ next.now.name }
     requires ahead { IsAhead recorded.old.core next.now.queue next.now.vr next.now.name next.now.started }
     requires known { next.now.name.from ≤ recorded.old.core.cores }
     requires beside { AreBeside (Fits J.meaning) recorded.old ends.old }
@@ -41,8 +45,10 @@ fn post_turn<J: Job + Task<Out = u64>, M: Meter>(
     ensures rest { recorded.new.core.out ≡ None }
     ensures seat { IsSameSeat recorded.old recorded.new }
     ensures ends { SameEnds ends.old ends.new }
+    ensures sees { SeesNoLess ends.old ends.new }
     ensures sound { IsRecorded J.meaning recorded.new }
 {
+    let _leave = leave;
     recorded.turn_posting(alloc, &mut ends.outs, next, meter)
 }
 
@@ -62,18 +68,22 @@ fn done_on<J: Job + Task<Out = u64>>(
     ensures linked { IsLinked J.meaning (record { recorded = recorded.now; ends = ends.new }) }
     ensures outs { ends.new.outs ≡ ends.old.outs }
     ensures ends { SameEnds ends.old ends.new }
+    ensures sees { SeesNoLess ends.old ends.new }
 {
     recorded.give_done(&mut ends.ins[name.from.0 as usize], name, settled);
 }
 
-// Makes the turn of the job that was told ahead.
+// Makes the turn of the job that was told ahead, for which the gate was asked.
 pub(crate) fn turn_on<J: Job + Task<Out = u64>, M: Meter>(
     alloc: Global,
     recorded: &mut Recorded<J>,
     ends: &mut Ends<J>,
     next: &Next,
+    leave: Leave,
     meter: &mut M,
 )
+    requires core { leave.core ≡ recorded.old.core.core }
+    requires name { leave.name ≡ next.now.name }
     requires ahead { IsAhead recorded.old.core next.now.queue next.now.vr next.now.name next.now.started }
     requires known { next.now.name.from ≤ recorded.old.core.cores }
     requires beside { AreBeside (Fits J.meaning) recorded.old ends.old }
@@ -83,6 +93,6 @@ pub(crate) fn turn_on<J: Job + Task<Out = u64>, M: Meter>(
     ensures linked { IsLinked J.meaning (record { recorded = recorded.new; ends = ends.new }) }
     ensures stays { StaysLinked (record { recorded = recorded.old; ends = ends.old }) (record { recorded = recorded.new; ends = ends.new }) }
 {
-    let settled = post_turn(alloc, recorded, ends, next, meter);
+    let settled = post_turn(alloc, recorded, ends, next, leave, meter);
     done_on(recorded, ends, next.name, &settled);
 }

@@ -4,10 +4,11 @@ ghost use Rattle.std.specs.Prelude.{◌≡◌, IfSome, IfNone, false, is_none, t
 ghost use Rattle.rt_runtime_worker.specs.Asks.{AsksSince};
 ghost use Rattle.rt_runtime_worker.specs.Bells.{AreRung};
 ghost use Rattle.rt_runtime_worker.specs.Linked.{StaysLinked};
-ghost use Rattle.rt_runtime_worker.specs.Looks.{LooksAtAll};
+ghost use Rattle.rt_runtime_worker.specs.Looks.{LooksAtAll, round_view};
 ghost use Rattle.rt_runtime_worker.specs.Rounds.{StepsServed};
+ghost use Rattle.rt_runtime_worker.specs.Workers.{IsBellOf};
 
-use crate::bell::{Key, sleep};
+use crate::bell::{Bell, Key, Woken, sleep};
 use crate::rounds::Rounds;
 use rt_jobs::{Job, Task};
 use rt_runtime_config::{Clock, Gate};
@@ -19,11 +20,13 @@ pub(crate) struct Quiet<'a> {
     key: Key<'a>,
 }
 
-impl Quiet<'_> {
+impl<'a> Quiet<'a> {
     /// Parks until the bell rings. It doesn't if the bell has rung since the worker lay down.
-    pub(crate) fn sleep<R: Wait>(self, rt: &R) {
+    pub(crate) fn sleep<R: Wait>(self, rt: &R) -> Woken<'a>
+        ensures { result.bell.now ≡ self.entry.key.bell.now }
+    {
         let Quiet { key } = self;
-        sleep(rt, key);
+        sleep(rt, key)
     }
 }
 
@@ -33,9 +36,10 @@ pub(crate) fn look_again<'a, J: Job + Task<Out = u64>, C: Clock + Drop, G: Gate 
     key: Key<'a>,
 ) -> Option<Quiet<'a>>
     requires rung { AreRung rounds.old.served rounds.old.bells }
+    ensures key { IfSome result (λ quiet. quiet.key.bell.now ≡ key.entry.bell.now) }
     ensures some { IfSome result (λ _. StepsServed rounds.old.served false rounds.new.served) }
     ensures none { IfNone result (StepsServed rounds.old.served true rounds.new.served) }
-    ensures looks { LooksAtAll J.meaning C.Reads G.Asked (record { served = rounds.old.served; clock = rounds.old.watch.clock; gate = rounds.old.gate }) (is_none result) rounds.new.turns (record { served = rounds.new.served; clock = rounds.new.watch.clock; gate = rounds.new.gate }) }
+    ensures looks { LooksAtAll J.meaning C.Reads G.Asked (round_view rounds.old.served rounds.old.watch.clock rounds.old.gate) (is_none result) rounds.new.turns (round_view rounds.new.served rounds.new.watch.clock rounds.new.gate) }
     ensures asks { AsksSince G.Asked rounds.old.served.linked.recorded.core.core rounds.old.served.linked.recorded.journal.notes rounds.new.served.linked.recorded.journal.notes rounds.old.gate rounds.new.gate }
     ensures stays { StaysLinked rounds.old.served.linked rounds.new.served.linked }
     ensures rung { AreRung rounds.new.served rounds.new.bells }
@@ -46,4 +50,27 @@ pub(crate) fn look_again<'a, J: Job + Task<Out = u64>, C: Clock + Drop, G: Gate 
         return None;
     }
     Some(Quiet { key })
+}
+
+/// Lies down on the bell of the worker's own core, looks once more, and parks until that bell rings if there was nothing.
+pub(crate) fn rest<'a, J: Job + Task<Out = u64>, C: Clock + Drop, G: Gate + Drop, R: Wait>(
+    rt: &R,
+    own: &'a Bell,
+    rounds: &mut Rounds<J, C, G>,
+) -> Option<Woken<'a>>
+    requires rung { AreRung rounds.old.served rounds.old.bells }
+    requires own { IsBellOf rounds.old.served.linked.recorded.core.core rounds.old.bells.names own.now }
+    ensures slept { IfSome result (λ woken. woken.bell.now ≡ own.now) }
+    ensures bell { IsBellOf rounds.new.served.linked.recorded.core.core rounds.new.bells.names own.now }
+    ensures looks { LooksAtAll J.meaning C.Reads G.Asked (round_view rounds.old.served rounds.old.watch.clock rounds.old.gate) (is_none result) rounds.new.turns (round_view rounds.new.served rounds.new.watch.clock rounds.new.gate) }
+    ensures asks { AsksSince G.Asked rounds.old.served.linked.recorded.core.core rounds.old.served.linked.recorded.journal.notes rounds.new.served.linked.recorded.journal.notes rounds.old.gate rounds.new.gate }
+    ensures stays { StaysLinked rounds.old.served.linked rounds.new.served.linked }
+    ensures rung { AreRung rounds.new.served rounds.new.bells }
+    ensures names { rounds.new.bells.names ≡ rounds.old.bells.names }
+{
+    let key = own.lie_down();
+    match look_again(rounds, key) {
+        Some(quiet) => Some(quiet.sleep(rt)),
+        None => None,
+    }
 }

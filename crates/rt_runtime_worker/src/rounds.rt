@@ -5,8 +5,9 @@ ghost use Rattle.rt_ids.specs.Closing.{IsDrained};
 ghost use Rattle.rt_runtime_worker.specs.Bells.{AreRung, rung_for};
 ghost use Rattle.rt_runtime_worker.specs.Asks.{AsksSince, NotesNoPoll};
 ghost use Rattle.rt_runtime_worker.specs.Ended.{IsServed};
-ghost use Rattle.rt_runtime_worker.specs.Looks.{LooksAtAll, MakesRound, PassesLinks, TurnsWith, found_quiet, turns_after};
-ghost use Rattle.rt_runtime_worker.specs.Rounds.{CollectsFirst, HearsAll, StepsServed};
+ghost use Rattle.rt_runtime_worker.specs.Looks.{LooksAtAll, MakesRound, PassesLinks, TurnsAlone, found_quiet, round_view, turns_after};
+ghost use Rattle.rt_runtime_worker.specs.Rounds.{CollectsFirst, HearsAll, ShutsClosed, StepsServed};
+ghost use Rattle.rt_runtime_worker.specs.Turns.{TurnsWith};
 
 use crate::bells::Bells;
 use crate::ended::Ended;
@@ -132,6 +133,7 @@ impl<J: Task<Out = u64>, C: Drop, G: Drop> Rounds<J, C, G> {
     fn take_in(&mut self) -> bool
         requires rung { AreRung self.old.served self.old.bells }
         ensures steps { StepsServed self.old.served result self.new.served }
+        ensures shuts { ShutsClosed self.old.served.linked self.new.served.linked }
         ensures hears { HearsAll (self.old.served.linked.recorded.core.cores + 1) self.old.served self.new.served }
         ensures sound { IsServed J.meaning self.new.served }
         ensures rung { AreRung self.new.served self.new.bells }
@@ -188,7 +190,7 @@ impl<J: Job + Task<Out = u64>, C: Clock + Drop, G: Gate + Drop> Rounds<J, C, G> 
     pub(crate) fn look(&mut self) -> bool
         requires rung { AreRung self.old.served self.old.bells }
         ensures steps { StepsServed self.old.served result self.new.served }
-        ensures looks { LooksAtAll J.meaning C.Reads G.Asked (record { served = self.old.served; clock = self.old.watch.clock; gate = self.old.gate }) result self.new.turns (record { served = self.new.served; clock = self.new.watch.clock; gate = self.new.gate }) }
+        ensures looks { LooksAtAll J.meaning C.Reads G.Asked (round_view self.old.served self.old.watch.clock self.old.gate) result self.new.turns (round_view self.new.served self.new.watch.clock self.new.gate) }
         ensures forgets { self.new.watch.taken ≡ 0 }
         ensures asks { AsksSince G.Asked self.old.served.linked.recorded.core.core self.old.served.linked.recorded.journal.notes self.new.served.linked.recorded.journal.notes self.old.gate self.new.gate }
         ensures rung { AreRung self.new.served self.new.bells }
@@ -206,9 +208,7 @@ impl<J: Job + Task<Out = u64>, C: Clock + Drop, G: Gate + Drop> Rounds<J, C, G> 
     fn turn_alone(&mut self) -> bool
         requires rung { AreRung self.old.served self.old.bells }
         ensures steps { StepsServed self.old.served result self.new.served }
-        ensures passes { result ≡ true → PassesLinks self.old.watch.taken self.old.turns true self.new.turns }
-        ensures turns { result ≡ true → TurnsWith J.meaning C.Reads G.Asked self.old.watch.clock self.old.gate self.new.gate self.old.served true self.new.served }
-        ensures fewer { self.new.turns ≤ self.old.turns }
+        ensures alone { TurnsAlone J.meaning C.Reads G.Asked self.old.watch.taken self.old.turns (round_view self.old.served self.old.watch.clock self.old.gate) result self.new.turns (round_view self.new.served self.new.watch.clock self.new.gate) }
         ensures asks { AsksSince G.Asked self.old.served.linked.recorded.core.core self.old.served.linked.recorded.journal.notes self.new.served.linked.recorded.journal.notes self.old.gate self.new.gate }
         ensures rung { AreRung self.new.served self.new.bells }
         ensures names { self.new.bells.names ≡ self.old.bells.names }
@@ -224,7 +224,7 @@ impl<J: Job + Task<Out = u64>, C: Clock + Drop, G: Gate + Drop> Rounds<J, C, G> 
     pub(crate) fn round(&mut self, was_idle: bool) -> bool
         requires rung { AreRung self.old.served self.old.bells }
         ensures steps { StepsServed self.old.served result self.new.served }
-        ensures makes { MakesRound J.meaning C.Reads G.Asked was_idle self.old.watch.taken self.old.turns (record { served = self.old.served; clock = self.old.watch.clock; gate = self.old.gate }) result self.new.turns (record { served = self.new.served; clock = self.new.watch.clock; gate = self.new.gate }) }
+        ensures makes { MakesRound J.meaning C.Reads G.Asked was_idle self.old.watch.taken self.old.turns (round_view self.old.served self.old.watch.clock self.old.gate) result self.new.turns (round_view self.new.served self.new.watch.clock self.new.gate) }
         ensures asks { AsksSince G.Asked self.old.served.linked.recorded.core.core self.old.served.linked.recorded.journal.notes self.new.served.linked.recorded.journal.notes self.old.gate self.new.gate }
         ensures rung { AreRung self.new.served self.new.bells }
         ensures names { self.new.bells.names ≡ self.old.bells.names }

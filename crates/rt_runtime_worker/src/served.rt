@@ -7,7 +7,8 @@ ghost use Rattle.rt_runtime_worker.specs.Ended.{HasEnded, IsServed};
 ghost use Rattle.rt_runtime_worker.specs.Linked.{StaysLinked};
 ghost use Rattle.rt_runtime_worker.specs.Gates.{KeepsTaken};
 ghost use Rattle.rt_runtime_worker.specs.Rooms.{ActsAsItMay, HasSpare, IsReady};
-ghost use Rattle.rt_runtime_worker.specs.Rounds.{CollectsFirst, CollectsNext, HasShutGates, HearsFirst, HearsOne, HearsSome, LooksAtRoom, StepsServed, TakesTurn, is_turn};
+ghost use Rattle.rt_runtime_worker.specs.Rounds.{CollectsFirst, CollectsNext, HasShutGates, HearsFirst, HearsOne, HearsSome, LooksAtRoom, StepsServed, is_turn};
+ghost use Rattle.rt_runtime_worker.specs.Turns.{TakesTurn};
 
 use crate::ended::Ended;
 use crate::linked::Linked;

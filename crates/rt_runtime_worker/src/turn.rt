@@ -6,10 +6,10 @@ ghost use Rattle.rt_runtime_worker.specs.Rooms.{HasTurnRoom};
 ghost use Rattle.rt_runtime_worker.specs.Steps.{MakesTurn};
 
 use crate::handing::hand_back;
+use crate::leave::ask;
 use crate::linked::Linked;
 use crate::posting::turn_on;
 use rt_core::{Ahead, PickError};
-use rt_ids::{CoreNo, JobId};
 use rt_jobs::{Job, Task};
 use rt_ring_mesh::Ends;
 use rt_runtime_config::Gate;
@@ -36,13 +36,6 @@ fn number_of<J: Task<Out = u64>>(ends: &Ends<J>) -> u8
     ends.number.0
 }
 
-// Asks the gate of the core of this number, just before a poll.
-fn ask<G: Gate>(gate: &mut G, core: u8, name: &JobId)
-    ensures { G.Asked gate.old core name.now gate.new }
-{
-    gate.before_poll(CoreNo(core), *name);
-}
-
 impl<J: Job + Task<Out = u64>> Linked<J> {
     /// Makes one turn: the first job of the right pick is polled once, or handed back. What is to be done is told ahead of the pick.
     ///
@@ -57,8 +50,15 @@ impl<J: Job + Task<Out = u64>> Linked<J> {
         match self.recorded.ahead() {
             Ok(Ahead::Job(next)) => {
                 let core = number_of(&self.ends);
-                ask(gate, core, &next.name);
-                turn_on(alloc, &mut self.recorded, &mut self.ends, &next, meter);
+                let leave = ask(gate, core, &next.name);
+                turn_on(
+                    alloc,
+                    &mut self.recorded,
+                    &mut self.ends,
+                    &next,
+                    leave,
+                    meter,
+                );
                 Made::Polled
             }
             Ok(Ahead::Back) => {

@@ -1,16 +1,17 @@
 //! A worker: it serves one core until the core is drained.
 
-ghost use Rattle.std.specs.Prelude.{◌≡◌};
+ghost use Rattle.std.specs.Prelude.{◌≡◌, ℕ, false};
 ghost use Rattle.rt_ids.specs.Closing.{IsDrained};
 ghost use Rattle.rt_runtime_worker.specs.Asks.{AsksSince};
 ghost use Rattle.rt_runtime_worker.specs.Bells.{AreRung};
 ghost use Rattle.rt_runtime_worker.specs.Linked.{StaysLinked};
-ghost use Rattle.rt_runtime_worker.specs.Workers.{IsBellOf};
+ghost use Rattle.rt_runtime_worker.specs.Serves.{GoesOn, Rests, Serves, ServesOn};
+ghost use Rattle.rt_runtime_worker.specs.Workers.{HasNotBegun, IsBellOf, WorkerView};
 
 use crate::bell::Bell;
 use crate::bells::Bells;
 use crate::ended::Ended;
-use crate::quiet::look_again;
+use crate::quiet::rest;
 use crate::rounds::Rounds;
 use crate::served::Served;
 use rt_jobs::{Job, Task};
@@ -44,7 +45,7 @@ impl<J: Task<Out = u64>, C: Drop, G: Drop> Model for Worker<J, C, G> {
     ghost use Rattle.rt_runtime_worker.specs.Bells.{AreRung};
     ghost use Rattle.rt_runtime_worker.specs.Workers.{IsBellOf};
 
-    ghost view = { λ w. record { linked = w.rounds.served.linked; clock = w.rounds.watch.clock; gate = w.rounds.gate; tries = w.tries; bells = w.rounds.bells.names } };
+    ghost view = { λ w. record { linked = w.rounds.served.linked; ending = w.rounds.served.ending; clock = w.rounds.watch.clock; gate = w.rounds.gate; taken = w.rounds.watch.taken; turns = w.rounds.turns; tries = w.tries; idle = w.idle; bells = w.rounds.bells.names } };
 
     ghost invariant = { λ w. AreRung w.rounds.served w.rounds.bells × IsBellOf w.rounds.served.linked.recorded.core.core w.rounds.bells.names w.own };
 }
@@ -61,10 +62,13 @@ impl<J: Task<Out = u64>, C: Drop, G: Drop> Worker<J, C, G> {
     ) -> Self
         requires own { IsBellOf served.linked.recorded.core.core bells.names own }
         requires rung { AreRung served bells }
+        requires ending { served.ending ≡ false }
         ensures linked { result.linked ≡ served.linked }
         ensures clock { result.clock ≡ clock }
         ensures gate { result.gate ≡ gate }
         ensures bells { result.bells ≡ bells.names }
+        ensures begins { HasNotBegun result }
+        ensures tries { result.tries ≡ 1024 }
     {
         Worker {
             own,
@@ -94,20 +98,24 @@ impl<J: Task<Out = u64>, C: Drop, G: Drop> Worker<J, C, G> {
 }
 
 impl<J: Job + Task<Out = u64>, C: Clock + Drop, G: Gate + Drop> Worker<J, C, G> {
-    /// Lies down, looks once more, and parks until its bell rings if there was nothing.
-    fn rest<R: Wait>(&mut self, rt: &R)
+    /// Lies down, looks once more, and parks until its bell rings if there was nothing. Whether it slept.
+    fn rests<R: Wait>(&mut self, rt: &R) -> bool
+        ensures rests { Rests J.meaning C.Reads G.Asked self.old result self.new }
         ensures stays { StaysLinked self.old.linked self.new.linked }
         ensures asks { AsksSince G.Asked self.old.linked.recorded.core.core self.old.linked.recorded.journal.notes self.new.linked.recorded.journal.notes self.old.gate self.new.gate }
     {
-        let key = self.own.lie_down();
-        match look_again(&mut self.rounds, key) {
-            Some(quiet) => quiet.sleep(rt),
-            None => self.idle = 0,
+        match rest(rt, &self.own, &mut self.rounds) {
+            Some(_) => true,
+            None => {
+                self.idle = 0;
+                false
+            }
         }
     }
 
     /// One round. Whether the next one is made at once: unless nothing was to be done in it and in so many rounds before it.
     fn goes_on(&mut self) -> bool
+        ensures goes { GoesOn J.meaning C.Reads G.Asked self.old result self.new }
         ensures stays { StaysLinked self.old.linked self.new.linked }
         ensures asks { AsksSince G.Asked self.old.linked.recorded.core.core self.old.linked.recorded.journal.notes self.new.linked.recorded.journal.notes self.old.gate self.new.gate }
     {
@@ -125,11 +133,12 @@ impl<J: Job + Task<Out = u64>, C: Clock + Drop, G: Gate + Drop> Worker<J, C, G> 
 
     /// One round, and a rest where the next one isn't made at once.
     fn serve<R: Wait>(&mut self, rt: &R)
+        ensures serves { Serves J.meaning C.Reads G.Asked self.old self.new }
         ensures stays { StaysLinked self.old.linked self.new.linked }
         ensures asks { AsksSince G.Asked self.old.linked.recorded.core.core self.old.linked.recorded.journal.notes self.new.linked.recorded.journal.notes self.old.gate self.new.gate }
     {
         if !self.goes_on() {
-            self.rest(rt);
+            self.rests(rt);
         }
     }
 }
@@ -143,6 +152,7 @@ impl<J: Task<Out = u64>, C: Drop, G: Drop> Promised for Worker<J, C, G> {
 impl<J: Job + Task<Out = u64>, C: Clock + Drop, G: Gate + Drop> Work for Worker<J, C, G> {
     fn run<R: Wait>(self, rt: &R) -> Ended<J>
         ensures keeps { StaysLinked self.linked result }
+        ensures serves { (last : WorkerView J ℕ C G) × ServesOn J.meaning C.Reads G.Asked self last × (result ≡ last.linked) }
         ensures asks { (gate : G) × AsksSince G.Asked self.linked.recorded.core.core self.linked.recorded.journal.notes result.recorded.journal.notes self.gate gate }
     {
         let mut worker = self;

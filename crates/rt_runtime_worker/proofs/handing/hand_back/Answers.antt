@@ -42,6 +42,7 @@ pub returns-clause-stays : goal.returns-clause-stays
 returns-clause-stays g c = record {
   seat = c.pick.ensures.seat;
   ends = c.give_on.ensures.ends;
+  sees = c.give_on.ensures.sees;
   opening = opening_returned g.J.Task.meaning c.args.recorded.now c.pick.new.self _ _ _
       (handed_back c.args.recorded.now c.pick.new.self c.pick.result c.back_of-name.result.0 c.back_of-name.result.1 c.back_of-name.result.2 c.back_of-name.ensures g.J.Task.meaning c.pick.ensures.picks);
   grows = grows_returned g.J.Task.meaning c.args.recorded.now c.pick.new.self _ _ _

@@ -2,7 +2,7 @@ use Rattle.std.proofs.Common.{sym, subst}
 use Rattle.rt_link.specs.Fits.{Fits}
 use Rattle.rt_runtime_worker.specs.Linked.{AreBeside, PollsAsOwed}
 use Rattle.rt_ring_mesh.specs.Ends.{EndsView}
-use Rattle.rt_runtime_worker.proofs.Posted.{posted_ends}
+use Rattle.rt_runtime_worker.proofs.Posted.{posted_ends, posted_see}
 use Rattle.rt_runtime_worker.proofs.InPlace.{turn_owing, turn_polls}
 use Rattle.rt_runtime_worker.proofs.posting.post_turn.Goals as goal
 
@@ -21,6 +21,10 @@ returns-clause-owing g c =
 pub returns-clause-ends : goal.returns-clause-ends
 returns-clause-ends g c =
     posted_ends c.turn_posting.ensures.turns.picked c.turn_posting.ensures.turns.left c.args.ends.now _ c.ends.view_is c.turn_posting.new.ends.items c.turn_posting.ensures.turns.posted
+
+pub returns-clause-sees : goal.returns-clause-sees
+returns-clause-sees g c =
+    posted_see c.turn_posting.ensures.turns.picked c.turn_posting.ensures.turns.left c.args.ends.now _ c.ends.view_is c.turn_posting.new.ends.items c.turn_posting.ensures.turns.posted
 
 pub returns-clause-owed : goal.returns-clause-owed
 returns-clause-owed g c = λ polls. c.turn_posting.ensures.owed (subst (λ (ends : EndsView _ _). PollsAsOwed g.J.Task.meaning c.args.recorded.now ends) (sym c.ends.view_is) polls)

@@ -1,5 +1,6 @@
 use Rattle.std.proofs.Common.{arith}
 use Rattle.rt_ring_mesh.proofs.Using.{ends_along}
+use Rattle.rt_runtime_worker.proofs.Along.{sees_along}
 use Rattle.rt_runtime_worker.proofs.Posted.{polls_again}
 use Rattle.rt_runtime_worker.proofs.Openings.{opening_polled}
 use Rattle.rt_runtime_worker.proofs.Growing.{grows_polled}
@@ -16,6 +17,7 @@ pub returns-clause-stays : goal.returns-clause-stays
 returns-clause-stays g c = record {
   seat = c.post_turn-settled.ensures.seat;
   ends = ends_along c.args.ends.now c.post_turn-settled.new.ends c.done_on.new.ends c.post_turn-settled.ensures.ends c.done_on.ensures.ends;
+  sees = sees_along c.args.ends.now c.post_turn-settled.new.ends c.done_on.new.ends c.post_turn-settled.ensures.sees c.done_on.ensures.sees;
   opening = opening_polled _ _ c.post_turn-settled.ensures.polls;
   grows = grows_polled _ _ c.post_turn-settled.ensures.polls;
 }

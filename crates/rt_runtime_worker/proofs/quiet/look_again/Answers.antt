@@ -1,5 +1,5 @@
 use Rattle.std.proofs.Common.{subst}
-use Rattle.rt_runtime_worker.specs.Looks.{LooksAtAll}
+use Rattle.rt_runtime_worker.specs.Looks.{LooksAtAll, round_view}
 use Rattle.rt_runtime_worker.specs.Rounds.{StepsServed}
 use Rattle.rt_runtime_worker.proofs.quiet.look_again.Goals as goal
 
@@ -10,7 +10,13 @@ pub returns-clause-some : goal.returns-clause-some
 returns-clause-some g c = subst (λ some. StepsServed c.args.rounds.now.served some c.look.new.self.served) c.if-look.false c.look.ensures.steps
 
 pub returns-then-look-clause-looks : goal.returns-then-look-clause-looks
-returns-then-look-clause-looks g c = subst (λ some. LooksAtAll g.J.Task.meaning g.C.Clock.Reads g.G.Gate.Asked (record { served = c.args.rounds.now.served; clock = c.args.rounds.now.watch.clock; gate = c.args.rounds.now.gate }) some c.look.new.self.turns (record { served = c.look.new.self.served; clock = c.look.new.self.watch.clock; gate = c.look.new.self.gate })) c.if-look.true c.look.ensures.looks
+returns-then-look-clause-looks g c =
+    subst
+    (λ some. LooksAtAll g.J.Task.meaning g.C.Clock.Reads g.G.Gate.Asked (round_view c.args.rounds.now.served c.args.rounds.now.watch.clock c.args.rounds.now.gate) some c.look.new.self.turns (round_view c.look.new.self.served c.look.new.self.watch.clock c.look.new.self.gate))
+    c.if-look.true c.look.ensures.looks
 
 pub returns-clause-looks : goal.returns-clause-looks
-returns-clause-looks g c = subst (λ some. LooksAtAll g.J.Task.meaning g.C.Clock.Reads g.G.Gate.Asked (record { served = c.args.rounds.now.served; clock = c.args.rounds.now.watch.clock; gate = c.args.rounds.now.gate }) some c.look.new.self.turns (record { served = c.look.new.self.served; clock = c.look.new.self.watch.clock; gate = c.look.new.self.gate })) c.if-look.false c.look.ensures.looks
+returns-clause-looks g c =
+    subst
+    (λ some. LooksAtAll g.J.Task.meaning g.C.Clock.Reads g.G.Gate.Asked (round_view c.args.rounds.now.served c.args.rounds.now.watch.clock c.args.rounds.now.gate) some c.look.new.self.turns (round_view c.look.new.self.served c.look.new.self.watch.clock c.look.new.self.gate))
+    c.if-look.false c.look.ensures.looks

@@ -1,4 +1,4 @@
-use Rattle.std.proofs.Common.{◌≡◌, ◌+◌, ◌<◌, ◌∙◌, length, arith}
+use Rattle.std.proofs.Common.{◌<◌, ◌∙◌, length, arith}
 use Rattle.rt_runtime_worker.proofs.Rung.{one_more_again}
 use Rattle.rt_runtime_worker.proofs.bells.Bells.again.Goals as goal
 

@@ -28,6 +28,9 @@ turn_on-requires-clause-known g c =
     let next = c.in-Ok-Job.next in
     ahead_known c.self.inside.recorded c.self.invariant.0.recorded next.queue next.vr next.name next.started (rw c.in-Ok-Job.field-0-is at c.in-Ok-Job.ensures)
 
+pub turn_on-requires-clause-core : goal.turn_on-requires-clause-core
+turn_on-requires-clause-core g c = c.ask-leave.ensures.core ∙ (c.number_of-core.ensures ∙ c.self.invariant.0.beside.number)
+
 pub turn_on-requires-clause-room : goal.turn_on-requires-clause-room
 turn_on-requires-clause-room g c =
     let next = c.in-Ok-Job.next in
@@ -36,8 +39,8 @@ turn_on-requires-clause-room g c =
 
 pub returns-in-Ok-Job-clause-makes : goal.returns-in-Ok-Job-clause-makes
 returns-in-Ok-Job-clause-makes g c =
-    subst (λ (old : LinkedView _ _). (name : JobId) × PollsOne g.J.Task.meaning (g.M.Meter.Tells c.args.meter.now) name old (record { recorded = c.turn_on.new.recorded; ends = c.turn_on.new.ends }) × g.G.Gate.Asked c.args.gate.now old.recorded.core.core name c.ask.new.gate) c.self.view_is
-    (c.in-Ok-Job.next.name, c.turn_on.ensures.polls, subst (λ core. g.G.Gate.Asked c.args.gate.now core c.in-Ok-Job.next.name c.ask.new.gate) (c.number_of-core.ensures ∙ c.self.invariant.0.beside.number) c.ask.ensures)
+    subst (λ (old : LinkedView _ _). (name : JobId) × PollsOne g.J.Task.meaning (g.M.Meter.Tells c.args.meter.now) name old (record { recorded = c.turn_on.new.recorded; ends = c.turn_on.new.ends }) × g.G.Gate.Asked c.args.gate.now old.recorded.core.core name c.ask-leave.new.gate) c.self.view_is
+    (c.in-Ok-Job.next.name, c.turn_on.ensures.polls, subst (λ core. g.G.Gate.Asked c.args.gate.now core c.in-Ok-Job.next.name c.ask-leave.new.gate) (c.number_of-core.ensures ∙ c.self.invariant.0.beside.number) c.ask-leave.ensures.asked)
 
 pub returns-in-Ok-Job-clause-stays : goal.returns-in-Ok-Job-clause-stays
 returns-in-Ok-Job-clause-stays g c = subst (λ (old : LinkedView _ _). StaysLinked old (record { recorded = c.turn_on.new.recorded; ends = c.turn_on.new.ends })) c.self.view_is c.turn_on.ensures.stays

@@ -23,12 +23,14 @@ returns-clause-looks g c = record {
   worked = c.take_turn-turned.result;
   back = c.gather-collected.result;
   steps = c.take_in-taken.ensures.steps;
+  shuts = c.take_in-taken.ensures.shuts;
   hears = c.take_in-taken.ensures.hears;
   sound = c.take_in-taken.ensures.sound;
   turn =
       turns_same g.J.Task.meaning g.C.Clock.Reads g.G.Gate.Asked c.args.self.now.watch.clock c.take_in-taken.new.self.watch.clock c.args.self.now.gate c.take_in-taken.new.self.gate c.plan.new.self.gate c.take_turn-turned.new.self.gate
       c.take_in-taken.new.self.served c.take_turn-turned.new.self.served c.take_turn-turned.result (ap (λ rounds. rounds.watch.clock) c.take_in-taken.ensures.rest) (ap (λ rounds. rounds.gate) c.take_in-taken.ensures.rest)
       (sym (ap (λ rounds. rounds.gate) c.plan.ensures ∙ ap (λ rounds. rounds.gate) c.gather-collected.ensures.rest)) c.take_turn-turned.ensures.takes;
+  turn_steps = c.take_turn-turned.ensures.steps;
   gathers = subst (λ served. StepsServed c.take_turn-turned.new.self.served c.gather-collected.result served) (sym (ap (λ rounds. rounds.served) c.plan.ensures)) c.gather-collected.ensures.steps;
   collects =
       subst (λ served. CollectsFirst c.args.self.now.served.linked.recorded.core.cores served) (sym (ap (λ rounds. rounds.served) c.plan.ensures))

@@ -1,5 +1,6 @@
 use Rattle.std.proofs.Common.{inl, inr, refl, ◌∙◌, subst}
 use Rattle.std.specs.Prelude.{false}
+use Rattle.rt_runtime_worker.specs.Looks.{TurnsAlone, round_view}
 use Rattle.rt_runtime_worker.specs.Rounds.{StepsServed}
 use Rattle.rt_runtime_worker.proofs.Asking.{asks_then}
 use Rattle.rt_runtime_worker.proofs.Telling.{steps_more}
@@ -9,14 +10,29 @@ pub returns-then-turn_alone-clause-steps : goal.returns-then-turn_alone-clause-s
 returns-then-turn_alone-clause-steps g c = subst (λ some. StepsServed c.args.self.now.served some c.turn_alone.new.self.served) c.if-turn_alone.true c.turn_alone.ensures.steps
 
 pub returns-then-turn_alone-clause-makes : goal.returns-then-turn_alone-clause-makes
-returns-then-turn_alone-clause-makes g c = inl (c.turn_alone.ensures.passes c.if-turn_alone.true, refl, c.turn_alone.ensures.turns c.if-turn_alone.true)
+returns-then-turn_alone-clause-makes g c =
+    inl (
+      refl,
+      subst
+          (λ some. TurnsAlone g.J.Task.meaning g.C.Clock.Reads g.G.Gate.Asked c.args.self.now.watch.taken c.args.self.now.turns (round_view c.args.self.now.served c.args.self.now.watch.clock c.args.self.now.gate)
+          some c.turn_alone.new.self.turns (round_view c.turn_alone.new.self.served c.turn_alone.new.self.watch.clock c.turn_alone.new.self.gate))
+          c.if-turn_alone.true c.turn_alone.ensures.alone,
+    )
 
 pub returns-then-has_nothing-clause-steps : goal.returns-then-has_nothing-clause-steps
 returns-then-has_nothing-clause-steps g c = subst (λ some. StepsServed c.args.self.now.served some c.turn_alone.new.self.served) c.if-turn_alone.false c.turn_alone.ensures.steps
 
 pub returns-then-has_nothing-clause-makes : goal.returns-then-has_nothing-clause-makes
 returns-then-has_nothing-clause-makes g c =
-    inr (inr (c.has_nothing.ensures c.if-has_nothing.true, refl, c.turn_alone.ensures.fewer, subst (λ some. StepsServed c.args.self.now.served some c.turn_alone.new.self.served) c.if-turn_alone.false c.turn_alone.ensures.steps))
+    inr (
+      round_view c.turn_alone.new.self.served c.turn_alone.new.self.watch.clock c.turn_alone.new.self.gate,
+      c.turn_alone.new.self.turns,
+      subst
+          (λ some. TurnsAlone g.J.Task.meaning g.C.Clock.Reads g.G.Gate.Asked c.args.self.now.watch.taken c.args.self.now.turns (round_view c.args.self.now.served c.args.self.now.watch.clock c.args.self.now.gate)
+          some c.turn_alone.new.self.turns (round_view c.turn_alone.new.self.served c.turn_alone.new.self.watch.clock c.turn_alone.new.self.gate))
+          c.if-turn_alone.false c.turn_alone.ensures.alone,
+      inr (c.has_nothing.ensures c.if-has_nothing.true, refl, refl, refl),
+    )
 
 pub returns-clause-steps : goal.returns-clause-steps
 returns-clause-steps g c =
@@ -25,11 +41,15 @@ returns-clause-steps g c =
 
 pub returns-clause-makes : goal.returns-clause-makes
 returns-clause-makes g c =
-    inr (inl (
-      record { served = c.turn_alone.new.self.served; clock = c.turn_alone.new.self.watch.clock; gate = c.turn_alone.new.self.gate },
-      subst (λ some. StepsServed c.args.self.now.served some c.turn_alone.new.self.served) c.if-turn_alone.false c.turn_alone.ensures.steps,
-      c.look.ensures.looks,
-    ))
+    inr (
+      round_view c.turn_alone.new.self.served c.turn_alone.new.self.watch.clock c.turn_alone.new.self.gate,
+      c.turn_alone.new.self.turns,
+      subst
+          (λ some. TurnsAlone g.J.Task.meaning g.C.Clock.Reads g.G.Gate.Asked c.args.self.now.watch.taken c.args.self.now.turns (round_view c.args.self.now.served c.args.self.now.watch.clock c.args.self.now.gate)
+          some c.turn_alone.new.self.turns (round_view c.turn_alone.new.self.served c.turn_alone.new.self.watch.clock c.turn_alone.new.self.gate))
+          c.if-turn_alone.false c.turn_alone.ensures.alone,
+      inl c.look.ensures.looks,
+    )
 
 pub returns-clause-names : goal.returns-clause-names
 returns-clause-names g c = c.look.ensures.names ∙ c.turn_alone.ensures.names

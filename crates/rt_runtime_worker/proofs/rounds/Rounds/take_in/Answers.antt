@@ -4,6 +4,7 @@ use Rattle.rt_runtime_worker.specs.Bells.{BellsView, rung_for}
 use Rattle.rt_runtime_worker.specs.Rounds.{StepsServed}
 use Rattle.rt_runtime_worker.proofs.Growing.{no_shorter}
 use Rattle.rt_runtime_worker.proofs.Heard.{heard_behind}
+use Rattle.rt_runtime_worker.proofs.Looked.{shut_behind}
 use Rattle.rt_runtime_worker.proofs.Rung.{are_rung}
 use Rattle.rt_runtime_worker.proofs.Telling.{steps_more}
 use Rattle.rt_runtime_worker.proofs.rounds.Rounds.take_in.Goals as goal
@@ -24,7 +25,11 @@ returns-clause-steps g c =
 pub returns-clause-hears : goal.returns-clause-hears
 returns-clause-hears g c =
     heard_behind (c.args.self.now.served.linked.recorded.core.cores + 1) c.args.self.now.served c.close_gates-shut.new.self c.deliver_all-delivered.new.self c.close_gates-shut.ensures.steps c.deliver_all-delivered.ensures.steps c.close_gates-shut.ensures.taken
-    (λ sender low same. c.deliver_all-delivered.ensures.hears.each same sender (omega (arith, low, c.close_gates-shut.ensures.steps.stays.seat.cores))) c.deliver_all-delivered.ensures.hears.sees
+    (λ sender low same. c.deliver_all-delivered.ensures.hears.each same sender (omega (arith, low, c.close_gates-shut.ensures.steps.stays.seat.cores)))
+
+pub returns-clause-shuts : goal.returns-clause-shuts
+returns-clause-shuts g c =
+    shut_behind c.args.self.now.served.linked c.close_gates-shut.new.self.linked c.deliver_all-delivered.new.self.linked c.close_gates-shut.ensures.steps.stays c.deliver_all-delivered.ensures.steps.stays c.close_gates-shut.ensures.shuts
 
 pub returns-clause-rung : goal.returns-clause-rung
 returns-clause-rung g c =

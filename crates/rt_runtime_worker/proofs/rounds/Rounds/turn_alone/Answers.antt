@@ -1,10 +1,10 @@
-use Rattle.std.proofs.Common.{refl, sym, ◌∙◌, subst, ap, arith}
+use Rattle.std.proofs.Common.{inl, inr, refl, sym, ◌∙◌, subst, ap}
 use Rattle.std.specs.Prelude.{false, true}
-use Rattle.rt_runtime_worker.specs.Looks.{PassesLinks}
+use Rattle.rt_runtime_worker.specs.Looks.{PassesLinks, round_view}
 use Rattle.rt_runtime_worker.specs.Rounds.{StepsServed}
 use Rattle.rt_runtime_worker.specs.Bells.{AreRung}
 use Rattle.rt_runtime_worker.specs.Asks.{polls_of}
-use Rattle.rt_runtime_worker.specs.Looks.{TurnsWith}
+use Rattle.rt_runtime_worker.specs.Turns.{TurnsWith}
 use Rattle.rt_runtime_worker.proofs.Asking.{asks_between, asks_none}
 use Rattle.rt_runtime_worker.proofs.Looked.{turns_same}
 use Rattle.rt_runtime_worker.proofs.Telling.{steps_none}
@@ -23,34 +23,30 @@ take_turn-requires g c = record { rung = subst (λ rounds. AreRung rounds.served
 pub returns-clause-steps : goal.returns-clause-steps
 returns-clause-steps g c = subst (λ served. StepsServed served c.take_turn.result c.take_turn.new.self.served) (ap (λ rounds. rounds.served) c.passes_links.ensures.rest) c.take_turn.ensures.steps
 
-pub returns-clause-passes : goal.returns-clause-passes
-returns-clause-passes g c = λ is.
-    subst (PassesLinks c.args.self.now.watch.taken c.args.self.now.turns true) (sym c.take_turn.ensures.turns)
-    (subst (λ passes. PassesLinks c.args.self.now.watch.taken c.args.self.now.turns passes c.passes_links.new.self.turns) c.if-not-passes_links.false c.passes_links.ensures.passes)
-
-pub returns-then-not-passes_links-clause-fewer : goal.returns-then-not-passes_links-clause-fewer
-returns-then-not-passes_links-clause-fewer g c =
-    let same = subst (λ passes. PassesLinks c.args.self.now.watch.taken c.args.self.now.turns passes c.passes_links.new.self.turns) c.if-not-passes_links.true c.passes_links.ensures.passes in
-    omega (arith, same)
+pub returns-then-not-passes_links-clause-alone : goal.returns-then-not-passes_links-clause-alone
+returns-then-not-passes_links-clause-alone g c =
+    inl (
+      refl,
+      subst (λ passes. PassesLinks c.args.self.now.watch.taken c.args.self.now.turns passes c.passes_links.new.self.turns) c.if-not-passes_links.true c.passes_links.ensures.passes,
+      ap (λ rounds. round_view rounds.served rounds.watch.clock rounds.gate) c.passes_links.ensures.rest,
+    )
 
 pub returns-then-not-passes_links-clause-asks : goal.returns-then-not-passes_links-clause-asks
 returns-then-not-passes_links-clause-asks g c =
     asks_none g.G.Gate.Asked c.args.self.now.served.linked.recorded.core.core c.args.self.now.served.linked.recorded.journal.notes c.passes_links.new.self.served.linked.recorded.journal.notes c.args.self.now.gate c.passes_links.new.self.gate
     (ap (λ rounds. polls_of rounds.served.linked.recorded.journal.notes) c.passes_links.ensures.rest) (ap (λ rounds. rounds.gate) c.passes_links.ensures.rest)
 
-pub returns-clause-turns : goal.returns-clause-turns
-returns-clause-turns g c is =
-    turns_same g.J.Task.meaning g.C.Clock.Reads g.G.Gate.Asked c.args.self.now.watch.clock c.passes_links.new.self.watch.clock c.args.self.now.gate c.passes_links.new.self.gate c.take_turn.new.self.gate c.take_turn.new.self.gate
-    c.args.self.now.served c.take_turn.new.self.served true (ap (λ rounds. rounds.watch.clock) c.passes_links.ensures.rest) (ap (λ rounds. rounds.gate) c.passes_links.ensures.rest) refl
-    (subst (λ some. TurnsWith g.J.Task.meaning g.C.Clock.Reads g.G.Gate.Asked c.passes_links.new.self.watch.clock c.passes_links.new.self.gate c.take_turn.new.self.gate c.args.self.now.served some c.take_turn.new.self.served) is
-    (subst (λ served. TurnsWith g.J.Task.meaning g.C.Clock.Reads g.G.Gate.Asked c.passes_links.new.self.watch.clock c.passes_links.new.self.gate c.take_turn.new.self.gate served c.take_turn.result c.take_turn.new.self.served)
-    (ap (λ rounds. rounds.served) c.passes_links.ensures.rest) c.take_turn.ensures.takes))
-
-pub returns-clause-fewer : goal.returns-clause-fewer
-returns-clause-fewer g c =
-    let one = subst (λ passes. PassesLinks c.args.self.now.watch.taken c.args.self.now.turns passes c.passes_links.new.self.turns) c.if-not-passes_links.false c.passes_links.ensures.passes in
-    let counted = one.1 in
-    omega (arith, counted, c.take_turn.ensures.turns)
+pub returns-clause-alone : goal.returns-clause-alone
+returns-clause-alone g c =
+    inr (
+      subst (PassesLinks c.args.self.now.watch.taken c.args.self.now.turns true) (sym c.take_turn.ensures.turns)
+          (subst (λ passes. PassesLinks c.args.self.now.watch.taken c.args.self.now.turns passes c.passes_links.new.self.turns) c.if-not-passes_links.false c.passes_links.ensures.passes),
+      turns_same g.J.Task.meaning g.C.Clock.Reads g.G.Gate.Asked c.args.self.now.watch.clock c.passes_links.new.self.watch.clock c.args.self.now.gate c.passes_links.new.self.gate c.take_turn.new.self.gate c.take_turn.new.self.gate
+          c.args.self.now.served c.take_turn.new.self.served c.take_turn.result (ap (λ rounds. rounds.watch.clock) c.passes_links.ensures.rest) (ap (λ rounds. rounds.gate) c.passes_links.ensures.rest) refl
+          (subst (λ served. TurnsWith g.J.Task.meaning g.C.Clock.Reads g.G.Gate.Asked c.passes_links.new.self.watch.clock c.passes_links.new.self.gate c.take_turn.new.self.gate served c.take_turn.result c.take_turn.new.self.served)
+          (ap (λ rounds. rounds.served) c.passes_links.ensures.rest) c.take_turn.ensures.takes),
+      subst (λ served. StepsServed served c.take_turn.result c.take_turn.new.self.served) (ap (λ rounds. rounds.served) c.passes_links.ensures.rest) c.take_turn.ensures.steps,
+    )
 
 pub returns-clause-names : goal.returns-clause-names
 returns-clause-names g c = c.take_turn.ensures.names ∙ ap (λ rounds. rounds.bells.names) c.passes_links.ensures.rest

@@ -1,7 +1,6 @@
-use Rattle.std.proofs.Common.{◌≡◌, ◌+◌, length, sym, ◌∙◌, ap, subst, arith}
+use Rattle.std.proofs.Common.{◌≡◌, length, sym, ◌∙◌, ap, arith}
 use Rattle.std.specs.Prelude.{slice_index_or}
 use Rattle.rt_runtime_worker.specs.Bells.{BellView}
-use Rattle.rt_runtime_worker.specs.Workers.{IsBellOf}
 use Rattle.rt_runtime_worker.proofs.Rung.{opened_rung}
 use Rattle.rt_runtime_worker.proofs.worker.Worker.open.Goals as goal
 

@@ -1,0 +1,29 @@
+-- One turn of a worker that keeps room for its end, with the clock and the gate that serve it.
+use Rattle.std.specs.Prelude.{◌≡◌, ℕ, Bool}
+use Rattle.rt_ids.specs.declared.names.JobId.{JobId}
+use Rattle.rt_jobs.specs.Meanings.{Meaning}
+use Rattle.rt_runtime_worker.specs.Linked.{StaysLinked}
+use Rattle.rt_runtime_worker.specs.Ended.{ServedView}
+use Rattle.rt_runtime_worker.specs.Readings.{BeginsNext}
+use Rattle.rt_runtime_worker.specs.Rooms.{IsReady}
+use Rattle.rt_runtime_worker.specs.Rounds.{LooksAtRoom, is_turn}
+use Rattle.rt_runtime_worker.specs.Steps.{MakesTurn}
+use Rattle.rt_runtime_worker.specs.declared.turn.Made.{Made}
+
+module _ {J T : Type 0} (meaning : Meaning J T) (tells : ℕ → Type 0) (asked : ℕ → JobId → Type 0) (unasked : Type 0) where
+  -- The room is looked at, and then one turn is made; it tells whether there was work. A worker that is at its end right before the turn was so before, or
+  -- it closed its core and shut each gate just now, and it is at its end behind the turn.
+  pub record TakesTurn (old : ServedView J T) (some : Bool) (new : ServedView J T) : Type 0 where
+    pub before : ServedView J T
+    pub looks : LooksAtRoom old before
+    pub stays : StaysLinked old.linked before.linked
+    pub ready : IsReady before.ending before.linked.recorded
+    pub ended : new.ending ≡ before.ending
+    pub made : Made
+    pub makes : MakesTurn meaning tells asked unasked before.linked made new.linked
+    pub answer : some ≡ is_turn made
+
+module _ {J T C G : Type 0} (meaning : Meaning J T) (reads : C → ℕ → C → Type 0) (asked : G → ℕ → JobId → G → Type 0) where
+  -- the room is looked at, and a turn is made, with this clock and this gate
+  abbrev pub TurnsWith : C → G → G → ServedView J T → Bool → ServedView J T → Type 0
+  TurnsWith clock before after old some new = TakesTurn meaning (BeginsNext reads clock) (λ core name. asked before core name after) (after ≡ before) old some new

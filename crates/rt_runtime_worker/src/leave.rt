@@ -1,0 +1,23 @@
+//! What a worker has to have before a poll: that its gate was asked.
+
+ghost use Rattle.std.specs.Prelude.{◌≡◌};
+
+use rt_ids::{CoreNo, JobId};
+use rt_runtime_config::Gate;
+
+/// That the gate was asked for the next poll of this job, by the core of this number. Only `ask` makes one, and a poll takes one.
+#[derive(Drop)]
+pub(crate) struct Leave {
+    core: u8,
+    name: JobId,
+}
+
+/// Asks the gate of the core of this number, just before a poll.
+pub(crate) fn ask<G: Gate>(gate: &mut G, core: u8, name: &JobId) -> Leave
+    ensures asked { G.Asked gate.old core name.now gate.new }
+    ensures core { result.core ≡ core }
+    ensures name { result.name ≡ name.now }
+{
+    gate.before_poll(CoreNo(core), *name);
+    Leave { core, name: *name }
+}
