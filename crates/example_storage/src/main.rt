@@ -7,7 +7,7 @@
 
 use fairexec_report::put_stats;
 use rt_audit::{Verdict, audit};
-use rt_ids::{ActorNo, CoreNo, Mode, Order, Outcome, QueueNo, Ticket, TicketError};
+use rt_ids::{ActorNo, CoreNo, Mode, Order, Outcome, QueueNo};
 use rt_journal::Assembly;
 use rt_runtime::{Config, NoGate, Runtime, SystemClock};
 use rt_shares::Shares;
@@ -77,30 +77,13 @@ fn compact<R: Drop>(node: &mut Node<R>, core: CoreNo, blocks: u32) -> bool {
     }
 }
 
-/// Waits for an outcome. None if the ticket is refused.
-fn outcome<R: Wait + Drop>(
-    rt: &R,
-    node: &mut Node<R>,
-    ticket: Ticket,
-) -> Option<Outcome<Work, u64>> {
-    for _ in rt.forever() {
-        node.collect(ticket.name().to);
-        match node.redeem(ticket) {
-            Ok(outcome) => return Some(outcome),
-            Err(TicketError::Pending) => {}
-            Err(_) => return None,
-        }
-    }
-    unreachable!()
-}
-
 /// Reads the value of a key.
 fn read<R: Wait + Drop>(rt: &R, node: &mut Node<R>, core: CoreNo, key: u32) -> Option<u64> {
     let Ok(ticket) = node.submit(core, Order::Job(READS, Work::Read { key })) else {
         return None;
     };
-    match outcome(rt, node, ticket) {
-        Some(Outcome::Finished(value)) => Some(value),
+    match node.wait(rt, ticket) {
+        Ok(Outcome::Finished(value)) => Some(value),
         _ => None,
     }
 }

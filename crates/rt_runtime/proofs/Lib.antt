@@ -2,6 +2,11 @@ pub mod Parted
 pub mod Orders
 pub mod Fitting
 pub mod Outcomes
+pub mod Idle
+pub mod InARow
+pub mod Vain
+pub mod WaitedOnce
+mod WaitsRefused
 pub mod Polled
 pub mod PollsOwed
 mod PollsRefused

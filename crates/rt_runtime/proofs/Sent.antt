@@ -114,7 +114,7 @@ module _ {J T : Type 0} where
     same_links : SameEnds view.ends put
     same_links = out_used view.ends core later there link
 
-    runtime_put : (closing : List Bool) → length closing ≡ view.desk.cores → (rung : RingsView J T) → length rung.times ≡ view.desk.cores + 1 → booked desk ≤ desk.journal.room → IsRuntime fits (record { desk = desk; ends = put; closing = closing; workers = view.workers; room = view.room; rung = rung })
+    runtime_put : (closing : List Bool) → length closing ≡ view.desk.cores → (rung : RingsView J T) → length rung.times ≡ view.desk.cores + 1 → booked desk ≤ desk.journal.room → IsRuntime fits (record { desk = desk; ends = put; closing = closing; workers = view.workers; room = view.room; rung = rung; bells = view.bells })
     runtime_put closing count rung bells room = record {
       count = is.count ∙ sym cores;
       each = subst (λ cores. (core : ℕ) → core < cores → IsWorkerOf core cores desk.cap view.room (worker_at core view.workers)) (sym cores)
@@ -136,13 +136,13 @@ module _ {J T : Type 0} where
 
     -- the same, over the ends as the code has them
     pub runtime_on : (ends : EndsView J T) → ends ≡ put → (closing : List Bool) → length closing ≡ view.desk.cores → (rung : RingsView J T) → length rung.times ≡ view.desk.cores + 1 → booked desk ≤ view.desk.journal.room →
-        IsRuntime fits (record { desk = desk; ends = ends; closing = closing; workers = view.workers; room = view.room; rung = rung })
+        IsRuntime fits (record { desk = desk; ends = ends; closing = closing; workers = view.workers; room = view.room; rung = rung; bells = view.bells })
     runtime_on ends is_put closing count rung bells room =
-        subst (λ ends. IsRuntime fits (record { desk = desk; ends = ends; closing = closing; workers = view.workers; room = view.room; rung = rung })) (sym is_put)
+        subst (λ ends. IsRuntime fits (record { desk = desk; ends = ends; closing = closing; workers = view.workers; room = view.room; rung = rung; bells = view.bells })) (sym is_put)
         (runtime_put closing count rung bells (omega (arith, room, ap (λ desk. desk.journal.room) stays.rest)))
 
     pub stored_on : {cores_are cap_is room_ends room_journals : ℕ} (ends : EndsView J T) (closing : List Bool) (rung : RingsView J T) → IsStored view cores_are cap_is room_ends room_journals →
-        IsStored (record { desk = desk; ends = ends; closing = closing; workers = view.workers; room = view.room; rung = rung }) cores_are cap_is room_ends room_journals
+        IsStored (record { desk = desk; ends = ends; closing = closing; workers = view.workers; room = view.room; rung = rung; bells = view.bells }) cores_are cap_is room_ends room_journals
     stored_on ends closing rung stored = record {
       cores_are = stored.cores_are ∙ sym cores;
       cap_is = stored.cap_is ∙ sym cap;
@@ -152,7 +152,7 @@ module _ {J T : Type 0} where
 
     -- nothing was submitted, where this end has sent what it had sent and heard of no gate
     pub nothing_on : (ends : EndsView J T) → ends ≡ put → later.out.sent ≡ submitted core view → later.out.closed ≡ is_told_shut core view →
-        SubmitsNothing view (record { desk = desk; ends = ends; closing = view.closing; workers = view.workers; room = view.room; rung = view.rung })
+        SubmitsNothing view (record { desk = desk; ends = ends; closing = view.closing; workers = view.workers; room = view.room; rung = view.rung; bells = view.bells })
     nothing_on ends is_put sent gate = record {
       orders = λ to. ⊎_elim
           (λ (same : to ≡ core). rw same (ap (λ ends. (out_at core ends).out.sent) is_put ∙ (ap (λ (end : Sending J T). end.out.sent) put_is ∙ sent)))
@@ -164,7 +164,7 @@ module _ {J T : Type 0} where
           (cases_eq to core);
       closing = refl;
       rung = refl;
-      stays = record { desk = stays.rest; workers = refl; room = refl };
+      stays = record { desk = stays.rest; workers = refl; room = refl; bells = refl; names = refl };
     }
 
 module _ {J T : Type 0} (out later : Outward J T) (credited : ℕ) (order : Order J) where

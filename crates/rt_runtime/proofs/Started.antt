@@ -93,7 +93,7 @@ module _ {J T : Type 0} (cores cap room : ℕ) (queues : List Entry) where
 
   -- a runtime in which nothing has happened
   module _ (workers : List (LinkedView J T)) (ends : EndsView J T) (desk : DeskView J T) (closing : List Bool) (house : IsHouse cores cap room queues workers ends) (opened : desk ≡ opened_desk cores cores cap room)
-      (written : IsWritten (terms_of_desk desk) desk.journal.notes) (none : closing ≡ replicate cores false) (rung : RingsView J T) (silent : rung.times ≡ replicate (cores + 1) 0) (limits : IsWithinLimits cores cap) where
+      (written : IsWritten (terms_of_desk desk) desk.journal.notes) (none : closing ≡ replicate cores false) (rung : RingsView J T) (bells : List (List ℕ)) (silent : rung.times ≡ replicate (cores + 1) 0) (limits : IsWithinLimits cores cap) where
     outs_opened : (core : ℕ) → core < cores → IsOutOf core (opened_desk cores cores cap room) (out_at core ends).out (out_at core ends).credited
     outs_opened core low =
         let is = house.fresh.outs core (omega (arith, low, house.outs)) in
@@ -118,7 +118,7 @@ module _ {J T : Type 0} (cores cap room : ℕ) (queues : List Entry) where
     none_due : sum_by due_of (replicate cores (fresh_lane {J = J} {T = T} cap)) ≡ 0
     none_due = sum_by-replicate due_of cores (fresh_lane cap) ∙ omega arith
 
-    pub started : (fits : Order J → Outcome J T → Type 0) → IsRuntime fits (record { desk = desk; ends = ends; closing = closing; workers = workers; room = room; rung = rung })
+    pub started : (fits : Order J → Outcome J T → Type 0) → IsRuntime fits (record { desk = desk; ends = ends; closing = closing; workers = workers; room = room; rung = rung; bells = bells })
     started fits = record {
       lanes = subst (λ (desk : DeskView J T). (core : ℕ) → core < desk.cores → HasLane fits core desk (out_at core ends).out (out_at core ends).credited) (sym opened) (lanes_opened fits);
       count = house.count ∙ ap (λ desk. desk.cores) (sym opened);

@@ -3,8 +3,10 @@ pub mod State
 pub mod Starting
 pub mod Sends
 pub mod Tickets
+pub mod Waiting
 pub mod Outcomes
 pub mod Calls
 pub mod Errors
 pub mod Finishing
 pub mod Laws
+pub mod WaitingLaws

@@ -2,7 +2,8 @@
 use Rattle.std.specs.Prelude.{ℕ, List}
 use Rattle.rt_ring_mesh.specs.Ends.{EndsView}
 
--- how often the caller rang the bell of each core and its own, and what the caller's ends were when it rang last
+-- which bells these are, by name, how often the caller rang the bell of each core and its own, and what the caller's ends were when it rang last
 pub record RingsView (J T : Type 0) : Type 0 where
+  pub names : List ℕ
   pub times : List ℕ
   pub over : EndsView J T

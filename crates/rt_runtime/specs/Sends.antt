@@ -54,7 +54,7 @@ module _ {J T : Type 0} where
     pub others : (other : ℕ) → other ≢ core → submitted other new ≡ submitted other old
     pub gates : (other : ℕ) → other ≢ core → is_told_shut other new ≡ is_told_shut other old
     pub named : IfOk answer (λ name. submitted_under name new ≡ Some order)
-    pub rings : new.rung ≡ record { times = rung_at core old.rung.times; over = new.ends }
+    pub rings : new.rung ≡ record old.rung { times = rung_at core old.rung.times; over = new.ends }
     pub stays : StaysRunning old new
 
   -- a send: the same, or there is no such core

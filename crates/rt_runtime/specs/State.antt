@@ -15,7 +15,8 @@ use Rattle.rt_runtime_worker.specs.Together.{OutsideView, IsOutside, worker_at, 
 use Rattle.rt_runtime.specs.Rings.{RingsView}
 
 -- The outside actor's journal and ends, and for each core whether the caller closed it: an order to close it was accepted, or a send to it was
--- answered `Closed`. The workers are as they began, with room for so many notes each. How often the caller rang the bell of each core, and behind what.
+-- answered `Closed`. The workers are as they began, with room for so many notes each. Which bells the caller has, how often it
+-- rang that of each core, and behind what; and which bells each worker rings, by their names.
 pub record RuntimeView (J T : Type 0) : Type 0 where
   pub desk : DeskView J T
   pub ends : EndsView J T
@@ -23,6 +24,7 @@ pub record RuntimeView (J T : Type 0) : Type 0 where
   pub workers : List (LinkedView J T)
   pub room : ℕ
   pub rung : RingsView J T
+  pub bells : List (List ℕ)
 
 module _ {J T : Type 0} where
   -- the outside actor
@@ -45,11 +47,13 @@ module _ {J T : Type 0} where
   abbrev pub submitted_under : JobId → RuntimeView J T → Option (Order J)
   submitted_under name view = slice_get (submitted name.to view) (name.number - 1)
 
-  -- what no call changes: the outside actor, how much room there is, and the workers
+  -- what no call changes: the outside actor, how much room there is, the workers, and all bells
   pub record StaysRunning (old new : RuntimeView J T) : Type 0 where
     pub desk : new.desk ≡ record old.desk { journal = record old.desk.journal { notes = new.desk.journal.notes }; lanes = new.desk.lanes }
     pub workers : new.workers ≡ old.workers
     pub room : new.room ≡ old.room
+    pub bells : new.bells ≡ old.bells
+    pub names : new.rung.names ≡ old.rung.names
 
   -- nothing was submitted, nothing was heard of a gate, and no bell was rung
   pub record SubmitsNothing (old new : RuntimeView J T) : Type 0 where

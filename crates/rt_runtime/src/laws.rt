@@ -1,6 +1,9 @@
 //! Laws over the definitions alone. Their bodies are empty: each contract is the law.
 
+ghost use Rattle.std.specs.Prelude.{ℕ};
+ghost use Rattle.rt_link.specs.Fits.{Fits};
 ghost use Rattle.rt_runtime.specs.Laws.{ClosedStaysClosed, RefusedOrdersComeBack, SubmittedOrdersAreTold, ToldPollsAreOwed, UnowedPollsAreRefused, WrongAnswersAreRefused};
+ghost use Rattle.rt_runtime.specs.WaitingLaws.{WaitsRedeemOnce, WaitsSubmitOnce};
 
 use rt_jobs::Task;
 
@@ -32,4 +35,14 @@ pub fn unowed_polls_are_refused<J: Task<Out = u64>>()
 /// Each order that the caller submitted has an outcome in the journals of a finish, and it fits the order.
 pub fn submitted_orders_are_told<J: Task<Out = u64>>()
     ensures { SubmittedOrdersAreTold J.meaning }
+{}
+
+/// A caller that waits for an outcome collects, and then redeems it once. It redeems, lets go and submits nothing else.
+pub fn waits_redeem_once<J: Task<Out = u64>>()
+    ensures { WaitsRedeemOnce (Fits J.meaning) }
+{}
+
+/// A caller that waits for a place collects, and then submits its order once. It redeems and lets go nothing.
+pub fn waits_submit_once<J: Task<Out = u64>>()
+    ensures { WaitsSubmitOnce J ℕ }
 {}

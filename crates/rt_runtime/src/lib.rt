@@ -9,6 +9,7 @@ mod rings;
 pub mod runtime;
 mod starting;
 mod tickets;
+mod waiting;
 
 pub use error::{FinishError, StartError, SubmitError};
 pub use rt_runtime_config::{Clock, Config, Gate, NoGate, SystemClock};

@@ -39,11 +39,11 @@ impl<J: Task<Out = u64>, C: Drop, G: Drop> Model for Runtime<J, C, G> {
     ghost use Rattle.rt_link.specs.Fits.{Fits};
     ghost use Rattle.rt_runtime.specs.State.{IsRuntime, IsStored};
 
-    ghost view = { λ r. record { desk = r.desk; ends = r.ends; closing = r.closing.items; workers = map (λ worker. worker.linked) r.team; room = r.room; rung = r.bells } };
+    ghost view = { λ r. record { desk = r.desk; ends = r.ends; closing = r.closing.items; workers = map (λ worker. worker.linked) r.team; room = r.room; rung = r.bells; bells = map (λ worker. worker.bells) r.team } };
 
     ghost invariant = { λ r.
-        IsRuntime (Fits J.meaning) (record { desk = r.desk; ends = r.ends; closing = r.closing.items; workers = map (λ worker. worker.linked) r.team; room = r.room; rung = r.bells })
-        × IsStored (record { desk = r.desk; ends = r.ends; closing = r.closing.items; workers = map (λ worker. worker.linked) r.team; room = r.room; rung = r.bells })
+        IsRuntime (Fits J.meaning) (record { desk = r.desk; ends = r.ends; closing = r.closing.items; workers = map (λ worker. worker.linked) r.team; room = r.room; rung = r.bells; bells = map (λ worker. worker.bells) r.team })
+        × IsStored (record { desk = r.desk; ends = r.ends; closing = r.closing.items; workers = map (λ worker. worker.linked) r.team; room = r.room; rung = r.bells; bells = map (λ worker. worker.bells) r.team })
         r.cores r.cap (vec_capacity r.spare_ends) (vec_capacity r.spare_journals)
         × (r.spare_ends.items ≡ []) × (r.spare_journals.items ≡ []) };
 }

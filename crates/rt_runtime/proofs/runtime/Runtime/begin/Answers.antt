@@ -1,4 +1,4 @@
-use Rattle.std.proofs.Common.{rules, refl, ◌∙◌, ap, sym, subst, arith, length, map}
+use Rattle.std.proofs.Common.{rules, refl, ◌∙◌, ap, sym, subst, arith, length, map, replicate}
 use denote.Param.{param}
 use denote.Param.Send.{IsSend, arg_send, param_send}
 use denote.Exit.{no}
@@ -26,7 +26,7 @@ invariant_of-result g c =
     let numbers = c.requires.numbers in (
       started c.args.config.now.cores c.args.config.now.cap c.args.config.now.room c.args.config.now.queues.items (map (λ worker. worker.linked) c.in-Ok-start.team) c.in-Ok.ends c.in-Ok-open_outside.desk c.in-Ok-open_outside.closing.items
           (subst (λ workers. IsHouse c.args.config.now.cores c.args.config.now.cap c.args.config.now.room c.args.config.now.queues.items (map (λ worker. worker.linked) workers) c.in-Ok.ends) (sym c.in-Ok-start.ensures.ok) c.in-Ok.ensures.house) desk
-          c.in-Ok-open_outside.ensures.written c.in-Ok-open_outside.ensures.closing c.of-bells.result (ap (λ rung. rung.times) c.of-bells.ensures ∙ c.in-Ok.ensures.bells)
+          c.in-Ok-open_outside.ensures.written c.in-Ok-open_outside.ensures.closing c.of-bells.result (map (λ worker. worker.bells) c.in-Ok-start.team) (ap (λ rung. rung.times) c.of-bells.ensures ∙ c.in-Ok.ensures.bells)
           (record {
             some_core = omega (arith, numbers.some_core);
             few_cores = numbers.cores_most;
@@ -49,6 +49,7 @@ returns-in-Ok-start g c = record {
   desk = c.in-Ok-open_outside.ensures.desk;
   closing = c.in-Ok-open_outside.ensures.closing;
   rung = ap (λ rung. rung.times) c.of-bells.ensures ∙ c.in-Ok.ensures.bells;
+  bells = ap (λ workers. map (λ worker. worker.bells) workers) c.in-Ok-start.ensures.ok ∙ (c.in-Ok.ensures.shared ∙ ap (λ rung. replicate c.args.config.now.cores rung.names) (sym c.of-bells.ensures));
   room_is = refl;
   count = ap (λ workers. length (map (λ worker. worker.linked) workers)) c.in-Ok-start.ensures.ok ∙ c.in-Ok.ensures.house.count;
   ends = c.in-Ok.ensures.house.outs;

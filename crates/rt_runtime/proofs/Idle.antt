@@ -1,0 +1,55 @@
+-- Steps that submit nothing, one behind another, and tickets that are pending meanwhile.
+use Rattle.std.proofs.Common.{◌≡◌, ℕ, ◌+◌, ◌<◌, List, [], ◌∷◌, ◌++◌, length, take, get_or, add-one, refl, sym, ◌∙◌, ap, subst, Err}
+use Rattle.std.proofs.lemmas.List.Elements.{All-nil, All-push}
+use Rattle.std.proofs.Math.Seq.{take-suc}
+use Rattle.std.specs.Prelude.{All}
+use Rattle.rt_ids.specs.declared.names.JobId.{JobId}
+use Rattle.rt_ids.specs.declared.names.TicketError.TheVariants.{Pending}
+use Rattle.rt_ids.specs.declared.order.Order.{Order}
+use Rattle.rt_ids.specs.declared.order.Outcome.{Outcome}
+use Rattle.rt_journal_desk.specs.Submissions.{DeskView}
+use Rattle.rt_journal_desk.specs.Tickets.{RefusesTicket}
+use Rattle.rt_runtime.specs.State.{RuntimeView, StaysRunning, SubmitsNothing}
+use Rattle.rt_runtime.specs.Tickets.{RedeemsHere}
+use Rattle.rt_runtime.specs.Waiting.{AreAllPending}
+
+module _ {J T : Type 0} where
+  pub nothing_same : (old new : RuntimeView J T) → new ≡ old → SubmitsNothing old new
+  nothing_same old new same =
+      subst (λ (view : RuntimeView J T). SubmitsNothing old view) (sym same)
+      (record { orders = λ core. refl; gates = λ core. refl; closing = refl; rung = refl; stays = record { desk = refl; workers = refl; room = refl; bells = refl; names = refl } })
+
+  stays_then : (old between new : RuntimeView J T) → StaysRunning old between → StaysRunning between new → StaysRunning old new
+  stays_then old between new first later = record {
+    desk = later.desk ∙ ap (λ (desk : DeskView J T). record desk { journal = record desk.journal { notes = new.desk.journal.notes }; lanes = new.desk.lanes }) first.desk;
+    workers = later.workers ∙ first.workers;
+    room = later.room ∙ first.room;
+    bells = later.bells ∙ first.bells;
+    names = later.names ∙ first.names;
+  }
+
+  pub nothing_then : (old between new : RuntimeView J T) → SubmitsNothing old between → SubmitsNothing between new → SubmitsNothing old new
+  nothing_then old between new first later = record {
+    orders = λ core. later.orders core ∙ first.orders core;
+    gates = λ core. later.gates core ∙ first.gates core;
+    closing = later.closing ∙ first.closing;
+    rung = later.rung ∙ first.rung;
+    stays = stays_then old between new first.stays later.stays;
+  }
+
+  -- no ticket was tried
+  pub none_pending : (view : RuntimeView J T) → AreAllPending [] view view
+  none_pending view = record { each = All-nil (λ one. RefusesTicket one Pending view.desk.journal.notes); desk = refl; nothing = nothing_same view view refl }
+
+  -- one more ticket is pending
+  pub one_pending : (fits : Order J → Outcome J T → Type 0) (names : List JobId) (place : ℕ) (name : JobId) (old tried new : RuntimeView J T) → place < length names → get_or names place name ≡ name →
+      AreAllPending (take place names) old tried → RedeemsHere fits name tried (Err Pending) new → AreAllPending (take (place + 1) names) old new
+  one_pending fits names place name old tried new low here before redeems =
+      let same = ap (λ desk. desk.journal.notes) before.desk in
+      let pending : RefusesTicket name Pending old.desk.journal.notes = subst (λ notes. RefusesTicket name Pending notes) same redeems.redeems.0 in
+      let longer : take (place + 1) names ≡ take place names ++ name ∷ [] = rw add-one (take-suc names place name low ∙ ap (λ one. take place names ++ one ∷ []) here) in
+      record {
+        each = subst (λ names. All (λ one. RefusesTicket one Pending old.desk.journal.notes) names) (sym longer) (All-push (λ one. RefusesTicket one Pending old.desk.journal.notes) (take place names) name before.each pending);
+        desk = redeems.redeems.1 ∙ before.desk;
+        nothing = nothing_then old tried new before.nothing redeems.nothing;
+      }

@@ -1,0 +1,161 @@
+-- A caller that waits collects alone, and then does once what it waited for.
+use Rattle.std.proofs.Common.{◌≡◌, ◌≢◌, ℕ, zero, suc, ◌+◌, ◌<◌, ◌≤◌, List, [], ◌∷◌, ◌++◌, refl, sym, ◌∙◌, ap, subst, append_assoc, ⊎_elim, Result, Ok, Err}
+use Rattle.std.proofs.lemmas.Bool.{cases_eq, cases_lt}
+use Rattle.std.proofs.lemmas.List.{append-nil}
+use Rattle.std.proofs.lemmas.List.Elements.{All-append, All-cons, All-nil}
+use Rattle.rt_ids.specs.declared.names.JobId.{JobId}
+use Rattle.rt_ids.specs.declared.names.TicketError.{TicketError}
+use Rattle.rt_ids.specs.declared.names.TicketError.TheVariants.{Pending}
+use Rattle.rt_ids.specs.declared.note.Note.{Note}
+use Rattle.rt_ids.specs.declared.note.Note.TheVariants as writes
+use Rattle.rt_ids.specs.declared.order.Order.{Order}
+use Rattle.rt_ids.specs.declared.order.Outcome.{Outcome}
+use Rattle.rt_ids.specs.declared.order.SendError.{SendError}
+use Rattle.rt_ids.specs.declared.order.SendError.TheVariants.{Closed, Full, NoCore, Spent}
+use Rattle.rt_ids.specs.Orders.{without_job}
+use Rattle.rt_journal_desk.specs.Submissions.{DeskView, Submits}
+use Rattle.rt_journal_desk.specs.Tickets.{AreCollected}
+use Rattle.rt_runtime.specs.declared.error.SubmitError.{SubmitError}
+use Rattle.rt_runtime.specs.declared.error.SubmitError.TheVariants.{JournalFull, Send}
+use Rattle.rt_runtime.specs.Sends.{Sends, SubmitsTo}
+use Rattle.rt_runtime.specs.State.{RuntimeView, SubmitsNothing, submitted}
+use Rattle.rt_runtime.specs.Tickets.{Collects, RedeemsHere}
+use Rattle.rt_runtime.specs.Waiting.{CollectsOnly, CollectsSome, InARow, RedeemsAtLast, SubmitsAtLast, TriesInVain, Waits}
+use Rattle.rt_runtime.proofs.Idle.{nothing_same, nothing_then}
+use Rattle.rt_runtime.specs.WaitingLaws.{AreCollections, IsCollection, OnlyRedeems, OnlySubmits, WaitsRedeemOnce, WaitsSubmitOnce, redemption}
+
+-- notes of collections of one core are notes of collections
+collections_of : {T : Type 0} (core : ℕ) (notes : List (Note T)) → AreCollected core notes → AreCollections notes
+collections_of core [] are = All-nil IsCollection
+collections_of core (writes.Collected name outcome ∷ notes) are = All-cons IsCollection (writes.Collected name outcome) notes refl (collections_of core notes are.1)
+collections_of core (_ ∷ notes) are = absurd are
+
+module _ {J T : Type 0} where
+  -- outcomes were collected, and the orders are the same
+  record JustCollected (old new : RuntimeView J T) : Type 0 where
+    pub collected : List (Note T)
+    pub are : AreCollections collected
+    pub noted : new.desk.journal.notes ≡ collected ++ old.desk.journal.notes
+    pub orders : (core : ℕ) → submitted core new ≡ submitted core old
+
+  just_same : (old new : RuntimeView J T) → new ≡ old → JustCollected old new
+  just_same old new same = record { collected = []; are = All-nil IsCollection; noted = ap (λ (view : RuntimeView J T). view.desk.journal.notes) same; orders = λ core. ap (λ (view : RuntimeView J T). submitted core view) same }
+
+  just_then : (old between new : RuntimeView J T) → JustCollected old between → JustCollected between new → JustCollected old new
+  just_then old between new first later = record {
+    collected = later.collected ++ first.collected;
+    are = All-append IsCollection later.collected first.collected later.are first.are;
+    noted = later.noted ∙ (ap (λ notes. later.collected ++ notes) first.noted ∙ sym (append_assoc later.collected first.collected old.desk.journal.notes));
+    orders = λ core. later.orders core ∙ first.orders core;
+  }
+
+  -- one `collect`
+  just_one : (old new : RuntimeView J T) → CollectsSome old new → JustCollected old new × SubmitsNothing old new
+  just_one old new some =
+      ⊎_elim
+      (λ (low : some.core < old.desk.cores).
+      let did = some.collects.there low in
+      (record { collected = did.collects.0; are = collections_of some.core did.collects.0 did.collects.1; noted = ap (λ journal. journal.notes) did.collects.3; orders = did.nothing.orders }, did.nothing))
+      (λ high. let same = (some.collects.missing high).1 in (just_same old new same, nothing_same old new same))
+      (cases_lt some.core old.desk.cores)
+
+  just_collections : (calls : ℕ) (old new : RuntimeView J T) → InARow CollectsSome calls old new → JustCollected old new × SubmitsNothing old new
+  just_collections zero old new same = (just_same old new same, nothing_same old new same)
+  just_collections (suc calls) old new row =
+      let first = just_collections calls old row.0 row.1 in
+      let later = just_one row.0 new row.2 in
+      (just_then old row.0 new first.0 later.0, nothing_then old row.0 new first.1 later.1)
+
+  -- tries in vain that change no note and no order
+  just_waits : (in_vain : RuntimeView J T → RuntimeView J T → Type 0) → ((was tried : RuntimeView J T) → in_vain was tried → JustCollected was tried) → (tries : ℕ) (old new : RuntimeView J T) →
+      InARow (TriesInVain in_vain) tries old new → JustCollected old new
+  just_waits in_vain vain zero old new same = just_same old new same
+  just_waits in_vain vain (suc tries) old new row =
+      let first = just_waits in_vain vain tries old row.0 row.1 in
+      let try = just_then row.0 row.2.tried new (vain row.0 row.2.tried row.2.vain) (just_collections row.2.collects.calls row.2.tried new row.2.collects.are).0 in
+      just_then old row.0 new first try
+
+  -- tries in vain that submit nothing
+  nothing_waits : (in_vain : RuntimeView J T → RuntimeView J T → Type 0) → ((was tried : RuntimeView J T) → in_vain was tried → SubmitsNothing was tried) → (tries : ℕ) (old new : RuntimeView J T) →
+      InARow (TriesInVain in_vain) tries old new → SubmitsNothing old new
+  nothing_waits in_vain vain zero old new same = nothing_same old new same
+  nothing_waits in_vain vain (suc tries) old new row =
+      let first = nothing_waits in_vain vain tries old row.0 row.1 in
+      let try = nothing_then row.0 row.2.tried new (vain row.0 row.2.tried row.2.vain) (just_collections row.2.collects.calls row.2.tried new row.2.collects.are).1 in
+      nothing_then old row.0 new first try
+
+  module _ (fits : Order J → Outcome J T → Type 0) where
+    -- a ticket that is refused changes nothing that is noted
+    refused_notes : (name : JobId) (old : RuntimeView J T) (error : TicketError) (new : RuntimeView J T) → RedeemsHere fits name old (Err error) new → JustCollected old new
+    refused_notes name old error new redeems = record { collected = []; are = All-nil IsCollection; noted = ap (λ desk. desk.journal.notes) redeems.redeems.1; orders = redeems.nothing.orders }
+
+    redeemed_notes : (name : JobId) (old : RuntimeView J T) (answer : Result (Outcome J T) TicketError) (new : RuntimeView J T) → RedeemsHere fits name old answer new →
+        new.desk.journal.notes ≡ redemption name answer ++ old.desk.journal.notes
+    redeemed_notes name old (Ok outcome) new redeems = ap (λ journal. journal.notes) redeems.redeems.2
+    redeemed_notes name old (Err error) new redeems = ap (λ desk. desk.journal.notes) redeems.redeems.1
+
+    pub redeems_once : WaitsRedeemOnce fits
+    redeems_once name old answer new did =
+        let waited = just_waits _ (λ was tried vain. refused_notes name was Pending tried vain) did.waits.tries old did.before did.waits.are in record {
+          collected = waited.collected;
+          are = waited.are;
+          noted = redeemed_notes name did.before answer new did.redeems ∙ ap (λ notes. redemption name answer ++ notes) waited.noted;
+          nothing = nothing_then old did.before new (nothing_waits _ (λ was tried vain. vain.nothing) did.waits.tries old did.before did.waits.are) did.redeems.nothing;
+        }
+
+  module _ (core : ℕ) (order : Order J) where
+    -- a refused send leaves the desk
+    desk_left : (old : DeskView J T) (error : SendError J) (new : DeskView J T) → Submits core order old (Err error) new → new ≡ old
+    desk_left old (Closed back final) new sends = sends.2
+    desk_left old (Full back) new sends = sends.2
+    desk_left old (Spent back) new sends = sends.3
+    desk_left old (NoCore back) new sends = absurd sends
+
+    -- a refused send notes nothing and submits nothing
+    refused_send : (old : RuntimeView J T) (error : SendError J) (new : RuntimeView J T) → Sends core order old (Err error) new → JustCollected old new
+    refused_send old error new sends =
+        ⊎_elim
+        (λ (low : core < old.desk.cores).
+        let did = sends.there low in
+        record {
+          collected = [];
+          are = All-nil IsCollection;
+          noted = ap (λ desk. desk.journal.notes) (desk_left old.desk error new.desk did.submits);
+          orders = λ to. ⊎_elim
+              (λ (same : to ≡ core). rw same (did.orders ∙ append-nil (submitted core old)))
+              (λ (away : to ≢ core). did.others to away)
+              (cases_eq to core);
+        })
+        (λ high. just_same old new (sends.missing high).1)
+        (cases_lt core old.desk.cores)
+
+    -- so does a refused submission
+    refused_submission : (each : ℕ) (old : RuntimeView J T) (error : SubmitError J) (new : RuntimeView J T) → SubmitsTo each core order old (Err error) new → JustCollected old new
+    refused_submission each old (JournalFull back) new submits = just_same old new submits.2
+    refused_submission each old (Send error) new submits = refused_send old error new submits.1
+
+    -- the last submission, behind collections
+    last_submission : (each : ℕ) (old before : RuntimeView J T) (answer : Result JobId (SubmitError J)) (new : RuntimeView J T) → JustCollected old before → SubmitsTo each core order before answer new →
+        OnlySubmits core order old answer new
+    last_submission each old before (Err error) new waited submits =
+        let all = just_then old before new waited (refused_submission each before error new submits) in
+        record { collected = all.collected; are = all.are; noted = all.noted; here = all.orders core ∙ sym (append-nil (submitted core old)); others = λ other away. all.orders other }
+    last_submission each old before (Ok name) new waited submits =
+        ⊎_elim
+        (λ (low : core < before.desk.cores).
+        let did = submits.1.there low in
+        record {
+          collected = waited.collected;
+          are = waited.are;
+          noted = ap (λ journal. journal.notes) did.submits.2 ∙ ap (λ notes. writes.Sent name (without_job order) ∷ notes) waited.noted;
+          here = did.orders ∙ ap (λ orders. orders ++ order ∷ []) (waited.orders core);
+          others = λ other away. did.others other away ∙ waited.orders other;
+        })
+        (λ high. let never = (submits.1.missing high).0 in absurd cc)
+        (cases_lt core before.desk.cores)
+
+  pub submits_once : WaitsSubmitOnce J T
+  submits_once each core order old answer new did =
+      let full : RuntimeView J T → RuntimeView J T → Type 0 = λ was tried. SubmitsTo each core order was (Err (Send (Full order))) tried in
+      let waited = just_waits full (λ was tried vain. refused_submission core order each was (Send (Full order)) tried vain) did.waits.tries old did.before did.waits.are in
+      last_submission core order each old did.before answer new waited did.submits

@@ -1,0 +1,185 @@
+//! The calls of a caller that waits.
+
+ghost use Rattle.std.specs.Prelude.{◌≡◌, ◌<◌, ◌↔◌, IfNone, IfOk, IfSome, IsTrue, length};
+ghost use Rattle.rt_jobs.specs.Ready.{HasReadyJob};
+ghost use Rattle.rt_link.specs.Fits.{Fits};
+ghost use Rattle.rt_runtime_worker.specs.Workers.{IsBellOf};
+ghost use Rattle.rt_runtime.specs.Waiting.{AreAllPending, CollectsOnly, RedeemsAtLast, RedeemsFirst, SubmitsAtLast, WaitsForAny};
+
+use crate::error::SubmitError;
+use crate::runtime::Runtime;
+use rt_ids::{ActorNo, CoreNo, Order, Outcome, SendError, Ticket, TicketError};
+use rt_jobs::Task;
+use rt_runtime_worker::{Bell, Key, sleep};
+use std::alloc::AllocError;
+use std::sync::Wait;
+
+/// How often a caller looks for outcomes before it parks.
+const TRIES: u32 = 1024;
+
+/// That the caller lay down, and that a look behind that found no outcome. Only `look_again` makes one, and only it may sleep.
+#[derive(Drop)]
+struct Quiet<'a> {
+    key: Key<'a>,
+}
+
+impl Quiet<'_> {
+    /// Parks until the caller's bell rings. It doesn't if the bell has rung since the caller lay down.
+    fn sleep<R: Wait>(self, rt: &R) {
+        let Quiet { key } = self;
+        sleep(rt, key);
+    }
+}
+
+impl<J: Task<Out = u64>, C: Drop, G: Drop> Runtime<J, C, G> {
+    /// Collects all outcomes that the links show. Whether there was one.
+    fn collect_all(&mut self) -> bool
+        ensures collects { CollectsOnly self.old self.new }
+        ensures told { IsTrue result ↔ (length self.old.desk.journal.notes < length self.new.desk.journal.notes) }
+    {
+        let mut some = false;
+        for core in 0..self.cores {
+            if self.collect(CoreNo(core)) > 0 {
+                some = true;
+            }
+        }
+        some
+    }
+
+    /// Looks for outcomes until there is one, at most so often as a caller does before it parks. Whether there was one.
+    fn collects_soon(&mut self) -> bool
+        ensures collects { CollectsOnly self.old self.new }
+        ensures told { IsTrue result ↔ (length self.old.desk.journal.notes < length self.new.desk.journal.notes) }
+    {
+        for _ in 0..TRIES {
+            if self.collect_all() {
+                return true;
+            }
+        }
+        false
+    }
+
+    /// Looks once more at all links, behind the moment in which the caller lay down. It gets up if there was an outcome.
+    fn look_again<'a>(&mut self, key: Key<'a>) -> Option<Quiet<'a>>
+        ensures collects { CollectsOnly self.old self.new }
+        ensures some { IfSome result (λ _. length self.new.desk.journal.notes ≡ length self.old.desk.journal.notes) }
+        ensures none { IfNone result (length self.old.desk.journal.notes < length self.new.desk.journal.notes) }
+    {
+        if self.collect_all() {
+            // step: get up, by the key that is dropped
+            return None;
+        }
+        Some(Quiet { key })
+    }
+
+    /// The caller's own bell, in hands of its own: all of the runtime is used while the caller lies down.
+    ///
+    /// # Errors
+    ///
+    /// If it is in too many.
+    fn own_bell(&self) -> Result<Bell, AllocError>
+        ensures { IfOk result (IsBellOf self.now.desk.cores self.now.rung.names) }
+    {
+        self.bells.bell_of(ActorNo(self.cores))
+    }
+
+    /// Waits until there is an outcome: parked, if none comes soon. The worker that gives it rings. It may return before there is one.
+    fn rest<R: Wait>(&mut self, rt: &R)
+        ensures { CollectsOnly self.old self.new }
+    {
+        if self.collects_soon() {
+            return;
+        }
+        // With a bell in too many hands the caller looks again at once.
+        let Ok(own) = self.own_bell() else {
+            return;
+        };
+        if let Some(quiet) = self.look_again(own.lie_down()) {
+            quiet.sleep(rt);
+        }
+    }
+
+    /// Waits until the outcome of a submission is there, and redeems it. The caller is parked meanwhile, if that takes long.
+    ///
+    /// # Errors
+    ///
+    /// `Unknown` and `Gone`, as `redeem`. Then it doesn't wait.
+    pub fn wait<R: Wait>(&mut self, rt: &R, ticket: Ticket) -> Result<Outcome<J, u64>, TicketError>
+        ensures { RedeemsAtLast (Fits J.meaning) ticket self.old result self.new }
+    {
+        for _ in rt.forever() {
+            match self.redeem(ticket) {
+                Err(TicketError::Pending) => self.rest(rt),
+                answer => return answer,
+            }
+        }
+        unreachable!()
+    }
+
+    /// The first of these tickets that isn't pending, with what `redeem` answers of it. None if all are pending.
+    fn redeem_first(
+        &mut self,
+        tickets: &[Ticket],
+    ) -> Option<(usize, Result<Outcome<J, u64>, TicketError>)>
+        ensures some { IfSome result (λ found. RedeemsFirst (Fits J.meaning) tickets.now self.old found.0 found.1 self.new) }
+        ensures none { IfNone result (AreAllPending tickets.now self.old self.new) }
+    {
+        for place in 0..tickets.len() {
+            match self.redeem(tickets[place]) {
+                Err(TicketError::Pending) => {}
+                answer => return Some((place, answer)),
+            }
+        }
+        None
+    }
+
+    /// Waits until the outcome of one of these submissions is there, and redeems it: the place of its ticket, and what `redeem` answers. Where
+    /// several are there, the first one of the slice is redeemed. A ticket that is unknown or gone is answered as if its outcome were there.
+    /// None if there are no tickets.
+    pub fn wait_any<R: Wait>(
+        &mut self,
+        rt: &R,
+        tickets: &[Ticket],
+    ) -> Option<(usize, Result<Outcome<J, u64>, TicketError>)>
+        ensures { WaitsForAny (Fits J.meaning) tickets.now self.old result self.new }
+    {
+        if tickets.is_empty() {
+            return None;
+        }
+        for _ in rt.forever() {
+            if let Some(found) = self.redeem_first(tickets) {
+                return Some(found);
+            }
+            self.rest(rt);
+        }
+        unreachable!()
+    }
+
+    /// Submits an order, and waits as long as the link to its core is full. A place is free there by the outcome of a submission that was
+    /// let go (`detach`). If the caller keeps a ticket of each submission to this core, it waits for ever: redeem one instead.
+    ///
+    /// # Errors
+    ///
+    /// As `submit`, except that the link is full.
+    pub fn submit_wait<R: Wait>(
+        &mut self,
+        rt: &R,
+        to: CoreNo,
+        order: Order<J>,
+    ) -> Result<Ticket, SubmitError<J>>
+        requires ready { HasReadyJob J.meaning order }
+        ensures { SubmitsAtLast 3 to order self.old result self.new }
+    {
+        let mut order = order;
+        for _ in rt.forever() {
+            match self.submit(to, order) {
+                Err(SubmitError::Send(SendError::Full(back))) => {
+                    order = back;
+                    self.rest(rt);
+                }
+                answer => return answer,
+            }
+        }
+        unreachable!()
+    }
+}
