@@ -1,13 +1,12 @@
--- What the journals tell of each order of a script is what it asks.
-use Rattle.std.proofs.Common.{◌≡◌, ◌≢◌, ℕ, ◌-◌, ◌<◌, ◌≤◌, ◌++◌, List, [], ◌∷◌, Option, Some, None, Result, Ok, Err, sym, ap, subst, ◌∙◌, arith, ⊎_elim}
+-- The journals tell an outcome of each order of a script, and it is what the order asks.
+use Rattle.std.proofs.Common.{◌≡◌, ◌≢◌, ℕ, ◌-◌, ◌<◌, ◌≤◌, ◌++◌, List, [], ◌∷◌, Some, Result, Ok, Err, sym, ap, subst, ◌∙◌, arith, ⊎_elim}
 use Rattle.std.proofs.lemmas.Bool.{cases_eq}
 use Rattle.std.proofs.lemmas.List.{append-nil}
-use Rattle.std.specs.Prelude.{IfOk, IfSome}
+use Rattle.std.specs.Prelude.{IfOk}
 use Rattle.rt_ids.specs.declared.names.JobId.{JobId}
-use Rattle.rt_ids.specs.declared.note.OutcomeNote.{OutcomeNote}
 use Rattle.rt_ids.specs.declared.order.Order.{Order}
 use Rattle.rt_ids.specs.declared.order.SendError.{SendError}
-use Rattle.rt_ids.specs.Assembly.{Assembly, outcome_of}
+use Rattle.rt_ids.specs.Assembly.{Assembly}
 use Rattle.rt_jobs.specs.ScriptMeaning.{script_meaning}
 use Rattle.rt_jobs.specs.Scripts.{Script}
 use Rattle.rt_ids.proofs.Prefixes.{IsPrefix-along}
@@ -15,14 +14,14 @@ use Rattle.rt_link.proofs.Lists.{slice_get-seen}
 use Rattle.rt_ids.specs.Assembly.{IsPrefix}
 use Rattle.rt_journal_desk.specs.Submissions.{DeskView, Submits}
 use Rattle.rt_runtime.specs.Calls.{IsStarted, HasFinished}
-use Rattle.rt_runtime.proofs.WrongAnswers.{the_callers}
-use Rattle.rt_runtime.specs.Outcomes.{FitsItsOrder}
 use Rattle.rt_runtime.specs.Sends.{SendsTo, accepted}
 use Rattle.rt_runtime.specs.State.{RuntimeView, submitted, submitted_under}
 use Rattle.rt_runtime_config.specs.Configs.{Entry}
 use Rattle.fairexec_threads_script.specs.Drafts.{Told}
 use Rattle.fairexec_threads.specs.Offers.{OffersAll}
-use Rattle.fairexec_threads.specs.Outcomes.{AreAnswered, FitsScript, IsAskedBy}
+use Rattle.rt_runtime.specs.Laws.{IsToldOf}
+use Rattle.rt_runtime.proofs.Outcomes.{submitted_told}
+use Rattle.fairexec_threads.specs.Outcomes.{AreAnswered}
 use Rattle.fairexec_threads.specs.Rooms.{room_of}
 use Rattle.fairexec_threads.proofs.Sending.{grows}
 
@@ -44,26 +43,19 @@ all_before (told ∷ rest) old new (between, one, others) to =
     IsPrefix-along (submitted to old) (submitted to between) (submitted to new) (sent_before told.0 told.1 old one.answer between one.sends to) (all_before rest between new others to)
 
 module _ (ended : View) (assembly : Assembly ℕ) (finishes : HasFinished script_meaning ended assembly) where
-  -- what is told under a name is what the order asks that was submitted under it
-  asked : (name : JobId) (order : Order Script) → name.from ≡ ended.desk.cores → name.to < ended.desk.cores → submitted_under name ended ≡ Some order → (found : Option (OutcomeNote ℕ)) →
-      IfSome found (FitsItsOrder FitsScript finishes.orders name) → IfSome found (IsAskedBy order)
-  asked name order from there under None fits = tt
-  asked name order from there under (Some told) fits =
-      let is : fits.order ≡ order = the_callers ended assembly finishes.orders finishes.orders_are name from there fits.order order fits.under under in
-      record { outcome = fits.outcome; as_told = fits.as_told; fit = subst (λ order. FitsScript order fits.outcome) is fits.fit }
-
   by_answer : (told : Told) (rest : List Told) (old between : View) → old.desk.actor ≡ ended.desk.cores → old.desk.cores ≡ ended.desk.cores → OffersAll rest between ended →
       (answer : Result JobId (SendError Script)) → Submits told.0 told.1 old.desk answer between.desk → IfOk answer (λ name. submitted_under name between ≡ Some told.1) →
-      IfOk answer (λ name. IfSome (outcome_of name assembly) (IsAskedBy told.1))
+      IfOk answer (λ name. IsToldOf script_meaning assembly name told.1)
   by_answer told rest old between actor cores others (Err error) submits named = tt
   by_answer told rest old between actor cores others (Ok name) submits named =
       let from : name.from ≡ ended.desk.cores = submits.0.sender ∙ actor in
-      let known : name.from ≤ ended.desk.cores = omega (arith, from) in
       let receiver = submits.0.receiver in
       let there : name.to < ended.desk.cores = omega (arith, receiver, cores) in
-      asked name told.1 from there
+      let next = submits.0.next in
+      let counted : 0 < name.number = omega (arith, next) in
+      submitted_told script_meaning ended assembly name told.1 from there counted
       (slice_get-seen (submitted name.to ended) (submitted name.to between) (all_before rest between ended others name.to) (name.number - 1) told.1 named)
-      (outcome_of name assembly) (finishes.fitting name known there)
+      finishes
 
   all_answered : (orders : List Told) (old : View) (offers : OffersAll orders old ended) → old.desk.actor ≡ ended.desk.cores → old.desk.cores ≡ ended.desk.cores → AreAnswered orders old ended offers assembly
   all_answered [] old offers actor cores = tt
@@ -73,7 +65,7 @@ module _ (ended : View) (assembly : Assembly ℕ) (finishes : HasFinished script
         all_answered rest between others (ap (λ (desk : DeskView Script ℕ). desk.actor) stays ∙ actor) (ap (λ (desk : DeskView Script ℕ). desk.cores) stays ∙ cores),
       )
 
--- what the journals of a run tell of its orders is what these ask
+-- the journals of a run tell an outcome of each of its orders, and it is what the order asks
 pub answered : (cores cap : ℕ) (queues : List Entry) (orders : List Told) (started ended : View) (assembly : Assembly ℕ) → IsStarted cores cap (room_of cores cap) queues started → (offers : OffersAll orders started ended) →
     HasFinished script_meaning ended assembly → AreAnswered orders started ended offers assembly
 answered cores cap queues orders started ended assembly starts offers finishes =
