@@ -3,7 +3,7 @@
 
 ghost use Rattle.std.specs.Prelude.{◌≡◌, ◌≢◌, true, Err, IfOk};
 ghost use Rattle.std.specs.declared.io.ErrorKind.TheVariants as kinds;
-ghost use Rattle.fairexec_args.specs.declared.asked.Unasked.TheVariants as unasked;
+ghost use Rattle.fair_args.specs.declared.unasked.Unasked.TheVariants as unasked;
 ghost use Rattle.fairexec_args.specs.declared.asked.What.TheVariants as whats;
 ghost use Rattle.rt_text.specs.Statuses.{fault_status, status_of};
 ghost use Rattle.fairexec_threads_script.specs.Faults.{status_of as threads_code};
@@ -11,7 +11,8 @@ ghost use Rattle.fairexec_threads_script.specs.declared.fault.ThreadsFault.TheVa
 ghost use Rattle.rt_text.specs.declared.status.Status.TheVariants as status;
 ghost use Rattle.rt_text.specs.declared.fault.Fault.TheVariants as faults;
 
-use fairexec_args::{Unasked, What, parse};
+use fair_args::Unasked;
+use fairexec_args::{What, parse};
 use fairexec_report::audit_text;
 use fairexec_run::run_script;
 use fairexec_threads::threads_script;

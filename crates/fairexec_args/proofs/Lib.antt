@@ -1,4 +1,2 @@
-mod Adds
-mod Answered
-mod Reasons
+mod Lines
 mod Rows

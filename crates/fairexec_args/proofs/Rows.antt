@@ -2,11 +2,11 @@
 use Rattle.std.proofs.Common.{refl}
 use Rattle.clap.proofs.OnLiterals.{clap_on_literals}
 use Rattle.fairexec_args.specs.Asks.{asks_of}
-use Rattle.fairexec_args.specs.CommandLine.{audit_app, our_app, program_app, run_app, threads_app, with_runs}
+use Rattle.fairexec_args.specs.CommandLine.{audit_app, our_app, run_app, threads_app, with_runs}
 use Rattle.fairexec_args.specs.Rows.{AreAsked, AreRefused}
 
 pub asked_rows : AreAsked
-unfolding clap_on_literals asks_of our_app with_runs program_app run_app threads_app audit_app
+unfolding clap_on_literals asks_of our_app with_runs run_app threads_app audit_app
 asked_rows = record {
   run = (refl, refl);
   journal = (refl, refl);
@@ -22,7 +22,7 @@ asked_rows = record {
 }
 
 pub refused_rows : AreRefused
-unfolding clap_on_literals our_app with_runs program_app run_app threads_app audit_app
+unfolding clap_on_literals our_app with_runs run_app threads_app audit_app
 refused_rows = record {
   nothing = (refl, refl);
   unknown = (refl, refl);

@@ -1,17 +1,13 @@
 -- What the words of a command line ask for.
-use Rattle.std.specs.Prelude.{Bool, false, List, Option, if◌then◌else◌, codes, option_map}
-use Rattle.std.specs.Option.{option_map_or}
+use Rattle.std.specs.Prelude.{List, Option, if◌then◌else◌, codes, option_map}
 use Rattle.std.specs.Str.{bytes_eq}
 use Rattle.clap.specs.Words.{Row, Text, subcommand_of}
 use Rattle.clap.specs.Walk.{first_of}
+use Rattle.fair_args.specs.Found.{is_given}
 use Rattle.fairexec_args.specs.CommandLine.{our_app}
 use Rattle.fairexec_args.specs.declared.asked.Asked.{Asked}
 use Rattle.fairexec_args.specs.declared.asked.What.{What}
 use Rattle.fairexec_args.specs.declared.asked.What.TheVariants.{Run, Threads, Audit}
-
--- the flag of this name is given: its text is then `true`
-abbrev pub is_given : Text → List Row → Bool
-is_given name rows = option_map_or (λ text. bytes_eq text (codes "true")) (first_of name rows) false
 
 -- what the subcommand of this name does, with these matches
 abbrev pub what_named : Text → List Row → What

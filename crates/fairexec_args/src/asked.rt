@@ -1,15 +1,15 @@
 //! What a command line asks for.
 
-ghost use Rattle.std.specs.Prelude.{◌≡◌, [], true, Some, map, option_map, string_bytes, IfOk, IfErr};
-ghost use Rattle.clap.specs.Words.{fault_of, found_of, kind_of, rows_of, subcommand_rows_of, takes};
-ghost use Rattle.fairexec_args.specs.Asks.{asks_of, asks_of_subcommand, asks_told, is_given, what_named};
+ghost use Rattle.std.specs.Prelude.{◌≡◌, [], true, Some, is_some, map, option_map, string_bytes, IfOk, IfErr};
+ghost use Rattle.clap.specs.Words.{fault_of, found_of, rows_of, subcommand_rows_of, takes};
+ghost use Rattle.fair_args.specs.Refusals.{IsReason};
+ghost use Rattle.fair_args.specs.declared.unasked.Unasked.TheVariants as unasked;
+ghost use Rattle.fairexec_args.specs.Asks.{asks_of, asks_of_subcommand, asks_told, what_named};
 ghost use Rattle.fairexec_args.specs.CommandLine.{our_app};
-ghost use Rattle.fairexec_args.specs.Refusals.{IsAnswerTo, IsReason};
-ghost use Rattle.fairexec_args.specs.declared.asked.Unasked.TheVariants as unasked;
 
-use crate::command::{AUDIT, FILE, JOURNAL, STATS, THREADS, command};
+use crate::command::{AUDIT, JOURNAL, STATS, THREADS, command};
 use clap::ArgMatches;
-use clap::error::ErrorKind;
+use fair_args::{FILE, Unasked, flag_is_given, matches_of, subcommand_of, word_of};
 use std::alloc::Global;
 
 /// What is to be done with a file.
@@ -30,19 +30,6 @@ pub struct Asked<'a> {
     pub file: Option<&'a str>,
 }
 
-/// Why nothing is to be done.
-#[derive(Clone, Copy)]
-pub enum Unasked {
-    /// Help or the version was asked for, and is printed.
-    Told,
-    /// The words are refused, and standard error has the reason.
-    Mistake,
-    /// Help or the version couldn't be written.
-    Write,
-    /// There was no memory.
-    Memory,
-}
-
 /// Reads what these words ask for, the first of which is the program's name. Help is printed as it was asked for; a mistake is told on
 /// standard error.
 pub fn parse<'a, R: Print + Eprint>(
@@ -58,21 +45,22 @@ pub fn parse<'a, R: Print + Eprint>(
     let Ok(command) = command(alloc) else {
         return Err(Unasked::Memory);
     };
-    match command.try_get_matches_from(words) {
-        Ok(matches) => asked_by(&matches).ok_or(Unasked::Mistake),
-        Err(error) => Err(unasked_by(rt, &error)),
+    match matches_of(rt, command, words) {
+        Ok(matches) => Ok(asked_by(&matches)),
+        Err(why) => Err(why),
     }
 }
 
 /// What a command line with these matches asks for.
-fn asked_by<'a>(matches: &ArgMatches<'a>) -> Option<Asked<'a>>
-    ensures { option_map asks_told result ≡ option_map asks_of_subcommand (subcommand_rows_of matches.now) }
+fn asked_by<'a>(matches: &ArgMatches<'a>) -> Asked<'a>
+    requires there { is_some (subcommand_rows_of matches.now) ≡ true }
+    ensures { Some (asks_told result) ≡ option_map asks_of_subcommand (subcommand_rows_of matches.now) }
 {
-    let (name, found) = matches.subcommand()?;
-    Some(Asked {
+    let (name, found) = subcommand_of(matches);
+    Asked {
         what: what_of(name, found),
-        file: found.get_str(FILE),
-    })
+        file: word_of(found, FILE),
+    }
 }
 
 /// What the subcommand of this name does.
@@ -88,31 +76,4 @@ fn what_of(name: &str, found: &ArgMatches<'_>) -> What
         return What::Threads { journal, stats };
     }
     What::Run { journal, stats }
-}
-
-/// Whether the flag of this name is given. Its text is `true` then, and `false` without it.
-fn flag_is_given(found: &ArgMatches<'_>, name: &str) -> bool
-    ensures { result ≡ is_given name.now (rows_of (found_of found.now)) }
-{
-    match found.get_str(name) {
-        Some(text) => text == "true",
-        None => false,
-    }
-}
-
-/// Tells why the words aren't read, and answers what that is.
-fn unasked_by<R: Print + Eprint>(rt: &R, error: &clap::Error) -> Unasked
-    ensures { IsAnswerTo (kind_of error.now) result }
-{
-    if error.kind() == ErrorKind::OutOfMemory {
-        return Unasked::Memory;
-    }
-    let printed = error.print(rt);
-    if error.use_stderr() {
-        return Unasked::Mistake;
-    }
-    match printed {
-        Ok(()) => Unasked::Told,
-        Err(_) => Unasked::Write,
-    }
 }

@@ -1,31 +1,30 @@
 //! The command line. Nothing here reads, prints or runs anything.
 
 ghost use Rattle.std.specs.Prelude.{◌≡◌, false, IfOk};
-ghost use Rattle.clap.specs.Words.{app_of, is_broken, rule_of};
-ghost use Rattle.fairexec_args.specs.CommandLine.{audit_app, flag_rule, our_app, run_app, threads_app, with_runs};
+ghost use Rattle.clap.specs.Words.{app_of, is_broken};
+ghost use Rattle.fairexec_args.specs.CommandLine as spec;
 
-use clap::{Arg, ArgAction, Command};
+use clap::Command;
+use fair_args::{command_named, program_named, with_command, with_file, with_flag};
 use std::alloc::{AllocError, Global};
 
 /// The subcommand that judges the text of journals.
 pub const AUDIT: &str = "audit";
 
-/// The subcommand that runs a script on threads. The one that is left, `run`, runs it on the model.
+/// The subcommand that runs a script on the model.
+const RUN: &str = "run";
+
+/// The subcommand that runs a script on threads.
 pub const THREADS: &str = "threads";
 
-/// The argument that names the file to read.
-pub const FILE: &str = "FILE";
+/// What FILE is to the subcommands that run scripts.
+const SCRIPT_HELP: &str = "The script; without it, standard input is read";
 
 /// The flag by which `run` and `threads` print their journals.
 pub const JOURNAL: &str = "journal";
 
 /// The flag by which they print their statistics.
 pub const STATS: &str = "stats";
-
-/// The version of the program, and behind it the logic of the toolchain that proved it.
-const VERSION: &str = "\
-0.3.0
-proved with Rattle, logic dac8208d650f15bf";
 
 /// What follows the options in the help of the program.
 const AFTER_HELP: &str = "\
@@ -91,101 +90,99 @@ Exit status:
   4  there was no memory";
 
 /// The commands and arguments of the program, with their help.
+#[tactic(auto, unfolding(crate::specs::CommandLine::our_app, crate::specs::CommandLine::audit_app))]
 pub fn command<'a>(alloc: Global) -> Result<Command<'a>, AllocError>
-    ensures app { IfOk result (λ command. app_of command ≡ our_app) }
+    ensures app { IfOk result (λ command. app_of command ≡ spec.our_app) }
     ensures whole { IfOk result (λ command. is_broken command ≡ false) }
 {
-    running(alloc)?.subcommand(audit_command(alloc)?)
+    with_command(running(alloc)?, audit_command(alloc)?)
 }
 
 /// The program with the two commands that run scripts.
+#[tactic(auto, unfolding(crate::specs::CommandLine::with_runs, crate::specs::CommandLine::run_app, crate::specs::CommandLine::threads_app))]
 fn running<'a>(alloc: Global) -> Result<Command<'a>, AllocError>
-    ensures app { IfOk result (λ command. app_of command ≡ with_runs) }
+    ensures app { IfOk result (λ command. app_of command ≡ spec.with_runs) }
     ensures whole { IfOk result (λ command. is_broken command ≡ false) }
 {
-    Command::new(alloc, "fairexec")
-        .bin_name("fairexec")?
-        .about(
-            "Runs scripts on the model of a thread-per-core executor with fair task queues, or on its threads",
-        )
-        .version(VERSION)
-        .subcommand_required(true)
-        .after_help(AFTER_HELP)
-        .subcommand(run_command(alloc)?)?
-        .subcommand(threads_command(alloc)?)
+    let program = program_named(
+        alloc,
+        "fairexec",
+        "Runs scripts on the model of a thread-per-core executor with fair task queues, or on its threads",
+        AFTER_HELP,
+    )?;
+    let with_run = with_command(program, run_command(alloc)?)?;
+    with_command(with_run, threads_command(alloc)?)
 }
 
 /// `run [--journal] [--stats] [FILE]`
+#[tactic(auto, unfolding(crate::specs::CommandLine::run_app))]
 fn run_command<'a>(alloc: Global) -> Result<Command<'a>, AllocError>
-    ensures app { IfOk result (λ command. app_of command ≡ run_app) }
+    ensures app { IfOk result (λ command. app_of command ≡ spec.run_app) }
     ensures whole { IfOk result (λ command. is_broken command ≡ false) }
 {
-    let journal = flag(
+    let command = command_named(
         alloc,
+        RUN,
+        "Runs a script, and prints what happens as notes, one a line",
+        AFTER_RUN,
+    );
+    let command = with_flag(
+        alloc,
+        command,
         JOURNAL,
         "Prints the journals at the end, in place of what happens",
-    );
-    let stats = flag(
+    )?;
+    let command = with_flag(
         alloc,
+        command,
         STATS,
         "Prints the statistics of each core and queue at the end",
-    );
-    let file = Arg::new(alloc, FILE).help("The script; without it, standard input is read");
-    Ok(
-        Command::new(alloc, "run")
-            .about("Runs a script, and prints what happens as notes, one a line")
-            .arg(journal)?
-            .arg(stats)?
-            .arg(file)?
-            .after_help(AFTER_RUN),
-    )
+    )?;
+    with_file(alloc, command, SCRIPT_HELP)
 }
 
 /// `threads [--journal] [--stats] [FILE]`
+#[tactic(auto, unfolding(crate::specs::CommandLine::threads_app))]
 fn threads_command<'a>(alloc: Global) -> Result<Command<'a>, AllocError>
-    ensures app { IfOk result (λ command. app_of command ≡ threads_app) }
+    ensures app { IfOk result (λ command. app_of command ≡ spec.threads_app) }
     ensures whole { IfOk result (λ command. is_broken command ≡ false) }
 {
-    let journal = flag(alloc, JOURNAL, "Prints the journals behind the outcomes");
-    let stats = flag(
+    let command = command_named(
         alloc,
+        THREADS,
+        "Runs a script on threads, and prints the outcome of each order and the verdict of the audit",
+        AFTER_THREADS,
+    );
+    let command = with_flag(
+        alloc,
+        command,
+        JOURNAL,
+        "Prints the journals behind the outcomes",
+    )?;
+    let command = with_flag(
+        alloc,
+        command,
         STATS,
         "Prints the statistics of each core and queue before the verdict",
-    );
-    let file = Arg::new(alloc, FILE).help("The script; without it, standard input is read");
-    Ok(
-        Command::new(alloc, THREADS)
-            .about(
-                "Runs a script on threads, and prints the outcome of each order and the verdict of the audit",
-            )
-            .arg(journal)?
-            .arg(stats)?
-            .arg(file)?
-            .after_help(AFTER_THREADS),
-    )
+    )?;
+    with_file(alloc, command, SCRIPT_HELP)
 }
 
 /// `audit [FILE]`
+#[tactic(auto, unfolding(crate::specs::CommandLine::audit_app))]
 fn audit_command<'a>(alloc: Global) -> Result<Command<'a>, AllocError>
-    ensures app { IfOk result (λ command. app_of command ≡ audit_app) }
+    ensures app { IfOk result (λ command. app_of command ≡ spec.audit_app) }
     ensures whole { IfOk result (λ command. is_broken command ≡ false) }
 {
-    let file = Arg::new(alloc, FILE).help("The journal text; without it, standard input is read");
-    Ok(
-        Command::new(alloc, AUDIT)
-            .about("Judges journals, and prints whether they are sound or their first fault")
-            .arg(file)?
-            .after_help(AFTER_AUDIT),
+    let command = command_named(
+        alloc,
+        AUDIT,
+        "Judges journals, and prints whether they are sound or their first fault",
+        AFTER_AUDIT,
+    );
+    with_file(
+        alloc,
+        command,
+        "The journal text; without it, standard input is read",
     )
-}
-
-/// A flag of this name. Without it, what it names isn't wanted.
-fn flag<'a>(alloc: Global, name: &'a str, help: &'a str) -> Arg<'a>
-    ensures rule { rule_of result ≡ flag_rule name.entry.now }
-    ensures local { result.global ≡ false }
-{
-    Arg::new(alloc, name)
-        .long(name)
-        .action(ArgAction::SetTrue)
-        .help(help)
 }

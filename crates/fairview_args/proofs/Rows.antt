@@ -2,11 +2,11 @@
 use Rattle.std.proofs.Common.{refl}
 use Rattle.clap.proofs.OnLiterals.{clap_on_literals}
 use Rattle.fairview_args.specs.Asks.{asks_of}
-use Rattle.fairview_args.specs.CommandLine.{csv_app, gantt_app, lag_app, our_app, program_app, share_app, trace_app, wait_app, why_app, with_pictures, with_rows, with_tables}
+use Rattle.fairview_args.specs.CommandLine.{csv_app, gantt_app, lag_app, our_app, share_app, trace_app, wait_app, why_app, with_pictures, with_rows, with_tables}
 use Rattle.fairview_args.specs.Rows.{AreAsked, AreRefused}
 
 pub asked_rows : AreAsked
-unfolding clap_on_literals asks_of our_app with_pictures with_rows with_tables program_app wait_app share_app why_app csv_app gantt_app lag_app trace_app
+unfolding clap_on_literals asks_of our_app with_pictures with_rows with_tables wait_app share_app why_app csv_app gantt_app lag_app trace_app
 asked_rows = record {
   wait = (refl, refl);
   wait_plain = (refl, refl);
@@ -25,7 +25,7 @@ asked_rows = record {
 }
 
 pub refused_rows : AreRefused
-unfolding clap_on_literals our_app with_pictures with_rows with_tables program_app wait_app share_app why_app csv_app gantt_app lag_app trace_app
+unfolding clap_on_literals our_app with_pictures with_rows with_tables wait_app share_app why_app csv_app gantt_app lag_app trace_app
 refused_rows = record {
   nothing = (refl, refl);
   unknown = (refl, refl);

@@ -1,9 +1,9 @@
 -- What the words of a command line ask for.
-use Rattle.std.specs.Prelude.{Bool, false, List, Option, if◌then◌else◌, codes, option_map}
-use Rattle.std.specs.Option.{option_map_or}
+use Rattle.std.specs.Prelude.{Bool, List, Option, if◌then◌else◌, codes, option_map}
 use Rattle.std.specs.Str.{bytes_eq}
 use Rattle.clap.specs.Words.{Row, Text, subcommand_of}
 use Rattle.clap.specs.Walk.{first_of}
+use Rattle.fair_args.specs.Found.{is_given}
 use Rattle.fairview_args.specs.CommandLine.{our_app}
 use Rattle.fairview_args.specs.declared.asked.Asked.{Asked}
 use Rattle.fairview_args.specs.declared.asked.What.{What}
@@ -18,10 +18,6 @@ pub data Wish : Type 0 where
   Gantt : Option Text → Option Text → Option Text → Wish
   Lag : Bool → Wish
   Trace : Wish
-
--- the flag of this name is given: its text is then `true`
-abbrev pub is_given : Text → List Row → Bool
-is_given name rows = option_map_or (λ text. bytes_eq text (codes "true")) (first_of name rows) false
 
 -- what is drawn, with these matches
 abbrev pub gantt_named : List Row → Wish

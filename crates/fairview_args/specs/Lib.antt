@@ -1,4 +1,3 @@
 pub mod Asks
 pub mod CommandLine
-pub mod Refusals
 pub mod Rows

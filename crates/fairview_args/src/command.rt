@@ -1,10 +1,13 @@
 //! The command line. Nothing here reads, prints or runs anything.
 
 ghost use Rattle.std.specs.Prelude.{◌≡◌, false, IfOk};
-ghost use Rattle.clap.specs.Words.{app_of, is_broken, rule_of};
+ghost use Rattle.clap.specs.Words.{app_of, is_broken};
 ghost use Rattle.fairview_args.specs.CommandLine as spec;
 
-use clap::{Arg, ArgAction, Command};
+use clap::Command;
+use fair_args::{
+    command_named, program_named, with_command, with_file, with_flag, with_option, with_word,
+};
 use std::alloc::{AllocError, Global};
 
 /// The subcommand that tells how long jobs waited and ran.
@@ -24,9 +27,6 @@ pub const LAG: &str = "lag";
 
 /// The subcommand that prints a trace for a viewer.
 pub const TRACE: &str = "trace";
-
-/// The argument that names the file to read.
-pub const FILE: &str = "FILE";
 
 /// The argument that names a submission.
 pub const NAME: &str = "NAME";
@@ -52,15 +52,12 @@ pub const TO: &str = "to";
 /// What FILE is.
 const FILE_HELP: &str = "The journal text; without it, standard input is read";
 
-/// The version of the program, and behind it the logic of the toolchain that proved it.
-const VERSION: &str = "\
-0.3.0
-proved with Rattle, logic dac8208d650f15bf";
-
 /// What follows the options in the help of the program.
 const AFTER_HELP: &str = "\
 Example:
   fairexec run --journal examples/fair_shares.script | fairview share
+
+On a terminal, ./fairview tells from the third second on how far a call is.
 
 The manual page, and the completions for bash, zsh and fish:
   docs/fairview.1, completions/
@@ -124,187 +121,175 @@ Perfetto (ui.perfetto.dev) and chrome://tracing open the trace: a process for ea
 and arrows that follow each submission.";
 
 /// The commands and arguments of the program, with their help.
+#[tactic(auto, unfolding(crate::specs::CommandLine::our_app, crate::specs::CommandLine::trace_app))]
 pub fn command<'a>(alloc: Global) -> Result<Command<'a>, AllocError>
     ensures app { IfOk result (λ command. app_of command ≡ spec.our_app) }
     ensures whole { IfOk result (λ command. is_broken command ≡ false) }
 {
-    with_pictures(alloc)?.subcommand(trace_command(alloc)?)
+    with_command(with_pictures(alloc)?, trace_command(alloc)?)
 }
 
 /// The program with the commands that print text, and those that draw.
+#[tactic(auto, unfolding(crate::specs::CommandLine::with_pictures, crate::specs::CommandLine::gantt_app, crate::specs::CommandLine::lag_app))]
 fn with_pictures<'a>(alloc: Global) -> Result<Command<'a>, AllocError>
     ensures app { IfOk result (λ command. app_of command ≡ spec.with_pictures) }
     ensures whole { IfOk result (λ command. is_broken command ≡ false) }
 {
-    with_rows(alloc)?
-        .subcommand(gantt_command(alloc)?)?
-        .subcommand(lag_command(alloc)?)
+    let with_gantt = with_command(with_rows(alloc)?, gantt_command(alloc)?)?;
+    with_command(with_gantt, lag_command(alloc)?)
 }
 
 /// The program with the commands that print text.
+#[tactic(auto, unfolding(crate::specs::CommandLine::with_rows, crate::specs::CommandLine::why_app, crate::specs::CommandLine::csv_app))]
 fn with_rows<'a>(alloc: Global) -> Result<Command<'a>, AllocError>
     ensures app { IfOk result (λ command. app_of command ≡ spec.with_rows) }
     ensures whole { IfOk result (λ command. is_broken command ≡ false) }
 {
-    with_tables(alloc)?
-        .subcommand(why_command(alloc)?)?
-        .subcommand(csv_command(alloc)?)
+    let with_why = with_command(with_tables(alloc)?, why_command(alloc)?)?;
+    with_command(with_why, csv_command(alloc)?)
 }
 
 /// The program with the two commands that print tables.
+#[tactic(auto, unfolding(crate::specs::CommandLine::with_tables, crate::specs::CommandLine::wait_app, crate::specs::CommandLine::share_app))]
 fn with_tables<'a>(alloc: Global) -> Result<Command<'a>, AllocError>
     ensures app { IfOk result (λ command. app_of command ≡ spec.with_tables) }
     ensures whole { IfOk result (λ command. is_broken command ≡ false) }
 {
-    Command::new(alloc, "fairview")
-        .bin_name("fairview")?
-        .about("Shows what the journals of a run tell, as text, as a picture and as a trace")
-        .version(VERSION)
-        .subcommand_required(true)
-        .after_help(AFTER_HELP)
-        .subcommand(wait_command(alloc)?)?
-        .subcommand(share_command(alloc)?)
+    let program = program_named(
+        alloc,
+        "fairview",
+        "Shows what the journals of a run tell, as text, as a picture and as a trace",
+        AFTER_HELP,
+    )?;
+    let with_wait = with_command(program, wait_command(alloc)?)?;
+    with_command(with_wait, share_command(alloc)?)
 }
 
 /// `wait [--plain] [FILE]`
+#[tactic(auto, unfolding(crate::specs::CommandLine::wait_app))]
 fn wait_command<'a>(alloc: Global) -> Result<Command<'a>, AllocError>
     ensures app { IfOk result (λ command. app_of command ≡ spec.wait_app) }
     ensures whole { IfOk result (λ command. is_broken command ≡ false) }
 {
-    let plain = flag(alloc, PLAIN, "Draws the bars in ASCII");
-    let file = Arg::new(alloc, FILE).help(FILE_HELP);
-    Ok(
-        Command::new(alloc, WAIT)
-            .about("Prints how long the jobs of each core waited and ran, with a histogram")
-            .arg(plain)?
-            .arg(file)?
-            .after_help(AFTER_WAIT),
-    )
+    let command = command_named(
+        alloc,
+        WAIT,
+        "Prints how long the jobs of each core waited and ran, with a histogram",
+        AFTER_WAIT,
+    );
+    let command = with_flag(alloc, command, PLAIN, "Draws the bars in ASCII")?;
+    with_file(alloc, command, FILE_HELP)
 }
 
 /// `share [--plain] [--csv] [FILE]`
+#[tactic(auto, unfolding(crate::specs::CommandLine::share_app))]
 fn share_command<'a>(alloc: Global) -> Result<Command<'a>, AllocError>
     ensures app { IfOk result (λ command. app_of command ≡ spec.share_app) }
     ensures whole { IfOk result (λ command. is_broken command ≡ false) }
 {
-    let plain = flag(alloc, PLAIN, "Draws the bars in ASCII");
-    let csv = flag(alloc, CSV, "Prints rows with commas and no bars");
-    let file = Arg::new(alloc, FILE).help(FILE_HELP);
-    Ok(
-        Command::new(alloc, SHARE)
-            .about("Prints what each queue got, and what it should have got while it had work")
-            .arg(plain)?
-            .arg(csv)?
-            .arg(file)?
-            .after_help(AFTER_SHARE),
-    )
+    let command = command_named(
+        alloc,
+        SHARE,
+        "Prints what each queue got, and what it should have got while it had work",
+        AFTER_SHARE,
+    );
+    let command = with_flag(alloc, command, PLAIN, "Draws the bars in ASCII")?;
+    let command = with_flag(alloc, command, CSV, "Prints rows with commas and no bars")?;
+    with_file(alloc, command, FILE_HELP)
 }
 
 /// `why NAME [FILE]`
+#[tactic(auto, unfolding(crate::specs::CommandLine::why_app))]
 fn why_command<'a>(alloc: Global) -> Result<Command<'a>, AllocError>
     ensures app { IfOk result (λ command. app_of command ≡ spec.why_app) }
     ensures whole { IfOk result (λ command. is_broken command ≡ false) }
 {
-    let name = Arg::new(alloc, NAME).required(true).help(
-        "The name of a submission: sender, receiver and number, as '0>1#2'",
+    let command = command_named(
+        alloc,
+        WHY,
+        "Prints all that the journals tell of one submission",
+        AFTER_WHY,
     );
-    let file = Arg::new(alloc, FILE).help(FILE_HELP);
-    Ok(
-        Command::new(alloc, WHY)
-            .about("Prints all that the journals tell of one submission")
-            .arg(name)?
-            .arg(file)?
-            .after_help(AFTER_WHY),
-    )
+    let command = with_word(
+        alloc,
+        command,
+        NAME,
+        "The name of a submission: sender, receiver and number, as '0>1#2'",
+    )?;
+    with_file(alloc, command, FILE_HELP)
 }
 
 /// `csv [FILE]`
+#[tactic(auto, unfolding(crate::specs::CommandLine::csv_app))]
 fn csv_command<'a>(alloc: Global) -> Result<Command<'a>, AllocError>
     ensures app { IfOk result (λ command. app_of command ≡ spec.csv_app) }
     ensures whole { IfOk result (λ command. is_broken command ≡ false) }
 {
-    let file = Arg::new(alloc, FILE).help(FILE_HELP);
-    Ok(
-        Command::new(alloc, CSV)
-            .about("Prints a row with commas for each poll")
-            .arg(file)?
-            .after_help(AFTER_CSV),
-    )
+    let command = command_named(
+        alloc,
+        CSV,
+        "Prints a row with commas for each poll",
+        AFTER_CSV,
+    );
+    with_file(alloc, command, FILE_HELP)
 }
 
 /// `gantt [--core D] [--from N] [--to N] [FILE]`
+#[tactic(auto, unfolding(crate::specs::CommandLine::gantt_app))]
 fn gantt_command<'a>(alloc: Global) -> Result<Command<'a>, AllocError>
     ensures app { IfOk result (λ command. app_of command ≡ spec.gantt_app) }
     ensures whole { IfOk result (λ command. is_broken command ≡ false) }
 {
-    let core = option(alloc, CORE, "D", "Draws the core of this number alone");
-    let from = option(alloc, FROM, "N", "The first turn that is drawn");
-    let to = option(alloc, TO, "N", "The last turn that is drawn");
-    let file = Arg::new(alloc, FILE).help(FILE_HELP);
-    Ok(
-        Command::new(alloc, GANTT)
-            .about("Draws the polls of each core on its clock, as SVG")
-            .arg(core)?
-            .arg(from)?
-            .arg(to)?
-            .arg(file)?
-            .after_help(AFTER_GANTT),
-    )
+    let command = command_named(
+        alloc,
+        GANTT,
+        "Draws the polls of each core on its clock, as SVG",
+        AFTER_GANTT,
+    );
+    let command = with_option(
+        alloc,
+        command,
+        CORE,
+        "D",
+        "Draws the core of this number alone",
+    )?;
+    let command = with_option(alloc, command, FROM, "N", "The first turn that is drawn")?;
+    let command = with_option(alloc, command, TO, "N", "The last turn that is drawn")?;
+    with_file(alloc, command, FILE_HELP)
 }
 
 /// `lag [--text] [FILE]`
+#[tactic(auto, unfolding(crate::specs::CommandLine::lag_app))]
 fn lag_command<'a>(alloc: Global) -> Result<Command<'a>, AllocError>
     ensures app { IfOk result (λ command. app_of command ≡ spec.lag_app) }
     ensures whole { IfOk result (λ command. is_broken command ≡ false) }
 {
-    let text = flag(
+    let command = command_named(
         alloc,
+        LAG,
+        "Draws how far each two queues were apart beside the proved bound, as SVG",
+        AFTER_LAG,
+    );
+    let command = with_flag(
+        alloc,
+        command,
         TEXT,
         "Prints a line for each pair of queues, and no picture",
-    );
-    let file = Arg::new(alloc, FILE).help(FILE_HELP);
-    Ok(
-        Command::new(alloc, LAG)
-            .about("Draws how far each two queues were apart beside the proved bound, as SVG")
-            .arg(text)?
-            .arg(file)?
-            .after_help(AFTER_LAG),
-    )
+    )?;
+    with_file(alloc, command, FILE_HELP)
 }
 
 /// `trace [FILE]`
+#[tactic(auto, unfolding(crate::specs::CommandLine::trace_app))]
 fn trace_command<'a>(alloc: Global) -> Result<Command<'a>, AllocError>
     ensures app { IfOk result (λ command. app_of command ≡ spec.trace_app) }
     ensures whole { IfOk result (λ command. is_broken command ≡ false) }
 {
-    let file = Arg::new(alloc, FILE).help(FILE_HELP);
-    Ok(
-        Command::new(alloc, TRACE)
-            .about("Prints the run in the trace event format, for Perfetto and chrome://tracing")
-            .arg(file)?
-            .after_help(AFTER_TRACE),
-    )
-}
-
-/// An option of this name, with a value that the help calls by the second name.
-fn option<'a>(alloc: Global, name: &'a str, value: &'a str, help: &'a str) -> Arg<'a>
-    ensures rule { rule_of result ≡ spec.option_rule name.entry.now }
-    ensures local { result.global ≡ false }
-{
-    Arg::new(alloc, name)
-        .long(name)
-        .value_name(value)
-        .action(ArgAction::Set)
-        .help(help)
-}
-
-/// A flag of this name. Without it, what it names isn't wanted.
-fn flag<'a>(alloc: Global, name: &'a str, help: &'a str) -> Arg<'a>
-    ensures rule { rule_of result ≡ spec.flag_rule name.entry.now }
-    ensures local { result.global ≡ false }
-{
-    Arg::new(alloc, name)
-        .long(name)
-        .action(ArgAction::SetTrue)
-        .help(help)
+    let command = command_named(
+        alloc,
+        TRACE,
+        "Prints the run in the trace event format, for Perfetto and chrome://tracing",
+        AFTER_TRACE,
+    );
+    with_file(alloc, command, FILE_HELP)
 }

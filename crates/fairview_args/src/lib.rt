@@ -5,4 +5,4 @@ mod asked;
 mod command;
 pub mod laws;
 
-pub use asked::{Asked, Unasked, What, parse};
+pub use asked::{Asked, What, parse};

@@ -2,7 +2,6 @@ use Rattle.std.proofs.Common.{◌≡◌, ◌∙◌, List, true, false, refl, sym
 use Rattle.std.specs.Str.{bytes_eq}
 use Rattle.clap.specs.Words.{Row, Text, found_of, rows_of}
 use Rattle.clap.specs.Walk.{first_of}
-use Rattle.clap.proofs.WalkLemmas.{first_value-rows}
 use Rattle.fairview_args.specs.Asks.{Why, gantt_named, what_named}
 use Rattle.fairview_args.proofs.asked.what_of.Goals as goal
 
@@ -19,7 +18,7 @@ named_gantt name rows no_wait no_share no_why is = rw (no_wait, no_share, no_why
 pub returns-then-eq-3 : goal.returns-then-eq-3
 returns-then-eq-3 c =
     let found = found_of c.args.found.now in
-    ap Why (c.get_str-name.ensures ∙ first_value-rows found (codes "NAME"))
+    ap Why c.word_of-name.ensures
     ∙ named_why c.args.name.now (rows_of found) (sym c.eq.ensures ∙ c.if-eq.false) (sym c.eq-2.ensures ∙ c.if-eq-2.false) (sym c.eq-3.ensures ∙ c.if-eq-3.true)
 
 pub returns-then-eq-4 : goal.returns-then-eq-4
