@@ -7,14 +7,15 @@ mod words;
 
 ghost use Rattle.std.specs.Prelude.{◌≡◌, ◌≢◌, Err};
 ghost use Rattle.std.specs.declared.io.ErrorKind.TheVariants as kinds;
-ghost use Rattle.fairview_args.specs.declared.asked.Unasked.TheVariants as unasked;
+ghost use Rattle.fair_args.specs.declared.unasked.Unasked.TheVariants as unasked;
 ghost use Rattle.fairview_report.specs.Faults.{status_of};
 ghost use Rattle.fairview_report.specs.declared.fault.ViewFault.TheVariants as faults;
 ghost use Rattle.rt_text.specs.declared.status.Status.TheVariants as status;
 
 use crate::refusal::Refusal;
 use crate::words::view_of;
-use fairview_args::{Unasked, What, parse};
+use fair_args::Unasked;
+use fairview_args::{What, parse};
 use fairview_report::fault::status_of;
 use fairview_report::{View, ViewFault, view_text};
 use rt_text::Status;

@@ -1,4 +1,3 @@
-pub mod Lists
 pub mod StretchSteps
 pub mod LagLaws
 pub mod ColumnSteps

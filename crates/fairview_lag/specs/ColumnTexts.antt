@@ -6,7 +6,7 @@ use Rattle.fairview_svg.specs.Marks.{fitting_line}
 use Rattle.fairview_svg.specs.Shapes.{box_text}
 use Rattle.fairview_svg.specs.declared.shapes.BoxText.{BoxText}
 use Rattle.fairview_lag.specs.Columns.{edge, cell, column}
-use Rattle.fairview_lag.specs.Lists.{lists_below}
+use Rattle.fairview_text.specs.Lists.{lists_below}
 use Rattle.fairview_lag.specs.declared.column_texts.Strip.{Strip}
 use Rattle.fairview_lag.specs.declared.columns.Column.{Column}
 use Rattle.fairview_lag.specs.declared.columns.Panel.{Panel}

@@ -1,4 +1,3 @@
-pub mod Lists
 pub mod Stretches
 pub mod Lags
 pub mod Laws

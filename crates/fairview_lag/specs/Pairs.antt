@@ -4,7 +4,7 @@ use Rattle.rt_ids.specs.declared.note.Note.{Note}
 use Rattle.rt_ids.specs.declared.note.Note.TheVariants.{Took}
 use Rattle.rt_ids.specs.Assembly.{Assembly, journal_of}
 use Rattle.rt_ids.specs.Journal.{Journal}
-use Rattle.fairview_lag.specs.Lists.{lists_below, one_of}
+use Rattle.fairview_text.specs.Lists.{lists_below, one_of}
 use Rattle.fairview_lag.specs.Lags.{greatest_lag}
 use Rattle.fairview_lag.specs.declared.stretch.Lag.{Lag}
 use Rattle.fairview_lag.specs.declared.pairs.PairLag.{PairLag}

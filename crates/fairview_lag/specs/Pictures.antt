@@ -3,7 +3,7 @@ use Rattle.std.specs.Prelude.{ℕ, zero, suc, ◌+◌, ◌-◌, ◌*◌, min, na
 use Rattle.rt_ids.specs.Assembly.{Assembly, journal_of}
 use Rattle.fairview_svg.specs.Heads.{end_text}
 use Rattle.fairview_svg.specs.Styles.{style}
-use Rattle.fairview_lag.specs.Lists.{lists_below}
+use Rattle.fairview_text.specs.Lists.{lists_below}
 use Rattle.fairview_lag.specs.Pairs.{run_pairs}
 use Rattle.fairview_lag.specs.Panels.{panel_text}
 use Rattle.fairview_lag.specs.declared.pairs.PairLag.{PairLag}

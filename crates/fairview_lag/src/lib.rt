@@ -14,6 +14,6 @@ pub mod text;
 
 pub use greatest::greatest_lag;
 pub use pairs::{PairLag, lags_of_run};
-pub use picture::{put_lag, write_lag};
+pub use picture::put_lag;
 pub use stretch::Lag;
-pub use text::{put_lag_text, write_lag_text};
+pub use text::put_lag_text;

@@ -1,7 +1,7 @@
 //! The greatest lags of all pairs of queues of a run.
 
 ghost use Rattle.std.specs.Prelude.{◌≡◌, ◌≤◌, max, ◌++◌, OnOk, IfOk};
-ghost use Rattle.fairview_lag.specs.Lists.{one_of};
+ghost use Rattle.fairview_text.specs.Lists.{one_of};
 ghost use Rattle.fairview_lag.specs.Pairs as spec;
 
 use crate::greatest::greatest_lag;

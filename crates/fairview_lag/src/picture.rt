@@ -1,21 +1,16 @@
-//! Writes the picture of the leads of a run.
+//! Puts the picture of the leads of a run.
 
-ghost use Rattle.std.specs.Prelude.{◌≡◌, ◌≤◌, ◌++◌, OnOk, IfErr, Option, Some, slice_get, string_bytes};
-ghost use Rattle.std.specs.Io.KnownBytes.{Appends, Keeps};
-ghost use Rattle.rt_journal_write.specs.Pages.{AppendsFront};
-ghost use Rattle.fairview_text.specs.Faults.{IfUnwritten, IfUnmade};
+ghost use Rattle.std.specs.Prelude.{◌≡◌, ◌≤◌, ◌++◌, OnOk, Option, Some, slice_get, string_bytes};
 ghost use Rattle.fairview_svg.specs.Heads.{end_text};
 ghost use Rattle.fairview_lag.specs.Pictures as spec;
 
 use crate::pairs::{PairLag, lags_of_run};
 use crate::panel::put_panel;
 use fairview_svg::style::style;
-use fairview_text::{PictureFault, write_text};
 use rt_ids::ActorNo;
 use rt_journal_notes::Assembly;
 use std::alloc::{AllocError, Global};
 use std::fmt;
-use std::io::Write;
 
 /// A picture has no more panels. Each has 1000 columns at most, so a picture has less than ten megabytes.
 pub const MOST_PANELS: usize = 12;
@@ -71,33 +66,10 @@ fn words() -> &'static str
     "<text class=\"axis\" x=\"300\" y=\"44\">lead in virtual runtime since both queues have work; red: the bound that is proved</text>\n"
 }
 
-/// Writes the picture of the leads of a run by its journals: a panel for each core and two queues of it that ever had work at once, at most
+/// Puts the picture of the leads of a run by its journals: a panel for each core and two queues of it that ever had work at once, at most
 /// 12, and how many are left out. A panel has the turns of its core. Above its middle stands the lead of the first queue over the second in
 /// virtual runtime since both have work, below it that of the second over the first, and beside them the bound that is proved: the greatest
 /// charge so far of the one and of the other together. A panel has 1000 columns; each has the greatest leads of its turns.
-/// The whole text is made before the first byte is written.
-///
-/// # Errors
-///
-/// Want of memory (`Memory`): nothing is written then. A failed write (`Write`): a first part of the text is written.
-pub fn write_lag<W: Write>(
-    alloc: Global,
-    assembly: &Assembly,
-    sink: &mut W,
-) -> Result<(), PictureFault>
-    ensures done { OnOk result (Appends (W.contents sink.old) (W.contents sink.new) (spec.lag_picture assembly.now)) }
-    ensures unwritten { IfErr result (IfUnwritten (AppendsFront (W.contents sink.old) (W.contents sink.new) (spec.lag_picture assembly.now))) }
-    ensures silent { IfErr result (IfUnmade (Keeps (W.contents sink.old) (W.contents sink.new))) }
-{
-    let mut page = String::new(alloc);
-    put_lag(alloc, assembly, &mut page)?;
-    match write_text(page.as_bytes(), sink) {
-        Ok(()) => Ok(()),
-        Err(_) => Err(PictureFault::Write),
-    }
-}
-
-/// Puts the whole picture.
 ///
 /// # Errors
 ///

@@ -1,33 +1,51 @@
-//! What is written of a journal.
+//! What is put of a journal.
 
-use crate::texts::{JOURNAL, LANE, TRACE, TURN_2};
-use fairview_svg::{Cut, write_gantt};
-use fairview_trace::write_trace;
-use rt_journal_read::read_journal;
+use crate::read::journals;
+use crate::texts::{LANE, LINES, PANEL, TRACE, TURN_2};
+use fairview_lag::{put_lag, put_lag_text};
+use fairview_svg::{Cut, put_gantt};
+use fairview_trace::put_trace;
 use std::alloc::Global;
 
-/// Whether the picture of the journal begins as one, and ends with these shapes.
+/// Whether a page is a picture that ends with these shapes.
+fn is_picture(page: &str, shapes: &str) -> bool {
+    page.starts_with("<svg xmlns=") && page.ends_with(shapes)
+}
+
+/// Whether the picture of the journal's polls ends with these shapes.
 fn is_drawn(alloc: Global, cut: &Cut, shapes: &str) -> bool {
-    let mut source = JOURNAL.as_bytes();
-    let Ok(assembly) = read_journal(alloc, &mut source) else {
+    let Some(assembly) = journals(alloc) else {
         return false;
     };
-    let mut sink = Vec::new(alloc);
-    let is_written = write_gantt(alloc, &assembly, cut, &mut sink).is_ok();
-    is_written
-        && sink.as_slice().starts_with("<svg xmlns=".as_bytes())
-        && sink.as_slice().ends_with(shapes.as_bytes())
+    let mut page = String::new(alloc);
+    put_gantt(alloc, &assembly, cut, &mut page).is_ok() && is_picture(&page, shapes)
+}
+
+/// Whether the picture of the journal's leads ends with this panel.
+fn is_panel(alloc: Global, panel: &str) -> bool {
+    let Some(assembly) = journals(alloc) else {
+        return false;
+    };
+    let mut page = String::new(alloc);
+    put_lag(alloc, &assembly, &mut page).is_ok() && is_picture(&page, panel)
+}
+
+/// Whether these are the lines of the journal's leads.
+fn is_told(alloc: Global, lines: &str) -> bool {
+    let Some(assembly) = journals(alloc) else {
+        return false;
+    };
+    let mut page = String::new(alloc);
+    put_lag_text(alloc, &assembly, &mut page).is_ok() && page.as_str() == lines
 }
 
 /// Whether this is the trace of the journal.
 fn is_traced(alloc: Global, trace: &str) -> bool {
-    let mut source = JOURNAL.as_bytes();
-    let Ok(assembly) = read_journal(alloc, &mut source) else {
+    let Some(assembly) = journals(alloc) else {
         return false;
     };
-    let mut sink = Vec::new(alloc);
-    let is_written = write_trace(alloc, &assembly, &mut sink).is_ok();
-    is_written && sink.as_slice() == trace.as_bytes()
+    let mut page = String::new(alloc);
+    put_trace(alloc, &assembly, &mut page).is_ok() && page.as_str() == trace
 }
 
 #[test]
@@ -43,6 +61,16 @@ fn a_cut_shows_its_turns(rt: HostRuntime) {
         to: 2,
     };
     assert!(rt; is_drawn(rt.alloc(), &cut, TURN_2));
+}
+
+#[test]
+fn each_pair_has_a_panel(rt: HostRuntime) {
+    assert!(rt; is_panel(rt.alloc(), PANEL));
+}
+
+#[test]
+fn each_pair_has_a_line(rt: HostRuntime) {
+    assert!(rt; is_told(rt.alloc(), LINES));
 }
 
 #[test]

@@ -1,17 +1,13 @@
 //! The leads of the journal.
 
-use crate::texts::JOURNAL;
+use crate::read::journals;
 use fairview_bars::{bars_of, greatest_lead, leads_of};
 use rt_ids::{ActorNo, QueueNo};
-use rt_journal_read::read_journal;
 use std::alloc::Global;
 
 /// How many leads the two queues of the journal have, and how far the greatest is apart.
 fn greatest(alloc: Global) -> Option<(usize, u128, u64)> {
-    let mut source = JOURNAL.as_bytes();
-    let Ok(assembly) = read_journal(alloc, &mut source) else {
-        return None;
-    };
+    let assembly = journals(alloc)?;
     let Ok(leads) = leads_of(alloc, assembly.journal(ActorNo(0)), QueueNo(1), QueueNo(2)) else {
         return None;
     };
@@ -23,10 +19,7 @@ fn greatest(alloc: Global) -> Option<(usize, u128, u64)> {
 
 /// How many bars the core has.
 fn bar_count(alloc: Global) -> Option<usize> {
-    let mut source = JOURNAL.as_bytes();
-    let Ok(assembly) = read_journal(alloc, &mut source) else {
-        return None;
-    };
+    let assembly = journals(alloc)?;
     match bars_of(alloc, assembly.journal(ActorNo(0))) {
         Ok(bars) => Some(bars.len()),
         Err(_) => None,

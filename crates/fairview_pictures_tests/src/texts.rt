@@ -117,3 +117,21 @@ pub(crate) const TRACE: &str = "{\"displayTimeUnit\":\"ns\",\"traceEvents\":[\n\
 {\"name\":\"1>0#8\",\"cat\":\"job\",\"ph\":\"s\",\"id\":8,\"bp\":\"e\",\"pid\":1,\"tid\":256,\"ts\":0.007}\n\
 ]}\n\
 ";
+
+/// The first turn charges queue 1 with 70 ns * 1000 / 700. Queue 0 never has work beside another queue.
+pub(crate) const LINES: &str = "core 0, q1 ahead of q2: lead 100 of at most 100, at turn 1\n";
+
+/// The panel of the pair: two of six turns have a lag.
+pub(crate) const PANEL: &str =
+    "<rect class=\"lane\" x=\"300\" y=\"100\" width=\"2000\" height=\"120\"/><text x=\"40\" y=\"138\">q1 ahead</text><text x=\"40\" y=\"198\">q2 ahead</text>\
+<text class=\"axis\" x=\"300\" y=\"252\">core 0, q1 ahead of q2: lead 100 of at most 100, at turn 1</text><text class=\"axis end\" x=\"2300\" y=\"252\">turns 1 to 6</text>\n\
+<g><title>turns 1 to 1: q1 ahead by at most 100, q2 by 0, bound 100</title>\
+<rect class=\"b\" x=\"300\" y=\"130\" width=\"332\" height=\"30\"/><rect class=\"c\" x=\"300\" y=\"160\" width=\"332\" height=\"0\"/>\
+<rect class=\"bound\" x=\"300\" y=\"130\" width=\"332\" height=\"2\"/><rect class=\"bound\" x=\"300\" y=\"190\" width=\"332\" height=\"2\"/>\
+<rect class=\"hit\" x=\"300\" y=\"100\" width=\"332\" height=\"120\"/></g>\n\
+<g><title>turns 2 to 2: q1 ahead by at most 0, q2 by 0, bound 200</title>\
+<rect class=\"b\" x=\"632\" y=\"160\" width=\"334\" height=\"0\"/><rect class=\"c\" x=\"632\" y=\"160\" width=\"334\" height=\"0\"/>\
+<rect class=\"bound\" x=\"632\" y=\"100\" width=\"334\" height=\"2\"/><rect class=\"bound\" x=\"632\" y=\"220\" width=\"334\" height=\"2\"/>\
+<rect class=\"hit\" x=\"632\" y=\"100\" width=\"334\" height=\"120\"/></g>\n\
+</svg>\n\
+";

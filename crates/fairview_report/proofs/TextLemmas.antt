@@ -1,28 +1,9 @@
 -- Texts that are put one behind another.
 use Rattle.std.proofs.Common.{◌≡◌, ℕ, suc, ◌+◌, List, [], ◌++◌, refl, sym, ap, ◌∙◌, subst, append_assoc, append-nil, arith}
-use Rattle.fairview_report.specs.Texts.{texts_below, AreTextsBelow, Puts}
+use Rattle.fairview_report.specs.Texts.{AreTextsBelow, Puts}
 
 next : (number : ℕ) → suc number ≡ number + 1
 next number = omega arith
-
-no_texts : (text : ℕ → List ℕ) → texts_below text 0 ≡ []
-unfolding texts_below
-no_texts text = refl
-
-more_texts : (text : ℕ → List ℕ) (number : ℕ) → texts_below text (suc number) ≡ texts_below text number ++ text number
-unfolding texts_below
-more_texts text number = refl
-
--- before the first number nothing is put
-pub before_all : (text : ℕ → List ℕ) (page : List ℕ) → page ≡ page ++ texts_below text 0
-before_all text page = sym (ap (λ bytes. page ++ bytes) (no_texts text) ∙ append-nil page)
-
--- one text more
-pub after_one : (text : ℕ → List ℕ) (number : ℕ) (start page new : List ℕ) → page ≡ start ++ texts_below text number → new ≡ page ++ text number →
-    new ≡ start ++ texts_below text (number + 1)
-after_one text number start page new so_far put =
-    put ∙ (ap (λ bytes. bytes ++ text number) so_far ∙ (append_assoc start (texts_below text number) (text number)
-    ∙ ap (λ bytes. start ++ bytes) (sym (more_texts text number) ∙ ap (texts_below text) (next number))))
 
 module _ (IsText : ℕ → List ℕ → Type 0) where
   none_such : AreTextsBelow IsText 0 []

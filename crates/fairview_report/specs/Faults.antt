@@ -49,6 +49,14 @@ IfCoreless fact Read = Unit {0}
 IfCoreless fact Write = Unit {0}
 IfCoreless fact Memory = Unit {0}
 
+-- a fact of a failed read
+abbrev pub IfRead : Type 0 → ViewFault → Type 0
+IfRead fact (Text line cause) = Unit {0}
+IfRead fact (Core core) = Unit {0}
+IfRead fact Read = fact
+IfRead fact Write = Unit {0}
+IfRead fact Memory = Unit {0}
+
 -- a fact of a failed write
 abbrev pub IfUnwritten : Type 0 → ViewFault → Type 0
 IfUnwritten fact (Text line cause) = Unit {0}

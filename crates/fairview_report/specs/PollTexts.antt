@@ -5,7 +5,7 @@ use Rattle.rt_ids.specs.Journal.{Journal}
 use Rattle.rt_text.specs.Notes.{name_text}
 use Rattle.rt_view.specs.Polls.{polls}
 use Rattle.rt_view.specs.declared.polls.Poll.{Poll}
-use Rattle.fairview_report.specs.Texts.{texts_below}
+use Rattle.fairview_text.specs.Lists.{lists_below}
 
 -- the first line
 abbrev pub head_text : List ℕ
@@ -29,7 +29,7 @@ core_text core journal = flat_map (λ poll. poll_row core poll ++ codes "\n") (p
 
 -- the rows of all cores, by number
 abbrev pub cores_text : Assembly ℕ → List ℕ
-cores_text assembly = texts_below (λ core. core_text core (journal_of core assembly)) assembly.cores
+cores_text assembly = lists_below (λ core. core_text core (journal_of core assembly)) assembly.cores
 
 -- all rows
 abbrev pub polls_text : Assembly ℕ → List ℕ

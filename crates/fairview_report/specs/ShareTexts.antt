@@ -6,7 +6,8 @@ use Rattle.rt_ids.specs.Journal.{Journal}
 use Rattle.rt_view.specs.Clocks.{busy_time}
 use Rattle.rt_view.specs.Shares.{queue_share}
 use Rattle.rt_view.specs.declared.shares.QueueShare.{QueueShare}
-use Rattle.fairview_report.specs.Texts.{right, bar, texts_below}
+use Rattle.fairview_text.specs.Lists.{lists_below}
+use Rattle.fairview_report.specs.Texts.{right, bar}
 use Rattle.fairview_report.specs.declared.share.Form.{Form}
 use Rattle.fairview_report.specs.declared.share.Form.TheVariants.{Blocks, Plain, Csv}
 
@@ -56,14 +57,14 @@ row_text Csv core busy queue (Some share) = csv_row core queue share ++ codes "\
 
 -- the rows of a core's queues, by number
 abbrev pub queues_text : Form → ℕ → ℕ → Journal ℕ → List ℕ
-queues_text form core busy journal = texts_below (λ queue. row_text form core busy queue (queue_share queue journal)) 256
+queues_text form core busy journal = lists_below (λ queue. row_text form core busy queue (queue_share queue journal)) 256
 
 abbrev pub core_text : Form → ℕ → Journal ℕ → List ℕ
 core_text form core journal = queues_text form core (busy_time journal) journal
 
 -- the rows of all cores, by number
 abbrev pub cores_text : Form → Assembly ℕ → List ℕ
-cores_text form assembly = texts_below (λ core. core_text form core (journal_of core assembly)) assembly.cores
+cores_text form assembly = lists_below (λ core. core_text form core (journal_of core assembly)) assembly.cores
 
 -- the whole table
 abbrev pub shares_text : Form → Assembly ℕ → List ℕ

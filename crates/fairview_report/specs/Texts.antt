@@ -20,11 +20,6 @@ marks width piece whole = min (min (piece * width) greatest_runtime / max whole 
 abbrev pub bar : Bool → ℕ → ℕ → ℕ → List ℕ
 bar plain width piece whole = repeat (marks width piece whole) (mark plain)
 
--- the texts of the numbers below this one, one behind another
-unfoldable pub texts_below : (ℕ → List ℕ) → ℕ → List ℕ
-texts_below text zero = []
-texts_below text (suc number) = texts_below text number ++ text number
-
 -- a text is one of these for each number below this one, one behind another
 unfoldable pub AreTextsBelow : (ℕ → List ℕ → Type 0) → ℕ → List ℕ → Type 0
 AreTextsBelow IsText zero all = all ≡ []

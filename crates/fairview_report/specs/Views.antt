@@ -4,8 +4,11 @@ use Rattle.std.specs.Option.{IfSome}
 use Rattle.std.specs.Io.KnownBytes.{Appends}
 use Rattle.rt_ids.specs.Assembly.{Assembly}
 use Rattle.rt_ids.specs.Spelled.{IsSpelled}
+use Rattle.rt_journal_read.specs.declared.fault.JournalCause.{JournalCause}
 use Rattle.rt_journal_write.specs.Pages.{AppendsFront}
 use Rattle.rt_journal_write.specs.Texts.{journal_text}
+use Rattle.rt_lines.specs.Taking.{IsReadSoFar, IsToldAtOnce}
+use Rattle.rt_lines.specs.Texts.{Judge}
 use Rattle.fairview_lag.specs.Lines.{lag_text}
 use Rattle.fairview_lag.specs.Pictures.{lag_picture}
 use Rattle.fairview_svg.specs.Gantts.{gantt_text}
@@ -14,6 +17,8 @@ use Rattle.fairview_report.specs.PollTexts.{polls_text}
 use Rattle.fairview_report.specs.ShareTexts.{shares_text}
 use Rattle.fairview_report.specs.StoryTexts.{story_text}
 use Rattle.fairview_report.specs.WaitTexts.{IsWaitText}
+use Rattle.fairview_report.specs.declared.fault.ViewFault.{ViewFault}
+use Rattle.fairview_report.specs.declared.fault.ViewFault.TheVariants as fault
 use Rattle.fairview_report.specs.declared.view.View.{View}
 use Rattle.fairview_report.specs.declared.view.View.TheVariants.{Waits, Shares, Story, Polls, Gantt, Lag, Trace}
 
@@ -63,3 +68,11 @@ pub record IsCutShort (view : View) (source sink_old sink_new : Option (List ℕ
   pub text : List ℕ
   pub shown : IfSome source (ShowsText view text)
   pub appends : AppendsFront sink_old sink_new text
+
+-- a faulty line is told before more is read than the page that it ends in; a failed read is told only behind faultless text
+abbrev pub IsPromptly : {D : Type 0} → Judge D JournalCause → D → Option (List ℕ) → Option (List ℕ) → ViewFault → Type 0
+IsPromptly judge draft old new (fault.Text line cause) = IsToldAtOnce judge draft old new
+IsPromptly judge draft old new (fault.Core core) = Unit {0}
+IsPromptly judge draft old new fault.Read = IsReadSoFar judge draft old new
+IsPromptly judge draft old new fault.Write = Unit {0}
+IsPromptly judge draft old new fault.Memory = Unit {0}

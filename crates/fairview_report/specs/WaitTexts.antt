@@ -11,7 +11,8 @@ use Rattle.rt_view.specs.declared.spans.Span.{Span}
 use Rattle.rt_view.specs.declared.summaries.Measure.{Measure}
 use Rattle.rt_view.specs.declared.summaries.Measure.TheVariants.{Turns, Time}
 use Rattle.rt_view.specs.declared.summaries.Summary.{Summary}
-use Rattle.fairview_report.specs.Texts.{right, bar, texts_below, AreTextsBelow}
+use Rattle.fairview_text.specs.Lists.{lists_below}
+use Rattle.fairview_report.specs.Texts.{right, bar, AreTextsBelow}
 use Rattle.fairview_report.specs.declared.wait.Kind.{Kind}
 use Rattle.fairview_report.specs.declared.wait.Kind.TheVariants.{Wait, Run}
 
@@ -63,7 +64,7 @@ digits_text plain measure spans jobs digits =
 
 -- the histogram of spans, by their binary digits
 abbrev pub histogram_text : Bool → Measure → List Span → ℕ → List ℕ
-histogram_text plain measure spans jobs = texts_below (digits_text plain measure spans jobs) 129
+histogram_text plain measure spans jobs = lists_below (digits_text plain measure spans jobs) 129
 
 -- the summary of the spans, if there are any, and behind it their histogram
 abbrev pub spans_text : Bool → ℕ → Kind → Measure → List Span → Option Summary → List ℕ

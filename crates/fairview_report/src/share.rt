@@ -5,7 +5,7 @@ ghost use Rattle.rt_ids.specs.Journal.{Journal as Notes};
 ghost use Rattle.rt_view.specs.Shares.{queue_share};
 ghost use Rattle.rt_view.specs.Watches.{KnowsShares};
 ghost use Rattle.fairview_report.specs.ShareTexts as spec;
-ghost use Rattle.fairview_report.specs.Texts.{texts_below};
+ghost use Rattle.fairview_text.specs.Lists.{lists_below};
 
 use crate::page::{put_bar, put_right};
 use crate::share_line::ShareLine;

@@ -2,11 +2,14 @@
 
 ghost use Rattle.std.specs.Prelude.{◌≡◌, ◌++◌, Ok, Err, IfErr, IfSome, OnOk, OnErr, string_bytes};
 ghost use Rattle.std.specs.Io.KnownBytes.{Keeps, Appends};
-ghost use Rattle.rt_journal_read.specs.JournalTexts.{journals_of};
+ghost use Rattle.rt_journal_read.specs.Drafts.{empty_draft};
+ghost use Rattle.rt_journal_read.specs.JournalTexts.{journals_of, judge};
 ghost use Rattle.rt_journal_write.specs.Pages.{AppendsFront};
-ghost use Rattle.fairview_report.specs.Faults.{IfCoreless, IfText, IfUnshown, IfUnwritten};
+ghost use Rattle.rt_lines.specs.Taking.{IsToldByRead};
+ghost use Rattle.rt_sink.specs.Tries.{HasFailed, HasJustFailed};
+ghost use Rattle.fairview_report.specs.Faults.{IfCoreless, IfRead, IfText, IfUnshown, IfUnwritten};
 ghost use Rattle.fairview_report.specs.Texts.{Puts};
-ghost use Rattle.fairview_report.specs.Views.{IsShown, IsViewed, IsCutShort, LacksCore};
+ghost use Rattle.fairview_report.specs.Views.{IsPromptly, IsShown, IsViewed, IsCutShort, LacksCore};
 ghost use Rattle.fairview_report.specs.Views as spec;
 
 use crate::fault::ViewFault;
@@ -20,9 +23,9 @@ use fairview_trace::put_trace;
 use rt_ids::{CoreNo, JobId};
 use rt_journal_notes::Assembly;
 use rt_journal_read::read_journal;
-use rt_text::steady::{DeviceFault, flush, write_all};
+use rt_lines::Source;
+use rt_sink::{DeviceFault, Sink, flush, write_all};
 use std::alloc::{AllocError, Global};
-use std::io::{Read, Write};
 
 /// What is asked for of journals.
 #[derive(Clone, Copy)]
@@ -47,21 +50,26 @@ pub enum View {
 ///
 /// # Errors
 ///
-/// A faulty line of the text (`Text`), a core that is asked for and isn't there (`Core`), a failed read (`Read`) or write (`Write`),
-/// want of memory (`Memory`). Nothing is written before the whole text is read and all that takes memory is made. After a failed write
-/// a first part may be written.
-pub fn view_text<R: Read, W: Write>(
+/// A faulty line of the text (`Text`), a core that is asked for and isn't there (`Core`), a failed read (`Read`) or write (`Write`), or
+/// 1000 interrupted ones in a row, want of memory (`Memory`). Nothing is written before the whole text is read and all that takes memory
+/// is made. After a failed write a first part may be written, and nothing is tried behind it.
+pub fn view_text<R: Source, S: Sink>(
     alloc: Global,
     view: View,
     source: &mut R,
-    sink: &mut W,
+    sink: &mut S,
 ) -> Result<(), ViewFault>
-    ensures done { OnOk result (IsViewed view (R.remaining source.old) (W.contents sink.old) (W.contents sink.new)) }
+    ensures done { OnOk result (IsViewed view (R.remaining source.old) (S.contents sink.old) (S.contents sink.new)) }
     ensures faulty { IfErr result (IfText (λ fault.
         IfSome (R.remaining source.old) (λ text. journals_of text ≡ Err fault))) }
+    ensures prompt { IfErr result (IsPromptly judge empty_draft (R.remaining source.old) (R.remaining source.new)) }
+    ensures at_once { IfErr result (IfText (λ fault.
+        IsToldByRead judge empty_draft R.remaining R.tries R.reads R.interrupts source.old source.new)) }
+    ensures unread { IfErr result (IfRead ((from : R) × HasFailed R.tries R.interrupts R.fails from source.new)) }
     ensures coreless { IfErr result (IfCoreless (λ core. IfSome (R.remaining source.old) (LacksCore view core))) }
-    ensures silent { IfErr result (IfUnshown (Keeps (W.contents sink.old) (W.contents sink.new))) }
-    ensures unwritten { IfErr result (IfUnwritten (IsCutShort view (R.remaining source.old) (W.contents sink.old) (W.contents sink.new))) }
+    ensures silent { IfErr result (IfUnshown (Keeps (S.contents sink.old) (S.contents sink.new))) }
+    ensures unwritten { IfErr result (IfUnwritten (IsCutShort view (R.remaining source.old) (S.contents sink.old) (S.contents sink.new))) }
+    ensures failed { IfErr result (IfUnwritten (HasJustFailed S.tries S.interrupts S.fails sink.new)) }
 {
     let assembly = read_journal(alloc, source)?;
     if let Some(core) = absent_core(&view, assembly.cores()) {
@@ -130,9 +138,10 @@ fn put_lags(
 }
 
 /// Writes all of the bytes, and tells the writer that no more comes.
-fn write_out<W: Write>(bytes: &[u8], sink: &mut W) -> Result<(), DeviceFault>
-    ensures ok { OnOk result (Appends (W.contents sink.old) (W.contents sink.new) bytes.now) }
-    ensures err { OnErr result (AppendsFront (W.contents sink.old) (W.contents sink.new) bytes.now) }
+fn write_out<S: Sink>(bytes: &[u8], sink: &mut S) -> Result<(), DeviceFault>
+    ensures ok { OnOk result (Appends (S.contents sink.old) (S.contents sink.new) bytes.now) }
+    ensures err { OnErr result (AppendsFront (S.contents sink.old) (S.contents sink.new) bytes.now) }
+    ensures failed { OnErr result (HasJustFailed S.tries S.interrupts S.fails sink.new) }
 {
     write_all(sink, bytes)?;
     flush(sink)

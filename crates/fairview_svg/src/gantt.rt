@@ -1,9 +1,6 @@
-//! Writes the picture of the polls of a run.
+//! Puts the picture of the polls of a run.
 
-ghost use Rattle.std.specs.Prelude.{◌≡◌, ◌++◌, OnOk, IfErr, Some, string_bytes};
-ghost use Rattle.std.specs.Io.KnownBytes.{Appends, Keeps};
-ghost use Rattle.rt_journal_write.specs.Pages.{AppendsFront};
-ghost use Rattle.fairview_text.specs.Faults.{IfUnwritten, IfUnmade};
+ghost use Rattle.std.specs.Prelude.{◌≡◌, ◌++◌, OnOk, Some, string_bytes};
 ghost use Rattle.fairview_svg.specs.Gantts as spec;
 ghost use Rattle.fairview_svg.specs.Heads as heads;
 
@@ -11,12 +8,10 @@ use crate::cut::Cut;
 use crate::frame::longest;
 use crate::lanes::put_lane;
 use crate::style::{legend, style};
-use fairview_text::{PictureFault, write_text};
 use rt_ids::{ActorNo, CoreNo};
 use rt_journal_notes::Assembly;
 use std::alloc::{AllocError, Global};
 use std::fmt;
-use std::io::Write;
 
 /// The first line of a picture, which has so many lanes.
 #[derive(Clone, Copy)]
@@ -50,32 +45,13 @@ impl fmt::Display for Axis {
     }
 }
 
-/// Writes the picture of a run by its journals: a lane for each core that is shown, with a bar for each poll in the colour of its queue,
+/// Puts the picture of a run by its journals: a lane for each core that is shown, with a bar for each poll in the colour of its queue,
 /// marks for hand-backs, closes and gates, and the queues with their shares. A lane has 2000 half points; each has the colour of the
-/// poll that runs where it begins. The whole text is made before the first byte is written.
+/// poll that runs where it begins.
 ///
 /// # Errors
 ///
-/// Want of memory (`Memory`): nothing is written then. A failed write (`Write`): a first part of the text is written.
-pub fn write_gantt<W: Write>(
-    alloc: Global,
-    assembly: &Assembly,
-    cut: &Cut,
-    sink: &mut W,
-) -> Result<(), PictureFault>
-    ensures done { OnOk result (Appends (W.contents sink.old) (W.contents sink.new) (spec.gantt_text cut.now assembly.now)) }
-    ensures unwritten { IfErr result (IfUnwritten (AppendsFront (W.contents sink.old) (W.contents sink.new) (spec.gantt_text cut.now assembly.now))) }
-    ensures silent { IfErr result (IfUnmade (Keeps (W.contents sink.old) (W.contents sink.new))) }
-{
-    let mut page = String::new(alloc);
-    put_gantt(alloc, assembly, cut, &mut page)?;
-    match write_text(page.as_bytes(), sink) {
-        Ok(()) => Ok(()),
-        Err(_) => Err(PictureFault::Write),
-    }
-}
-
-/// Puts the whole picture.
+/// `AllocError` for want of memory.
 pub fn put_gantt(
     alloc: Global,
     assembly: &Assembly,

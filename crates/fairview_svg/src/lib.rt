@@ -12,5 +12,5 @@ pub mod shapes;
 pub mod style;
 
 pub use cut::Cut;
-pub use gantt::{put_gantt, write_gantt};
+pub use gantt::put_gantt;
 pub use lead::put_greatest_lead;

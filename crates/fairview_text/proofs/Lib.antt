@@ -1,2 +1,2 @@
 pub mod Escaped
-pub mod Written
+pub mod Lists

@@ -1,3 +1,3 @@
 pub mod Escapes
-pub mod Faults
 pub mod Laws
+pub mod Lists

@@ -1,9 +1,7 @@
-//! What the writers of pictures share: text inside a tag of XML and inside a string of JSON, and how a text is written.
+//! What the writers of texts and pictures share: names inside a tag of XML and inside a string of JSON, and lists one behind another.
 #![tactic(auto)]
 
 pub mod laws;
 pub mod names;
-pub mod write;
 
 pub use names::{JsonName, XmlName};
-pub use write::{PictureFault, write_text};

@@ -8,4 +8,4 @@ pub mod parts;
 pub mod times;
 pub mod trace;
 
-pub use trace::{put_trace, write_trace};
+pub use trace::put_trace;

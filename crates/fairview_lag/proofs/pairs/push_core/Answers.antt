@@ -1,5 +1,5 @@
 use Rattle.fairview_lag.specs.Pairs.{pairs_with}
-use Rattle.fairview_lag.proofs.Lists.{before_all, after_one}
+use Rattle.fairview_text.proofs.Lists.{before_all, after_one}
 use Rattle.fairview_lag.proofs.pairs.push_core.Goals as goal
 
 pub loop-second-init : goal.loop-second-init

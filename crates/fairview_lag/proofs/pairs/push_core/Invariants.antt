@@ -1,6 +1,6 @@
 -- The pairs of the queues so far stand behind the others.
 use Rattle.std.proofs.Common.{◌≡◌, ◌++◌}
-use Rattle.fairview_lag.specs.Lists.{lists_below}
+use Rattle.fairview_text.specs.Lists.{lists_below}
 use Rattle.fairview_lag.specs.Pairs.{pairs_with}
 use Rattle.fairview_lag.proofs.pairs.push_core.Given as goal
 

@@ -1,6 +1,6 @@
-use Rattle.fairview_lag.specs.Lists.{one_of}
+use Rattle.fairview_text.specs.Lists.{one_of}
 use Rattle.fairview_lag.specs.Pairs.{pair_told}
-use Rattle.fairview_lag.proofs.Lists.{before_all, after_one}
+use Rattle.fairview_text.proofs.Lists.{before_all, after_one}
 use Rattle.fairview_lag.proofs.pairs.push_pairs_with.Goals as goal
 
 pub loop-first-init : goal.loop-first-init

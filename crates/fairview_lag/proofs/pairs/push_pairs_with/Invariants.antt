@@ -1,6 +1,6 @@
 -- The pairs with the queues so far stand behind the others.
 use Rattle.std.proofs.Common.{◌≡◌, ◌++◌}
-use Rattle.fairview_lag.specs.Lists.{lists_below, one_of}
+use Rattle.fairview_text.specs.Lists.{lists_below, one_of}
 use Rattle.fairview_lag.specs.Pairs.{pair_told}
 use Rattle.fairview_lag.proofs.pairs.push_pairs_with.Given as goal
 

@@ -1,8 +1,8 @@
 use Rattle.std.proofs.Common.{◌++◌, ap, ◌∙◌, arith, string_bytes}
 use Rattle.rt_ids.specs.Assembly.{journal_of}
-use Rattle.fairview_report.specs.Texts.{texts_below}
+use Rattle.fairview_text.specs.Lists.{lists_below}
 use Rattle.fairview_report.specs.PollTexts.{core_text}
-use Rattle.fairview_report.proofs.TextLemmas.{before_all, after_one}
+use Rattle.fairview_text.proofs.Lists.{before_all, after_one}
 use Rattle.fairview_report.proofs.poll.put_cores.Goals as goal
 
 pub loop-core-init : goal.loop-core-init
@@ -17,4 +17,4 @@ loop-core-preserved c =
 pub returns : goal.returns
 returns c =
     c.loop-core.invariant
-    ∙ ap (λ count. string_bytes c.args.page.now ++ texts_below (λ core. core_text core (journal_of core c.args.assembly.now)) count) (omega (arith, c.cores-core-end.ensures.value))
+    ∙ ap (λ count. string_bytes c.args.page.now ++ lists_below (λ core. core_text core (journal_of core c.args.assembly.now)) count) (omega (arith, c.cores-core-end.ensures.value))

@@ -1,7 +1,7 @@
 use Rattle.std.proofs.Common.{◌++◌, ap, ◌∙◌, string_bytes}
 use Rattle.rt_view.specs.Shares.{queue_share}
 use Rattle.fairview_report.specs.ShareTexts.{row_text}
-use Rattle.fairview_report.proofs.TextLemmas.{before_all, after_one}
+use Rattle.fairview_text.proofs.Lists.{before_all, after_one}
 use Rattle.fairview_report.proofs.share.put_queues.Goals as goal
 
 pub loop-queue-init : goal.loop-queue-init

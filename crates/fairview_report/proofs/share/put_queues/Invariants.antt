@@ -4,9 +4,9 @@ use Rattle.rt_ids.specs.Journal.{Journal as Notes}
 use Rattle.rt_view.specs.Shares.{queue_share}
 use Rattle.rt_view.specs.Watches.{KnowsShares}
 use Rattle.fairview_report.specs.ShareTexts.{row_text}
-use Rattle.fairview_report.specs.Texts.{texts_below}
+use Rattle.fairview_text.specs.Lists.{lists_below}
 use Rattle.fairview_report.proofs.share.put_queues.Given as goal
 
 abbrev pub invariant-loop-queue : goal.invariant-loop-queue
 invariant-loop-queue l =
-    (journal : Notes ℕ) → KnowsShares l.shares journal → string_bytes l.page ≡ string_bytes l.initial.page ++ texts_below (λ queue. row_text l.form l.core l.busy queue (queue_share queue journal)) l.queue
+    (journal : Notes ℕ) → KnowsShares l.shares journal → string_bytes l.page ≡ string_bytes l.initial.page ++ lists_below (λ queue. row_text l.form l.core l.busy queue (queue_share queue journal)) l.queue

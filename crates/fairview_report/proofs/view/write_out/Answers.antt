@@ -1,6 +1,6 @@
 use Rattle.rt_journal_write.proofs.PageLemmas.{OnErr-any, front_of_count}
-use Rattle.rt_text.proofs.KnownLemmas.{Appends-more_kept}
-use Rattle.fairview_report.proofs.ViewLemmas.{OnOk-any, front_of_all}
+use Rattle.rt_sink.proofs.KnownLemmas.{Appends-more_kept}
+use Rattle.fairview_report.proofs.ViewLemmas.{OnOk-any, failed_now, front_of_all}
 use Rattle.fairview_report.proofs.view.write_out.Goals as goal
 
 pub returns-in_err-write_all-clause-err : goal.returns-in_err-write_all-clause-err
@@ -9,8 +9,11 @@ returns-in_err-write_all-clause-err g c =
     OnErr-any c.from_residual.result (front_of_count _ _ c.args.bytes.now out.0 out.2)
 
 pub returns-clause-ok : goal.returns-clause-ok
-returns-clause-ok g c = OnOk-any c.flush.result (Appends-more_kept _ _ _ c.args.bytes.now c.in_ok-write_all.ensures.ok c.flush.ensures)
+returns-clause-ok g c = OnOk-any c.flush.result (Appends-more_kept _ _ _ c.args.bytes.now c.in_ok-write_all.ensures.ok c.flush.ensures.kept)
 
 pub returns-clause-err : goal.returns-clause-err
 returns-clause-err g c =
-    OnErr-any c.flush.result (front_of_all _ _ c.args.bytes.now (Appends-more_kept _ _ _ c.args.bytes.now c.in_ok-write_all.ensures.ok c.flush.ensures))
+    OnErr-any c.flush.result (front_of_all _ _ c.args.bytes.now (Appends-more_kept _ _ _ c.args.bytes.now c.in_ok-write_all.ensures.ok c.flush.ensures.kept))
+
+pub returns-clause-failed : goal.returns-clause-failed
+returns-clause-failed g c = failed_now g.S.Sink.tries g.S.Sink.interrupts g.S.Sink.fails c.write_all.new.sink c.flush.new.sink c.flush.result c.flush.ensures.failed

@@ -1,7 +1,7 @@
 use Rattle.std.proofs.Common.{◌++◌, ap, ◌∙◌, arith, string_bytes}
-use Rattle.fairview_report.specs.Texts.{texts_below}
+use Rattle.fairview_text.specs.Lists.{lists_below}
 use Rattle.fairview_report.specs.WaitTexts.{digits_text}
-use Rattle.fairview_report.proofs.TextLemmas.{before_all, after_one}
+use Rattle.fairview_text.proofs.Lists.{before_all, after_one}
 use Rattle.fairview_report.proofs.WaitLemmas.{range_put}
 use Rattle.fairview_report.proofs.wait.put_histogram.Goals as goal
 
@@ -18,4 +18,4 @@ loop-digits-preserved c =
 pub returns : goal.returns
 returns c =
     c.loop-digits.invariant
-    ∙ ap (λ count. string_bytes c.args.page.now ++ texts_below (digits_text c.args.plain c.args.measure c.args.spans.now c.args.jobs) count) (omega arith)
+    ∙ ap (λ count. string_bytes c.args.page.now ++ lists_below (digits_text c.args.plain c.args.measure c.args.spans.now c.args.jobs) count) (omega arith)

@@ -1,6 +1,6 @@
 -- Lists that are put one behind another.
 use Rattle.std.proofs.Common.{◌≡◌, ℕ, suc, ◌+◌, List, [], ◌++◌, refl, sym, ap, ◌∙◌, append_assoc, append-nil, arith}
-use Rattle.fairview_lag.specs.Lists.{lists_below}
+use Rattle.fairview_text.specs.Lists.{lists_below}
 
 next : (number : ℕ) → suc number ≡ number + 1
 next number = omega arith
