@@ -89,7 +89,12 @@ impl Office for PlainOffice {
 }
 
 /// Which of these rows is wrong first, of a new desk of actor 2 with one core, behind so many submissions.
-fn rows_right(alloc: Global, cap: u16, accepted: u64, rows: &[(Act, Came)]) -> Option<usize>
+pub(crate) fn rows_right(
+    alloc: Global,
+    cap: u16,
+    accepted: u64,
+    rows: &[(Act, Came)],
+) -> Option<usize>
     requires { accepted < 2 ^ 63 }
 {
     let Ok(link) = PlainLink::<ScriptJob>::open_after(alloc, FROM, CoreNo(0), cap, accepted) else {
