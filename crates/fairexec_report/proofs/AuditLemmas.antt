@@ -12,7 +12,6 @@ use Rattle.fairexec_report.specs.Audits.{JudgesText, TellsSound}
 use Rattle.rt_journal_write.specs.Pages.{AppendsFront}
 use Rattle.fairexec_report.specs.VerdictTexts.{is_sound}
 use Rattle.rt_journal_write.specs.Texts.{journal_text}
-use Rattle.rt_sink.specs.Tries.{HasFailed, HasJustFailed}
 pub use Rattle.rt_journal_write.proofs.PageLemmas.{front_of_count}
 
 pub OnOk-any : {T E P : Type 0} (result : Result T E) → P → OnOk result P
@@ -26,11 +25,6 @@ front_of_all old new text out = record { written = text; rest = []; appends = ou
 -- the line is all that stands on its page
 pub line_of : (before page bytes text : List ℕ) → bytes ≡ page → page ≡ before ++ text → before ≡ [] → bytes ≡ text
 line_of before page bytes text same put empty = same ∙ (put ∙ ap (λ front. front ++ text) empty)
-
--- a try that failed is the last
-pub failed_now : {S T E : Type 0} (tries : S → Option ℕ) (interrupts fails : S → S → Type 0) (old new : S) (result : Result T E) → OnErr result (HasFailed tries interrupts fails old new) → OnErr result (HasJustFailed tries interrupts fails new)
-failed_now tries interrupts fails old new (Ok value) failed = tt
-failed_now tries interrupts fails old new (Err error) failed = (old, failed)
 
 sound_only : (verdict : Verdict) → is_sound verdict ≡ true → verdict ≡ Sound
 sound_only Sound is = refl

@@ -7,7 +7,7 @@ ghost use Rattle.fairexec_report.specs.Audits.{IsAudited, IsCutShort, TellsSound
 ghost use Rattle.rt_journal_write.specs.Pages.{AppendsFront};
 ghost use Rattle.rt_journal_read.specs.Drafts.{empty_draft};
 ghost use Rattle.rt_lines.specs.Taking.{IsPrompt, IsToldByRead};
-ghost use Rattle.rt_sink.specs.Tries.{HasFailed, HasJustFailed};
+ghost use Rattle.rt_sink.specs.Tries.{HasFailedSince};
 ghost use Rattle.rt_text.specs.Faults.{IfRead, IfText, IfUnjudged, IfUnwritten};
 
 use crate::verdict::{is_sound, put_verdict, verdict_of};
@@ -36,10 +36,10 @@ pub fn audit_text<R: Source, S: Sink>(
     ensures prompt { IfErr result (IsPrompt judge empty_draft (R.remaining source.old) (R.remaining source.new)) }
     ensures at_once { IfErr result (IfText (λ fault.
         IsToldByRead judge empty_draft R.remaining R.tries R.reads R.interrupts source.old source.new)) }
-    ensures unread { IfErr result (IfRead ((from : R) × HasFailed R.tries R.interrupts R.fails from source.new)) }
+    ensures unread { IfErr result (IfRead (HasFailedSince R.tries R.interrupts R.fails source.old source.new)) }
     ensures silent { IfErr result (IfUnjudged (Keeps (S.contents sink.old) (S.contents sink.new))) }
     ensures unwritten { IfErr result (IfUnwritten (IsCutShort (R.remaining source.old) (S.contents sink.old) (S.contents sink.new))) }
-    ensures failed { IfErr result (IfUnwritten (HasJustFailed S.tries S.interrupts S.fails sink.new)) }
+    ensures failed { IfErr result (IfUnwritten (HasFailedSince S.tries S.interrupts S.fails sink.old sink.new)) }
 {
     let assembly = read_journal(alloc, source)?;
     let verdict = verdict_of(alloc, &assembly)?;
@@ -55,7 +55,7 @@ pub fn audit_text<R: Source, S: Sink>(
 fn write_line<S: Sink>(line: &[u8], sink: &mut S) -> Result<(), DeviceFault>
     ensures ok { OnOk result (Appends (S.contents sink.old) (S.contents sink.new) line.now) }
     ensures err { OnErr result (AppendsFront (S.contents sink.old) (S.contents sink.new) line.now) }
-    ensures failed { OnErr result (HasJustFailed S.tries S.interrupts S.fails sink.new) }
+    ensures failed { OnErr result (HasFailedSince S.tries S.interrupts S.fails sink.old sink.new) }
 {
     write_all(sink, line)?;
     flush(sink)

@@ -5,7 +5,7 @@ ghost use Rattle.std.specs.Io.KnownBytes.{Keeps, Appends};
 ghost use Rattle.rt_ids.specs.Spelled.{IsSpelled};
 ghost use Rattle.rt_journal_write.specs.Pages.{AppendsFront};
 ghost use Rattle.fairexec_report.specs.StatTexts.{IsStatsIf};
-ghost use Rattle.rt_sink.specs.Tries.{HasJustFailed};
+ghost use Rattle.rt_sink.specs.Tries.{HasFailedSince};
 ghost use Rattle.fairexec_report.specs.Writing.{IsTold, IsCutShort, journal_if};
 ghost use Rattle.rt_text.specs.Faults.{IfUnwritten, IfUnjudged, IfUnread};
 
@@ -42,7 +42,7 @@ pub fn write_report<C, S: Sink>(
     ensures unwritten { IfErr result (IfUnwritten (IsCutShort journal stats assembly.now (S.contents sink.old) (S.contents sink.new))) }
     ensures device { IfErr result (IfUnread ⊥) }
     ensures silent { IfErr result (IfUnjudged (Keeps (S.contents sink.old) (S.contents sink.new))) }
-    ensures failed { IfErr result (IfUnwritten (HasJustFailed S.tries S.interrupts S.fails sink.new)) }
+    ensures failed { IfErr result (IfUnwritten (HasFailedSince S.tries S.interrupts S.fails sink.old sink.new)) }
 {
     let mut front = String::new(alloc);
     put_outcomes(alloc, assembly, &mut front)?;
@@ -99,7 +99,7 @@ fn write_parts<S: Sink>(
         (front.now ++ (middle.now ++ rear.now))) }
     ensures err { OnErr result (AppendsFront (S.contents sink.old) (S.contents sink.new)
         (front.now ++ (middle.now ++ rear.now))) }
-    ensures failed { OnErr result (HasJustFailed S.tries S.interrupts S.fails sink.new) }
+    ensures failed { OnErr result (HasFailedSince S.tries S.interrupts S.fails sink.old sink.new) }
 {
     write_all(sink, front)?;
     write_all(sink, middle)?;

@@ -10,7 +10,7 @@ ghost use Rattle.fairexec_script.specs.Drafts.{empty_draft};
 ghost use Rattle.fairexec_script.specs.Scripts.{judge, script_of};
 ghost use Rattle.fairexec_script.specs.Whole.{drafted};
 ghost use Rattle.rt_lines.specs.Taking.{IsPrompt, IsToldByRead};
-ghost use Rattle.rt_sink.specs.Tries.{HasFailed, HasJustFailed};
+ghost use Rattle.rt_sink.specs.Tries.{HasFailedSince};
 ghost use Rattle.rt_text.specs.Faults.{IfRead, IfText, IfUnread, IfUnwritten, IfEnded};
 ghost use Rattle.fairexec_run.specs.Begun.{BreaksOff, IsCutShort};
 ghost use Rattle.fairexec_run.specs.Outputs.{IsDone, TellsScript};
@@ -53,11 +53,11 @@ pub fn run_script<R: Source, S: Sink>(
     ensures prompt { IfErr result (IsPrompt judge empty_draft (R.remaining source.old) (R.remaining source.new)) }
     ensures at_once { IfErr result (IfText (λ fault.
         IsToldByRead judge empty_draft R.remaining R.tries R.reads R.interrupts source.old source.new)) }
-    ensures unread { IfErr result (IfRead ((from : R) × HasFailed R.tries R.interrupts R.fails from source.new)) }
+    ensures unread { IfErr result (IfRead (HasFailedSince R.tries R.interrupts R.fails source.old source.new)) }
     ensures silent { IfErr result (IfUnread (Keeps (S.contents sink.old) (S.contents sink.new))) }
     ensures judged { IfErr result (IfUnwritten (TellsScript (R.remaining source.old))) }
     ensures begun { IfErr result (IfEnded (IsCutShort journal stats (R.remaining source.old) (S.contents sink.old) (S.contents sink.new))) }
-    ensures failed { IfErr result (IfUnwritten (HasJustFailed S.tries S.interrupts S.fails sink.new)) }
+    ensures failed { IfErr result (IfUnwritten (HasFailedSince S.tries S.interrupts S.fails sink.old sink.new)) }
 {
     let script = read_script(alloc, source)?;
     play(alloc, journal, stats, script, sink)?;
@@ -76,7 +76,7 @@ fn play<S: Sink>(
         × Appends (S.contents sink.old) (S.contents sink.new) output) }
     ensures err { OnErr result (BreaksOff journal stats (drafted script) (S.contents sink.old) (S.contents sink.new)) }
     ensures device { IfErr result (IfUnread ⊥) }
-    ensures failed { IfErr result (IfUnwritten (HasJustFailed S.tries S.interrupts S.fails sink.new)) }
+    ensures failed { IfErr result (IfUnwritten (HasFailedSince S.tries S.interrupts S.fails sink.old sink.new)) }
 {
     if journal {
         play_journal(alloc, stats, script, sink)
@@ -96,7 +96,7 @@ fn play_events<S: Sink>(
         × Appends (S.contents sink.old) (S.contents sink.new) output) }
     ensures err { OnErr result (BreaksOff false stats (drafted script) (S.contents sink.old) (S.contents sink.new)) }
     ensures device { IfErr result (IfUnread ⊥) }
-    ensures failed { IfErr result (IfUnwritten (HasJustFailed S.tries S.interrupts S.fails sink.new)) }
+    ensures failed { IfErr result (IfUnwritten (HasFailedSince S.tries S.interrupts S.fails sink.old sink.new)) }
 {
     let Script {
         cores,
@@ -124,7 +124,7 @@ fn play_journal<S: Sink>(
         × Appends (S.contents sink.old) (S.contents sink.new) output) }
     ensures err { OnErr result (BreaksOff true stats (drafted script) (S.contents sink.old) (S.contents sink.new)) }
     ensures device { IfErr result (IfUnread ⊥) }
-    ensures failed { IfErr result (IfUnwritten (HasJustFailed S.tries S.interrupts S.fails sink.new)) }
+    ensures failed { IfErr result (IfUnwritten (HasFailedSince S.tries S.interrupts S.fails sink.old sink.new)) }
 {
     let Script {
         cores,

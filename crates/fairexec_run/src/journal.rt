@@ -8,7 +8,7 @@ ghost use Rattle.rt_journal_write.specs.Pages.{Puts, AppendsFront};
 ghost use Rattle.rt_journal_write.specs.Texts.{journal_text};
 ghost use Rattle.rt_world.specs.State.{assembly_of};
 ghost use Rattle.fairexec_run.specs.Begun.{IsRearPart, IsNoneOr, WritesStats};
-ghost use Rattle.rt_sink.specs.Tries.{HasJustFailed};
+ghost use Rattle.rt_sink.specs.Tries.{HasFailedSince, IsNoFewer};
 ghost use Rattle.rt_text.specs.Faults.{IfUnread, IfUnwritten};
 ghost use Rattle.fairexec_run.specs.Printed.{PutsStats};
 ghost use Rattle.fairexec_run.specs.Replies as replies;
@@ -52,7 +52,8 @@ pub(crate) fn print_journal<S: Sink>(
     ensures ok { OnOk result (Appends (S.contents sink.old) (S.contents sink.new) (journal_text assembly.now)) }
     ensures err { OnErr result (AppendsFront (S.contents sink.old) (S.contents sink.new) (journal_text assembly.now)) }
     ensures device { IfErr result (IfUnread ⊥) }
-    ensures failed { IfErr result (IfUnwritten (HasJustFailed S.tries S.interrupts S.fails sink.new)) }
+    ensures failed { IfErr result (IfUnwritten (HasFailedSince S.tries S.interrupts S.fails sink.old sink.new)) }
+    ensures tried { IsNoFewer (S.tries sink.old) (S.tries sink.new) }
 {
     write_journal(alloc, assembly, sink)
 }
@@ -70,7 +71,7 @@ pub(crate) fn print_rear<S: Sink>(
     ensures err { OnErr result ((text : List ℕ) × IsRearPart stats (assembly_of model.now) text
         × AppendsFront (S.contents sink.old) (S.contents sink.new) (string_bytes page.old ++ text)) }
     ensures device { IfErr result (IfUnread ⊥) }
-    ensures failed { IfErr result (IfUnwritten (HasJustFailed S.tries S.interrupts S.fails sink.new)) }
+    ensures failed { IfErr result (IfUnwritten (HasFailedSince S.tries S.interrupts S.fails sink.old sink.new)) }
 {
     if !stats {
         return print_last(page, sink);
@@ -92,7 +93,7 @@ pub(crate) fn print_journal_rear<S: Sink>(
     ensures err { OnErr result ((text : List ℕ) × IsRearPart stats assembly.now text
         × AppendsFront (S.contents sink.old) (S.contents sink.new) (string_bytes page.old ++ text)) }
     ensures device { IfErr result (IfUnread ⊥) }
-    ensures failed { IfErr result (IfUnwritten (HasJustFailed S.tries S.interrupts S.fails sink.new)) }
+    ensures failed { IfErr result (IfUnwritten (HasFailedSince S.tries S.interrupts S.fails sink.old sink.new)) }
 {
     if !stats {
         return print_last(page, sink);
@@ -111,7 +112,8 @@ fn print_stats<S: Sink>(
     ensures ok { OnOk result (PutsStats (assembly_of model.now) (string_bytes page.old) (string_bytes page.new) (S.contents sink.old) (S.contents sink.new)) }
     ensures err { OnErr result (WritesStats (assembly_of model.now) (string_bytes page.old) (S.contents sink.old) (S.contents sink.new)) }
     ensures device { IfErr result (IfUnread ⊥) }
-    ensures failed { IfErr result (IfUnwritten (HasJustFailed S.tries S.interrupts S.fails sink.new)) }
+    ensures failed { IfErr result (IfUnwritten (HasFailedSince S.tries S.interrupts S.fails sink.old sink.new)) }
+    ensures tried { IsNoFewer (S.tries sink.old) (S.tries sink.new) }
 {
     let cores = model.cores();
     for core in 0..cores {
@@ -137,7 +139,8 @@ fn print_journal_stats<S: Sink>(
     ensures ok { OnOk result (PutsStats assembly.now (string_bytes page.old) (string_bytes page.new) (S.contents sink.old) (S.contents sink.new)) }
     ensures err { OnErr result (WritesStats assembly.now (string_bytes page.old) (S.contents sink.old) (S.contents sink.new)) }
     ensures device { IfErr result (IfUnread ⊥) }
-    ensures failed { IfErr result (IfUnwritten (HasJustFailed S.tries S.interrupts S.fails sink.new)) }
+    ensures failed { IfErr result (IfUnwritten (HasFailedSince S.tries S.interrupts S.fails sink.old sink.new)) }
+    ensures tried { IsNoFewer (S.tries sink.old) (S.tries sink.new) }
 {
     let cores = assembly.cores();
     for core in 0..cores {
@@ -167,7 +170,8 @@ fn print_core<S: Sink>(
     ensures err { OnErr result ((text : List ℕ) × IsNoneOr (IsCoreText core cores journal.now.notes) text
         × AppendsFront (S.contents sink.old) (S.contents sink.new) (string_bytes page.old ++ text)) }
     ensures device { IfErr result (IfUnread ⊥) }
-    ensures failed { IfErr result (IfUnwritten (HasJustFailed S.tries S.interrupts S.fails sink.new)) }
+    ensures failed { IfErr result (IfUnwritten (HasFailedSince S.tries S.interrupts S.fails sink.old sink.new)) }
+    ensures tried { IsNoFewer (S.tries sink.old) (S.tries sink.new) }
 {
     put_stats(alloc, core, cores, journal, page)?;
     if page.len() < FULL_PAGE {
@@ -181,7 +185,7 @@ fn print_last<S: Sink>(page: &mut String, sink: &mut S) -> Result<(), Fault<Caus
     ensures ok { OnOk result (Appends (S.contents sink.old) (S.contents sink.new) (string_bytes page.old)) }
     ensures err { OnErr result (AppendsFront (S.contents sink.old) (S.contents sink.new) (string_bytes page.old)) }
     ensures device { IfErr result (IfUnread ⊥) }
-    ensures failed { OnErr result (HasJustFailed S.tries S.interrupts S.fails sink.new) }
+    ensures failed { OnErr result (HasFailedSince S.tries S.interrupts S.fails sink.old sink.new) }
 {
     print_page(page, sink)?;
     match flush(sink) {

@@ -4,7 +4,7 @@ ghost use Rattle.std.specs.Prelude.{◌≡◌, ◌≤◌, ◌++◌, [], ℕ, Lis
 ghost use Rattle.std.specs.Io.KnownBytes.{Appends};
 ghost use Rattle.fairexec_script.specs.Limits.{AreEventsOf, IsEventOf};
 ghost use Rattle.rt_journal_write.specs.Pages.{AppendsFront};
-ghost use Rattle.rt_sink.specs.Tries.{HasJustFailed};
+ghost use Rattle.rt_sink.specs.Tries.{HasFailedSince, IsNoFewer};
 ghost use Rattle.rt_text.specs.Faults.{IfUnread, IfUnwritten};
 ghost use Rattle.fairexec_run.specs.Begun.{WritesFirst};
 ghost use Rattle.fairexec_run.specs.Outputs.{WritesAll};
@@ -44,7 +44,8 @@ pub(crate) fn print_events<S: Sink>(
         (S.contents sink.old) (S.contents sink.new)) }
     ensures err { OnErr result (WritesFirst events.items model.old (string_bytes page.old) (S.contents sink.old) (S.contents sink.new)) }
     ensures device { IfErr result (IfUnread ⊥) }
-    ensures failed { IfErr result (IfUnwritten (HasJustFailed S.tries S.interrupts S.fails sink.new)) }
+    ensures failed { IfErr result (IfUnwritten (HasFailedSince S.tries S.interrupts S.fails sink.old sink.new)) }
+    ensures tried { IsNoFewer (S.tries sink.old) (S.tries sink.new) }
 {
     for event in events {
         print_event(model, event, page)?;
@@ -108,7 +109,8 @@ pub(crate) fn print_page<S: Sink>(page: &mut String, sink: &mut S) -> Result<(),
     ensures empty { OnOk result (string_bytes page.new ≡ []) }
     ensures err { OnErr result (AppendsFront (S.contents sink.old) (S.contents sink.new) (string_bytes page.old)) }
     ensures device { IfErr result (IfUnread ⊥) }
-    ensures failed { OnErr result (HasJustFailed S.tries S.interrupts S.fails sink.new) }
+    ensures failed { OnErr result (HasFailedSince S.tries S.interrupts S.fails sink.old sink.new) }
+    ensures tried { IsNoFewer (S.tries sink.old) (S.tries sink.new) }
 {
     match write_all(sink, page.as_bytes()) {
         Ok(()) => {

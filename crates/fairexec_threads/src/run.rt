@@ -6,7 +6,7 @@ ghost use Rattle.fairexec_threads_script.specs.Drafts.{empty_draft};
 ghost use Rattle.fairexec_threads_script.specs.Faults.{IfOf};
 ghost use Rattle.fairexec_threads_script.specs.Scripts.{judge, threads_script_of};
 ghost use Rattle.rt_lines.specs.Taking.{IsPrompt, IsToldByRead};
-ghost use Rattle.rt_sink.specs.Tries.{HasFailed, HasJustFailed};
+ghost use Rattle.rt_sink.specs.Tries.{HasFailedSince};
 ghost use Rattle.rt_text.specs.Faults.{IfRead, IfText, IfUnwritten};
 ghost use Rattle.fairexec_threads.specs.Runs.{RunsOrders, IsRun, IsCutShort, IfUntold};
 ghost use Rattle.fairexec_threads.specs.Starting.{IsOfStart};
@@ -72,10 +72,10 @@ where
     ensures prompt { IfErr result (IfOf (IsPrompt judge empty_draft (R.remaining source.old) (R.remaining source.new))) }
     ensures at_once { IfErr result (IfOf (IfText (λ fault.
         IsToldByRead judge empty_draft R.remaining R.tries R.reads R.interrupts source.old source.new))) }
-    ensures unread { IfErr result (IfOf (IfRead ((from : R) × HasFailed R.tries R.interrupts R.fails from source.new))) }
+    ensures unread { IfErr result (IfOf (IfRead (HasFailedSince R.tries R.interrupts R.fails source.old source.new))) }
     ensures silent { IfErr result (IfUntold (Keeps (S.contents sink.old) (S.contents sink.new))) }
     ensures unwritten { IfErr result (IfOf (IfUnwritten (IsCutShort journal stats (R.remaining source.old) (S.contents sink.old) (S.contents sink.new)))) }
-    ensures failed { IfErr result (IfOf (IfUnwritten (HasJustFailed S.tries S.interrupts S.fails sink.new))) }
+    ensures failed { IfErr result (IfOf (IfUnwritten (HasFailedSince S.tries S.interrupts S.fails sink.old sink.new))) }
 {
     let script = read_threads_script(alloc, source)?;
     let assembly = run_orders(rt, alloc, script)?;

@@ -5,7 +5,7 @@ ghost use Rattle.fairexec_threads_script.specs.Scripts.{judge, threads_script_of
 ghost use Rattle.fairexec_threads_script.specs.Drafts.{empty_draft};
 ghost use Rattle.fairexec_threads_script.specs.Whole.{drafted};
 ghost use Rattle.rt_lines.specs.Taking.{IsPrompt, IsToldByRead};
-ghost use Rattle.rt_sink.specs.Tries.{HasFailed};
+ghost use Rattle.rt_sink.specs.Tries.{HasFailedSince};
 ghost use Rattle.rt_text.specs.Faults.{IfRead, IfText, IfUnwritten};
 
 use crate::draft::Draft;
@@ -32,7 +32,7 @@ pub fn read_threads_script<S: Source>(
     ensures prompt { IfErr result (IsPrompt judge empty_draft (S.remaining source.old) (S.remaining source.new)) }
     ensures at_once { IfErr result (IfText (λ fault.
         IsToldByRead judge empty_draft S.remaining S.tries S.reads S.interrupts source.old source.new)) }
-    ensures failed { IfErr result (IfRead ((from : S) × HasFailed S.tries S.interrupts S.fails from source.new)) }
+    ensures failed { IfErr result (IfRead (HasFailedSince S.tries S.interrupts S.fails source.old source.new)) }
 {
     read_lines(Draft::new(alloc), source)
 }

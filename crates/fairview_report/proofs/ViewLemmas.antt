@@ -1,12 +1,11 @@
 -- What is written of journals that a source tells.
-use Rattle.std.proofs.Common.{◌≡◌, ℕ, List, [], ◌++◌, Option, None, Some, subst, ap, ◌∙◌, append-nil, Result, Ok, Err, OnOk, OnErr}
+use Rattle.std.proofs.Common.{◌≡◌, ℕ, List, [], ◌++◌, Option, None, Some, subst, ap, ◌∙◌, append-nil, Result, Ok, Err, OnOk}
 use Rattle.std.specs.Option.{IfSome}
 use Rattle.std.specs.Io.KnownBytes.{Appends}
 use Rattle.rt_ids.specs.Assembly.{Assembly}
 use Rattle.rt_ids.specs.Spelled.{IsSpelled}
 use Rattle.rt_journal_write.specs.Pages.{AppendsFront}
 use Rattle.rt_journal_write.specs.Texts.{journal_text}
-use Rattle.rt_sink.specs.Tries.{HasFailed, HasJustFailed}
 use Rattle.fairview_report.specs.Texts.{Puts}
 use Rattle.fairview_report.specs.Views.{IsCutShort, IsShown, IsViewed, ShowsText, absent_core}
 use Rattle.fairview_report.specs.declared.view.View.{View}
@@ -18,11 +17,6 @@ OnOk-any (Err error) p = tt
 -- all is written
 pub front_of_all : (old new : Option (List ℕ)) (text : List ℕ) → Appends old new text → AppendsFront old new text
 front_of_all old new text out = record { written = text; rest = []; appends = out; whole = append-nil text }
-
--- a try that failed is the last
-pub failed_now : {S T E : Type 0} (tries : S → Option ℕ) (interrupts fails : S → S → Type 0) (old new : S) (result : Result T E) → OnErr result (HasFailed tries interrupts fails old new) → OnErr result (HasJustFailed tries interrupts fails new)
-failed_now tries interrupts fails old new (Ok value) failed = tt
-failed_now tries interrupts fails old new (Err error) failed = (old, failed)
 
 -- a text that stands behind what the page had, if it is just this one
 pub puts_this : (text old new : List ℕ) → new ≡ old ++ text → Puts (λ it. it ≡ text) old new

@@ -6,7 +6,7 @@ ghost use Rattle.rt_journal_read.specs.Drafts.{empty_draft};
 ghost use Rattle.rt_journal_read.specs.JournalTexts.{journals_of, judge};
 ghost use Rattle.rt_journal_write.specs.Pages.{AppendsFront};
 ghost use Rattle.rt_lines.specs.Taking.{IsToldByRead};
-ghost use Rattle.rt_sink.specs.Tries.{HasFailed, HasJustFailed};
+ghost use Rattle.rt_sink.specs.Tries.{HasFailedSince};
 ghost use Rattle.fairview_report.specs.Faults.{IfCoreless, IfRead, IfText, IfUnshown, IfUnwritten};
 ghost use Rattle.fairview_report.specs.Texts.{Puts};
 ghost use Rattle.fairview_report.specs.Views.{IsPromptly, IsShown, IsViewed, IsCutShort, LacksCore};
@@ -65,11 +65,11 @@ pub fn view_text<R: Source, S: Sink>(
     ensures prompt { IfErr result (IsPromptly judge empty_draft (R.remaining source.old) (R.remaining source.new)) }
     ensures at_once { IfErr result (IfText (λ fault.
         IsToldByRead judge empty_draft R.remaining R.tries R.reads R.interrupts source.old source.new)) }
-    ensures unread { IfErr result (IfRead ((from : R) × HasFailed R.tries R.interrupts R.fails from source.new)) }
+    ensures unread { IfErr result (IfRead (HasFailedSince R.tries R.interrupts R.fails source.old source.new)) }
     ensures coreless { IfErr result (IfCoreless (λ core. IfSome (R.remaining source.old) (LacksCore view core))) }
     ensures silent { IfErr result (IfUnshown (Keeps (S.contents sink.old) (S.contents sink.new))) }
     ensures unwritten { IfErr result (IfUnwritten (IsCutShort view (R.remaining source.old) (S.contents sink.old) (S.contents sink.new))) }
-    ensures failed { IfErr result (IfUnwritten (HasJustFailed S.tries S.interrupts S.fails sink.new)) }
+    ensures failed { IfErr result (IfUnwritten (HasFailedSince S.tries S.interrupts S.fails sink.old sink.new)) }
 {
     let assembly = read_journal(alloc, source)?;
     if let Some(core) = absent_core(&view, assembly.cores()) {
@@ -141,7 +141,7 @@ fn put_lags(
 fn write_out<S: Sink>(bytes: &[u8], sink: &mut S) -> Result<(), DeviceFault>
     ensures ok { OnOk result (Appends (S.contents sink.old) (S.contents sink.new) bytes.now) }
     ensures err { OnErr result (AppendsFront (S.contents sink.old) (S.contents sink.new) bytes.now) }
-    ensures failed { OnErr result (HasJustFailed S.tries S.interrupts S.fails sink.new) }
+    ensures failed { OnErr result (HasFailedSince S.tries S.interrupts S.fails sink.old sink.new) }
 {
     write_all(sink, bytes)?;
     flush(sink)

@@ -6,7 +6,7 @@ ghost use Rattle.rt_journal_read.specs.Drafts.{Drafted, assembly_of, empty_draft
 ghost use Rattle.rt_ids.specs.Spelled.{IsSpelled};
 ghost use Rattle.rt_journal_write.specs.Texts.{journal_text};
 ghost use Rattle.rt_lines.specs.Taking.{IsPrompt, IsToldByRead};
-ghost use Rattle.rt_sink.specs.Tries.{HasFailed};
+ghost use Rattle.rt_sink.specs.Tries.{HasFailedSince};
 ghost use Rattle.rt_text.specs.Faults.{IfRead, IfText, IfUnwritten};
 
 use crate::draft::Draft;
@@ -35,7 +35,7 @@ pub fn read_journal<S: Source>(
     ensures prompt { IfErr result (IsPrompt judge empty_draft (S.remaining source.old) (S.remaining source.new)) }
     ensures at_once { IfErr result (IfText (λ fault.
         IsToldByRead judge empty_draft S.remaining S.tries S.reads S.interrupts source.old source.new)) }
-    ensures failed { IfErr result (IfRead ((from : S) × HasFailed S.tries S.interrupts S.fails from source.new)) }
+    ensures failed { IfErr result (IfRead (HasFailedSince S.tries S.interrupts S.fails source.old source.new)) }
 {
     read_lines(Draft::new(alloc), source)
 }

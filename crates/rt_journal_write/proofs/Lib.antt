@@ -1,2 +1,3 @@
 pub mod PageLemmas
 pub mod LineLemmas
+pub mod TryLemmas

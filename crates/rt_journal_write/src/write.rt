@@ -3,7 +3,7 @@
 ghost use Rattle.std.specs.Prelude.{◌≡◌, ◌++◌, [], codes, IfErr, OnOk, OnErr, string_bytes};
 ghost use Rattle.std.specs.Io.KnownBytes.{Appends};
 ghost use Rattle.rt_ids.specs.Spelled.{IsSpelled};
-ghost use Rattle.rt_sink.specs.Tries.{HasJustFailed};
+ghost use Rattle.rt_sink.specs.Tries.{HasFailedSince, IsNoFewer};
 ghost use Rattle.rt_text.specs.Faults.{IfUnread, IfUnwritten};
 ghost use Rattle.rt_text.specs.Notes.{note_line};
 ghost use Rattle.rt_journal_write.specs.Pages.{Puts, AppendsFront};
@@ -36,7 +36,8 @@ pub fn write_journal<C, S: Sink>(
     ensures ok { OnOk result (Appends (S.contents sink.old) (S.contents sink.new) (spec.journal_text assembly.now)) }
     ensures err { OnErr result (AppendsFront (S.contents sink.old) (S.contents sink.new) (spec.journal_text assembly.now)) }
     ensures device { IfErr result (IfUnread ⊥) }
-    ensures failed { IfErr result (IfUnwritten (HasJustFailed S.tries S.interrupts S.fails sink.new)) }
+    ensures failed { IfErr result (IfUnwritten (HasFailedSince S.tries S.interrupts S.fails sink.old sink.new)) }
+    ensures tried { IsNoFewer (S.tries sink.old) (S.tries sink.new) }
 {
     let mut page = String::with_capacity(alloc, FULL + LONGEST_LINE)?;
     put_head(assembly, &mut page)?;
@@ -79,7 +80,8 @@ fn put_journals<C, S: Sink>(
     ensures err { OnErr result (AppendsFront (S.contents sink.old) (S.contents sink.new)
         (string_bytes page.old ++ spec.text_of (spec.journal_lines 0 assembly.now.journals))) }
     ensures device { IfErr result (IfUnread ⊥) }
-    ensures failed { IfErr result (IfUnwritten (HasJustFailed S.tries S.interrupts S.fails sink.new)) }
+    ensures failed { IfErr result (IfUnwritten (HasFailedSince S.tries S.interrupts S.fails sink.old sink.new)) }
+    ensures tried { IsNoFewer (S.tries sink.old) (S.tries sink.new) }
 {
     for actor in 0..assembly.cores() + 1 {
         let actor = ActorNo(actor);
@@ -100,7 +102,8 @@ fn put_notes<C, S: Sink>(
     ensures err { OnErr result (AppendsFront (S.contents sink.old) (S.contents sink.new)
         (string_bytes page.old ++ spec.text_of (spec.actor_lines actor journal.now.notes))) }
     ensures device { IfErr result (IfUnread ⊥) }
-    ensures failed { IfErr result (IfUnwritten (HasJustFailed S.tries S.interrupts S.fails sink.new)) }
+    ensures failed { IfErr result (IfUnwritten (HasFailedSince S.tries S.interrupts S.fails sink.old sink.new)) }
+    ensures tried { IsNoFewer (S.tries sink.old) (S.tries sink.new) }
 {
     for note in journal.as_slice() {
         put_note(actor, *note, page)?;
@@ -128,7 +131,8 @@ fn write_page<C, S: Sink>(page: &mut String, sink: &mut S) -> Result<(), Fault<C
     ensures empty { OnOk result (string_bytes page.new ≡ []) }
     ensures err { OnErr result (AppendsFront (S.contents sink.old) (S.contents sink.new) (string_bytes page.old)) }
     ensures device { IfErr result (IfUnread ⊥) }
-    ensures failed { OnErr result (HasJustFailed S.tries S.interrupts S.fails sink.new) }
+    ensures failed { OnErr result (HasFailedSince S.tries S.interrupts S.fails sink.old sink.new) }
+    ensures tried { IsNoFewer (S.tries sink.old) (S.tries sink.new) }
 {
     match write_all(sink, page.as_bytes()) {
         Ok(()) => {

@@ -7,7 +7,7 @@ use Rattle.rt_text.specs.Faults.{IfText, IfRead, IfUnwritten}
 use Rattle.rt_lines.specs.declared.fault.Stop.{Stop}
 use Rattle.rt_lines.specs.declared.fault.Stop.TheVariants as stop
 use Rattle.rt_lines.specs.Faults.{IfCause, IfFaulty, stopped}
-use Rattle.rt_sink.specs.Tries.{AreInterrupted, HasFailed}
+use Rattle.rt_sink.specs.Tries.{AreInterrupted, HasFailed, HasFailedSince}
 
 pub IfFaulty-weaker : {C : Type 0} (P Q : ℕ × C → Type 0) (fault : Fault C) → ((told : ℕ × C) → P told → Q told) → IfFaulty P fault → IfFaulty Q fault
 IfFaulty-weaker P Q (Text line cause) each h = each (line, cause) h
@@ -61,8 +61,8 @@ pub never_failed : {S : Type 0} (tries : S → Option ℕ) (old new : S) → Has
 never_failed tries old new (inl failed) = failed.failed
 never_failed tries old new (inr interrupted) = never_interrupted tries old new interrupted
 
-pub never_read : {C S : Type 0} (tries : S → Option ℕ) (new : S) (fault : Fault C) → IfRead ((from : S) × HasFailed tries (λ (a b : S). ⊥) (λ (a b : S). ⊥) from new) fault → IfRead ⊥ fault
-never_read tries new (Text line cause) h = tt
-never_read tries new Read h = never_failed tries h.0 new h.1
-never_read tries new Write h = tt
-never_read tries new Memory h = tt
+pub never_read : {C S : Type 0} (tries : S → Option ℕ) (old new : S) (fault : Fault C) → IfRead (HasFailedSince tries (λ (a b : S). ⊥) (λ (a b : S). ⊥) old new) fault → IfRead ⊥ fault
+never_read tries old new (Text line cause) h = tt
+never_read tries old new Read h = never_failed tries h.0 new h.2
+never_read tries old new Write h = tt
+never_read tries old new Memory h = tt

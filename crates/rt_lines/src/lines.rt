@@ -4,7 +4,7 @@ ghost use Rattle.std.specs.Prelude.{ℕ, List, ◌≡◌, ◌+◌, ◌<◌, ◌^
 ghost use Rattle.rt_lines.specs.Readings.{IsLongest};
 ghost use Rattle.rt_lines.specs.Taking.{IsPrompt, IsToldByRead};
 ghost use Rattle.rt_lines.specs.Texts.{text_judged};
-ghost use Rattle.rt_sink.specs.Tries.{HasFailed};
+ghost use Rattle.rt_sink.specs.Tries.{HasFailedSince};
 ghost use Rattle.rt_text.specs.Faults.{IfText, IfRead, IfUnwritten};
 
 use crate::draft::LineDraft;
@@ -35,7 +35,7 @@ pub fn read_lines<D: LineDraft, S: Source>(
     ensures at_once { IfErr result (IfText (λ fault.
         IsToldByRead D.judge draft S.remaining S.tries S.reads S.interrupts source.old source.new)) }
     ensures device { IfErr result (IfUnwritten ⊥) }
-    ensures failed { IfErr result (IfRead ((from : S) × HasFailed S.tries S.interrupts S.fails from source.new)) }
+    ensures failed { IfErr result (IfRead (HasFailedSince S.tries S.interrupts S.fails source.old source.new)) }
 {
     let mut page = [0u8; PAGE];
     let mut reader = LineReader::new();

@@ -3,7 +3,7 @@
 ghost use Rattle.std.specs.Prelude.{ℕ, List, Option, None, ◌≡◌, ◌≤◌, ◌<◌, IfOk, OnErr, length, take};
 ghost use Rattle.std.specs.Io.KnownBytes.{Consumes, Keeps, IsAtEnd};
 ghost use Rattle.rt_lines.specs.Sources.{ReadsSome};
-ghost use Rattle.rt_sink.specs.Tries.{IfMade, IfNotMade, IfInterrupted, IfFailed, IsOneMore, HasFailed};
+ghost use Rattle.rt_sink.specs.Tries.{IfMade, IfNotMade, IfInterrupted, IfFailed, IsOneMore, IsNoFewer, HasFailed};
 
 use rt_sink::{DeviceFault, MOST_INTERRUPTIONS, Once};
 use std::io::{ErrorKind, Read};
@@ -113,6 +113,7 @@ pub(crate) fn read_some<S: Source>(source: &mut S, room: &mut [u8]) -> Result<us
         ReadsSome S.tries S.reads S.interrupts source.old (take count room.new) source.new) }
     ensures kept { OnErr result (Keeps (S.remaining source.old) (S.remaining source.new)) }
     ensures failed { OnErr result (HasFailed S.tries S.interrupts S.fails source.old source.new) }
+    ensures tried { IsNoFewer (S.tries source.old) (S.tries source.new) }
 {
     for _i in 0..MOST_INTERRUPTIONS {
         match source.read_once(room) {

@@ -1,6 +1,7 @@
 -- A device that counts its tries has counted those that were interrupted.
-use Rattle.std.proofs.Common.{◌≡◌, ℕ, zero, suc, ◌+◌, ◌<◌, inl, inr, Option, None, Some, refl, ap, sym, ◌∙◌, subst, arith}
-use Rattle.rt_sink.specs.Tries.{IsOneMore, AreInterrupted, FailsAfter, HasFailed}
+use Rattle.std.proofs.Common.{◌≡◌, ℕ, zero, suc, ◌+◌, ◌<◌, ◌≤◌, inl, inr, Option, None, Some, refl, ap, sym, ◌∙◌, subst, arith}
+use Rattle.rt_sink.specs.Tries.{IsOneMore, IsNoFewer, AreInterrupted, FailsAfter, HasFailed, HasFailedSince}
+use Rattle.rt_sink.specs.Tries as spec
 use Rattle.rt_sink.specs.Laws.{FaultsAreTried}
 
 -- what is counted after one try more
@@ -34,5 +35,22 @@ module _ {S : Type 0} (tries : S → Option ℕ) (interrupts fails : S → S →
       fewer (after.count + 1) before (tries new) (next (tries after.between) (tries new) (before + after.count) here after.counted ∙ ap Some sum) still (omega arith)
   untried before old new is still (inr all) = fewer 1000 before (tries new) (counted 1000 before old new is all) still (omega arith)
 
+  -- what is counted behind a fault
+  pub since_first : (before : ℕ) (old new : S) → tries old ≡ Some before → HasFailed tries interrupts fails old new → (after : ℕ) × (before < after) × (tries new ≡ Some after)
+  since_first before old new is (inl after) =
+      let here = counted after.count before old after.between is after.interrupted in
+      ((before + after.count) + 1, omega arith, next (tries after.between) (tries new) (before + after.count) here after.counted)
+  since_first before old new is (inr all) = (before + 1000, omega arith, counted 1000 before old new is all)
+
+  later : (before : ℕ) (from : S) (now : Option ℕ) → tries from ≡ now → before + 1 ≤ spec.counted now → (count : ℕ) × (before ≤ count) × (tries from ≡ Some count)
+  later before from None is few = absurd (omega (arith, few))
+  later before from (Some count) is few = (count, omega (arith, few), is)
+
+  pub since : (before : ℕ) (old new : S) → tries old ≡ Some before → HasFailedSince tries interrupts fails old new → (after : ℕ) × (before < after) × (tries new ≡ Some after)
+  since before old new is (from, few, failed) =
+      let here = later before from (tries from) refl (subst (λ was. spec.counted was ≤ spec.counted (tries from)) is few) in
+      let there = since_first here.0 from new here.2 failed in
+      (there.0, omega (arith, here.1, there.1), there.2)
+
 pub faults_tried : {S : Type 0} (tries : S → Option ℕ) (interrupts fails : S → S → Type 0) → FaultsAreTried tries interrupts fails
-faults_tried tries interrupts fails = record { counted = counted tries interrupts fails; untried = untried tries interrupts fails }
+faults_tried tries interrupts fails = record { counted = counted tries interrupts fails; untried = untried tries interrupts fails; since = since tries interrupts fails }

@@ -1,2 +1,4 @@
 pub mod KnownLemmas
 pub mod LawLemmas
+pub mod TryLemmas
+pub mod BadLemmas

@@ -1,2 +1,3 @@
 pub mod Tries
 pub mod Laws
+pub mod BadFaults

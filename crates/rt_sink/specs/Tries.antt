@@ -1,5 +1,5 @@
 -- What became of reads, writes and flushes that are made again where a signal interrupts them.
-use Rattle.std.specs.Prelude.{◌≡◌, ◌⊎◌, ℕ, zero, suc, ◌+◌, ◌<◌, Option, None, Some}
+use Rattle.std.specs.Prelude.{◌≡◌, ◌⊎◌, ℕ, zero, suc, ◌+◌, ◌<◌, ◌≤◌, Option, None, Some}
 use Rattle.rt_sink.specs.declared.once.Once.{Once}
 use Rattle.rt_sink.specs.declared.once.Once.TheVariants.{Made, Interrupted, Failed}
 
@@ -52,6 +52,15 @@ pub record FailsAfter {S : Type 0} (tries : S → Option ℕ) (interrupts fails 
 abbrev pub HasFailed : {S : Type 0} → (S → Option ℕ) → (S → S → Type 0) → (S → S → Type 0) → S → S → Type 0
 HasFailed tries interrupts fails old new = FailsAfter tries interrupts fails old new ⊎ AreInterrupted tries interrupts 1000 old new
 
--- the device has just failed, and nothing was tried behind that
-abbrev pub HasJustFailed : {S : Type 0} → (S → Option ℕ) → (S → S → Type 0) → (S → S → Type 0) → S → Type 0
-HasJustFailed {S} tries interrupts fails new = (from : S) × HasFailed tries interrupts fails from new
+-- one more than how many tries are counted; 0 if the device counts none
+abbrev pub counted : Option ℕ → ℕ
+counted None = 0
+counted (Some count) = count + 1
+
+-- no fewer tries are counted than before
+abbrev pub IsNoFewer : Option ℕ → Option ℕ → Type 0
+IsNoFewer old new = counted old ≤ counted new
+
+-- the device has failed behind the tries that `old` has counted, and nothing was tried behind that
+abbrev pub HasFailedSince : {S : Type 0} → (S → Option ℕ) → (S → S → Type 0) → (S → S → Type 0) → S → S → Type 0
+HasFailedSince {S} tries interrupts fails old new = (from : S) × IsNoFewer (tries old) (tries from) × HasFailed tries interrupts fails from new

@@ -2,7 +2,7 @@
 
 ghost use Rattle.std.specs.Prelude.{ℕ, ◌≤◌, ◌<◌, IfOk, OnOk, OnErr, length, take};
 ghost use Rattle.std.specs.Io.KnownBytes.{Keeps, Appends};
-ghost use Rattle.rt_sink.specs.Tries.{HasFailed, HasJustFailed};
+ghost use Rattle.rt_sink.specs.Tries.{HasFailed, HasFailedSince, IsNoFewer};
 
 use crate::once::{DeviceFault, MOST_INTERRUPTIONS, Once};
 use crate::sink::Sink;
@@ -12,7 +12,8 @@ pub fn write_all<S: Sink>(sink: &mut S, bytes: &[u8]) -> Result<(), DeviceFault>
     ensures ok { OnOk result (Appends (S.contents sink.old) (S.contents sink.new) bytes.now) }
     ensures err { OnErr result ((count : ℕ) × (count < length bytes.now)
         × Appends (S.contents sink.old) (S.contents sink.new) (take count bytes.now)) }
-    ensures failed { OnErr result (HasJustFailed S.tries S.interrupts S.fails sink.new) }
+    ensures failed { OnErr result (HasFailedSince S.tries S.interrupts S.fails sink.old sink.new) }
+    ensures tried { IsNoFewer (S.tries sink.old) (S.tries sink.new) }
 {
     let mut written = 0;
     while written < bytes.len() {
@@ -30,6 +31,7 @@ fn write_some<S: Sink>(sink: &mut S, bytes: &[u8]) -> Result<usize, DeviceFault>
         Appends (S.contents sink.old) (S.contents sink.new) (take count bytes.now)) }
     ensures err { OnErr result (Keeps (S.contents sink.old) (S.contents sink.new)) }
     ensures failed { OnErr result (HasFailed S.tries S.interrupts S.fails sink.old sink.new) }
+    ensures tried { IsNoFewer (S.tries sink.old) (S.tries sink.new) }
 {
     for _i in 0..MOST_INTERRUPTIONS {
         match sink.write_once(bytes) {
@@ -45,6 +47,7 @@ fn write_some<S: Sink>(sink: &mut S, bytes: &[u8]) -> Result<usize, DeviceFault>
 pub fn flush<S: Sink>(sink: &mut S) -> Result<(), DeviceFault>
     ensures kept { Keeps (S.contents sink.old) (S.contents sink.new) }
     ensures failed { OnErr result (HasFailed S.tries S.interrupts S.fails sink.old sink.new) }
+    ensures tried { IsNoFewer (S.tries sink.old) (S.tries sink.new) }
 {
     for _i in 0..MOST_INTERRUPTIONS {
         match sink.flush_once() {

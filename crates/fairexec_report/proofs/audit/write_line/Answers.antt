@@ -1,6 +1,7 @@
-use Rattle.fairexec_report.proofs.AuditLemmas.{OnOk-any, front_of_count, front_of_all, failed_now}
+use Rattle.fairexec_report.proofs.AuditLemmas.{OnOk-any, front_of_count, front_of_all}
 use Rattle.rt_journal_write.proofs.PageLemmas.{OnErr-any}
 use Rattle.rt_sink.proofs.KnownLemmas.{Appends-more_kept}
+use Rattle.rt_sink.proofs.TryLemmas.{failed_last}
 use Rattle.fairexec_report.proofs.audit.write_line.Goals as goal
 
 pub returns-in_err-write_all-clause-err : goal.returns-in_err-write_all-clause-err
@@ -15,4 +16,4 @@ pub returns-clause-err : goal.returns-clause-err
 returns-clause-err g c = OnErr-any c.flush.result (front_of_all _ _ c.args.line.now (Appends-more_kept _ _ _ c.args.line.now c.in_ok-write_all.ensures.ok c.flush.ensures.kept))
 
 pub returns-clause-failed : goal.returns-clause-failed
-returns-clause-failed g c = failed_now g.S.Sink.tries g.S.Sink.interrupts g.S.Sink.fails c.write_all.new.sink c.flush.new.sink c.flush.result c.flush.ensures.failed
+returns-clause-failed g c = failed_last g.S.Sink.tries g.S.Sink.interrupts g.S.Sink.fails c.args.sink.now c.write_all.new.sink c.flush.new.sink c.flush.result c.write_all.ensures.tried c.flush.ensures.failed

@@ -1,7 +1,8 @@
 use Rattle.std.proofs.Common.{◌++◌}
 use Rattle.rt_journal_write.proofs.PageLemmas.{OnErr-any}
 use Rattle.rt_sink.proofs.KnownLemmas.{Appends-more_kept}
-use Rattle.fairexec_report.proofs.AuditLemmas.{OnOk-any, front_of_count, front_of_all, failed_now}
+use Rattle.rt_sink.proofs.TryLemmas.{no_fewer, failed_since, failed_last}
+use Rattle.fairexec_report.proofs.AuditLemmas.{OnOk-any, front_of_count, front_of_all}
 use Rattle.fairexec_report.proofs.ReportLemmas.{front_before, front_behind, three_out}
 use Rattle.fairexec_report.proofs.report.write_parts.Goals as goal
 
@@ -38,4 +39,17 @@ returns-clause-err g c =
     (three_out _ _ _ _ c.args.front.now c.args.middle.now c.args.rear.now c.in_ok-write_all.ensures.ok c.in_ok-write_all-2.ensures.ok c.in_ok-write_all-3.ensures.ok) c.flush.ensures.kept))
 
 pub returns-clause-failed : goal.returns-clause-failed
-returns-clause-failed g c = failed_now g.S.Sink.tries g.S.Sink.interrupts g.S.Sink.fails c.write_all-3.new.sink c.flush.new.sink c.flush.result c.flush.ensures.failed
+returns-clause-failed g c =
+    let two = no_fewer _ _ _ c.write_all.ensures.tried c.write_all-2.ensures.tried in
+    failed_last g.S.Sink.tries g.S.Sink.interrupts g.S.Sink.fails c.args.sink.now c.write_all-3.new.sink c.flush.new.sink c.flush.result (no_fewer _ _ _ two c.write_all-3.ensures.tried) c.flush.ensures.failed
+
+pub returns-in_err-write_all-2-clause-failed : goal.returns-in_err-write_all-2-clause-failed
+returns-in_err-write_all-2-clause-failed g c =
+    OnErr-any c.from_residual-in_err-write_all-2.result
+    (failed_since g.S.Sink.tries g.S.Sink.interrupts g.S.Sink.fails c.args.sink.now c.write_all.new.sink c.write_all-2.new.sink c.write_all.ensures.tried c.in_err-write_all-2.ensures.failed)
+
+pub returns-in_err-write_all-3-clause-failed : goal.returns-in_err-write_all-3-clause-failed
+returns-in_err-write_all-3-clause-failed g c =
+    let two = no_fewer _ _ _ c.write_all.ensures.tried c.write_all-2.ensures.tried in
+    OnErr-any c.from_residual-in_err-write_all-3.result
+    (failed_since g.S.Sink.tries g.S.Sink.interrupts g.S.Sink.fails c.args.sink.now c.write_all-2.new.sink c.write_all-3.new.sink two c.in_err-write_all-3.ensures.failed)

@@ -7,6 +7,7 @@ use Rattle.rt_journal_write.proofs.PageLemmas.{OnErr-any}
 use Rattle.fairexec_run.specs.Rooms.{IsOpened}
 use Rattle.fairexec_run.proofs.OpeningLemmas.{opened_roomy, opened_events}
 use Rattle.fairexec_run.proofs.PlayLemmas.{first_begun, events_printed, events_begun}
+use Rattle.rt_journal_write.proofs.TryLemmas.{call_unwritten_since}
 use Rattle.fairexec_run.proofs.engine.play_events.Goals as goal
 
 pub open_model-requires-clause-few : goal.open_model-requires-clause-few
@@ -49,3 +50,7 @@ returns-clause-err g c =
     c.args.stats (g.S.Sink.contents c.print_rear.new.sink)
     )
     c.print_rear.ensures.err
+
+pub returns-clause-failed : goal.returns-clause-failed
+returns-clause-failed g c =
+    call_unwritten_since g.S.Sink.tries g.S.Sink.interrupts g.S.Sink.fails c.args.sink.now c.print_events.new.sink c.print_rear.new.sink c.print_rear.result c.print_events.ensures.tried c.print_rear.ensures.failed

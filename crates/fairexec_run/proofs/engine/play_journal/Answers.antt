@@ -9,6 +9,7 @@ use Rattle.fairexec_run.specs.Transcripts.{RunsOf}
 use Rattle.fairexec_run.proofs.EventLimits.{AreReady, are_ready}
 use Rattle.fairexec_run.proofs.RunLemmas.{run_spelled}
 use Rattle.fairexec_run.proofs.PlayLemmas.{journal_first, journal_printed, journal_begun}
+use Rattle.rt_journal_write.proofs.TryLemmas.{call_unwritten_since}
 use Rattle.fairexec_run.proofs.engine.play_journal.Goals as goal
 
 pub open_model-requires-clause-few : goal.open_model-requires-clause-few
@@ -63,3 +64,7 @@ returns-clause-err g c =
     (g.S.Sink.contents c.args.sink.now) _ c.in_ok-print_journal.ensures.ok _ c.in_ok-page.ensures.bytes c.args.stats (g.S.Sink.contents c.print_journal_rear.new.sink)
     )
     c.print_journal_rear.ensures.err
+
+pub returns-clause-failed : goal.returns-clause-failed
+returns-clause-failed g c =
+    call_unwritten_since g.S.Sink.tries g.S.Sink.interrupts g.S.Sink.fails c.args.sink.now c.print_journal.new.sink c.print_journal_rear.new.sink c.print_journal_rear.result c.print_journal.ensures.tried c.print_journal_rear.ensures.failed

@@ -1,8 +1,11 @@
 -- The statistics of the cores so far stand behind what the page had.
 use Rattle.std.proofs.Common.{string_bytes}
+use Rattle.rt_sink.specs.Tries.{IsNoFewer}
 use Rattle.fairexec_run.proofs.RearLemmas.{HasStats}
 use Rattle.fairexec_run.proofs.journal.print_journal_stats.Given as goal
 
 abbrev pub invariant-loop-core : goal.invariant-loop-core
-invariant-loop-core g l =
-    HasStats l.assembly l.core (string_bytes l.initial.page) (string_bytes l.page) (g.S.Sink.contents l.initial.sink) (g.S.Sink.contents l.sink)
+invariant-loop-core g l = record {
+  stats : HasStats l.assembly l.core (string_bytes l.initial.page) (string_bytes l.page) (g.S.Sink.contents l.initial.sink) (g.S.Sink.contents l.sink);
+  tried : IsNoFewer (g.S.Sink.tries l.initial.sink) (g.S.Sink.tries l.sink);
+}

@@ -9,4 +9,4 @@ pub returns-in-Err-clause-err : goal.returns-in-Err-clause-err
 returns-in-Err-clause-err g c = front_of_all _ _ _ (Appends-more_kept _ _ _ _ c.in_ok-print_page.ensures.ok c.flush.ensures.kept)
 
 pub returns-in-Err-clause-failed : goal.returns-in-Err-clause-failed
-returns-in-Err-clause-failed g c = (c.print_page.new.sink, c.in-Err.ensures.failed)
+returns-in-Err-clause-failed g c = (c.print_page.new.sink, c.print_page.ensures.tried, c.in-Err.ensures.failed)

@@ -2,6 +2,7 @@ use Rattle.std.proofs.lemmas.Result.{on_ok_weaker, on_err_weaker}
 use Rattle.rt_journal_write.proofs.PageLemmas.{OnErr-any}
 use Rattle.rt_world.specs.State.{assembly_of}
 use Rattle.fairexec_run.proofs.RearLemmas.{bare_out, bare_front, rear_out, rear_front, rear_stop}
+use Rattle.rt_journal_write.proofs.TryLemmas.{written_since}
 use Rattle.fairexec_run.proofs.journal.print_rear.Goals as goal
 
 pub returns-then-not-stats-clause-ok : goal.returns-then-not-stats-clause-ok
@@ -18,3 +19,7 @@ returns-clause-ok g c = on_ok_weaker c.print_last-2.result (rear_out c.args.stat
 
 pub returns-clause-err : goal.returns-clause-err
 returns-clause-err g c = on_err_weaker c.print_last-2.result (rear_front c.args.stats (assembly_of c.args.model.now) _ _ _ _ c.if-not-stats.false c.in_ok-print_stats.ensures.ok _) c.print_last-2.ensures.err
+
+pub returns-clause-failed : goal.returns-clause-failed
+returns-clause-failed g c =
+    written_since g.S.Sink.tries g.S.Sink.interrupts g.S.Sink.fails c.args.sink.now c.print_stats.new.sink c.print_last-2.new.sink c.print_last-2.result c.print_stats.ensures.tried c.print_last-2.ensures.failed

@@ -1,20 +1,32 @@
 use Rattle.std.proofs.Common.{[], sym, ◌∙◌, arith, string_bytes}
 use Rattle.std.proofs.lemmas.Option.{unwrap_or-slice_get}
+use Rattle.std.proofs.lemmas.Result.{err_from_is_err_and}
+use Rattle.rt_sink.proofs.TryLemmas.{no_fewer}
 use Rattle.rt_journal_write.proofs.PageLemmas.{OnErr-any}
 use Rattle.rt_world.specs.State.{assembly_of}
 use Rattle.fairexec_run.proofs.RearLemmas.{no_stats, stats_more, stats_stop, stats_whole}
+use Rattle.rt_journal_write.proofs.TryLemmas.{unwritten_since}
 use Rattle.fairexec_run.proofs.journal.print_stats.Goals as goal
 
 pub loop-core-init : goal.loop-core-init
-loop-core-init g c = no_stats (assembly_of c.args.model.now) (string_bytes c.args.page.now) (g.S.Sink.contents c.args.sink.now)
+loop-core-init g c = record { stats = no_stats (assembly_of c.args.model.now) (string_bytes c.args.page.now) (g.S.Sink.contents c.args.sink.now); tried = omega arith }
 
 pub loop-core-preserved : goal.loop-core-preserved
-loop-core-preserved g c = stats_more (assembly_of c.args.model.now) c.loop-core.core _ c.cores-cores.ensures _ (c.journal.ensures.notes ∙ sym (unwrap_or-slice_get c.args.model.now.journals c.loop-core.core [])) _ _ _ _ c.loop-core.invariant _ _ c.in_ok-print_core.ensures.ok
+loop-core-preserved g c = record {
+  stats = stats_more (assembly_of c.args.model.now) c.loop-core.core _ c.cores-cores.ensures _ (c.journal.ensures.notes ∙ sym (unwrap_or-slice_get c.args.model.now.journals c.loop-core.core [])) _ _ _ _ c.loop-core.invariant.stats _ _ c.in_ok-print_core.ensures.ok;
+  tried = no_fewer _ _ _ c.loop-core.invariant.tried c.print_core.ensures.tried;
+}
 
 pub returns-in_err-print_core-clause-err : goal.returns-in_err-print_core-clause-err
 returns-in_err-print_core-clause-err g c =
     OnErr-any c.from_residual.result
-    (stats_stop (assembly_of c.args.model.now) c.loop-core.core _ c.cores-cores.ensures _ (c.journal.ensures.notes ∙ sym (unwrap_or-slice_get c.args.model.now.journals c.loop-core.core [])) _ _ _ _ c.loop-core.invariant _ (omega arith) c.in_err-print_core.ensures.err)
+    (stats_stop (assembly_of c.args.model.now) c.loop-core.core _ c.cores-cores.ensures _ (c.journal.ensures.notes ∙ sym (unwrap_or-slice_get c.args.model.now.journals c.loop-core.core [])) _ _ _ _ c.loop-core.invariant.stats _ (omega arith) c.in_err-print_core.ensures.err)
 
 pub returns-clause-ok : goal.returns-clause-ok
-returns-clause-ok g c = stats_whole (assembly_of c.args.model.now) c.loop-core.core _ _ _ _ (let all = c.cores-cores.ensures in omega arith) c.loop-core.invariant
+returns-clause-ok g c = stats_whole (assembly_of c.args.model.now) c.loop-core.core _ _ _ _ (let all = c.cores-cores.ensures in omega arith) c.loop-core.invariant.stats
+
+pub returns-in_err-print_core-clause-failed : goal.returns-in_err-print_core-clause-failed
+returns-in_err-print_core-clause-failed g c =
+    let failed = unwritten_since g.S.Sink.tries g.S.Sink.interrupts g.S.Sink.fails c.args.sink.now c.loop-core.sink c.print_core.new.sink c.in_err-print_core.field-0.0 c.loop-core.invariant.tried c.in_err-print_core.ensures.failed in
+    let told = err_from_is_err_and c.from_residual.result c.from_residual.ensures.1 in
+    rw (told.1, told.2) failed

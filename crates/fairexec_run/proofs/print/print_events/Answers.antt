@@ -3,9 +3,11 @@ use Rattle.std.proofs.lemmas.Iterator.Adapters.{YieldsList-from_vec}
 use Rattle.std.proofs.lemmas.Iterator.Consumers.{YieldsList-so_far, YieldsList-turn, YieldsList-end}
 use Rattle.std.proofs.lemmas.List.{map-id}
 use Rattle.rt_journal_write.proofs.PageLemmas.{OnErr-any}
+use Rattle.rt_sink.proofs.TryLemmas.{no_fewer, failed_since}
 use Rattle.fairexec_script.specs.Limits.{IsEventOf}
 use Rattle.fairexec_run.specs.Outputs.{WritesAll}
 use Rattle.fairexec_run.proofs.EventTexts.{writes_more, writes_out, writes_first, page_first, left_over, left_after, roomy_more, roomy_here}
+use Rattle.rt_journal_write.proofs.TryLemmas.{known_unwritten}
 use Rattle.fairexec_run.proofs.print.print_events.Goals as goal
 
 pub print_event-requires : goal.print_event-requires
@@ -27,6 +29,7 @@ loop-event-preserved-in-Continue-branch-2 g c =
     record {
       writes = writes_out _ _ _ _ _ _ _ more _ _ c.in_ok-print_page.ensures.ok c.in_ok-print_page.ensures.empty;
       roomy = roomy_more _ _ _ _ c.in-Some.event _ _ one.0 c.loop-event.invariant.roomy one.1 (omega arith);
+      tried = no_fewer _ _ _ c.loop-event.invariant.tried c.print_page.ensures.tried;
     }
 
 pub loop-event-preserved : goal.loop-event-preserved
@@ -36,6 +39,7 @@ loop-event-preserved g c =
     record {
       writes = writes_more c.loop-event.yielded _ _ _ _ _ _ c.loop-event.invariant.writes c.in-Some.event _ _ one.0 one.1 one.2;
       roomy = roomy_more _ _ _ _ c.in-Some.event _ _ one.0 c.loop-event.invariant.roomy one.1 (omega arith);
+      tried = c.loop-event.invariant.tried;
     }
 
 pub returns-clause-ok : goal.returns-clause-ok
@@ -58,3 +62,8 @@ returns-in_err-print_page-clause-err g c =
     let one = c.in_ok-print_event.ensures.ok in
     let more = writes_more c.loop-event.yielded _ _ _ _ _ _ c.loop-event.invariant.writes c.in-Some.event _ _ one.0 one.1 one.2 in
     OnErr-any c.from_residual-in_err-print_page.result (page_first _ _ _ _ _ _ _ more c.args.events.items _ _ (left_after c.args.events.items c.loop-event.yielded c.in-Some.event so_far turn.0 turn.1) c.in_err-print_page.ensures.err)
+
+pub returns-in_err-print_page-clause-failed : goal.returns-in_err-print_page-clause-failed
+returns-in_err-print_page-clause-failed g c =
+    known_unwritten c.from_residual-in_err-print_page.result
+    (failed_since g.S.Sink.tries g.S.Sink.interrupts g.S.Sink.fails c.args.sink.now c.loop-event.sink c.print_page.new.sink c.loop-event.invariant.tried c.in_err-print_page.ensures.failed)

@@ -3,6 +3,7 @@ use Rattle.std.proofs.lemmas.Result.{on_ok_weaker, on_err_weaker}
 use Rattle.rt_journal_write.specs.Texts.{head_text, text_of, journal_lines, end_line}
 use Rattle.rt_journal_write.proofs.PageLemmas.{puts_first, puts_then, puts_more, front_then, front_now, front_of_page, all_written, OnErr-any}
 use Rattle.rt_journal_write.proofs.LineLemmas.{journal_text-parts}
+use Rattle.rt_journal_write.proofs.TryLemmas.{written_since}
 use Rattle.rt_journal_write.proofs.write.write_journal.Goals as goal
 
 pub returns-in_err-put_journals-clause-err : goal.returns-in_err-put_journals-clause-err
@@ -17,6 +18,10 @@ returns-in_err-put_end-clause-err g c =
     OnErr-any c.from_residual-in_err-put_end.result
     (front_now _ _ _ _ _ _ _ (puts_then _ _ _ _ _ _ _ _ (head ++ body) (puts_first _ _ _ _ c.in_ok-page.ensures.bytes c.in_ok-put_head.ensures) c.in_ok-put_journals.ensures.ok refl)
     (journal_text-parts c.args.assembly.now ∙ sym (append_assoc head body (end_line ++ codes "\n"))))
+
+pub returns-clause-failed : goal.returns-clause-failed
+returns-clause-failed g c =
+    written_since g.S.Sink.tries g.S.Sink.interrupts g.S.Sink.fails c.args.sink.now c.put_journals.new.sink c.write_page.new.sink c.write_page.result c.put_journals.ensures.tried c.write_page.ensures.failed
 
 pub returns-clause-ok : goal.returns-clause-ok
 returns-clause-ok g c =

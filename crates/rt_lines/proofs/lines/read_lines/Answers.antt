@@ -23,6 +23,7 @@ loop-count-preserved g c =
         Consumes-trans _ _ _ _ _ seen.1 c.in-Ok.ensures.bytes,
         takes_append g.D.LineDraft.judge _ _ _ _ _ seen.2 c.in_default-feed.ensures.taken,
       );
+      tried = omega (arith, c.loop-count.invariant.tried, c.read_some.ensures.tried);
     }
 
 pub returns-in_default-clause-prompt : goal.returns-in_default-clause-prompt
@@ -89,7 +90,7 @@ returns-in-Err-clause-prompt g c =
     (omega (arith, length-take c.in-Ok.count c.read_some.new.room)) seen.2 c.in-Err.ensures.faulty
 
 pub returns-in_default-clause-failed : goal.returns-in_default-clause-failed
-returns-in_default-clause-failed g c = (c.loop-count.source, c.in_default.ensures.failed)
+returns-in_default-clause-failed g c = (c.loop-count.source, c.loop-count.invariant.tried, c.in_default.ensures.failed)
 
 pub returns-then-count-eq0-clause-at_once : goal.returns-then-count-eq0-clause-at_once
 returns-then-count-eq0-clause-at_once g c =

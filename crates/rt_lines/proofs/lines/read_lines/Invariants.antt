@@ -3,6 +3,7 @@ use Rattle.std.proofs.Common.{◌≡◌, ℕ, List, [], length}
 use Rattle.std.specs.Io.KnownBytes.{Consumes}
 use Rattle.rt_lines.specs.Readings.{at, IsReady, room_left}
 use Rattle.rt_lines.specs.Taking.{TakesAll}
+use Rattle.rt_sink.specs.Tries.{IsNoFewer}
 use Rattle.rt_lines.proofs.lines.read_lines.Given as goal
 
 abbrev pub invariant-loop-count : goal.invariant-loop-count
@@ -12,6 +13,7 @@ invariant-loop-count g l =
       room : length l.page ≡ 8192;
       ready : IsReady g.D.LineDraft.judge.longest g.D.LineDraft.fits g.D.LineDraft.lines_left here;
       seen : (text : List ℕ) × Consumes (g.S.Source.remaining l.initial.source) (g.S.Source.remaining l.source) text × TakesAll g.D.LineDraft.judge text (at l.fn.draft 1 []) here;
+      tried : IsNoFewer (g.S.Source.tries l.initial.source) (g.S.Source.tries l.source);
     }
 
 abbrev pub decreases-loop-count : goal.decreases-loop-count

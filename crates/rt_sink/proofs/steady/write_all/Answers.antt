@@ -1,5 +1,6 @@
 use Rattle.std.proofs.Common.{◌-◌, ◌≤◌, length, take, drop, arith, length-take}
 use Rattle.rt_sink.proofs.KnownLemmas.{Appends-more}
+use Rattle.rt_sink.proofs.TryLemmas.{no_fewer}
 use Rattle.rt_sink.proofs.steady.write_all.Goals as goal
 
 pub loop-written-preserved : goal.loop-written-preserved
@@ -11,4 +12,5 @@ loop-written-preserved g c =
     record {
       within = omega arith;
       done = Appends-more _ _ _ bytes done c.in_ok-written.field-0 c.loop-written.invariant.within fits c.loop-written.invariant.done c.in_ok-written.ensures.bytes;
+      tried = no_fewer _ _ _ c.loop-written.invariant.tried c.write_some.ensures.tried;
     }
