@@ -19,9 +19,9 @@ struct Watch {
 }
 
 impl Meter for Watch {
-    ghost Tells = { λ _ _. Unit {0} };
+    ghost Tells = { λ _ _ _. Unit {0} };
 
-    ghost TellsBegun = { λ _ _. Unit {0} };
+    ghost TellsBegun = { λ _ _ _. Unit {0} };
 
     fn start(&mut self) {
         self.begun = true;

@@ -34,7 +34,7 @@ pub fn picks_right<J, T>()
 
 /// A whole turn leaves each poll owed that the journal tells: the poll that it settles did what its task says.
 pub fn turns_owe_polls<J: Task<Out = u64>, O: OutEnd<J>, M: Meter>()
-    ensures { (meter : M) → TurnsKeepOwed J.meaning O.out O.credited O.untouched (M.Tells meter) }
+    ensures { (before after : M) → TurnsKeepOwed J.meaning O.out O.credited O.untouched (λ time. M.Tells before time after) }
 {}
 
 /// Each other step of a core and of its desk leaves each poll owed: it settles none. A collection leaves all that the ends have seen of their links.

@@ -4,28 +4,28 @@ ghost use Rattle.std.specs.Prelude.{ℕ};
 
 /// Measures a poll: it is told that the poll begins, and tells the time when the poll has ended.
 pub trait Meter {
-    /// The times that it may tell of a poll that begins with the next start.
-    ghost Tells: { Self → ℕ → Type 0 };
+    /// What it may tell of a poll that begins with the next start, and what it is behind that poll.
+    ghost Tells: { Self → ℕ → Self → Type 0 };
 
-    /// The times that it may tell of the poll that began with the last start.
-    ghost TellsBegun: { Self → ℕ → Type 0 };
+    /// What it may tell of the poll that began with the last start, and what it is behind that poll.
+    ghost TellsBegun: { Self → ℕ → Self → Type 0 };
 
     /// The poll begins right after this call.
     fn start(&mut self)
-        ensures { (time : ℕ) → TellsBegun self.new time → Tells self.old time };
+        ensures { (time : ℕ) (after : Self) → TellsBegun self.new time after → Tells self.old time after };
 
     /// The poll has just ended. The nanoseconds that it took.
     fn spent(&mut self) -> u64
-        ensures { TellsBegun self.old result };
+        ensures { TellsBegun self.old result self.new };
 }
 
 /// A time that is known before the poll.
 impl Meter for u64 {
     ghost use Rattle.std.specs.Prelude.{◌≡◌};
 
-    ghost Tells = { λ known time. time ≡ known };
+    ghost Tells = { λ known time _. time ≡ known };
 
-    ghost TellsBegun = { λ known time. time ≡ known };
+    ghost TellsBegun = { λ known time _. time ≡ known };
 
     fn start(&mut self) {}
 

@@ -94,7 +94,7 @@ pub fn poll_at<J: Job, A: Allocator, P: Post<J, J::Out>, M: Meter>(
     requires there { ContainsKey jobs.old key }
     requires ready { IfSome (get jobs.old key) (λ waiting. IsReady J.meaning waiting.job) }
     ensures polls { MakesCalls P.Does post.old post.new (λ calls. PollsAt J.meaning jobs.old key calls result.0 result.1 jobs.new) }
-    ensures tells { M.Tells meter.old result.2 }
+    ensures tells { M.Tells meter.old result.2 meter.new }
 {
     let front = &mut jobs[key];
     meter.start();

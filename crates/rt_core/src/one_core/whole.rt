@@ -110,7 +110,7 @@ impl<J: Job, A: Allocator + Clone> Core<J, A> {
         meter: &mut M,
     ) -> (Step<J::Out>, u64)
         requires ahead { IsAhead self.old next.now.queue next.now.vr next.now.name next.now.started }
-        ensures whole { MakesCalls P.Does post.old post.new (λ calls. (spent : ℕ) × M.Tells meter.old spent × TurnsWhole J.meaning self.old spent calls next.now.name next.now.queue next.now.started (pick_notes next.now.queue next.now.vr next.now.name next.now.started) (settled_of result.0) (settle_notes next.now.name result.1 result.0) self.new) }
+        ensures whole { MakesCalls P.Does post.old post.new (λ calls. (spent : ℕ) × M.Tells meter.old spent meter.new × TurnsWhole J.meaning self.old spent calls next.now.name next.now.queue next.now.started (pick_notes next.now.queue next.now.vr next.now.name next.now.started) (settled_of result.0) (settle_notes next.now.name result.1 result.0) self.new) }
         ensures bounded { IsBounded self.new }
     {
         let _named = next;
@@ -126,7 +126,7 @@ impl<J: Job, A: Allocator + Clone> Core<J, A> {
         requires free { self.old.out ≡ None }
         requires turns { self.old.turns < 2 ^ 64 - 1 }
         requires work { (queue : ℕ) × (waiting_of queue self.old.queues ≡ [] → ⊥) }
-        ensures turns { MakesCalls P.Does post.old post.new (λ calls. (spent : ℕ) × M.Tells meter.old spent × TurnsFirst J.meaning self.old spent calls result.0 result.1 self.new) }
+        ensures turns { MakesCalls P.Does post.old post.new (λ calls. (spent : ℕ) × M.Tells meter.old spent meter.new × TurnsFirst J.meaning self.old spent calls result.0 result.1 self.new) }
         ensures bounded { IsBounded self.new }
     {
         let Some((key, slip)) = self.ready.take_least() else {

@@ -71,7 +71,7 @@ fn turn_lent<J: Job<Out = u64>, A: Allocator + Clone, O: OutEnd<J> + Drop, M: Me
     requires outs { AreOutsOf (Fits J.meaning) O.out O.credited said.old ends.old.items }
     requires room { length said.old.journal.notes + said.old.cores * (3 * said.old.cap) < said.old.journal.room }
     ensures whole { MakesCalls (Does (Fits J.meaning) O.out O.credited O.untouched) (lends said.old ends.old.items) (lends said.new ends.new.items) (λ calls.
-        (spent : ℕ) × M.Tells meter.old spent × TurnsWhole J.meaning core.old spent calls next.now.name next.now.queue next.now.started
+        (spent : ℕ) × M.Tells meter.old spent meter.new × TurnsWhole J.meaning core.old spent calls next.now.name next.now.queue next.now.started
         (pick_notes next.now.queue next.now.vr next.now.name next.now.started) (settled_of result.0) (settle_notes next.now.name result.1 result.0) core.new) }
     ensures outs { AreOutsOf (Fits J.meaning) O.out O.credited said.new ends.new.items }
     ensures few { sum_by left_of said.old.lanes ≤ said.old.cores * (3 * said.old.cap) }
@@ -117,7 +117,7 @@ impl<J: Job<Out = u64>, A: Allocator + Clone> Recorded<J, A> {
         requires ahead { IsAhead self.old.core next.now.queue next.now.vr next.now.name next.now.started }
         requires outs { AreOutsOf (Fits J.meaning) O.out O.credited (desk_of self.old) ends.old.items }
         requires room { length self.old.journal.notes + self.old.core.cores * (3 * self.old.cap) + 3 ≤ self.old.journal.room }
-        ensures turns { IsPostingTurn J.meaning (Does (Fits J.meaning) O.out O.credited O.untouched) O.out O.untouched (M.Tells meter.old)
+        ensures turns { IsPostingTurn J.meaning (Does (Fits J.meaning) O.out O.credited O.untouched) O.out O.untouched (λ time. M.Tells meter.old time meter.new)
             self.old ends.old.items next.now.name next.now.queue next.now.started result self.new ends.new.items }
         ensures owed { HasOwedPolls J.meaning (seen_by O.out ends.old.items) self.old → HasOwedPolls J.meaning (seen_by O.out ends.new.items) self.new }
         ensures owes { (sender : ℕ) → LeavesOwed sender (told_under next.now.name (option_map outcome_note (outcome_settled {J = J} result)) sender) self.old self.new }
@@ -143,7 +143,7 @@ impl<J: Job<Out = u64>, A: Allocator + Clone> Recorded<J, A> {
         requires ahead { IsAhead self.old.core next.now.queue next.now.vr next.now.name next.now.started }
         requires outs { AreOutsOf (Fits J.meaning) O.out O.credited (desk_of self.old) ends.old.items }
         requires room { length self.old.journal.notes + self.old.core.cores * (3 * self.old.cap) + 3 ≤ self.old.journal.room }
-        ensures { TurnsNoted J.meaning O.out O.credited O.untouched (M.Tells meter.old)
+        ensures { TurnsNoted J.meaning O.out O.credited O.untouched (λ time. M.Tells meter.old time meter.new)
             self.old ends.old.items next.now.name next.now.queue next.now.started result self.new ends.new.items }
     {
         // There are fewer notes than turns that a core can make.

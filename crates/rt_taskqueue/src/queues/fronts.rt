@@ -52,7 +52,7 @@ impl<J: Job, A: Allocator + Clone> Queues<J, A> {
         requires exists { queue < queue_count self.old }
         requires ready { IsFrontReady J.meaning (waiting_of queue self.old) }
         ensures polls { MakesCalls P.Does post.old post.new (λ calls. PollsFront J.meaning (queues_alone self.old) queue calls result.0 result.1 (queues_alone self.new)) }
-        ensures tells { M.Tells meter.old result.2 }
+        ensures tells { M.Tells meter.old result.2 meter.new }
         ensures slips { self.new.slips ≡ self.old.slips }
         ensures limits { IsWithinLimits self.new }
     {
@@ -73,7 +73,7 @@ impl<J: Job, A: Allocator + Clone> Queues<J, A> {
         requires exists { queue < queue_count self.old }
         requires ready { IsFrontReady J.meaning (waiting_of queue self.old) }
         ensures turns { MakesCalls P.Does post.old post.new (λ calls. TurnsFront J.meaning (queues_alone self.old) queue calls result.0 result.1 (queues_alone self.new)) }
-        ensures tells { M.Tells meter.old result.2 }
+        ensures tells { M.Tells meter.old result.2 meter.new }
         ensures slips { self.new.slips ≡ self.old.slips }
         ensures limits { IsWithinLimits self.new }
     {

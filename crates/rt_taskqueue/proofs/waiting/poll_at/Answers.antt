@@ -37,4 +37,4 @@ returns-clause-polls g c =
     )
 
 pub returns-clause-tells : goal.returns-clause-tells
-returns-clause-tells g c = c.start.ensures c.spent-spent.result c.spent-spent.ensures
+returns-clause-tells g c = c.start.ensures c.spent-spent.result c.spent-spent.new.self c.spent-spent.ensures
