@@ -95,12 +95,12 @@ module _ {J T : Type 0} where
         ∙ (ap (λ journal. polls_of journal.notes) did.picks.journal ∙ poll_noted name did.was_started (writes.Pick did.queue did.picks.runtime ∷ old.recorded.journal.notes)))))
 
     -- a turn asks the gate for the poll that it notes
-    pub turn_asks : (made : Made) → MakesTurn meaning tells (λ core name. asked before core name after) (after ≡ before) old made new →
+    pub turn_asks : (kept : Type 0) (made : Made) → MakesTurn meaning tells (λ core name. asked before core name after) ((after ≡ before) × kept) old made new →
         AsksSince asked old.recorded.core.core old.recorded.journal.notes new.recorded.journal.notes before after
-    turn_asks came.Polled did = record { polls = did.0 ∷ []; told = polled_told did.0 did.1; asks = (before, refl, did.2) }
-    turn_asks came.Returned did = record { polls = []; told = ap (λ journal. polls_of journal.notes) did.0.did.journal; asks = did.1 }
-    turn_asks came.Idle did = record { polls = []; told = ap (λ view. polls_of view.journal.notes) did.1; asks = did.2 }
-    turn_asks came.Spent did = record { polls = []; told = ap (λ view. polls_of view.journal.notes) did.2; asks = did.3 }
+    turn_asks kept came.Polled did = record { polls = did.0 ∷ []; told = polled_told did.0 did.1; asks = (before, refl, did.2) }
+    turn_asks kept came.Returned did = record { polls = []; told = ap (λ journal. polls_of journal.notes) did.0.did.journal; asks = did.1.0 }
+    turn_asks kept came.Idle did = record { polls = []; told = ap (λ view. polls_of view.journal.notes) did.1; asks = did.2.0 }
+    turn_asks kept came.Spent did = record { polls = []; told = ap (λ view. polls_of view.journal.notes) did.2; asks = did.3.0 }
 
 module _ {G : Type 0} (asked : G → ℕ → JobId → G → Type 0) (core : ℕ) where
   asks_more : (one two : List JobId) (before middle after : G) → AsksFor asked core one before middle → AsksFor asked core two middle after → AsksFor asked core (two ++ one) before after

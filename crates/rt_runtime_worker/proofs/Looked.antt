@@ -1,4 +1,4 @@
--- Which clock and which gate serve a turn, and what a look at the room leaves.
+-- Which watch and which gate serve a turn, and what a look at the room leaves.
 use Rattle.std.proofs.Common.{◌≡◌, ℕ, ◌++◌, [], ◌∷◌, ap, sym, subst, arith, refl}
 use Rattle.std.specs.Prelude.{Bool, Option, Some, None, IsSome}
 use Rattle.rt_ids.specs.declared.names.JobId.{JobId}
@@ -11,16 +11,45 @@ use Rattle.rt_runtime_worker.specs.Ended.{ServedView}
 use Rattle.rt_runtime_worker.specs.Gates.{KeepsTaken}
 use Rattle.rt_runtime_worker.specs.Linked.{Grows, LinkedView, StaysLinked}
 use Rattle.rt_runtime_worker.specs.Rounds.{HasShutGates, LooksAtRoom, ShutsClosed}
-use Rattle.rt_runtime_worker.specs.Turns.{TurnsWith}
+use Rattle.rt_runtime_worker.specs.Readings.{WatchView, watch_view}
+use Rattle.rt_runtime_worker.specs.Steps.{MakesTurn}
+use Rattle.rt_runtime_worker.specs.Turns.{TakesTurn, TurnsWith}
+use Rattle.rt_runtime_worker.specs.declared.stopwatch.Stopwatch.{Stopwatch}
+use Rattle.rt_runtime_worker.specs.declared.turn.Made.{Made}
+use Rattle.rt_runtime_worker.specs.declared.turn.Made.TheVariants as came
+
+-- a stopwatch, as a worker's view has it
+abbrev pub watch_of : {C : Type 0} → Stopwatch C → WatchView C
+watch_of watch = watch_view watch.clock watch.taken
 
 module _ {J T C G : Type 0} (meaning : Meaning J T) (reads : C → ℕ → C → Type 0) (asked : G → ℕ → JobId → G → Type 0) where
-  -- the same clock and the same gates
-  pub turns_same : (clock own : C) (before here after there : G) (old new : ServedView J T) (some : Bool) → own ≡ clock → here ≡ before → there ≡ after →
-      TurnsWith meaning reads asked own here there old some new → TurnsWith meaning reads asked clock before after old some new
-  turns_same clock own before here after there old new some clock_is here_is there_is turns =
-      subst (λ clock. TurnsWith meaning reads asked clock before after old some new) clock_is
-      (subst (λ gate. TurnsWith meaning reads asked own gate after old some new) here_is
-      (subst (λ gate. TurnsWith meaning reads asked own here gate old some new) there_is turns))
+  -- the same watch and the same gates
+  pub turns_same : (watch own later : WatchView C) (before here after there : G) (old new : ServedView J T) (some : Bool) → own ≡ watch → here ≡ before → there ≡ after →
+      TurnsWith meaning reads asked own later here there old some new → TurnsWith meaning reads asked watch later before after old some new
+  turns_same watch own later before here after there old new some watch_is here_is there_is turns =
+      subst (λ watch. TurnsWith meaning reads asked watch later before after old some new) watch_is
+      (subst (λ gate. TurnsWith meaning reads asked own later gate after old some new) here_is
+      (subst (λ gate. TurnsWith meaning reads asked own later here gate old some new) there_is turns))
+
+module _ {J T : Type 0} (meaning : Meaning J T) (tells : ℕ → Type 0) (asked : ℕ → JobId → Type 0) {kept keeps : Type 0} (keeps_too : kept → keeps) where
+  makes_kept : (old new : LinkedView J T) (made : Made) → MakesTurn meaning tells asked kept old made new → MakesTurn meaning tells asked keeps old made new
+  makes_kept old new came.Polled did = did
+  makes_kept old new came.Returned did = (did.0, keeps_too did.1)
+  makes_kept old new came.Idle did = (did.0, did.1, keeps_too did.2)
+  makes_kept old new came.Spent did = (did.0, did.1, did.2, keeps_too did.3)
+
+  -- a turn without a poll keeps what follows from what it keeps
+  pub turns_kept : {old new : ServedView J T} {some : Bool} → TakesTurn meaning tells asked kept old some new → TakesTurn meaning tells asked keeps old some new
+  turns_kept {old} {new} turn = record {
+    before = turn.before;
+    looks = turn.looks;
+    stays = turn.stays;
+    ready = turn.ready;
+    ended = turn.ended;
+    made = turn.made;
+    makes = makes_kept turn.before.linked new.linked turn.made turn.makes;
+    answer = turn.answer;
+  }
 
 module _ {J T : Type 0} where
   -- a worker that only looked at its room, and isn't at its end behind that, has delivered nothing

@@ -16,13 +16,13 @@ worker_of linked ending clock gate taken turns tries idle bells =
 module _ {J T C G : Type 0} (meaning : Meaning J T) (reads : C → ℕ → C → Type 0) (asked : G → ℕ → JobId → G → Type 0) where
   -- a round that was made, and how it counts
   pub goes : (old inside new : WorkerView J T C G) (result some again : Bool) → inside ≡ old → result ≡ some →
-      MakesRound meaning reads asked (nat_lt 0 inside.idle) inside.taken inside.turns (round_of inside) result new.turns (round_of new) →
+      MakesRound meaning reads asked (nat_lt 0 inside.idle) inside.turns (round_of inside) result new.turns (round_of new) →
       CountsIdle inside.tries some inside.idle again new.idle → new.tries ≡ inside.tries → new.bells ≡ inside.bells → GoesOn meaning reads asked old again new
   goes old inside new result some again seen told makes counts tries bells =
       subst (λ (old : WorkerView J T C G). GoesOn meaning reads asked old again new) seen
       (record {
         some = some;
-        makes = subst (λ some. MakesRound meaning reads asked (nat_lt 0 inside.idle) inside.taken inside.turns (round_of inside) some new.turns (round_of new)) told makes;
+        makes = subst (λ some. MakesRound meaning reads asked (nat_lt 0 inside.idle) inside.turns (round_of inside) some new.turns (round_of new)) told makes;
         counts = counts;
         keeps = record { tries = tries; bells = bells };
       })

@@ -1,15 +1,18 @@
 -- When a worker looks at its links, and what a round is.
-use Rattle.std.specs.Prelude.{◌≡◌, ◌⊎◌, ◌&&◌, ◌||◌, ℕ, ◌+◌, ◌<◌, Bool, true, false, not}
+use Rattle.std.specs.Prelude.{◌≡◌, ◌⊎◌, ◌&&◌, ◌||◌, ℕ, ◌+◌, ◌<◌, ◌≤◌, Bool, true, false, not}
 use Rattle.rt_ids.specs.declared.names.JobId.{JobId}
 use Rattle.rt_jobs.specs.Meanings.{Meaning}
 use Rattle.rt_runtime_worker.specs.Ended.{ServedView, IsServed}
+use Rattle.rt_runtime_worker.specs.Readings.{WatchView, watch_view}
 use Rattle.rt_runtime_worker.specs.Rounds.{CollectsFirst, HearsAll, ShutsClosed, StepsServed}
+use Rattle.rt_runtime_worker.specs.Steps.{HasNoTurn}
 use Rattle.rt_runtime_worker.specs.Turns.{TurnsWith}
 
--- Without a look at the links a turn is made only if polls took little time since the last look, and it counts as one of those that are left.
+-- Without a look at the links a turn is made exactly if one is left and polls took little time since the last look, and it counts as one of those that are
+-- left.
 abbrev pub PassesLinks : ℕ → ℕ → Bool → ℕ → Type 0
 PassesLinks taken turns true left = (taken < 2000) × (turns ≡ left + 1)
-PassesLinks taken turns false left = left ≡ turns
+PassesLinks taken turns false left = ((turns ≡ 0) ⊎ (2000 ≤ taken)) × (left ≡ turns)
 
 -- how many turns may be made at most without a look
 abbrev pub most_turns : ℕ
@@ -24,23 +27,25 @@ turns_after false = 0
 abbrev pub found_quiet : Bool → Bool → Bool
 found_quiet worked came = worked && not came
 
--- a worker's core, and the clock and the gate that serve it
+-- a worker's core, and the watch and the gate that serve it
 pub record RoundView (J T C G : Type 0) : Type 0 where
   pub served : ServedView J T
-  pub clock : C
+  pub watch : WatchView C
   pub gate : G
 
 -- the same, put together
-abbrev pub round_view : {J T C G : Type 0} → ServedView J T → C → G → RoundView J T C G
-round_view served clock gate = record { served = served; clock = clock; gate = gate }
+abbrev pub round_view : {J T C G : Type 0} → ServedView J T → C → ℕ → G → RoundView J T C G
+round_view served clock taken gate = record { served = served; watch = watch_view clock taken; gate = gate }
 
 module _ {J T C G : Type 0} (meaning : Meaning J T) (reads : C → ℕ → C → Type 0) (asked : G → ℕ → JobId → G → Type 0) where
   -- Each gate of a closed core is shut and each sender is heard, then a turn is made, and then the outcomes of each core are collected. Between these steps
   -- the core agrees with its journal and its ends, and each step leaves the notes that stand and what the ends have seen. It tells whether anything was
-  -- done, and how many turns may be made without a look behind it.
+  -- done, and how many turns may be made without a look behind it. The clock is read for its turn and for nothing else, and the time of polls is counted
+  -- anew from there.
   pub record LooksAtAll (old : RoundView J T C G) (some : Bool) (turns : ℕ) (new : RoundView J T C G) : Type 0 where
     pub heard : ServedView J T
     pub turned : ServedView J T
+    pub timed : WatchView C
     pub came : Bool
     pub worked : Bool
     pub back : Bool
@@ -48,26 +53,27 @@ module _ {J T C G : Type 0} (meaning : Meaning J T) (reads : C → ℕ → C →
     pub shuts : ShutsClosed old.served.linked heard.linked
     pub hears : HearsAll (old.served.linked.recorded.core.cores + 1) old.served heard
     pub sound : IsServed meaning heard
-    pub turn : TurnsWith meaning reads asked old.clock old.gate new.gate heard worked turned
+    pub turn : TurnsWith meaning reads asked old.watch timed old.gate new.gate heard worked turned
     pub turn_steps : StepsServed heard worked turned
     pub gathers : StepsServed turned back new.served
     pub collects : CollectsFirst old.served.linked.recorded.core.cores new.served
     pub tells : some ≡ (worked || (came || back))
     pub plans : turns ≡ turns_after (found_quiet worked (came || back))
+    pub forgets : new.watch ≡ record timed { taken = 0 }
 
-  -- no turn without a look, and all is as it was; or one such turn, which counts, and it tells whether there was work
-  abbrev pub TurnsAlone : ℕ → ℕ → RoundView J T C G → Bool → ℕ → RoundView J T C G → Type 0
-  TurnsAlone taken turns old some left new =
-      ((some ≡ false) × (left ≡ turns) × (new ≡ old))
-      ⊎ (PassesLinks taken turns true left × TurnsWith meaning reads asked old.clock old.gate new.gate old.served some new.served × StepsServed old.served some new.served)
+  -- no turn without a look, if it is time to look, and all is as it was; or one such turn, which counts, and it tells whether there was work
+  abbrev pub TurnsAlone : ℕ → RoundView J T C G → Bool → ℕ → RoundView J T C G → Type 0
+  TurnsAlone turns old some left new =
+      (PassesLinks old.watch.taken turns false left × (some ≡ false) × (new ≡ old))
+      ⊎ (PassesLinks old.watch.taken turns true left × TurnsWith meaning reads asked old.watch new.watch old.gate new.gate old.served some new.served × StepsServed old.served some new.served)
 
-  -- a look at everything; or none and nothing else, behind a round in which nothing was done
+  -- a look at everything; or none and nothing else, behind a round in which nothing was done, where no turn is to be made
   abbrev pub LooksOrRests : Bool → ℕ → RoundView J T C G → Bool → ℕ → RoundView J T C G → Type 0
   LooksOrRests was_idle turns old some left new =
-      LooksAtAll old some left new ⊎ ((was_idle ≡ true) × (some ≡ false) × (left ≡ turns) × (new ≡ old))
+      LooksAtAll old some left new ⊎ ((was_idle ≡ true) × HasNoTurn old.served.linked.recorded.journal.notes × (some ≡ false) × (left ≡ turns) × (new ≡ old))
 
   -- a turn without a look for which there was work; or none, or one for which there was none, and then a look if one is to be
-  abbrev pub MakesRound : Bool → ℕ → ℕ → RoundView J T C G → Bool → ℕ → RoundView J T C G → Type 0
-  MakesRound was_idle taken turns old some left new =
-      ((some ≡ true) × TurnsAlone taken turns old true left new)
-      ⊎ ((middle : RoundView J T C G) × (fewer : ℕ) × TurnsAlone taken turns old false fewer middle × LooksOrRests was_idle fewer middle some left new)
+  abbrev pub MakesRound : Bool → ℕ → RoundView J T C G → Bool → ℕ → RoundView J T C G → Type 0
+  MakesRound was_idle turns old some left new =
+      ((some ≡ true) × TurnsAlone turns old true left new)
+      ⊎ ((middle : RoundView J T C G) × (fewer : ℕ) × TurnsAlone turns old false fewer middle × LooksOrRests was_idle fewer middle some left new)

@@ -3,6 +3,7 @@ use Rattle.std.specs.Prelude.{◌≡◌, ◌⊎◌, ℕ, ◌+◌, ◌≤◌, ◌
 use Rattle.rt_ids.specs.declared.names.JobId.{JobId}
 use Rattle.rt_jobs.specs.Meanings.{Meaning}
 use Rattle.rt_runtime_worker.specs.Looks.{LooksAtAll, MakesRound, RoundView}
+use Rattle.rt_runtime_worker.specs.Readings.{watch_view}
 use Rattle.rt_runtime_worker.specs.Workers.{WorkerView}
 
 -- The rounds in a row in which nothing was done are counted. The next round is made at once, unless nothing was done in this one and in as many before it as
@@ -13,9 +14,9 @@ CountsIdle tries false idle true later = (idle < tries) × (later ≡ idle + 1)
 CountsIdle tries false idle false later = (tries ≤ idle) × (later ≡ idle)
 
 module _ {J T C G : Type 0} where
-  -- its core, and the clock and the gate that serve it
+  -- its core, and the watch and the gate that serve it
   abbrev pub round_of : WorkerView J T C G → RoundView J T C G
-  round_of worker = record { served = record { linked = worker.linked; ending = worker.ending }; clock = worker.clock; gate = worker.gate }
+  round_of worker = record { served = record { linked = worker.linked; ending = worker.ending }; watch = watch_view worker.clock worker.taken; gate = worker.gate }
 
   -- the worker tries as often as before, and rings the same bells
   pub record KeepsTries (old new : WorkerView J T C G) : Type 0 where
@@ -26,7 +27,7 @@ module _ {J T C G : Type 0} (meaning : Meaning J T) (reads : C → ℕ → C →
   -- one round, and whether the next one is made at once
   pub record GoesOn (old : WorkerView J T C G) (again : Bool) (new : WorkerView J T C G) : Type 0 where
     pub some : Bool
-    pub makes : MakesRound meaning reads asked (nat_lt 0 old.idle) old.taken old.turns (round_of old) some new.turns (round_of new)
+    pub makes : MakesRound meaning reads asked (nat_lt 0 old.idle) old.turns (round_of old) some new.turns (round_of new)
     pub counts : CountsIdle old.tries some old.idle again new.idle
     pub keeps : KeepsTries old new
 

@@ -1,8 +1,9 @@
 -- What the steps of a worker do: a gate is shut, an order is delivered, a turn is made, outcomes are collected.
-use Rattle.std.specs.Prelude.{◌≡◌, ◌≢◌, ℕ, ◌+◌, ◌*◌, ◌-◌, ◌^◌, ◌≤◌, Bool, true, false, length}
+use Rattle.std.specs.Prelude.{◌≡◌, ◌≢◌, ◌⊎◌, ℕ, ◌+◌, ◌*◌, ◌-◌, ◌^◌, ◌≤◌, Bool, true, false, length}
 use Rattle.rt_ids.specs.declared.names.JobId.{JobId}
 use Rattle.rt_ids.specs.declared.order.Order.{Order}
 use Rattle.rt_ids.specs.declared.order.Reason.{Reason}
+use Rattle.rt_ids.specs.Journal.{Journal}
 use Rattle.rt_ids.specs.Picks.{turns}
 use Rattle.rt_ids.specs.Work.{has_work}
 use Rattle.rt_jobs.specs.Meanings.{Meaning}
@@ -21,6 +22,10 @@ use Rattle.rt_runtime_worker.specs.Linked.{LinkedView, StaysLinked}
 use Rattle.rt_runtime_worker.specs.declared.turn.Made.{Made}
 use Rattle.rt_runtime_worker.specs.declared.turn.Made.TheVariants.{Polled, Returned, Idle, Spent}
 use Rattle.rt_link.specs.Fits.{Fits}
+
+-- no turn is to be made: no queue has work, or all turns are used
+abbrev pub HasNoTurn : {T : Type 0} → Journal T → Type 0
+HasNoTurn notes = ((queue : ℕ) → has_work queue notes ≡ false) ⊎ (turns notes ≡ 2 ^ 64 - 1)
 
 module _ {J T : Type 0} where
   -- the gate of this sender is shut, and its count is told

@@ -4,7 +4,7 @@ use Rattle.rt_ids.specs.declared.names.JobId.{JobId}
 use Rattle.rt_jobs.specs.Meanings.{Meaning}
 use Rattle.rt_runtime_worker.specs.Linked.{StaysLinked}
 use Rattle.rt_runtime_worker.specs.Ended.{ServedView}
-use Rattle.rt_runtime_worker.specs.Readings.{BeginsNext}
+use Rattle.rt_runtime_worker.specs.Readings.{TimesNext, WatchView}
 use Rattle.rt_runtime_worker.specs.Rooms.{IsReady}
 use Rattle.rt_runtime_worker.specs.Rounds.{LooksAtRoom, is_turn}
 use Rattle.rt_runtime_worker.specs.Steps.{MakesTurn}
@@ -24,6 +24,8 @@ module _ {J T : Type 0} (meaning : Meaning J T) (tells : ℕ → Type 0) (asked 
     pub answer : some ≡ is_turn made
 
 module _ {J T C G : Type 0} (meaning : Meaning J T) (reads : C → ℕ → C → Type 0) (asked : G → ℕ → JobId → G → Type 0) where
-  -- the room is looked at, and a turn is made, with this clock and this gate
-  abbrev pub TurnsWith : C → G → G → ServedView J T → Bool → ServedView J T → Type 0
-  TurnsWith clock before after old some new = TakesTurn meaning (BeginsNext reads clock) (λ core name. asked before core name after) (after ≡ before) old some new
+  -- The room is looked at, and a turn is made. A poll is timed by this watch, and this gate is asked for it. Behind a turn without a poll both are as they
+  -- were.
+  abbrev pub TurnsWith : WatchView C → WatchView C → G → G → ServedView J T → Bool → ServedView J T → Type 0
+  TurnsWith watch later before after old some new =
+      TakesTurn meaning (λ spent. TimesNext reads watch spent later) (λ core name. asked before core name after) ((after ≡ before) × (later ≡ watch)) old some new

@@ -10,6 +10,7 @@ pub mod laws;
 mod leave;
 mod lent;
 pub mod linked;
+mod lying;
 mod opening;
 mod posting;
 mod quiet;

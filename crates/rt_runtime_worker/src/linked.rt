@@ -1,12 +1,13 @@
 //! A core beside its journal, with its actor's ends of the links.
 
-ghost use Rattle.std.specs.Prelude.{◌≡◌, ◌+◌, ◌<◌, ◌≤◌, ◌↔◌, IsSome, IsTrue, None, length, is_some};
+ghost use Rattle.std.specs.Prelude.{◌≡◌, ◌+◌, ◌<◌, ◌≤◌, ◌↔◌, IsSome, IsTrue, None, false, length, is_some};
 ghost use Rattle.rt_ids.specs.Closing.{IsDrained, core_mode, final_count};
 ghost use Rattle.rt_runtime_worker.specs.Linked.{IsLinked};
 ghost use Rattle.rt_runtime_worker.specs.Rooms.{IsShort};
-ghost use Rattle.rt_runtime_worker.specs.Steps.{ShutsGate, DeliversFrom, CollectsOf};
+ghost use Rattle.rt_runtime_worker.specs.Steps.{ShutsGate, DeliversFrom, CollectsOf, HasNoTurn};
 
 use crate::lent::{collect_on, deliver_on, shut_on};
+use rt_core::{Ahead, PickError};
 use rt_ids::{ActorNo, CoreNo};
 use rt_jobs::Task;
 use rt_journal::Recorded;
@@ -91,6 +92,18 @@ impl<J: Task<Out = u64>> Linked<J> {
     /// Whether a link shows an order or an outcome that wasn't seen yet: one load for each link. No clause says that the answer is right.
     pub(crate) fn shows(&self) -> bool {
         self.ends.ins.iter().any(|end| end.shows()) || self.ends.outs.iter().any(|end| end.shows())
+    }
+
+    /// Whether a turn would poll a job or hand one back. Nothing changes.
+    pub(crate) fn has_turn(&self) -> bool
+        ensures { result ≡ false → HasNoTurn self.now.recorded.journal.notes }
+    {
+        match self.recorded.ahead() {
+            Ok(Ahead::Job(_)) | Ok(Ahead::Back) => true,
+            Ok(Ahead::Idle) => false,
+            Err(PickError::Spent) => false,
+            Err(PickError::Busy) => unreachable!(),
+        }
     }
 
     /// Whether fewer notes are free than a worker keeps for its end.

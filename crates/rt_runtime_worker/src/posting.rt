@@ -38,7 +38,7 @@ fn post_turn<J: Job + Task<Out = u64>, M: Meter>(
     requires known { next.now.name.from ≤ recorded.old.core.cores }
     requires beside { AreBeside (Fits J.meaning) recorded.old ends.old }
     requires room { HasPollRoom recorded.old }
-    ensures polls { PollsOne J.meaning (M.Tells meter.old) next.now.name (record { recorded = recorded.old; ends = ends.old }) (record { recorded = recorded.new; ends = ends.new }) }
+    ensures polls { PollsOne J.meaning (λ time. M.Tells meter.old time meter.new) next.now.name (record { recorded = recorded.old; ends = ends.old }) (record { recorded = recorded.new; ends = ends.new }) }
     ensures owed { PollsAsOwed J.meaning recorded.old ends.old → PollsAsOwed J.meaning recorded.new ends.new }
     ensures owing { AreOwing (Fits J.meaning) next.now.name.from (told_under next.now.name (option_map outcome_note (outcome_settled {J = J} result)) next.now.name.from) recorded.new ends.new }
     ensures may_answer { MayAnswer J.meaning recorded.new.took next.now.name result }
@@ -89,7 +89,7 @@ pub(crate) fn turn_on<J: Job + Task<Out = u64>, M: Meter>(
     requires beside { AreBeside (Fits J.meaning) recorded.old ends.old }
     requires owed { PollsAsOwed J.meaning recorded.old ends.old }
     requires room { HasPollRoom recorded.old }
-    ensures polls { PollsOne J.meaning (M.Tells meter.old) next.now.name (record { recorded = recorded.old; ends = ends.old }) (record { recorded = recorded.new; ends = ends.new }) }
+    ensures polls { PollsOne J.meaning (λ time. M.Tells meter.old time meter.new) next.now.name (record { recorded = recorded.old; ends = ends.old }) (record { recorded = recorded.new; ends = ends.new }) }
     ensures linked { IsLinked J.meaning (record { recorded = recorded.new; ends = ends.new }) }
     ensures stays { StaysLinked (record { recorded = recorded.old; ends = ends.old }) (record { recorded = recorded.new; ends = ends.new }) }
 {

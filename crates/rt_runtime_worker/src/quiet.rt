@@ -2,13 +2,14 @@
 
 ghost use Rattle.std.specs.Prelude.{◌≡◌, IfSome, IfNone, false, is_none, true};
 ghost use Rattle.rt_runtime_worker.specs.Asks.{AsksSince};
-ghost use Rattle.rt_runtime_worker.specs.Bells.{AreRung};
+ghost use Rattle.rt_runtime_worker.specs.Bells.{AreRung, once_more};
 ghost use Rattle.rt_runtime_worker.specs.Linked.{StaysLinked};
 ghost use Rattle.rt_runtime_worker.specs.Looks.{LooksAtAll, round_view};
 ghost use Rattle.rt_runtime_worker.specs.Rounds.{StepsServed};
 ghost use Rattle.rt_runtime_worker.specs.Workers.{IsBellOf};
 
-use crate::bell::{Bell, Key, Woken, sleep};
+use crate::bell::Bell;
+use crate::lying::{Lain, Slept, lie_down};
 use crate::rounds::Rounds;
 use rt_jobs::{Job, Task};
 use rt_runtime_config::{Clock, Gate};
@@ -17,39 +18,42 @@ use std::sync::Wait;
 /// That a worker lay down, and that a look behind that found nothing to do. Only `look_again` makes one, and only it may sleep.
 #[derive(Drop)]
 pub(crate) struct Quiet<'a> {
-    key: Key<'a>,
+    lain: Lain<'a>,
 }
 
 impl<'a> Quiet<'a> {
     /// Parks until the bell rings. It doesn't if the bell has rung since the worker lay down.
-    pub(crate) fn sleep<R: Wait>(self, rt: &R) -> Woken<'a>
-        ensures { result.bell.now ≡ self.entry.key.bell.now }
+    pub(crate) fn sleep<R: Wait>(self, rt: &R) -> Slept<'a>
+        ensures bell { result.woken.bell.now ≡ self.entry.lain.key.bell.now }
+        ensures looks { result.looks ≡ self.entry.lain.looks }
     {
-        let Quiet { key } = self;
-        sleep(rt, key)
+        let Quiet { lain } = self;
+        lain.sleep(rt)
     }
 }
 
 /// Looks once more at all links, and makes a turn, behind the moment in which the worker lay down. It gets up if anything was done.
 pub(crate) fn look_again<'a, J: Job + Task<Out = u64>, C: Clock + Drop, G: Gate + Drop>(
     rounds: &mut Rounds<J, C, G>,
-    key: Key<'a>,
+    lain: Lain<'a>,
 ) -> Option<Quiet<'a>>
     requires rung { AreRung rounds.old.served rounds.old.bells }
-    ensures key { IfSome result (λ quiet. quiet.key.bell.now ≡ key.entry.bell.now) }
+    ensures bell { IfSome result (λ quiet. quiet.lain.key.bell.now ≡ lain.entry.key.bell.now) }
+    ensures lain { IfSome result (λ quiet. quiet.lain.looks ≡ lain.entry.looks) }
+    ensures counts { rounds.new.looks ≡ once_more rounds.old.looks }
     ensures some { IfSome result (λ _. StepsServed rounds.old.served false rounds.new.served) }
     ensures none { IfNone result (StepsServed rounds.old.served true rounds.new.served) }
-    ensures looks { LooksAtAll J.meaning C.Reads G.Asked (round_view rounds.old.served rounds.old.watch.clock rounds.old.gate) (is_none result) rounds.new.turns (round_view rounds.new.served rounds.new.watch.clock rounds.new.gate) }
+    ensures looks { LooksAtAll J.meaning C.Reads G.Asked (round_view rounds.old.served rounds.old.watch.clock rounds.old.watch.taken rounds.old.gate) (is_none result) rounds.new.turns (round_view rounds.new.served rounds.new.watch.clock rounds.new.watch.taken rounds.new.gate) }
     ensures asks { AsksSince G.Asked rounds.old.served.linked.recorded.core.core rounds.old.served.linked.recorded.journal.notes rounds.new.served.linked.recorded.journal.notes rounds.old.gate rounds.new.gate }
     ensures stays { StaysLinked rounds.old.served.linked rounds.new.served.linked }
     ensures rung { AreRung rounds.new.served rounds.new.bells }
     ensures names { rounds.new.bells.names ≡ rounds.old.bells.names }
 {
     if rounds.look() {
-        // step: get up, by the key that is dropped
+        // step: get up, by the key of `lain` that is dropped
         return None;
     }
-    Some(Quiet { key })
+    Some(Quiet { lain })
 }
 
 /// Lies down on the bell of the worker's own core, looks once more, and parks until that bell rings if there was nothing.
@@ -57,19 +61,21 @@ pub(crate) fn rest<'a, J: Job + Task<Out = u64>, C: Clock + Drop, G: Gate + Drop
     rt: &R,
     own: &'a Bell,
     rounds: &mut Rounds<J, C, G>,
-) -> Option<Woken<'a>>
+) -> Option<Slept<'a>>
     requires rung { AreRung rounds.old.served rounds.old.bells }
     requires own { IsBellOf rounds.old.served.linked.recorded.core.core rounds.old.bells.names own.now }
-    ensures slept { IfSome result (λ woken. woken.bell.now ≡ own.now) }
+    ensures slept { IfSome result (λ slept. slept.woken.bell.now ≡ own.now) }
+    ensures before { IfSome result (λ slept. slept.looks ≡ rounds.old.looks) }
+    ensures counts { rounds.new.looks ≡ once_more rounds.old.looks }
     ensures bell { IsBellOf rounds.new.served.linked.recorded.core.core rounds.new.bells.names own.now }
-    ensures looks { LooksAtAll J.meaning C.Reads G.Asked (round_view rounds.old.served rounds.old.watch.clock rounds.old.gate) (is_none result) rounds.new.turns (round_view rounds.new.served rounds.new.watch.clock rounds.new.gate) }
+    ensures looks { LooksAtAll J.meaning C.Reads G.Asked (round_view rounds.old.served rounds.old.watch.clock rounds.old.watch.taken rounds.old.gate) (is_none result) rounds.new.turns (round_view rounds.new.served rounds.new.watch.clock rounds.new.watch.taken rounds.new.gate) }
     ensures asks { AsksSince G.Asked rounds.old.served.linked.recorded.core.core rounds.old.served.linked.recorded.journal.notes rounds.new.served.linked.recorded.journal.notes rounds.old.gate rounds.new.gate }
     ensures stays { StaysLinked rounds.old.served.linked rounds.new.served.linked }
     ensures rung { AreRung rounds.new.served rounds.new.bells }
     ensures names { rounds.new.bells.names ≡ rounds.old.bells.names }
 {
-    let key = own.lie_down();
-    match look_again(rounds, key) {
+    let lain = lie_down(own, rounds);
+    match look_again(rounds, lain) {
         Some(quiet) => Some(quiet.sleep(rt)),
         None => None,
     }

@@ -2,11 +2,13 @@
 
 ghost use Rattle.std.specs.Prelude.{◌≡◌, ◌||◌, ◌+◌, ◌≤◌, ◌↔◌, IsTrue, drop, length, reverse, true};
 ghost use Rattle.rt_ids.specs.Closing.{IsDrained};
-ghost use Rattle.rt_runtime_worker.specs.Bells.{AreRung, rung_for};
+ghost use Rattle.rt_runtime_worker.specs.Bells.{AreRung, once_more, rung_for};
 ghost use Rattle.rt_runtime_worker.specs.Asks.{AsksSince, NotesNoPoll};
 ghost use Rattle.rt_runtime_worker.specs.Ended.{IsServed};
 ghost use Rattle.rt_runtime_worker.specs.Looks.{LooksAtAll, MakesRound, PassesLinks, TurnsAlone, found_quiet, round_view, turns_after};
+ghost use Rattle.rt_runtime_worker.specs.Readings.{watch_view};
 ghost use Rattle.rt_runtime_worker.specs.Rounds.{CollectsFirst, HearsAll, ShutsClosed, StepsServed};
+ghost use Rattle.rt_runtime_worker.specs.Steps.{HasNoTurn};
 ghost use Rattle.rt_runtime_worker.specs.Turns.{TurnsWith};
 
 use crate::bells::Bells;
@@ -57,6 +59,8 @@ pub(crate) struct Rounds<J: Task<Out = u64>, C: Drop, G: Drop> {
     bells: Bells,
     /// How many turns may be made before the next look at the links.
     turns: u32,
+    /// How many looks at the links were made.
+    looks: u64,
 }
 
 impl<J: Task<Out = u64>, C: Drop, G: Drop> Rounds<J, C, G> {
@@ -76,6 +80,7 @@ impl<J: Task<Out = u64>, C: Drop, G: Drop> Rounds<J, C, G> {
             gate,
             bells,
             turns: 0,
+            looks: 0,
         }
     }
 
@@ -102,19 +107,34 @@ impl<J: Task<Out = u64>, C: Drop, G: Drop> Rounds<J, C, G> {
         served.into_ended()
     }
 
-    /// Plans the turns until the next look at the links: some if the links had nothing while there was work, else none.
+    /// Counts a look at the links, and plans the turns until the next one: some if the links had nothing while there was work, else none.
     fn plan(&mut self, quiet: bool)
-        ensures { self.new ≡ record self.old { turns = turns_after quiet; watch = record self.old.watch { taken = 0 } } }
+        ensures { self.new ≡ record self.old { turns = turns_after quiet; watch = record self.old.watch { taken = 0 }; looks = once_more self.old.looks } }
     {
+        self.looks = self.looks.saturating_add(1);
         self.watch.forget();
         self.turns = if quiet { MOST_TURNS } else { 0 };
     }
 
-    /// Whether no link shows anything, behind a round in which nothing was done.
-    fn has_nothing(&self, was_idle: bool) -> bool
-        ensures { result ≡ true → was_idle ≡ true }
+    /// How many looks at the links were made.
+    pub(crate) fn looks(&self) -> u64
+        ensures { result ≡ self.now.looks }
     {
-        was_idle && !self.served.shows()
+        self.looks
+    }
+
+    /// Whether no turn is to be made and no link shows anything, behind a round in which nothing was done.
+    fn has_nothing(&self, was_idle: bool) -> bool
+        ensures idle { result ≡ true → was_idle ≡ true }
+        ensures no_turn { result ≡ true → HasNoTurn self.now.served.linked.recorded.journal.notes }
+    {
+        if !was_idle {
+            return false;
+        }
+        if self.served.has_turn() {
+            return false;
+        }
+        !self.served.shows()
     }
 
     /// Whether a turn is made without a look at the links. It counts as made.
@@ -122,7 +142,10 @@ impl<J: Task<Out = u64>, C: Drop, G: Drop> Rounds<J, C, G> {
         ensures passes { PassesLinks self.old.watch.taken self.old.turns result self.new.turns }
         ensures rest { self.new ≡ record self.old { turns = self.new.turns } }
     {
-        if self.turns == 0 || self.watch.taken() >= MOST_TIME {
+        if self.turns == 0 {
+            return false;
+        }
+        if self.watch.taken() >= MOST_TIME {
             return false;
         }
         self.turns -= 1;
@@ -172,11 +195,12 @@ impl<J: Job + Task<Out = u64>, C: Clock + Drop, G: Gate + Drop> Rounds<J, C, G> 
     fn take_turn(&mut self) -> bool
         requires rung { AreRung self.old.served self.old.bells }
         ensures steps { StepsServed self.old.served result self.new.served }
-        ensures takes { TurnsWith J.meaning C.Reads G.Asked self.old.watch.clock self.old.gate self.new.gate self.old.served result self.new.served }
+        ensures takes { TurnsWith J.meaning C.Reads G.Asked (watch_view self.old.watch.clock self.old.watch.taken) (watch_view self.new.watch.clock self.new.watch.taken) self.old.gate self.new.gate self.old.served result self.new.served }
         ensures asks { AsksSince G.Asked self.old.served.linked.recorded.core.core self.old.served.linked.recorded.journal.notes self.new.served.linked.recorded.journal.notes self.old.gate self.new.gate }
         ensures rung { AreRung self.new.served self.new.bells }
         ensures names { self.new.bells.names ≡ self.old.bells.names }
         ensures turns { self.new.turns ≡ self.old.turns }
+        ensures looks { self.new.looks ≡ self.old.looks }
     {
         let before = self.served.journal().len();
         let turned = self
@@ -190,8 +214,8 @@ impl<J: Job + Task<Out = u64>, C: Clock + Drop, G: Gate + Drop> Rounds<J, C, G> 
     pub(crate) fn look(&mut self) -> bool
         requires rung { AreRung self.old.served self.old.bells }
         ensures steps { StepsServed self.old.served result self.new.served }
-        ensures looks { LooksAtAll J.meaning C.Reads G.Asked (round_view self.old.served self.old.watch.clock self.old.gate) result self.new.turns (round_view self.new.served self.new.watch.clock self.new.gate) }
-        ensures forgets { self.new.watch.taken ≡ 0 }
+        ensures looks { LooksAtAll J.meaning C.Reads G.Asked (round_view self.old.served self.old.watch.clock self.old.watch.taken self.old.gate) result self.new.turns (round_view self.new.served self.new.watch.clock self.new.watch.taken self.new.gate) }
+        ensures counts { self.new.looks ≡ once_more self.old.looks }
         ensures asks { AsksSince G.Asked self.old.served.linked.recorded.core.core self.old.served.linked.recorded.journal.notes self.new.served.linked.recorded.journal.notes self.old.gate self.new.gate }
         ensures rung { AreRung self.new.served self.new.bells }
         ensures names { self.new.bells.names ≡ self.old.bells.names }
@@ -208,7 +232,7 @@ impl<J: Job + Task<Out = u64>, C: Clock + Drop, G: Gate + Drop> Rounds<J, C, G> 
     fn turn_alone(&mut self) -> bool
         requires rung { AreRung self.old.served self.old.bells }
         ensures steps { StepsServed self.old.served result self.new.served }
-        ensures alone { TurnsAlone J.meaning C.Reads G.Asked self.old.watch.taken self.old.turns (round_view self.old.served self.old.watch.clock self.old.gate) result self.new.turns (round_view self.new.served self.new.watch.clock self.new.gate) }
+        ensures alone { TurnsAlone J.meaning C.Reads G.Asked self.old.turns (round_view self.old.served self.old.watch.clock self.old.watch.taken self.old.gate) result self.new.turns (round_view self.new.served self.new.watch.clock self.new.watch.taken self.new.gate) }
         ensures asks { AsksSince G.Asked self.old.served.linked.recorded.core.core self.old.served.linked.recorded.journal.notes self.new.served.linked.recorded.journal.notes self.old.gate self.new.gate }
         ensures rung { AreRung self.new.served self.new.bells }
         ensures names { self.new.bells.names ≡ self.old.bells.names }
@@ -224,7 +248,7 @@ impl<J: Job + Task<Out = u64>, C: Clock + Drop, G: Gate + Drop> Rounds<J, C, G> 
     pub(crate) fn round(&mut self, was_idle: bool) -> bool
         requires rung { AreRung self.old.served self.old.bells }
         ensures steps { StepsServed self.old.served result self.new.served }
-        ensures makes { MakesRound J.meaning C.Reads G.Asked was_idle self.old.watch.taken self.old.turns (round_view self.old.served self.old.watch.clock self.old.gate) result self.new.turns (round_view self.new.served self.new.watch.clock self.new.gate) }
+        ensures makes { MakesRound J.meaning C.Reads G.Asked was_idle self.old.turns (round_view self.old.served self.old.watch.clock self.old.watch.taken self.old.gate) result self.new.turns (round_view self.new.served self.new.watch.clock self.new.watch.taken self.new.gate) }
         ensures asks { AsksSince G.Asked self.old.served.linked.recorded.core.core self.old.served.linked.recorded.journal.notes self.new.served.linked.recorded.journal.notes self.old.gate self.new.gate }
         ensures rung { AreRung self.new.served self.new.bells }
         ensures names { self.new.bells.names ≡ self.old.bells.names }

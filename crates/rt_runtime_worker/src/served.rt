@@ -8,6 +8,7 @@ ghost use Rattle.rt_runtime_worker.specs.Linked.{StaysLinked};
 ghost use Rattle.rt_runtime_worker.specs.Gates.{KeepsTaken};
 ghost use Rattle.rt_runtime_worker.specs.Rooms.{ActsAsItMay, HasSpare, IsReady};
 ghost use Rattle.rt_runtime_worker.specs.Rounds.{CollectsFirst, CollectsNext, HasShutGates, HearsFirst, HearsOne, HearsSome, LooksAtRoom, StepsServed, is_turn};
+ghost use Rattle.rt_runtime_worker.specs.Steps.{HasNoTurn};
 ghost use Rattle.rt_runtime_worker.specs.Turns.{TakesTurn};
 
 use crate::ended::Ended;
@@ -177,6 +178,13 @@ impl<J: Task<Out = u64>> Served<J> {
         self.linked.shows()
     }
 
+    /// Whether a turn would poll a job or hand one back.
+    pub(crate) fn has_turn(&self) -> bool
+        ensures { result ≡ false → HasNoTurn self.now.linked.recorded.journal.notes }
+    {
+        self.linked.has_turn()
+    }
+
     /// The notes of this worker.
     pub(crate) fn journal(&self) -> &Journal<u64>
         ensures journal { result.now ≡ self.now.linked.recorded.journal }
@@ -213,7 +221,7 @@ impl<J: Job + Task<Out = u64>> Served<J> {
         gate: &mut G,
     ) -> bool
         ensures steps { StepsServed self.old result self.new }
-        ensures takes { TakesTurn J.meaning (M.Tells meter.old) (λ core name. G.Asked gate.old core name gate.new) (gate.new ≡ gate.old) self.old result self.new }
+        ensures takes { TakesTurn J.meaning (λ time. M.Tells meter.old time meter.new) (λ core name. G.Asked gate.old core name gate.new) ((gate.new ≡ gate.old) × (meter.new ≡ meter.old)) self.old result self.new }
         ensures asks { AsksSince G.Asked self.old.linked.recorded.core.core self.old.linked.recorded.journal.notes self.new.linked.recorded.journal.notes gate.old gate.new }
     {
         self.look();

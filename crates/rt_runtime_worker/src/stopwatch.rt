@@ -1,7 +1,6 @@
 //! How a worker measures a poll: two readings of its clock.
 
-ghost use Rattle.std.specs.Prelude.{◌≡◌, ◌+◌, ◌-◌, ◌^◌, ℕ, min};
-ghost use Rattle.rt_runtime_worker.specs.Readings.{BeginsNext, EndsNext};
+ghost use Rattle.std.specs.Prelude.{◌≡◌};
 
 use rt_runtime_config::{Clock, spent_between};
 use rt_taskqueue::Meter;
@@ -45,23 +44,18 @@ impl<C> Stopwatch<C> {
 
 /// It is read just before a poll and just after it, and at no other time. A poll took what lies between two readings in a row.
 impl<C: Clock> Meter for Stopwatch<C> {
-    ghost use Rattle.rt_runtime_worker.specs.Readings.{EndsNext, BeginsNext};
+    ghost use Rattle.std.specs.Prelude.{◌≡◌};
+    ghost use Rattle.rt_runtime_worker.specs.Readings.{EndsNext, BeginsNext, taken_with};
 
-    ghost Tells = { λ watch spent. BeginsNext C.Reads watch.clock spent };
+    ghost Tells = { λ watch spent after. BeginsNext C.Reads watch.clock spent after.clock × (after.taken ≡ taken_with watch.taken spent) };
 
-    ghost TellsBegun = { λ watch spent. EndsNext C.Reads watch.clock watch.began spent };
+    ghost TellsBegun = { λ watch spent after. EndsNext C.Reads watch.clock watch.began spent after.clock × (after.taken ≡ taken_with watch.taken spent) };
 
-    fn start(&mut self)
-        ensures begins { (time : ℕ) → EndsNext C.Reads self.new.clock self.new.began time → BeginsNext C.Reads self.old.clock time }
-        ensures taken { self.new.taken ≡ self.old.taken }
-    {
+    fn start(&mut self) {
         self.began = self.clock.now();
     }
 
-    fn spent(&mut self) -> u64
-        ensures ends { EndsNext C.Reads self.old.clock self.old.began result }
-        ensures taken { self.new.taken ≡ min (self.old.taken + result) (2 ^ 64 - 1) }
-    {
+    fn spent(&mut self) -> u64 {
         let spent = spent_between(self.began, self.clock.now());
         self.taken = self.taken.saturating_add(spent);
         spent

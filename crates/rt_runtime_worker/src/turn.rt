@@ -43,7 +43,7 @@ impl<J: Job + Task<Out = u64>> Linked<J> {
     /// the poll begins, and asked how long it took. `alloc` gives no memory: what is lent leaves an empty list of it behind.
     pub fn turn<M: Meter, G: Gate>(&mut self, alloc: Global, meter: &mut M, gate: &mut G) -> Made
         requires room { HasTurnRoom self.old.recorded }
-        ensures makes { MakesTurn J.meaning (M.Tells meter.old) (λ core name. G.Asked gate.old core name gate.new) (gate.new ≡ gate.old) self.old result self.new }
+        ensures makes { MakesTurn J.meaning (λ time. M.Tells meter.old time meter.new) (λ core name. G.Asked gate.old core name gate.new) ((gate.new ≡ gate.old) × (meter.new ≡ meter.old)) self.old result self.new }
         ensures stays { StaysLinked self.old self.new }
         ensures linked { IsLinked J.meaning self.new }
     {

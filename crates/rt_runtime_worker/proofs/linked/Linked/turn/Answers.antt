@@ -39,7 +39,7 @@ turn_on-requires-clause-room g c =
 
 pub returns-in-Ok-Job-clause-makes : goal.returns-in-Ok-Job-clause-makes
 returns-in-Ok-Job-clause-makes g c =
-    subst (λ (old : LinkedView _ _). (name : JobId) × PollsOne g.J.Task.meaning (g.M.Meter.Tells c.args.meter.now) name old (record { recorded = c.turn_on.new.recorded; ends = c.turn_on.new.ends }) × g.G.Gate.Asked c.args.gate.now old.recorded.core.core name c.ask-leave.new.gate) c.self.view_is
+    subst (λ (old : LinkedView _ _). (name : JobId) × PollsOne g.J.Task.meaning (λ time. g.M.Meter.Tells c.args.meter.now time c.turn_on.new.meter) name old (record { recorded = c.turn_on.new.recorded; ends = c.turn_on.new.ends }) × g.G.Gate.Asked c.args.gate.now old.recorded.core.core name c.ask-leave.new.gate) c.self.view_is
     (c.in-Ok-Job.next.name, c.turn_on.ensures.polls, subst (λ core. g.G.Gate.Asked c.args.gate.now core c.in-Ok-Job.next.name c.ask-leave.new.gate) (c.number_of-core.ensures ∙ c.self.invariant.0.beside.number) c.ask-leave.ensures.asked)
 
 pub returns-in-Ok-Job-clause-stays : goal.returns-in-Ok-Job-clause-stays
@@ -58,7 +58,7 @@ pub hand_back-requires-clause-room : goal.hand_back-requires-clause-room
 hand_back-requires-clause-room g c = (subst (λ (view : LinkedView _ _). HasTurnRoom view.recorded) (sym c.self.view_is) c.requires.room).back
 
 pub returns-in-Ok-Back-clause-makes : goal.returns-in-Ok-Back-clause-makes
-returns-in-Ok-Back-clause-makes g c = subst (λ (old : LinkedView _ _). HandsBack g.J.Task.meaning old.recorded c.hand_back.new.recorded × (c.args.gate.now ≡ c.args.gate.now)) c.self.view_is (c.hand_back.ensures.hands, refl)
+returns-in-Ok-Back-clause-makes g c = subst (λ (old : LinkedView _ _). HandsBack g.J.Task.meaning old.recorded c.hand_back.new.recorded × ((c.args.gate.now ≡ c.args.gate.now) × (c.args.meter.now ≡ c.args.meter.now))) c.self.view_is (c.hand_back.ensures.hands, (refl, refl))
 
 pub returns-in-Ok-Back-clause-stays : goal.returns-in-Ok-Back-clause-stays
 returns-in-Ok-Back-clause-stays g c = subst (λ (old : LinkedView _ _). StaysLinked old (record { recorded = c.hand_back.new.recorded; ends = c.hand_back.new.ends })) c.self.view_is c.hand_back.ensures.stays
@@ -71,7 +71,7 @@ returns-in-Ok-Idle-clause-makes g c =
     let told = subst (λ (one : Ahead). TellsAhead c.self.inside.recorded.core (Ok one)) c.in-Ok-Idle.field-0-is c.in-Ok-Idle.ensures in (
       subst (λ (view : LinkedView _ _). (queue : ℕ) → has_work queue view.recorded.journal.notes ≡ false) c.self.view_is (idle c.self.inside.recorded c.self.invariant.0.recorded told.0 told.1),
       refl,
-      refl,
+      (refl, refl),
     )
 
 pub returns-in-Ok-Idle-clause-stays : goal.returns-in-Ok-Idle-clause-stays
@@ -85,7 +85,7 @@ returns-in-Err-Spent-clause-makes g c =
     let told = subst (λ (one : PickError). TellsAhead c.self.inside.recorded.core (Err one)) c.in-Err-Spent.field-0-is c.in-Err-Spent.ensures in
     let used = subst (λ (view : LinkedView _ _). (turns view.recorded.journal.notes ≡ 2 ^ 64 - 1) × ((queue : ℕ) × (has_work queue view.recorded.journal.notes ≡ true))) c.self.view_is
     (all_used c.self.inside.recorded c.self.invariant.0.recorded told) in
-    (used.0, used.1, refl, refl)
+    (used.0, used.1, refl, (refl, refl))
 
 pub returns-in-Err-Spent-clause-stays : goal.returns-in-Err-Spent-clause-stays
 returns-in-Err-Spent-clause-stays g c = stays_same c.args.self.now

@@ -1,11 +1,12 @@
 use Rattle.std.proofs.Common.{sym, ◌∙◌, subst, ap}
 use Rattle.std.specs.Prelude.{◌||◌}
 use Rattle.rt_runtime_worker.specs.Rounds.{CollectsFirst, StepsServed}
-use Rattle.rt_runtime_worker.specs.Bells.{AreRung}
+use Rattle.rt_runtime_worker.specs.Bells.{AreRung, once_more}
 use Rattle.rt_runtime_worker.specs.Asks.{polls_of}
+use Rattle.rt_runtime_worker.specs.Readings.{watch_view}
 use Rattle.rt_runtime_worker.specs.Looks.{found_quiet, turns_after}
 use Rattle.rt_runtime_worker.proofs.Asking.{asks_between}
-use Rattle.rt_runtime_worker.proofs.Looked.{turns_same}
+use Rattle.rt_runtime_worker.proofs.Looked.{turns_same, watch_of}
 use Rattle.rt_runtime_worker.proofs.Telling.{steps_cores, steps_three}
 use Rattle.rt_runtime_worker.proofs.rounds.Rounds.look.Goals as goal
 
@@ -26,10 +27,11 @@ returns-clause-looks g c = record {
   shuts = c.take_in-taken.ensures.shuts;
   hears = c.take_in-taken.ensures.hears;
   sound = c.take_in-taken.ensures.sound;
+  timed = watch_of c.take_turn-turned.new.self.watch;
   turn =
-      turns_same g.J.Task.meaning g.C.Clock.Reads g.G.Gate.Asked c.args.self.now.watch.clock c.take_in-taken.new.self.watch.clock c.args.self.now.gate c.take_in-taken.new.self.gate c.plan.new.self.gate c.take_turn-turned.new.self.gate
-      c.take_in-taken.new.self.served c.take_turn-turned.new.self.served c.take_turn-turned.result (ap (λ rounds. rounds.watch.clock) c.take_in-taken.ensures.rest) (ap (λ rounds. rounds.gate) c.take_in-taken.ensures.rest)
-      (sym (ap (λ rounds. rounds.gate) c.plan.ensures ∙ ap (λ rounds. rounds.gate) c.gather-collected.ensures.rest)) c.take_turn-turned.ensures.takes;
+      turns_same g.J.Task.meaning g.C.Clock.Reads g.G.Gate.Asked (watch_of c.args.self.now.watch) (watch_of c.take_in-taken.new.self.watch) (watch_of c.take_turn-turned.new.self.watch) c.args.self.now.gate c.take_in-taken.new.self.gate
+      c.plan.new.self.gate c.take_turn-turned.new.self.gate c.take_in-taken.new.self.served c.take_turn-turned.new.self.served c.take_turn-turned.result (ap (λ rounds. watch_of rounds.watch) c.take_in-taken.ensures.rest)
+      (ap (λ rounds. rounds.gate) c.take_in-taken.ensures.rest) (sym (ap (λ rounds. rounds.gate) c.plan.ensures ∙ ap (λ rounds. rounds.gate) c.gather-collected.ensures.rest)) c.take_turn-turned.ensures.takes;
   turn_steps = c.take_turn-turned.ensures.steps;
   gathers = subst (λ served. StepsServed c.take_turn-turned.new.self.served c.gather-collected.result served) (sym (ap (λ rounds. rounds.served) c.plan.ensures)) c.gather-collected.ensures.steps;
   collects =
@@ -37,10 +39,13 @@ returns-clause-looks g c = record {
       (subst (λ cores. CollectsFirst cores c.gather-collected.new.self.served) (steps_cores c.take_in-taken.ensures.steps c.take_turn-turned.ensures.steps) c.gather-collected.ensures.collects);
   tells = c.either.ensures ∙ ap (λ came. c.take_turn-turned.result || came) c.either-came.ensures;
   plans = ap (λ rounds. rounds.turns) c.plan.ensures ∙ ap turns_after (c.is_quiet.ensures ∙ ap (found_quiet c.take_turn-turned.result) c.either-came.ensures);
+  forgets = ap (λ rounds. watch_of rounds.watch) c.plan.ensures ∙ ap (λ rounds. watch_view rounds.watch.clock 0) c.gather-collected.ensures.rest;
 }
 
-pub returns-clause-forgets : goal.returns-clause-forgets
-returns-clause-forgets g c = ap (λ rounds. rounds.watch.taken) c.plan.ensures
+pub returns-clause-counts : goal.returns-clause-counts
+returns-clause-counts g c =
+    ap (λ rounds. rounds.looks) c.plan.ensures
+    ∙ ap once_more (ap (λ rounds. rounds.looks) c.gather-collected.ensures.rest ∙ (c.take_turn-turned.ensures.looks ∙ ap (λ rounds. rounds.looks) c.take_in-taken.ensures.rest))
 
 pub returns-clause-names : goal.returns-clause-names
 returns-clause-names g c = ap (λ rounds. rounds.bells.names) c.plan.ensures ∙ (c.gather-collected.ensures.names ∙ (c.take_turn-turned.ensures.names ∙ c.take_in-taken.ensures.names))

@@ -14,8 +14,8 @@ returns-then-turn_alone-clause-makes g c =
     inl (
       refl,
       subst
-          (λ some. TurnsAlone g.J.Task.meaning g.C.Clock.Reads g.G.Gate.Asked c.args.self.now.watch.taken c.args.self.now.turns (round_view c.args.self.now.served c.args.self.now.watch.clock c.args.self.now.gate)
-          some c.turn_alone.new.self.turns (round_view c.turn_alone.new.self.served c.turn_alone.new.self.watch.clock c.turn_alone.new.self.gate))
+          (λ some. TurnsAlone g.J.Task.meaning g.C.Clock.Reads g.G.Gate.Asked c.args.self.now.turns (round_view c.args.self.now.served c.args.self.now.watch.clock c.args.self.now.watch.taken c.args.self.now.gate)
+          some c.turn_alone.new.self.turns (round_view c.turn_alone.new.self.served c.turn_alone.new.self.watch.clock c.turn_alone.new.self.watch.taken c.turn_alone.new.self.gate))
           c.if-turn_alone.true c.turn_alone.ensures.alone,
     )
 
@@ -25,13 +25,13 @@ returns-then-has_nothing-clause-steps g c = subst (λ some. StepsServed c.args.s
 pub returns-then-has_nothing-clause-makes : goal.returns-then-has_nothing-clause-makes
 returns-then-has_nothing-clause-makes g c =
     inr (
-      round_view c.turn_alone.new.self.served c.turn_alone.new.self.watch.clock c.turn_alone.new.self.gate,
+      round_view c.turn_alone.new.self.served c.turn_alone.new.self.watch.clock c.turn_alone.new.self.watch.taken c.turn_alone.new.self.gate,
       c.turn_alone.new.self.turns,
       subst
-          (λ some. TurnsAlone g.J.Task.meaning g.C.Clock.Reads g.G.Gate.Asked c.args.self.now.watch.taken c.args.self.now.turns (round_view c.args.self.now.served c.args.self.now.watch.clock c.args.self.now.gate)
-          some c.turn_alone.new.self.turns (round_view c.turn_alone.new.self.served c.turn_alone.new.self.watch.clock c.turn_alone.new.self.gate))
+          (λ some. TurnsAlone g.J.Task.meaning g.C.Clock.Reads g.G.Gate.Asked c.args.self.now.turns (round_view c.args.self.now.served c.args.self.now.watch.clock c.args.self.now.watch.taken c.args.self.now.gate)
+          some c.turn_alone.new.self.turns (round_view c.turn_alone.new.self.served c.turn_alone.new.self.watch.clock c.turn_alone.new.self.watch.taken c.turn_alone.new.self.gate))
           c.if-turn_alone.false c.turn_alone.ensures.alone,
-      inr (c.has_nothing.ensures c.if-has_nothing.true, refl, refl, refl),
+      inr (c.has_nothing.ensures.idle c.if-has_nothing.true, c.has_nothing.ensures.no_turn c.if-has_nothing.true, refl, refl, refl),
     )
 
 pub returns-clause-steps : goal.returns-clause-steps
@@ -42,11 +42,11 @@ returns-clause-steps g c =
 pub returns-clause-makes : goal.returns-clause-makes
 returns-clause-makes g c =
     inr (
-      round_view c.turn_alone.new.self.served c.turn_alone.new.self.watch.clock c.turn_alone.new.self.gate,
+      round_view c.turn_alone.new.self.served c.turn_alone.new.self.watch.clock c.turn_alone.new.self.watch.taken c.turn_alone.new.self.gate,
       c.turn_alone.new.self.turns,
       subst
-          (λ some. TurnsAlone g.J.Task.meaning g.C.Clock.Reads g.G.Gate.Asked c.args.self.now.watch.taken c.args.self.now.turns (round_view c.args.self.now.served c.args.self.now.watch.clock c.args.self.now.gate)
-          some c.turn_alone.new.self.turns (round_view c.turn_alone.new.self.served c.turn_alone.new.self.watch.clock c.turn_alone.new.self.gate))
+          (λ some. TurnsAlone g.J.Task.meaning g.C.Clock.Reads g.G.Gate.Asked c.args.self.now.turns (round_view c.args.self.now.served c.args.self.now.watch.clock c.args.self.now.watch.taken c.args.self.now.gate)
+          some c.turn_alone.new.self.turns (round_view c.turn_alone.new.self.served c.turn_alone.new.self.watch.clock c.turn_alone.new.self.watch.taken c.turn_alone.new.self.gate))
           c.if-turn_alone.false c.turn_alone.ensures.alone,
       inl c.look.ensures.looks,
     )

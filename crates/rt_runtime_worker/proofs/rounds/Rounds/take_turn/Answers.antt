@@ -2,6 +2,7 @@ use Rattle.std.proofs.Common.{◌≡◌, ◌≤◌, drop, length, ◌∙◌, ap,
 use Rattle.std.specs.Prelude.{reverse}
 use Rattle.rt_runtime_worker.specs.Bells.{BellsView, rung_for}
 use Rattle.rt_runtime_worker.proofs.Growing.{no_shorter}
+use Rattle.rt_runtime_worker.proofs.Looked.{turns_kept, watch_of}
 use Rattle.rt_runtime_worker.proofs.Rung.{are_rung}
 use Rattle.rt_runtime_worker.proofs.rounds.Rounds.take_turn.Goals as goal
 
@@ -19,3 +20,6 @@ returns-clause-rung g c =
     (ap (λ (bells : BellsView). bells.rings) c.ring_since.ensures
     ∙ (ap (λ journal. rung_for (drop c.len-before.result (reverse journal.notes)) c.args.self.now.bells.rings) c.journal-2.ensures.journal
     ∙ ap (λ count. rung_for (drop count (reverse c.take_turn-turned.new.self.linked.recorded.journal.notes)) c.args.self.now.bells.rings) before))
+
+pub returns-clause-takes : goal.returns-clause-takes
+returns-clause-takes g c = turns_kept _ _ _ (λ (kept : (c.take_turn-turned.new.gate ≡ c.args.self.now.gate) × (c.take_turn-turned.new.meter ≡ c.args.self.now.watch)). (kept.0, ap watch_of kept.1)) c.take_turn-turned.ensures.takes
