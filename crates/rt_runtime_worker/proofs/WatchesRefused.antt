@@ -1,19 +1,19 @@
 -- Turns that are left out, and watches behind a poll, that are refused.
-use Rattle.std.proofs.Common.{◌≡◌, ℕ, ◌+◌, ◌≤◌, inl, inr, refl, arith}
+use Rattle.std.proofs.Common.{◌≡◌, ℕ, ◌+◌, ◌<◌, ◌≤◌, inl, inr, refl, arith}
 use Rattle.std.specs.Prelude.{◌⊎◌, false}
 use Rattle.rt_runtime_worker.specs.Looks.{PassesLinks}
 use Rattle.rt_runtime_worker.specs.Readings.{TimesNext, watch_view}
 
-is_time : (5 ≡ 0) ⊎ (2000 ≤ 0) → ⊥
-is_time (inl none) = omega (arith, none)
-is_time (inr long) = omega (arith, long)
+is_early : (turns taken : ℕ) → 0 < turns → taken < 2000 → (turns ≡ 0) ⊎ (2000 ≤ taken) → ⊥
+is_early turns taken some short (inl none) = omega (arith, some, none)
+is_early turns taken some short (inr long) = omega (arith, short, long)
 
 -- five turns are left, no poll took time, and no turn is made
 turn_is_left_out : PassesLinks 0 5 false 5 → ⊥
-turn_is_left_out passes = is_time passes.0
+turn_is_left_out passes = is_early 5 0 (omega arith) (omega arith) passes.0
 
 -- a clock that tells how often it was read
-tells_next : ℕ → ℕ → ℕ → Type 0
+abbrev tells_next : ℕ → ℕ → ℕ → Type 0
 tells_next clock told after = (told ≡ clock) × (after ≡ clock + 1)
 
 -- it is read twice for a poll, and the poll is counted
