@@ -27,6 +27,9 @@ sys.dont_write_bytecode = True
 from edits import ROOT, edits_of, stop
 
 FAILED = re.compile(r"^test (\S+) \.\.\. FAILED", re.MULTILINE)
+# How many seconds the tests may take without an edit, and with one, by which some hang. On a busy machine the first must not be too few.
+UNTOUCHED_SECONDS = 300
+EDITED_SECONDS = 60
 
 
 class Try:
@@ -40,7 +43,7 @@ class Try:
         self.said = ""
 
     def run(self, lane, begin):
-        """Builds and runs the tests in the copy of a lane. `begin` starts a command, and answers what it says and its status."""
+        """Builds and runs the tests in the copy of a lane. `begin` runs them for at most so many seconds, and answers what is said and the status."""
         folder = lane / "crates" / (self.crate or self.tests)
         texts = {}
         why = self.edit and self.edit.apply(folder, texts)
@@ -51,7 +54,8 @@ class Try:
         try:
             for file, text in texts.items():
                 (folder / file).write_text(text)
-            self.said, status = begin(lane / "crates" / self.tests)
+            seconds = EDITED_SECONDS if self.edit else UNTOUCHED_SECONDS
+            self.said, status = begin(lane / "crates" / self.tests, seconds)
             self.passes = status == 0
         finally:
             for file, text in were.items():
@@ -86,13 +90,13 @@ class Lanes:
         self.running = set()
         self.is_stopped = False
 
-    def begin(self, folder):
+    def begin(self, folder, seconds):
         with self.lock:
             if self.is_stopped:
                 return "stopped", 1
             how = {"stdin": subprocess.DEVNULL, "stdout": subprocess.PIPE, "stderr": subprocess.STDOUT, "start_new_session": True}
             try:
-                started = subprocess.Popen(["rt", "try", "--test"], cwd=folder, text=True, errors="replace", **how)
+                started = subprocess.Popen(["rt", "try", "--test", "--seconds", str(seconds)], cwd=folder, text=True, errors="replace", **how)
             except OSError as error:
                 return f"rt doesn't start: {error.strerror}", 1
             self.running.add(started)
