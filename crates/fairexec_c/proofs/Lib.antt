@@ -1,2 +1,3 @@
 mod Asked
+pub mod Kept
 pub mod Values

@@ -57,6 +57,7 @@ impl Hosted {
     }
 
     /// Delivers an order of the host.
+    #[tactic(auto, using(crate::proofs::Kept::keeps_ends, crate::proofs::Kept::keeps_wakes))]
     pub(crate) fn hand_in(&mut self, order: Order<HostJob>) -> Delivered<HostJob>
         requires room { inside_count self.old < self.old.queues.room }
         requires left { delivered_of 1 self.old < 2 ^ 64 - 1 }
@@ -123,6 +124,8 @@ impl Hosted {
         let (settled, _notes) = self.core.settle(poll_told(job, step), spent);
         match settled {
             Settled::Yielded => Code::Ok,
+            Settled::Parked => Code::Parked,
+            Settled::Stayed => Code::Ok,
             Settled::Finished(_) => Code::Done,
         }
     }
@@ -164,6 +167,7 @@ fn step_numbered(number: u32) -> Option<Step<u64>>
     match number {
         0 => Some(Step::Yield),
         1 => Some(Step::Done(0)),
+        2 => Some(Step::Park),
         _ => None,
     }
 }

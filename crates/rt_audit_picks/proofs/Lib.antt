@@ -1,5 +1,5 @@
 pub mod Bounds
-pub mod IdleSteps
+pub mod WaitingSteps
 pub mod PickLines
 pub mod PickSteps
 pub mod RightPicks

@@ -64,7 +64,7 @@ module _ {T : Type 0} where
   module _ (accounts : Accounts) (journal : Journal T) (knows : KnowsAccounts accounts journal) where
     -- the accounts tell which queues have work, and their shares
     pub busy_known : (queue : ℕ) → shares_in (get_or accounts.queues queue fresh_account) ≡ busy_shares queue journal
-    busy_known queue = λ i. cond (nat_lt ((knows.each queue).left i) ((knows.each queue).entered i)) ((knows.each queue).shares i) 0
+    busy_known queue = λ i. cond (nat_lt ((knows.each queue).left i + (knows.each queue).parked i) ((knows.each queue).entered i)) ((knows.each queue).shares i) 0
 
     pub below_known : (count : ℕ) → shares_below count accounts.queues ≡ busy_below count journal
     unfolding shares_below busy_below

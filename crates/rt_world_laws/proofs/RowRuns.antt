@@ -2,7 +2,7 @@
 use Rattle.rt_world_laws.proofs.Words.{◌≡◌, ℕ, ◌-◌, ◌^◌, ◌<◌, ◌≤◌, Bool, true, false, [], refl, sym, ◌∙◌, subst, arith, ◌==◌, true≢false, Journal, KeyAtMost}
 use Rattle.rt_world_laws.proofs.Words.{IsRightPick, virtual_runtime, has_work, ◌+◌, List, ◌∷◌, length, inl, inr, ap, None, Some, JobId, Order, Event, Reply}
 use Rattle.rt_world_laws.proofs.Words.{WorldView, Happens, journal_at, noted, Job, return_reason, accepted_orders, IsNextSent, line, outstanding_count, turns, Step}
-use Rattle.rt_world_laws.proofs.Words.{Script, Send, Turn, AreThere, without_job, terms_at, order_under, with_sent, IsNearlyFull, pick_notes, settle_note}
+use Rattle.rt_world_laws.proofs.Words.{Script, Send, Turn, AreThere, without_job, terms_at, order_under, with_sent, IsNearlyFull, pick_notes, settled_note}
 use Rattle.rt_world_laws.proofs.Words.{OrderNoQueues, with_creations, AreAlike, AreAllAlike, name, script_meaning}
 use Rattle.std.proofs.Common.{eqb-true}
 use Rattle.rt_ids.specs.Lines.{jobs_out}
@@ -117,7 +117,7 @@ module _ {events : List (Event Script)} {world : WorldView Script ℕ} {journals
       core < world.cores → (IsNearlyFull core world → ⊥) → turns (journal_at core world) ≤ 50 → IsRightPick queue runtime (journal_at core world) →
       line queue (journal_at core world) ≡ its ∷ others → return_reason queue (journal_at core world) ≡ None → order_under its world ≡ Some (Job queue job) →
       script_meaning.polls job (job.polled + polls_made its (journal_at core world)) [] step (Some time) → IfDone step (script_meaning.answers job) →
-      IsRow (noted core (settle_note its time step ∷ []) (noted core (pick_notes its queue runtime (journal_at core world)) world)) events journals replies →
+      IsRow (noted core (settled_note its time step (journal_at core (noted core (pick_notes its queue runtime (journal_at core world)) world)) ∷ []) (noted core (pick_notes its queue runtime (journal_at core world)) world)) events journals replies →
       IsRow world (Turn core spent ∷ events) journals (reply.Noted ∷ replies)
   polling queue runtime time its others job step there room few right first kept task owed answered =
       and_then _ (

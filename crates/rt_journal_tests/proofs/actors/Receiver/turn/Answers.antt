@@ -63,6 +63,11 @@ invariant_of-self-else-eq-2 g c = (
   owes_nobody c.self.inside.core c.pick.new.self c.in-Ok-Back.name (c.in-Ok-Back.name, Returned c.in-Ok-Back.reason) (g.I.InEnd.inward c.self.inside.outside) 1 (eqb-false c.in-Ok-Back.name.from 1 (sym c.eq.ensures ∙ c.if-eq.false)) (subst (λ turn. LeavesOwed 1 (owed_back (Ok turn) 1) c.self.inside.core c.pick.new.self) c.in-Ok-Back.field-0-is (c.in-Ok-Back.ensures.ins 1)) c.self.invariant.1,
 )
 
+pub settle-requires-in-Ok-Resume-clause-beside : goal.settle-requires-in-Ok-Resume-clause-beside
+settle-requires-in-Ok-Resume-clause-beside g c =
+    let is : c.in-Ok-Resume.name.from ≡ 1 = are_same c.in-Ok-Resume.name.from 1 c.in-Ok-Resume-ne.result c.in-Ok-Resume-ne.ensures c.if-ne-2.false in
+    subst (λ from. IsInOf from c.pick.new.self (g.I.InEnd.inward c.self.inside.outside)) (sym is) ((subst (λ turn. LeavesOwed 1 (owed_back (Ok turn) 1) c.self.inside.core c.pick.new.self) c.in-Ok-Resume.field-0-is (c.in-Ok-Resume.ensures.ins 1)).each _ c.self.invariant.1)
+
 pub invariant_of-self-in-Ok-Resume : goal.invariant_of-self-in-Ok-Resume
 invariant_of-self-in-Ok-Resume g c = ((subst (λ turn. LeavesOwed 0 (owed_back (Ok turn) 0) c.self.inside.core c.pick.new.self) c.in-Ok-Resume.field-0-is (c.in-Ok-Resume.ensures.ins 0)).each _ c.self.invariant.0, (subst (λ turn. LeavesOwed 1 (owed_back (Ok turn) 1) c.self.inside.core c.pick.new.self) c.in-Ok-Resume.field-0-is (c.in-Ok-Resume.ensures.ins 1)).each _ c.self.invariant.1)
 
