@@ -40,14 +40,14 @@ def read(path):
 
 
 def polls(notes):
-    """The polls of a core, each with its place on the core's clock: name, queue, turn, start, time, whether its job is done."""
+    """The polls of a core, each with its place on the core's clock: name, queue, turn, start, time, the word of its end."""
     turn, clock, queue = 0, 0, None
     for words in notes:
         if words[0] == "pick":
             turn, queue = turn + 1, words[1]
-        elif words[0] in ("yield", "done"):
+        elif words[0] in ("yield", "park", "stayed", "done"):
             time = min(max(int(words[2]), 1), 2**40 - 1)
-            yield words[1], queue, turn, clock, time, words[0] == "done"
+            yield words[1], queue, turn, clock, time, words[0]
             clock += time
 
 
@@ -80,10 +80,11 @@ def gantt(cores, journals, text, cut):
         def cell(time):
             return min(max(time - begins[core], 0), span) * LANE // max(span, 1)
 
-        for name, queue, turn, start, time, _ in polls(journals[core]):
+        for name, queue, turn, start, time, end in polls(journals[core]):
             left, right = cell(start), cell(start + time)
             if cut.first <= turn <= cut.last and left < right:
-                title = f"{name} of {queue}, turn {turn}: {time} ns from {start}"
+                told = {"park": ", parked", "stayed": ", stayed"}.get(end, "")
+                title = f"{name} of {queue}, turn {turn}: {time} ns from {start}{told}"
                 wanted.append((LEFT + left, 120 + 160 * lane, right - left, title))
     found = [
         tuple(int(bar.get(part)) for part in ("x", "y", "width")) + (bar.find(SVG + "title").text,)
@@ -122,9 +123,9 @@ def trace(cores, journals, text, _):
             arrows[event["cat"], event["name"], event["id"]].append(event["ph"])
     start = len(journals[cores])
     wanted = [
-        (core, int(queue[1:]), start + begun, name, time, turn, done)
+        (core, int(queue[1:]), start + begun, name, time, turn, end == "done")
         for core in range(cores)
-        for name, queue, turn, begun, time, done in polls(journals[core])
+        for name, queue, turn, begun, time, end in polls(journals[core])
     ]
     found = [
         (it["pid"], it["tid"], nanoseconds(it["ts"]), it["name"], nanoseconds(it["dur"]), it["args"]["turn"], it["args"]["done"])

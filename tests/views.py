@@ -20,9 +20,13 @@ def read(path):
     return cores, journals
 
 
+# The notes that settle a poll.
+ENDS = "yield", "park", "stayed", "done"
+
+
 def settled(words):
     """The time of the poll that a note settles, as it counts for its charge, if it settles one."""
-    return min(max(int(words[2]), 1), 2**40 - 1) if words[0] in ("yield", "done") else 0
+    return min(max(int(words[2]), 1), 2**40 - 1) if words[0] in ENDS else 0
 
 
 def number(word):
@@ -30,17 +34,24 @@ def number(word):
 
 
 def rows_of_core(core, notes):
-    shares, queue_of, created = {0: 1000}, {}, 0
+    shares, queue_of, created, parked = {0: 1000}, {}, 0, {}
     entered, left, out, most, due, got, picked, finished, returned = (defaultdict(int) for _ in range(9))
     for words in notes:
         kind, time = words[0], settled(words)
         if time:
-            busy = [queue for queue in entered if entered[queue] > left[queue]]
+            asleep = list(parked.values())
+            busy = [queue for queue in entered if entered[queue] > left[queue] + asleep.count(queue)]
             whole = sum(shares.get(queue, 1000) for queue in busy)
             for queue in busy:
                 due[queue] += time * 1000 * shares.get(queue, 1000) // whole
             got[queue_of[words[1]]] += time
             out[queue_of[words[1]]] -= 1
+        if kind == "park":
+            parked[words[1]] = queue_of[words[1]]
+        elif kind == "woken":
+            parked.pop(words[1], None)
+        elif kind in ("closed", "coreclosed") and words[-1] == "return":
+            parked = {name: queue for name, queue in parked.items() if kind == "closed" and queue != number(words[1])}
         if kind in ("queue", "shares"):
             shares[number(words[1])] = int(words[2])
             created += kind == "queue"
@@ -68,7 +79,7 @@ def share_csv(cores, journals):
 
 
 def csv(cores, journals):
-    yield "core,turn,queue,name,step,time,virtual_runtime"
+    yield "core,turn,queue,name,step,time,virtual_runtime,end"
     for core in range(cores):
         turn, steps = 0, defaultdict(int)
         for words in journals[core]:
@@ -76,7 +87,7 @@ def csv(cores, journals):
                 turn, queue, runtime = turn + 1, number(words[1]), words[3]
             elif settled(words):
                 steps[words[1]] += 1
-                yield f"{core},{turn},{queue},{words[1]},{steps[words[1]]},{words[2]},{runtime}"
+                yield f"{core},{turn},{queue},{words[1]},{steps[words[1]]},{words[2]},{runtime},{words[0]}"
 
 
 def spans_of(notes):

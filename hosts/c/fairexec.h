@@ -3,7 +3,8 @@
  *
  * A host is a program that brings its own threads and its own jobs. A job is a number of 64 bits, and the host knows what the number
  * stands for. The library keeps jobs in the queues of a core, and tells which of them to run next: that of the queue of least virtual
- * runtime, then of the lowest number. The host runs it, tells how long that took, and whether the job is done.
+ * runtime, then of the lowest number. The host runs it, tells how long that took, and whether the job is done, wants to run again, or
+ * parks until the host wakes it.
  *
  *     fx_core core = FX_NO_CORE;
  *     fx_open(&core, 64);
@@ -51,7 +52,7 @@ enum fx_code {
     FX_DONE = 3,        /* fx_settle: the job is done, and the library forgot it */
     FX_BACK = 4,        /* fx_next: the job goes back to the host, unrun or unfinished, since its queue or its core hands back */
     FX_IDLE = 5,        /* fx_next: no queue has work */
-    FX_SPENT = 6,       /* the core made 2^64 - 1 turns, or was handed 2^64 - 1 jobs and new shares: it takes no more of that */
+    FX_SPENT = 6,       /* the core made 2^64 - 1 turns, or was handed 2^64 - 1 jobs, new shares and wakes: it takes no more of that */
     FX_BUSY = 7,        /* the host runs a job of this core, and settles it first */
     FX_NO_JOB = 8,      /* the host runs no job of this core */
     FX_FULL = 9,        /* the core holds as many jobs as it has room for */
@@ -62,19 +63,22 @@ enum fx_code {
     FX_CLOSED = 14,     /* the queue or the core is closed, or was closed before */
     FX_TOO_MANY = 15,   /* the core has 256 queues */
     FX_BAD_NUMBER = 16, /* jobs, a step, a mode or a size out of its range */
-    FX_OCCUPIED = 17    /* the handle has a core already */
+    FX_OCCUPIED = 17,   /* the handle has a core already */
+    FX_PARKED = 18,     /* fx_settle: the job is parked, and runs again after fx_wake alone */
+    FX_ABSENT = 19      /* fx_wake: no job of that number is inside */
 };
 
 /* What the run of a job came to. */
 enum fx_step {
     FX_STEP_YIELD = 0, /* it wants to run again: it goes to the tail of its queue */
-    FX_STEP_DONE = 1   /* it is done */
+    FX_STEP_DONE = 1,  /* it is done */
+    FX_STEP_PARK = 2   /* it waits for something: it leaves its queue until it is woken. A library without fx_wake has no such step */
 };
 
 /* How a queue or a core closes. Either way it takes no new job. */
 enum fx_mode {
     FX_MODE_FINISH = 0, /* the jobs inside run on */
-    FX_MODE_RETURN = 1  /* each later fx_next of it hands a job back */
+    FX_MODE_RETURN = 1  /* each later fx_next of it hands a job back; the parked ones go to the tail of their queue first */
 };
 
 /*
@@ -97,7 +101,7 @@ typedef struct fx_core_stats {
     uint32_t size;       /* in: sizeof(fx_core_stats) */
     uint32_t queues;     /* queues, 1 to 256 */
     uint64_t room;       /* how many jobs the core has room for */
-    uint64_t held;       /* jobs inside, that which the host runs counted too */
+    uint64_t held;       /* jobs inside, parked ones and that which the host runs counted too */
     uint64_t turns;      /* calls of fx_next that answered FX_START, FX_RESUME or FX_BACK */
     uint64_t floor_low;  /* the greatest virtual runtime at which a queue was picked */
     uint64_t floor_high;
@@ -110,7 +114,7 @@ typedef struct fx_queue_stats {
     uint32_t size;     /* in: sizeof(fx_queue_stats) */
     uint32_t shares;   /* 1 to 10000 */
     uint64_t picks;    /* turns of this queue, those that answered FX_BACK counted too */
-    uint64_t waiting;  /* jobs inside that the host doesn't run */
+    uint64_t waiting;  /* jobs inside that the host doesn't run, parked ones counted too */
     uint64_t done;     /* jobs that are done */
     uint64_t back;     /* jobs that fx_next handed back */
     uint64_t time_low; /* the sum of the times of its runs, each as it counts */
@@ -159,6 +163,22 @@ uint32_t fx_set_shares(fx_core *core, uint32_t queue, uint32_t shares) FX_NOT_NU
 uint32_t fx_submit(fx_core *core, uint32_t queue, uint64_t job) FX_NOT_NULL;
 
 /*
+ * The same, and writes to `order` the number of this job, by which fx_wake names it. It is written for FX_OK.
+ * Numbers are 1 and up, and none is given twice by one core: jobs, new shares and wakes that are handed in are counted together.
+ * FX_EMPTY; FX_CLOSED: the core; FX_FULL; FX_SPENT; FX_NO_QUEUE; FX_CLOSED: the queue; FX_OK.
+ */
+uint32_t fx_submit_numbered(fx_core *core, uint32_t queue, uint64_t job, uint64_t *order) FX_NOT_NULL;
+
+/*
+ * Wakes the job of this number. A parked job goes to the tail of its queue. For a job that waits in its queue or runs the wake is kept
+ * until it parks next, and it then stays in its queue; several kept wakes are one.
+ * A wake may come before what the job waits for, and another's: a job that was woken looks again.
+ * A core that is full takes a wake as little as a job: a host whose jobs park leaves a place free.
+ * FX_EMPTY; FX_FULL; FX_SPENT; FX_ABSENT: no job of this number is inside, it is done, went back, or was never handed in; FX_OK.
+ */
+uint32_t fx_wake(fx_core *core, uint64_t order) FX_NOT_NULL;
+
+/*
  * Tells which job to run now, in `job`. It is written for FX_START, FX_RESUME and FX_BACK.
  * After FX_START and FX_RESUME the host runs the job, and then calls fx_settle.
  * FX_EMPTY; FX_BUSY; FX_IDLE; FX_SPENT; FX_BACK; FX_START or FX_RESUME.
@@ -168,7 +188,9 @@ uint32_t fx_next(fx_core *core, uint64_t *job) FX_NOT_NULL;
 /*
  * Settles the run of the job that fx_next told: it came to `step`, an fx_step, and took `spent` nanoseconds by the host's clock.
  * `spent` counts as at least 1 and at most 2^40 - 1. The queue is charged for it.
- * FX_EMPTY; FX_BAD_NUMBER: step; FX_NO_JOB; FX_DONE after FX_STEP_DONE, FX_OK after FX_STEP_YIELD.
+ * After FX_STEP_PARK the answer tells what became of the job: FX_PARKED, or FX_OK if it stays in its queue, since a wake was kept for it,
+ * or since its queue or its core hands back.
+ * FX_EMPTY; FX_BAD_NUMBER: step; FX_NO_JOB; FX_DONE after FX_STEP_DONE, FX_OK after FX_STEP_YIELD, FX_PARKED or FX_OK after FX_STEP_PARK.
  */
 uint32_t fx_settle(fx_core *core, uint32_t step, uint64_t spent) FX_NOT_NULL;
 
@@ -217,6 +239,8 @@ static inline const char *fx_text(uint32_t code) {
     case FX_TOO_MANY: return "the core has 256 queues";
     case FX_BAD_NUMBER: return "a number is out of its range";
     case FX_OCCUPIED: return "the handle has a core already";
+    case FX_PARKED: return "the job is parked";
+    case FX_ABSENT: return "no job of that number is inside";
     default: return "no code of this library";
     }
 }

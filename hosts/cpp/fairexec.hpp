@@ -27,8 +27,8 @@
 
 namespace fairexec {
 
-// What the run of a job came to: it wants to run again, or it is done.
-enum class step : uint32_t { yield = FX_STEP_YIELD, done = FX_STEP_DONE };
+// What the run of a job came to: it wants to run again, it is done, or it leaves its queue until it is woken.
+enum class step : uint32_t { yield = FX_STEP_YIELD, done = FX_STEP_DONE, park = FX_STEP_PARK };
 
 // How a queue or a core closes: its jobs run on, or each goes back.
 enum class mode : uint32_t { finish = FX_MODE_FINISH, give_back = FX_MODE_RETURN };
@@ -89,6 +89,8 @@ public:
 
     // These answer the codes of fairexec.h.
     [[nodiscard]] fx_code submit(uint32_t queue, uint64_t job) noexcept { return static_cast<fx_code>(fx_submit(&handle, queue, job)); }
+    [[nodiscard]] fx_code submit(uint32_t queue, uint64_t job, uint64_t &order) noexcept { return static_cast<fx_code>(fx_submit_numbered(&handle, queue, job, &order)); }
+    fx_code wake(uint64_t order) noexcept { return static_cast<fx_code>(fx_wake(&handle, order)); }
     [[nodiscard]] fx_code next(uint64_t &job) noexcept { return static_cast<fx_code>(fx_next(&handle, &job)); }
     fx_code settle(step step, uint64_t spent) noexcept { return static_cast<fx_code>(fx_settle(&handle, static_cast<uint32_t>(step), spent)); }
     fx_code close_queue(uint32_t queue, mode mode) noexcept { return static_cast<fx_code>(fx_close_queue(&handle, queue, static_cast<uint32_t>(mode))); }
@@ -112,12 +114,13 @@ template <class Job, class Clock = std::chrono::steady_clock> class house {
     struct running {
         house &of;
         uint64_t place;
+        fx_code &told;
         typename Clock::time_point began = Clock::now();
         step came_to = step::done;
 
         ~running() {
             auto spent = std::chrono::duration_cast<std::chrono::nanoseconds>(Clock::now() - began).count();
-            of.inner.settle(came_to, spent < 0 ? 0 : static_cast<uint64_t>(spent));
+            told = of.inner.settle(came_to, spent < 0 ? 0 : static_cast<uint64_t>(spent));
             if (came_to == step::done) of.vacate(place);
         }
     };
@@ -130,7 +133,8 @@ template <class Job, class Clock = std::chrono::steady_clock> class house {
     }
 
 public:
-    // What a turn came to: FX_OK (the job yielded), FX_DONE, FX_IDLE, FX_SPENT, FX_BUSY, or FX_BACK, with the job that came back.
+    // What a turn came to: FX_OK (the job yielded, or parked and stays), FX_PARKED, FX_DONE, FX_IDLE, FX_SPENT, FX_BUSY, or FX_BACK, with
+    // the job that came back.
     struct turn {
         fx_code code;
         std::optional<Job> back;
@@ -153,16 +157,25 @@ public:
     // Takes the job if it answers FX_OK, and leaves it as it was if it answers FX_CLOSED, FX_FULL, FX_SPENT or FX_NO_QUEUE. A job that
     // tells that it is empty, as one that was moved from, isn't taken: FX_BAD_NUMBER.
     [[nodiscard]] fx_code submit(uint32_t queue, Job &&job) noexcept {
+        uint64_t order = 0;
+        return submit(queue, std::move(job), order);
+    }
+
+    // The same, and tells the number by which `wake` names the job.
+    [[nodiscard]] fx_code submit(uint32_t queue, Job &&job, uint64_t &order) noexcept {
         if constexpr (std::is_class_v<Job> && std::is_constructible_v<bool, const Job &>) {
             if (!static_cast<bool>(job)) return FX_BAD_NUMBER;
         }
         uint32_t place = vacant.empty() ? 0 : vacant.back();
-        fx_code code = inner.submit(queue, place);
+        fx_code code = inner.submit(queue, place, order);
         if (code != FX_OK) return code;
         vacant.pop_back();
         places[place].emplace(std::move(job));
         return FX_OK;
     }
+
+    // Wakes the job of this number: FX_OK, or FX_FULL, FX_SPENT, FX_ABSENT. It looks again for what it waits for.
+    fx_code wake(uint64_t order) noexcept { return inner.wake(order); }
 
     // Runs the next job once: `run` is called with the job and the house, and answers a step.
     template <class Run> turn run_turn(Run &&run) {
@@ -170,9 +183,12 @@ public:
         fx_code code = inner.next(place);
         if (code == FX_BACK) return {code, vacate(place)};
         if (code != FX_START && code != FX_RESUME) return {code, std::nullopt};
-        running now{*this, place};
-        now.came_to = run(*places[static_cast<std::size_t>(place)], *this);
-        return {now.came_to == step::done ? FX_DONE : FX_OK, std::nullopt};
+        turn told{FX_OK, std::nullopt};
+        {
+            running now{*this, place, told.code};
+            now.came_to = run(*places[static_cast<std::size_t>(place)], *this);
+        }
+        return told;
     }
 
     // The same for jobs that are callables.
@@ -214,16 +230,25 @@ using job = any_job<std::chrono::steady_clock>;
 struct again_type {};
 inline constexpr again_type again{};
 
-// A coroutine as a job. It starts with its first run. An exception of it leaves run_turn. It awaits nothing but `again`: each run resumes
-// it, whatever it waits for.
+// `co_await fairexec::park;` ends the run of a task, which waits for a wake: it looks again for what it waits for, since a wake may be early.
+struct park_type {};
+inline constexpr park_type park{};
+
+// A coroutine as a job. It starts with its first run. An exception of it leaves run_turn. It awaits nothing but `again` and `park`:
+// each run resumes it, whatever it waits for.
 class task {
 public:
     struct promise_type {
         std::exception_ptr thrown;
+        bool parks = false;
         task get_return_object() { return task(std::coroutine_handle<promise_type>::from_promise(*this)); }
         std::suspend_always initial_suspend() noexcept { return {}; }
         std::suspend_always final_suspend() noexcept { return {}; }
         std::suspend_always await_transform(again_type) noexcept { return {}; }
+        std::suspend_always await_transform(park_type) noexcept {
+            parks = true;
+            return {};
+        }
         void return_void() noexcept {}
         void unhandled_exception() noexcept { thrown = std::current_exception(); }
     };
@@ -236,9 +261,10 @@ public:
     explicit operator bool() const noexcept { return at != nullptr; }
 
     step operator()() {
+        at.promise().parks = false;
         at.resume();
         if (at.promise().thrown) std::rethrow_exception(std::exchange(at.promise().thrown, nullptr));
-        return at.done() ? step::done : step::yield;
+        return at.done() ? step::done : at.promise().parks ? step::park : step::yield;
     }
 
 private:

@@ -89,19 +89,21 @@ static unsigned long creations(fx_core *core) {
 
 static void others(fx_core *core) {
     fx_core_stats stats = {sizeof stats, 0, 0, 0, 0, 0, 0, 0, 0};
+    static uint64_t orders[100000];
     uint64_t job, held = 0;
     unsigned long before = asked, wrong = 0;
     left = 0;
     for (uint32_t each = 0; each < 100000; each++) {
-        uint32_t step = each % 3 == 0 ? FX_STEP_DONE : FX_STEP_YIELD;
-        /* One place stays vacant: a full core takes no shares. */
+        static const uint32_t steps[] = {FX_STEP_DONE, FX_STEP_YIELD, FX_STEP_PARK}, codes[] = {FX_DONE, FX_OK, FX_PARKED};
+        /* One place stays vacant: a full core takes no shares and no wake. */
         if (held < 63) {
-            wrong += fx_submit(core, each % 256, each) != FX_OK;
+            wrong += fx_submit_numbered(core, each % 256, each, &orders[each]) != FX_OK;
             held++;
         }
         wrong += fx_next(core, &job) > FX_RESUME;
-        wrong += fx_settle(core, step, 500 + each % 1000) != (step == FX_STEP_DONE ? FX_DONE : FX_OK);
-        held -= step;
+        wrong += fx_settle(core, steps[each % 3], 500 + each % 1000) != codes[each % 3];
+        held -= each % 3 == 0;
+        if (each % 3 == 2) wrong += fx_wake(core, orders[job]) != FX_OK;
         wrong += fx_set_shares(core, each % 256, 1 + each % 10000) != FX_OK;
     }
     wrong += fx_close_queue(core, 0, FX_MODE_FINISH) != FX_OK;

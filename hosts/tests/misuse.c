@@ -65,7 +65,9 @@ static void empty(fx_core *core) {
     IS(fx_set_shares(core, 300, 0), FX_EMPTY);
     IS(fx_submit(core, 300, 1), FX_EMPTY);
     IS(fx_next(core, &job), FX_EMPTY);
-    IS(fx_settle(core, 2, 0), FX_EMPTY);
+    IS(fx_settle(core, 3, 0), FX_EMPTY);
+    IS(fx_submit_numbered(core, 300, 1, &job), FX_EMPTY);
+    IS(fx_wake(core, 1), FX_EMPTY);
     IS(fx_close_queue(core, 300, 2), FX_EMPTY);
     IS(fx_close(core, 2), FX_EMPTY);
     IS(fx_stats(core, &stats), FX_EMPTY);
@@ -137,14 +139,14 @@ static void running(void) {
     is("an idle core writes no job", (uint32_t)job, POISON);
     REFUSES(&core, fx_settle(&core, FX_STEP_DONE, 1), FX_NO_JOB);
     REFUSES(&core, fx_settle(&core, FX_STEP_YIELD, 1), FX_NO_JOB);
-    REFUSES(&core, fx_settle(&core, 2, 1), FX_BAD_NUMBER);
+    REFUSES(&core, fx_settle(&core, 3, 1), FX_BAD_NUMBER);
     IS(fx_submit(&core, 0, UINT64_MAX), FX_OK);
     IS(fx_next(&core, &job), FX_START);
     is("any number is a job", job == UINT64_MAX, 1);
     job = POISON;
     REFUSES(&core, fx_next(&core, &job), FX_BUSY);
     is("a busy core writes no job", (uint32_t)job, POISON);
-    REFUSES(&core, fx_settle(&core, 2, 1), FX_BAD_NUMBER);
+    REFUSES(&core, fx_settle(&core, 3, 1), FX_BAD_NUMBER);
     REFUSES(&core, fx_settle(&core, UINT32_MAX, 1), FX_BAD_NUMBER);
     REFUSES(&core, fx_open(&core, 2), FX_OCCUPIED);
     /* A job that runs holds its place, and may submit. */
@@ -169,6 +171,64 @@ static void running(void) {
     /* The core may be freed while a job of it runs. */
     IS(fx_free(&core), FX_OK);
     empty(&core);
+}
+
+static void parking(void) {
+    fx_core core = FX_NO_CORE;
+    uint64_t job = POISON, first = 0, second = 0;
+    IS(fx_open(&core, 3), FX_OK);
+    REFUSES(&core, fx_submit_numbered(&core, 1, 7, &first), FX_NO_QUEUE);
+    is("a refused job writes no number", (uint32_t)first, 0);
+    REFUSES(&core, fx_wake(&core, 1), FX_ABSENT);
+    REFUSES(&core, fx_wake(&core, UINT64_MAX), FX_ABSENT);
+    IS(fx_submit_numbered(&core, 0, 7, &first), FX_OK);
+    IS(fx_submit_numbered(&core, 0, 8, &second), FX_OK);
+    is("jobs, refused ones too, and wakes are counted together", first == 4 && second == 5, 1);
+    IS(fx_next(&core, &job), FX_START);
+    IS(fx_settle(&core, FX_STEP_PARK, 10), FX_PARKED);
+    counts all = counts_of(&core);
+    is("a parked job is held", (uint32_t)all.core.held, 2);
+    is("and counts as waiting", (uint32_t)all.queues[0].waiting, 2);
+    is("and its run is charged", (uint32_t)all.queues[0].virtual_low, 10);
+    IS(fx_next(&core, &job), FX_START);
+    is("it is passed over", (uint32_t)job, 8);
+    /* Two wakes before a park are one: the job stays once. */
+    IS(fx_wake(&core, second), FX_OK);
+    IS(fx_wake(&core, second), FX_OK);
+    IS(fx_settle(&core, FX_STEP_PARK, 10), FX_OK);
+    IS(fx_next(&core, &job), FX_RESUME);
+    IS(fx_settle(&core, FX_STEP_PARK, 10), FX_PARKED);
+    REFUSES(&core, fx_next(&core, &job), FX_IDLE);
+    /* The wake that ends a park isn't kept. A yield keeps one. */
+    IS(fx_wake(&core, first), FX_OK);
+    IS(fx_next(&core, &job), FX_RESUME);
+    is("the woken job runs", (uint32_t)job, 7);
+    IS(fx_settle(&core, FX_STEP_PARK, 10), FX_PARKED);
+    IS(fx_wake(&core, first), FX_OK);
+    IS(fx_wake(&core, first), FX_OK);
+    IS(fx_next(&core, &job), FX_RESUME);
+    IS(fx_settle(&core, FX_STEP_YIELD, 10), FX_OK);
+    IS(fx_next(&core, &job), FX_RESUME);
+    IS(fx_settle(&core, FX_STEP_PARK, 10), FX_OK);
+    IS(fx_next(&core, &job), FX_RESUME);
+    IS(fx_settle(&core, FX_STEP_DONE, 10), FX_DONE);
+    REFUSES(&core, fx_wake(&core, first), FX_ABSENT);
+    /* A full core takes no wake. One that hands back has no parked job. */
+    IS(fx_submit(&core, 0, 9), FX_OK);
+    IS(fx_submit(&core, 0, 10), FX_OK);
+    IS(fx_submit(&core, 0, 11), FX_OK);
+    REFUSES(&core, fx_wake(&core, second), FX_FULL);
+    IS(fx_next(&core, &job), FX_START);
+    IS(fx_close(&core, FX_MODE_FINISH), FX_OK);
+    IS(fx_close(&core, FX_MODE_RETURN), FX_OK);
+    IS(fx_settle(&core, FX_STEP_PARK, 10), FX_OK);
+    static const uint32_t back[] = {10, 11, 8, 9};
+    for (uint32_t each = 0; each < 4; each++) {
+        IS(fx_next(&core, &job), FX_BACK);
+        is("jobs go back in the order of their queue", (uint32_t)job, back[each]);
+    }
+    REFUSES(&core, fx_next(&core, &job), FX_IDLE);
+    IS(fx_free(&core), FX_OK);
 }
 
 static void closing(void) {
@@ -252,6 +312,7 @@ int main(void) {
     opening();
     queues();
     running();
+    parking();
     closing();
     counting();
     moving();

@@ -7,7 +7,7 @@
 #include "model.h"
 #include <stdio.h>
 
-enum { CORES = 3, CALLS = 11, CODES = 18 };
+enum { CORES = 3, CALLS = 13, CODES = 20 };
 
 static uint64_t state;
 static uint64_t seen[CODES];
@@ -33,7 +33,7 @@ typedef struct {
 /* What a call answers, and what it writes. */
 typedef struct {
     uint32_t code, queue;
-    uint64_t job;
+    uint64_t job, order;
     fx_core_stats core;
     fx_queue_stats of_queue;
 } answer;
@@ -41,22 +41,37 @@ typedef struct {
 /* A call with its numbers. */
 typedef struct {
     uint32_t kind, queue, shares, jobs, step, mode, size_off;
-    uint64_t job, spent;
+    uint64_t job, spent, order;
 } call;
 
-static const char *const names[CALLS] = {"open", "free", "create", "set_shares", "submit", "next", "settle", "close_queue", "close", "stats", "stats_of_queue"};
+static const char *const names[CALLS] = {"open", "free", "create", "set_shares", "submit", "next", "settle", "close_queue", "close", "stats", "stats_of_queue", "submit_numbered", "wake"};
 
 /* How many creations come next, and whose core they are for: without them no core has 256 queues. */
 static uint32_t creations, whose;
 
+/* Whether all jobs of a full core are parked: it takes no wake, and only a closing moves it. */
+static bool is_stuck(const model *m) {
+    uint32_t parked = 0;
+    for (uint32_t queue = 0; queue < m->queue_count; queue++) parked += m->queues[queue].parked_count;
+    return m->has_core && m->held == m->room && parked == m->room;
+}
+
 static uint32_t any_kind(const model *m) {
-    static const uint32_t weights[CALLS] = {6, 1, 10, 20, 380, 400, 400, 3, 1, 10, 20};
+    static const uint32_t weights[CALLS] = {6, 1, 10, 20, 190, 400, 400, 3, 1, 10, 20, 190, 60};
     if (creations > 0) return 2;
     if (!m->has_core && rarely(2)) return 0;
     if (m->closed && rarely(60)) return 1;
-    uint32_t at = below(1251), kind = 0;
+    if (is_stuck(m) && rarely(20)) return 8;
+    uint32_t at = below(1311), kind = 0;
     while (at >= weights[kind]) at -= weights[kind++];
     return kind;
+}
+
+/* The number of a parked job of this queue, if there is one, or one of the last that were given. */
+static uint64_t any_order(const model *m, uint32_t queue) {
+    if (!m->has_core || rarely(20)) return any();
+    if (queue < m->queue_count && m->queues[queue].parked_count > 0 && !rarely(4)) return m->queues[queue].parked[below(m->queues[queue].parked_count)].order;
+    return m->sent - below(24);
 }
 
 static call any_call(const model *m) {
@@ -67,10 +82,11 @@ static call any_call(const model *m) {
     c.queue = rarely(50) ? far[below(5)] : below(m->queue_count + (m->queue_count == 0 || rarely(10)));
     c.shares = rarely(50) ? (rarely(2) ? 0 : 10001 + below(100000)) : 1 + below(rarely(3) ? 10000 : 5);
     c.jobs = rarely(20) ? (rarely(2) ? 0 : 131071 + below(9)) : 1 + below(rarely(4) ? 400 : 12);
-    c.step = rarely(50) ? 2 + below(1000) : below(2);
+    c.step = rarely(50) ? 3 + below(1000) : rarely(8) ? FX_STEP_PARK : below(2);
     c.mode = rarely(20) ? 2 + below(1000) : below(2);
     c.size_off = rarely(20) ? 1 + below(8) : 0;
     c.job = any();
+    c.order = any_order(m, c.queue);
     c.spent = rarely(20) ? any() >> below(64) : below(3000);
     return c;
 }
@@ -78,6 +94,7 @@ static call any_call(const model *m) {
 static void prepare(answer *a, const call *c) {
     memset(a, 0, sizeof *a);
     a->job = 77;
+    a->order = 77;
     a->queue = 77;
     a->core.size = (uint32_t)sizeof a->core + c->size_off;
     a->of_queue.size = (uint32_t)sizeof a->of_queue + c->size_off;
@@ -97,6 +114,8 @@ static answer by_library(fx_core *core, const call *c) {
     case 7: a.code = fx_close_queue(core, c->queue, c->mode); break;
     case 8: a.code = fx_close(core, c->mode); break;
     case 9: a.code = fx_stats(core, &a.core); break;
+    case 11: a.code = fx_submit_numbered(core, c->queue, c->job, &a.order); break;
+    case 12: a.code = fx_wake(core, c->order); break;
     default: a.code = fx_stats_of_queue(core, c->queue, &a.of_queue); break;
     }
     return a;
@@ -116,6 +135,8 @@ static answer by_model(model *m, const call *c) {
     case 7: a.code = model_close_queue(m, c->queue, c->mode); break;
     case 8: a.code = model_close(m, c->mode); break;
     case 9: a.code = model_stats(m, &a.core); break;
+    case 11: a.code = model_submit_numbered(m, c->queue, c->job, &a.order); break;
+    case 12: a.code = model_wake(m, c->order); break;
     default: a.code = model_stats_of_queue(m, c->queue, &a.of_queue); break;
     }
     return a;
@@ -126,16 +147,17 @@ static bool agrees(pair *p, const call *c, uint64_t number) {
     answer found = by_library(&p->places[p->at], c);
     if (wanted.code < CODES) seen[wanted.code]++;
     if (memcmp(&wanted, &found, sizeof found) == 0) return true;
-    printf("FAILED: call %llu, fx_%s of queue %u, shares %u, jobs %u, step %u, mode %u, spent %llu: %u (%s), job %llu, queue %u, and not %u (%s), job %llu, queue %u\n",
+    printf("FAILED: call %llu, fx_%s of queue %u, shares %u, jobs %u, step %u, mode %u, spent %llu, order %llu: %u (%s), job %llu, queue %u, order %llu, and not %u (%s), job %llu, queue %u, order %llu\n",
            (unsigned long long)number, names[c->kind], c->queue, c->shares, c->jobs, c->step, c->mode, (unsigned long long)c->spent,
-           found.code, fx_text(found.code), (unsigned long long)found.job, found.queue,
-           wanted.code, fx_text(wanted.code), (unsigned long long)wanted.job, wanted.queue);
+           (unsigned long long)c->order,
+           found.code, fx_text(found.code), (unsigned long long)found.job, found.queue, (unsigned long long)found.order,
+           wanted.code, fx_text(wanted.code), (unsigned long long)wanted.job, wanted.queue, (unsigned long long)wanted.order);
     return false;
 }
 
 /* Compares all counts of a core. */
 static bool all_agree(pair *p, uint64_t number) {
-    call c = {9, 0, 0, 0, 0, 0, 0, 0, 0};
+    call c = {9, 0, 0, 0, 0, 0, 0, 0, 0, 0};
     if (!agrees(p, &c, number)) return false;
     c.kind = 10;
     for (uint32_t queue = 0; p->model.has_core && queue < p->model.queue_count; queue++) {

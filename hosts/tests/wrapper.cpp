@@ -120,7 +120,30 @@ static void callables() {
     is("nothing is inside", house.stats().held, 0);
 }
 
+static void parks() {
+    fairexec::house<fairexec::job> house(4);
+    bool here = false;
+    uint64_t waits = 0;
+    is("a job is taken, with its number", house.submit(0, [&here] { return here ? step::done : step::park; }, waits), FX_OK);
+    is("it parks", house.run_turn().code, FX_PARKED);
+    is("nobody runs it", house.run_turn().code, FX_IDLE);
+    is("it is held", house.stats().held, 1);
+    is("a wake that comes early", house.wake(waits), FX_OK);
+    is("it looks again, and parks", house.run_turn().code, FX_PARKED);
+    is("its waker is taken", house.submit(0, [&](fairexec::house<fairexec::job> &inside) {
+        here = true;
+        return inside.wake(waits) == FX_OK ? step::done : step::yield;
+    }), FX_OK);
+    is("it runs", house.run_turn().code, FX_DONE);
+    is("and the woken job is done", house.run_turn().code, FX_DONE);
+    is("a job that is done isn't there", house.wake(waits), FX_ABSENT);
+}
+
 #if defined(__cpp_impl_coroutine)
+static fairexec::task waits_for(bool &here, unsigned long &looks) {
+    for (looks = 1; !here; looks++) co_await fairexec::park;
+}
+
 static fairexec::task counts_to(unsigned long most, unsigned long &count) {
     for (; count < most; count++) co_await fairexec::again;
 }
@@ -152,6 +175,18 @@ static void coroutines() {
         is("a coroutine runs once more than it waits", house.stats_of(0).picks, 6);
         is("one more is taken", house.submit(0, counts_to(1, never)), FX_OK);
     }
+    {
+        fairexec::house<fairexec::task> house(4);
+        bool here = false;
+        unsigned long looks = 0;
+        uint64_t number = 0;
+        is("a coroutine that waits is taken", house.submit(0, waits_for(here, looks), number), FX_OK);
+        is("it parks", house.run_turn().code, FX_PARKED);
+        here = true;
+        is("it is woken", house.wake(number), FX_OK);
+        is("it is done", house.run_turn().code, FX_DONE);
+        is("it looked twice", looks, 2);
+    }
     is("coroutines run to their ends", first == 5 && second == 2, 1);
     is("an exception of one leaves the turn", thrown, 1);
     is("one that never ran ends with its house", never, 0);
@@ -162,6 +197,7 @@ int main() {
     cores();
     houses();
     callables();
+    parks();
 #if defined(__cpp_impl_coroutine)
     coroutines();
 #else

@@ -88,6 +88,30 @@ fn read<R: Wait + Drop>(rt: &R, node: &mut Node<R>, core: CoreNo, key: u32) -> O
     }
 }
 
+/// Commits a key: core 0 writes it, and its job parks until core 1 has answered. Whoever hears that answer wakes the job, so it is polled
+/// twice and never in vain. A wake that comes before the park is kept.
+fn commit<R: Wait + Drop>(rt: &R, node: &mut Node<R>, key: u32) -> Option<u64> {
+    let job = Work::Commit {
+        key,
+        is_written: false,
+    };
+    let Ok(ticket) = node.submit(CoreNo(0), Order::Job(READS, job)) else {
+        return None;
+    };
+    let name = ticket.name();
+    let _value = read(rt, node, CoreNo(1), key)?;
+    let Ok(woken) = node.submit(CoreNo(0), Order::Wake(name.from, name.number)) else {
+        return None;
+    };
+    if node.detach(woken).is_err() {
+        return None;
+    }
+    match node.wait(rt, ticket) {
+        Ok(Outcome::Finished(key)) => Some(key),
+        _ => None,
+    }
+}
+
 /// Does the work of the day: a compaction on each core, and reads beside it. The sum of what was read.
 fn serve<R: Wait + Drop>(rt: &R, node: &mut Node<R>) -> Option<u64> {
     let mut sum: u64 = 0;
@@ -141,10 +165,12 @@ where
     let alloc = rt.alloc();
     let mut node = start(*rt, alloc)?;
     let sum = serve(rt, &mut node)?;
+    let key = commit(rt, &mut node, 7)?;
     let assembly = finish(rt, node)?;
     let page = statistics(alloc, &assembly).ok()?;
     eprint!(rt; "{page}").ok()?;
     println!(rt; "read {sum}").ok()?;
+    println!(rt; "committed {key}").ok()?;
     let sound = matches!(audit(alloc, &assembly), Ok(Verdict::Sound));
     println!(rt; "{}", if sound { "sound" } else { "not sound" }).ok()?;
     Some(sound)

@@ -11,6 +11,8 @@ pub enum Work {
     Read { key: u32 },
     /// In the background: so many blocks are merged, one in each poll.
     Compact { blocks: u32, left: u32 },
+    /// In the foreground: a key is written, and the job parks until it is woken, since another core has the key too.
+    Commit { key: u32, is_written: bool },
     /// It has answered.
     Ended,
 }
@@ -45,6 +47,13 @@ impl Job for Work {
                     return Step::Yield;
                 }
                 *blocks as u64
+            }
+            Work::Commit { key, is_written } => {
+                if !*is_written {
+                    *is_written = true;
+                    return Step::Park;
+                }
+                *key as u64
             }
             Work::Ended => return Step::Yield,
         };

@@ -1,2 +1,4 @@
 mod Asked
+pub mod HandedIn
+pub mod Kept
 pub mod Values

@@ -12,6 +12,7 @@ use Rattle.fairexec_c.specs.Handles.{OnCore}
 use Rattle.fairexec_c.specs.Jobs.{AsksOnce}
 use Rattle.fairexec_c.specs.Opening.{Opens, OpensCore}
 use Rattle.fairexec_c.specs.Running.{SettlesStep, step_of}
+use Rattle.fairexec_c.specs.Waking.{WakesNumber}
 
 -- an empty handle is told that all went well
 pub empty_is_ok : (does : CoreView HostJob → Code → CoreView HostJob → Type 0) → OnCore None None 0 does → ⊥
@@ -30,7 +31,7 @@ pub opening_is_empty : OpensCore 4 code.Empty None → ⊥
 opening_is_empty told = told
 
 -- a run comes to a step that isn't one
-pub no_step_is_ok : (old new : CoreView HostJob) → SettlesStep old (step_of 2) 10 code.Ok new → ⊥
+pub no_step_is_ok : (old new : CoreView HostJob) → SettlesStep old (step_of 3) 10 code.Ok new → ⊥
 no_step_is_ok old new told = told
 
 -- a job is done that hears that its run isn't
@@ -40,3 +41,7 @@ done_unheard name told = cc told
 -- a job doesn't ask
 pub unasked : AsksOnce [] Yield → ⊥
 unasked told = told
+
+-- a wake is told as a park
+pub wake_is_parked : (old new : CoreView HostJob) → WakesNumber old 1 code.Parked new → ⊥
+wake_is_parked old new told = told

@@ -24,3 +24,5 @@ number_of code.CoreClosed = 14
 number_of code.TooMany = 15
 number_of code.BadNumber = 16
 number_of code.Occupied = 17
+number_of code.Parked = 18
+number_of code.Absent = 19

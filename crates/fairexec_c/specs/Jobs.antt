@@ -1,22 +1,25 @@
 -- What a job of the host means: it asks its post once for the outcome of its run, and does what it hears.
 use Rattle.std.specs.Prelude.{◌≡◌, ℕ, None, Result, Ok, Err, List, [], ◌∷◌}
 use Rattle.rt_ids.specs.declared.names.TicketError.{TicketError}
+use Rattle.rt_ids.specs.declared.names.TicketError.TheVariants.{Unknown, Gone, Pending}
 use Rattle.rt_ids.specs.declared.order.Outcome.{Outcome}
 use Rattle.rt_ids.specs.declared.order.Outcome.TheVariants.{Finished, Returned, Answered}
 use Rattle.rt_jobs.specs.declared.job.Step.{Step}
-use Rattle.rt_jobs.specs.declared.job.Step.TheVariants.{Done, Yield}
+use Rattle.rt_jobs.specs.declared.job.Step.TheVariants.{Done, Yield, Park}
 use Rattle.rt_jobs.specs.Calls.{Call}
 use Rattle.rt_jobs.specs.Calls.Call.{Submit, Redeem, Detach}
 use Rattle.rt_jobs.specs.Meanings.{Meaning, IsMeaning}
 use Rattle.rt_jobs.specs.Same.{same_value}
 use Rattle.fairexec_c.specs.declared.job.HostJob.{HostJob}
 
--- what an answer of the post says of the run: an outcome says that the job is done, and anything else that it isn't
+-- what an answer of the post says of the run: an outcome says that the job is done, a ticket that nobody knows that it parks, and anything else that it wants to run again
 abbrev pub heard : {J : Type 0} → Result (Outcome J ℕ) TicketError → Step ℕ
 heard (Ok (Finished answer)) = Done answer
 heard (Ok (Returned reason order)) = Yield
 heard (Ok (Answered answer)) = Yield
-heard (Err error) = Yield
+heard (Err Unknown) = Park
+heard (Err Gone) = Yield
+heard (Err Pending) = Yield
 
 -- the post is asked once, and the step is what it says
 abbrev pub AsksOnce : List (Call HostJob ℕ) → Step ℕ → Type 0

@@ -7,4 +7,5 @@ pub mod Hosting
 pub mod Jobs
 pub mod Queueing
 pub mod Running
+pub mod Waking
 pub mod Words

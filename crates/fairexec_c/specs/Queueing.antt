@@ -4,10 +4,11 @@ use Rattle.rt_ids.specs.declared.order.Mode.{Mode}
 use Rattle.rt_ids.specs.declared.order.Mode.TheVariants.{Finish, Return}
 use Rattle.rt_ids.specs.Limits.{most_queues}
 use Rattle.rt_ids.specs.Closing.{closes}
+use Rattle.rt_ids.specs.Parks.{is_return}
 use Rattle.rt_taskqueue.specs.Queues.{queue_count, mode_of}
 use Rattle.rt_core.specs.State.{CoreView, delivered_of, inside_count}
 use Rattle.rt_core.specs.Deliveries.{Creates, Weighs, counted}
-use Rattle.rt_core.specs.Closing.{HasClosed}
+use Rattle.rt_core.specs.Closing.{HasClosed, EndsParksIf}
 use Rattle.fairexec_c.specs.declared.code.Code.{Code}
 use Rattle.fairexec_c.specs.declared.code.Code.TheVariants as code
 use Rattle.fairexec_c.specs.declared.job.HostJob.{HostJob}
@@ -44,18 +45,21 @@ Reweighs old queue shares other new = ⊥
 abbrev pub mode_of_number : ℕ → Option Mode
 mode_of_number number = if number == 0 then Some Finish else if number == 1 then Some Return else None
 
--- a queue is closed, unless it was so before
+-- a queue is closed, unless it was so before; if it hands back, the parks of its jobs end
 abbrev pub ClosesLine : CoreView HostJob → ℕ → Option Mode → Code → CoreView HostJob → Type 0
 ClosesLine old queue None code.BadNumber new = new ≡ old
-ClosesLine old queue (Some mode) code.Ok new = (closes (mode_of queue old.queues) mode ≡ true) × HasClosed old queue mode new
+ClosesLine old queue (Some mode) code.Ok new =
+    (closes (mode_of queue old.queues) mode ≡ true)
+    × ((closed : CoreView HostJob) × HasClosed old queue mode closed × EndsParksIf (is_return mode) closed (λ other. queue == other) new)
 ClosesLine old queue (Some mode) code.NoQueue new = (queue < most_queues → queue_count old.queues ≤ queue) × (new ≡ old)
 ClosesLine old queue (Some mode) code.QueueClosed new =
     (queue < queue_count old.queues) × (closes (mode_of queue old.queues) mode ≡ false) × (new ≡ old)
 ClosesLine old queue mode other new = ⊥
 
--- the core is closed, unless it was so before
+-- the core is closed, unless it was so before; if it hands back, all parks end
 abbrev pub ClosesAll : CoreView HostJob → Option Mode → Code → CoreView HostJob → Type 0
 ClosesAll old None code.BadNumber new = new ≡ old
-ClosesAll old (Some mode) code.Ok new = (closes old.mode mode ≡ true) × (new ≡ record old { mode = Some mode })
+ClosesAll old (Some mode) code.Ok new =
+    (closes old.mode mode ≡ true) × EndsParksIf (is_return mode) (record old { mode = Some mode }) (λ queue. true) new
 ClosesAll old (Some mode) code.CoreClosed new = (closes old.mode mode ≡ false) × (new ≡ old)
 ClosesAll old mode other new = ⊥

@@ -3,17 +3,18 @@ use Rattle.std.specs.Prelude.{◌≡◌, ◌==◌, if◌then◌else◌, ℕ, Opt
 use Rattle.rt_ids.specs.declared.note.Note.{Note}
 use Rattle.rt_ids.specs.declared.order.Order.TheVariants as orders
 use Rattle.rt_jobs.specs.declared.job.Step.{Step}
-use Rattle.rt_jobs.specs.declared.job.Step.TheVariants.{Done, Yield}
-use Rattle.rt_jobs.specs.Steps.{AfterPoll, OnYield}
+use Rattle.rt_jobs.specs.declared.job.Step.TheVariants.{Done, Yield, Park}
+use Rattle.rt_jobs.specs.Steps.{AfterPoll, IfUndone}
 use Rattle.rt_core.specs.declared.turn.Turn.{Turn}
 use Rattle.rt_core.specs.declared.turn.Turn.TheVariants.{Start, Resume, Back, Idle}
 use Rattle.rt_core.specs.declared.turn.PickError.{PickError}
 use Rattle.rt_core.specs.declared.turn.PickError.TheVariants.{Busy, Spent}
 use Rattle.rt_core.specs.declared.turn.Settled.{Settled}
-use Rattle.rt_core.specs.declared.turn.Settled.TheVariants.{Yielded, Finished}
+use Rattle.rt_core.specs.declared.turn.Settled.TheVariants.{Yielded, Parked, Stayed, Finished}
 use Rattle.rt_core.specs.State.{CoreView}
 use Rattle.rt_core.specs.Answers.{IsTaskOut}
-use Rattle.rt_core.specs.Turns.{Picks, SettlesOut}
+use Rattle.rt_core.specs.Turns.{Picks}
+use Rattle.rt_core.specs.Settling.{SettlesOut}
 use Rattle.fairexec_c.specs.declared.code.Code.{Code}
 use Rattle.fairexec_c.specs.declared.code.Code.TheVariants as code
 use Rattle.fairexec_c.specs.declared.job.HostJob.{HostJob}
@@ -43,9 +44,11 @@ pub record Nexts (old : CoreView HostJob) (before : ℕ) (told : Code) (after : 
   pub code : told ≡ code_of_turn turn
   pub job : after ≡ handle_told turn before
 
--- the code of a settled run
+-- the code of a settled run; one that asks to be parked and stays in its queue is told as one that yields
 abbrev pub code_of_settled : Settled ℕ → Code
 code_of_settled Yielded = code.Ok
+code_of_settled Parked = code.Parked
+code_of_settled Stayed = code.Ok
 code_of_settled (Finished answer) = code.Done
 
 -- the run of the job that is out came to this step, and took so many nanoseconds; a job that goes back is that job
@@ -56,12 +59,12 @@ pub record SettlesRun (old : CoreView HostJob) (step : Step ℕ) (spent : ℕ) (
   pub settles : SettlesOut old ran spent settled new written
   pub stepped : ran.step ≡ step
   pub untimed : ran.told ≡ None
-  pub same : OnYield ran.step (IsTaskOut host_meaning old.out ran.job)
+  pub same : IfUndone ran.step (IsTaskOut host_meaning old.out ran.job)
   pub code : told ≡ code_of_settled settled
 
 -- the step of a number, if it is one
 abbrev pub step_of : ℕ → Option (Step ℕ)
-step_of number = if number == 0 then Some Yield else if number == 1 then Some (Done 0) else None
+step_of number = if number == 0 then Some Yield else if number == 1 then Some (Done 0) else if number == 2 then Some Park else None
 
 -- a run is settled; a number that is no step comes before a job that isn't there
 abbrev pub SettlesStep : CoreView HostJob → Option (Step ℕ) → ℕ → Code → CoreView HostJob → Type 0
@@ -69,4 +72,5 @@ SettlesStep old None spent code.BadNumber new = new ≡ old
 SettlesStep old (Some step) spent code.NoJob new = (old.out ≡ None) × (new ≡ old)
 SettlesStep old (Some step) spent code.Ok new = SettlesRun old step spent code.Ok new
 SettlesStep old (Some step) spent code.Done new = SettlesRun old step spent code.Done new
+SettlesStep old (Some step) spent code.Parked new = SettlesRun old step spent code.Parked new
 SettlesStep old step spent told new = ⊥

@@ -5,7 +5,7 @@ use Rattle.rt_ids.specs.declared.note.Note.TheVariants.{Redeemed}
 use Rattle.rt_ids.specs.declared.note.OutcomeNote.TheVariants.{Finished}
 use Rattle.rt_ids.specs.Journal.{Journal}
 use Rattle.rt_jobs.specs.declared.job.Step.{Step}
-use Rattle.rt_jobs.specs.declared.job.Step.TheVariants.{Done, Yield}
+use Rattle.rt_jobs.specs.declared.job.Step.TheVariants.{Done, Yield, Park}
 use Rattle.rt_jobs.specs.Calls.{Doing}
 use Rattle.rt_jobs.specs.Calls.Call.{Submit, Redeem, Detach}
 use Rattle.fairexec_c.specs.Jobs.{heard}
@@ -17,6 +17,7 @@ abbrev pub notes_of : Step ℕ → Option JobId → Journal ℕ
 notes_of (Done answer) (Some name) = Redeemed name (Finished answer) ∷ []
 notes_of (Done answer) None = []
 notes_of Yield asked = []
+notes_of Park asked = []
 
 abbrev pub word_notes : Word → Journal ℕ
 word_notes word = notes_of word.step word.asked

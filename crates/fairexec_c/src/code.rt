@@ -27,6 +27,10 @@ pub enum Code {
     TooMany,
     BadNumber,
     Occupied,
+    /// The job parks. One that stays in its queue is told as `Ok`.
+    Parked,
+    /// No job of this number is inside.
+    Absent,
 }
 
 /// The number of a code, as `enum fx_code` of the header has it.
@@ -52,5 +56,7 @@ pub fn number(code: Code) -> u32
         Code::TooMany => 15,
         Code::BadNumber => 16,
         Code::Occupied => 17,
+        Code::Parked => 18,
+        Code::Absent => 19,
     }
 }

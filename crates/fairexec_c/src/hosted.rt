@@ -123,6 +123,8 @@ impl Hosted {
         let (settled, _notes) = self.core.settle(poll_told(job, step), spent);
         match settled {
             Settled::Yielded => Code::Ok,
+            Settled::Parked => Code::Parked,
+            Settled::Stayed => Code::Ok,
             Settled::Finished(_) => Code::Done,
         }
     }
@@ -164,6 +166,7 @@ fn step_numbered(number: u32) -> Option<Step<u64>>
     match number {
         0 => Some(Step::Yield),
         1 => Some(Step::Done(0)),
+        2 => Some(Step::Park),
         _ => None,
     }
 }

@@ -60,7 +60,8 @@ fn step_heard(answer: Result<Outcome<HostJob, u64>, TicketError>) -> Step<u64>
         Ok(Outcome::Finished(answer)) => Step::Done(answer),
         Ok(Outcome::Returned(_, _)) => Step::Yield,
         Ok(Outcome::Answered(_)) => Step::Yield,
-        Err(_) => Step::Yield,
+        Err(TicketError::Unknown) => Step::Park,
+        Err(TicketError::Gone | TicketError::Pending) => Step::Yield,
     }
 }
 
@@ -71,6 +72,7 @@ fn is_done_step(step: &Step<u64>) -> bool
     match step {
         Step::Done(_) => true,
         Step::Yield => false,
+        Step::Park => false,
     }
 }
 

@@ -10,6 +10,7 @@ ghost use Rattle.fairexec_c.specs.Hosting.{Submits};
 ghost use Rattle.fairexec_c.specs.Opening.{Opens, OpensCore, Frees};
 ghost use Rattle.fairexec_c.specs.Queueing.{MakesQueue, Reweighs, ClosesLine, ClosesAll, mode_of_number};
 ghost use Rattle.fairexec_c.specs.Running.{Nexts, SettlesStep, step_of};
+ghost use Rattle.fairexec_c.specs.Waking.{TellsNumber, WakesNumber};
 
 pub mod code;
 pub mod figures;
@@ -111,6 +112,39 @@ pub extern "C" fn fx_submit(alloc: Global, core: &mut Handle, queue: u32, job: u
         return number(Code::Empty);
     };
     let code = hosted.submit(queue, job);
+    put(core, hosted);
+    number(code)
+}
+
+/// Hands a job to the tail of a queue, and tells the number by which it is woken.
+#[unsafe(no_mangle)]
+pub extern "C" fn fx_submit_numbered(
+    alloc: Global,
+    core: &mut Handle,
+    queue: u32,
+    job: u64,
+    order: &mut u64,
+) -> u32
+    ensures core { OnCore core.old.value core.new.value result (λ old told new. Submits old queue job told new × TellsNumber old order.old told order.new) }
+    ensures empty { core.old.value ≡ None → order.new ≡ order.old }
+{
+    let Some(mut hosted) = take(alloc, core) else {
+        return number(Code::Empty);
+    };
+    let code = hosted.submit_numbered(queue, job, order);
+    put(core, hosted);
+    number(code)
+}
+
+/// Wakes the job of this number.
+#[unsafe(no_mangle)]
+pub extern "C" fn fx_wake(alloc: Global, core: &mut Handle, order: u64) -> u32
+    ensures { OnCore core.old.value core.new.value result (λ old told new. WakesNumber old order told new) }
+{
+    let Some(mut hosted) = take(alloc, core) else {
+        return number(Code::Empty);
+    };
+    let code = hosted.wake(order);
     put(core, hosted);
     number(code)
 }

@@ -1,14 +1,15 @@
-//! What the host asks of its core: jobs that enter, queues, shares, and closing.
+//! What the host asks of its core: jobs that enter and are woken, queues, shares, and closing.
 
 ghost use Rattle.std.specs.Prelude.{◌≡◌};
 ghost use Rattle.fairexec_c.specs.Hosting.{Submits};
 ghost use Rattle.fairexec_c.specs.Queueing.{MakesQueue, Reweighs, ClosesLine, ClosesAll, mode_of_number};
+ghost use Rattle.fairexec_c.specs.Waking.{TellsNumber, WakesNumber};
 
 use crate::code::Code;
 use crate::hosted::Hosted;
 use crate::job::HostJob;
 use rt_core::Delivered;
-use rt_ids::{Answer, Mode, Order, QueueNo, Reason};
+use rt_ids::{ActorNo, Answer, Mode, Order, QueueNo, Reason};
 use rt_shares::Shares;
 use rt_taskqueue::CreateError;
 
@@ -35,6 +36,36 @@ impl Hosted {
             Delivered::Back(Reason::NoQueue, _) => Code::NoQueue,
             Delivered::Back(_, _) => Code::QueueClosed,
             Delivered::Answered(_) => unreachable!(),
+        }
+    }
+
+    /// Hands a job to a queue, and tells the number by which it is woken.
+    pub fn submit_numbered(&mut self, queue: u32, handle: u64, number: &mut u64) -> Code
+        ensures submits { Submits self.old queue handle result self.new }
+        ensures number { TellsNumber self.old number.old result number.new }
+    {
+        let before = self.sent;
+        let code = self.submit(queue, handle);
+        if let Code::Ok = code {
+            *number = before + 1;
+        }
+        code
+    }
+
+    /// Wakes the job of this number.
+    pub fn wake(&mut self, number: u64) -> Code
+        ensures { WakesNumber self.old number result self.new }
+    {
+        if !self.core.has_room() {
+            return Code::Full;
+        }
+        if self.sent == u64::MAX {
+            return Code::Spent;
+        }
+        match self.hand_in(Order::Wake(ActorNo(1), number)) {
+            Delivered::Answered(Answer::Woken) => Code::Ok,
+            Delivered::Answered(Answer::NoJob) => Code::Absent,
+            _ => unreachable!(),
         }
     }
 

@@ -4,7 +4,7 @@ ghost use Rattle.std.specs.Prelude.{◌≡◌, false, None};
 ghost use Rattle.fairexec_c.specs.Words.{word_notes};
 ghost use Rattle.rt_jobs.specs.Posts.{NotesSubmit, NotesRedeem, NotesDetach};
 ghost use Rattle.rt_jobs.specs.Ready.{HasReadyJob};
-ghost use Rattle.rt_jobs.specs.Steps.{OnYield};
+ghost use Rattle.rt_jobs.specs.Steps.{IfUndone};
 
 use crate::job::HostJob;
 use rt_ids::{CoreNo, Order, Outcome, SendError, Ticket, TicketError};
@@ -38,6 +38,7 @@ impl Post<HostJob, u64> for Word {
     fn redeem(&mut self, ticket: Ticket) -> Result<Outcome<HostJob, u64>, TicketError> {
         match (self.step, self.asked) {
             (Step::Yield, _) => Err(TicketError::Pending),
+            (Step::Park, _) => Err(TicketError::Unknown),
             (Step::Done(_), Some(_)) => Err(TicketError::Gone),
             (Step::Done(answer), None) => {
                 self.asked = Some(ticket);
@@ -62,7 +63,7 @@ pub fn poll_told(job: HostJob, step: Step<u64>) -> Ran<HostJob>
     ensures before { result.before ≡ job }
     ensures step { result.step ≡ step }
     ensures told { result.told ≡ None }
-    ensures same { OnYield result.step (job.handle ≡ result.job.handle) }
+    ensures same { IfUndone result.step (job.handle ≡ result.job.handle) }
 {
     let mut word = Word { step, asked: None };
     Ran::poll(job, &mut word)

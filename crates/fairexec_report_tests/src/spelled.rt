@@ -14,9 +14,15 @@ const IN: JobId = JobId {
 };
 
 /// Notes, and which of the actors 0, 1 and 2 of two cores may write each.
-const NOTES: [(Note<u64>, bool, bool, bool); 15] = [
+const NOTES: [(Note<u64>, bool, bool, bool); 19] = [
     (
         Note::Sent(IN, Order::Job(QueueNo(255), ())),
+        false,
+        false,
+        true,
+    ),
+    (
+        Note::Sent(IN, Order::Wake(ActorNo(255), u64::MAX)),
         false,
         false,
         true,
@@ -38,7 +44,10 @@ const NOTES: [(Note<u64>, bool, bool, bool); 15] = [
     ),
     (Note::CoreClosed(Mode::Return), true, true, false),
     (Note::Pick(QueueNo(7), u128::MAX), true, true, false),
+    (Note::Woken(IN), false, true, false),
     (Note::Start(IN), false, true, false),
+    (Note::Park(IN, u64::MAX), false, true, false),
+    (Note::Stayed(IN, 0), false, true, false),
     (Note::Returned(IN, Reason::CoreReturned), false, true, false),
     (Note::Returned(IN, Reason::NoQueue), false, false, false),
     (Note::Shut(ActorNo(2), 0), true, true, false),

@@ -12,7 +12,7 @@ pub(crate) const WHOLE: [(u32, &str); 5] = [
     (1, TURNS),
     (
         2,
-        "journal 1\ncores 2 cap 1024\n0 queue q1 10000\n0 sent 0>1#1 job q255\n0 sent 0>1#2 create 1\n0 sent 0>1#3 shares q0 500\n0 sent 0>1#4 close q7 finish\n0 sent 0>1#5 closecore return\n0 took 2>0#9223372036854775807 q0\n0 back 2>0#2 noqueue\n0 back 2>0#3 queueclosed\n0 back 2>0#4 coreclosing\n0 answered 1>0#1 created q2\n0 answered 1>0#2 toomany\n0 answered 1>0#3 nomemory\n0 answered 1>0#4 closing\n0 answered 1>0#5 sharesset\n0 answered 1>0#6 noqueue\n0 answered 1>0#7 closed\n0 answered 1>0#8 alreadyclosed\n0 shares q2 900\n0 closed q2 return\n0 coreclosed finish\n0 pick q0 at 340282366920938463463374607431768211455\n0 start 2>0#1\n0 resume 2>0#1\n0 yield 2>0#1 18446744073709551615\n0 done 2>0#1 0 = 18446744073709551615\n0 returned 2>0#1 queuereturned\n0 returned 2>0#1 corereturned\n0 shut 2 9223372036854775807\n0 collected 0>1#1 finished 18446744073709551615\n0 collected 0>1#2 answered created q255\n0 redeemed 0>1#1 returned noqueue\n0 redeemed 0>1#4 answered alreadyclosed\n0 detached 0>1#3\n2 sent 2>0#1 job q0\n2 detached 2>0#1\nend\n",
+        "journal 1\ncores 2 cap 1024\n0 queue q1 10000\n0 sent 0>1#1 job q255\n0 sent 0>1#2 create 1\n0 sent 0>1#3 shares q0 500\n0 sent 0>1#4 close q7 finish\n0 sent 0>1#5 closecore return\n0 sent 0>1#6 wake 255#18446744073709551615\n0 sent 0>1#7 wake 0#0\n0 took 2>0#9223372036854775807 q0\n0 back 2>0#2 noqueue\n0 back 2>0#3 queueclosed\n0 back 2>0#4 coreclosing\n0 answered 1>0#1 created q2\n0 answered 1>0#2 toomany\n0 answered 1>0#3 nomemory\n0 answered 1>0#4 closing\n0 answered 1>0#5 sharesset\n0 answered 1>0#6 noqueue\n0 answered 1>0#7 closed\n0 answered 1>0#8 alreadyclosed\n0 answered 1>0#9 woken\n0 answered 1>0#10 nojob\n0 woken 2>0#1\n0 shares q2 900\n0 closed q2 return\n0 coreclosed finish\n0 pick q0 at 340282366920938463463374607431768211455\n0 start 2>0#1\n0 resume 2>0#1\n0 yield 2>0#1 18446744073709551615\n0 park 2>0#1 18446744073709551615\n0 stayed 2>0#1 0\n0 done 2>0#1 0 = 18446744073709551615\n0 returned 2>0#1 queuereturned\n0 returned 2>0#1 corereturned\n0 shut 2 9223372036854775807\n0 collected 0>1#1 finished 18446744073709551615\n0 collected 0>1#2 answered created q255\n0 redeemed 0>1#1 returned noqueue\n0 redeemed 0>1#4 answered alreadyclosed\n0 detached 0>1#3\n2 sent 2>0#1 job q0\n2 detached 2>0#1\nend\n",
     ),
     (
         3,
@@ -25,7 +25,7 @@ pub(crate) const WHOLE: [(u32, &str); 5] = [
 ];
 
 /// Texts, each with the number of its first faulty line and its cause.
-pub(crate) const FAULTY: [(&[u8], u32, JournalCause); 74] = [
+pub(crate) const FAULTY: [(&[u8], u32, JournalCause); 85] = [
     (b"journal 1", 1, JournalCause::Cut),
     (b"x", 1, JournalCause::Cut),
     (
@@ -188,7 +188,62 @@ pub(crate) const FAULTY: [(&[u8], u32, JournalCause); 74] = [
         JournalCause::Note,
     ),
     (
-        b"journal 1\ncores 1 cap 4\n0 sent 0>0#1 wake 0#1\nend\n",
+        b"journal 1\ncores 1 cap 4\n0 sent 0>0#1 wake 0\nend\n",
+        3,
+        JournalCause::Note,
+    ),
+    (
+        b"journal 1\ncores 1 cap 4\n0 sent 0>0#1 wake 0#\nend\n",
+        3,
+        JournalCause::Note,
+    ),
+    (
+        b"journal 1\ncores 1 cap 4\n0 sent 0>0#1 wake 256#1\nend\n",
+        3,
+        JournalCause::Note,
+    ),
+    (
+        b"journal 1\ncores 1 cap 4\n0 sent 0>0#1 wake 00#1\nend\n",
+        3,
+        JournalCause::Note,
+    ),
+    (
+        b"journal 1\ncores 1 cap 4\n0 sent 0>0#1 wake 0>0#1\nend\n",
+        3,
+        JournalCause::Note,
+    ),
+    (
+        b"journal 1\ncores 1 cap 4\n0 sent 0>0#1 wake 0#18446744073709551616\nend\n",
+        3,
+        JournalCause::Note,
+    ),
+    (
+        b"journal 1\ncores 1 cap 4\n0 sent 0>0#1 wake 0#1 1\nend\n",
+        3,
+        JournalCause::Note,
+    ),
+    (
+        b"journal 1\ncores 1 cap 4\n0 answered 0>0#1 nojob q0\nend\n",
+        3,
+        JournalCause::Note,
+    ),
+    (
+        b"journal 1\ncores 1 cap 4\n0 park 0>0#1\nend\n",
+        3,
+        JournalCause::Note,
+    ),
+    (
+        b"journal 1\ncores 1 cap 4\n0 stayed 0>0#1 18446744073709551616\nend\n",
+        3,
+        JournalCause::Note,
+    ),
+    (
+        b"journal 1\ncores 1 cap 4\n0 woken 0>0#1 5\nend\n",
+        3,
+        JournalCause::Note,
+    ),
+    (
+        b"journal 1\ncores 1 cap 4\n1 woken 0>0#1\nend\n",
         3,
         JournalCause::Note,
     ),

@@ -42,6 +42,7 @@ is_ready cores (Send sender core (order.Create weight)) here = tt
 is_ready cores (Send sender core (order.SetShares queue weight)) here = tt
 is_ready cores (Send sender core (order.Close queue mode)) here = tt
 is_ready cores (Send sender core (order.CloseCore mode)) here = tt
+is_ready cores (Send sender core (order.Wake actor number)) here = tt
 is_ready cores (Deliver core sender) here = tt
 is_ready cores (Turn core) here = tt
 is_ready cores (Shut core sender) here = tt

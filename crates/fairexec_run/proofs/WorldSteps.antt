@@ -9,11 +9,13 @@ use Rattle.rt_ids.specs.Journal.{Journal, is_told}
 use Rattle.rt_ids.specs.declared.order.Order.TheVariants as order
 use Rattle.rt_ids.specs.declared.order.SendError.{SendError}
 use Rattle.rt_ids.specs.declared.order.SendError.TheVariants as refused
-use Rattle.rt_ids.specs.Commands.{effect_note}
+use Rattle.rt_ids.specs.Commands.{effect_note, stays_in_line}
+use Rattle.rt_core.specs.Whole.{settled_of}
+use Rattle.rt_core.specs.declared.turn.Settled.{Settled}
+use Rattle.rt_core.specs.declared.turn.Settled.TheVariants as settled
 use Rattle.rt_jobs.specs.Calls.{Call, Makes}
 use Rattle.rt_jobs.specs.Calls.Call.{Submit}
 use Rattle.rt_jobs.specs.declared.job.Step.{Step}
-use Rattle.rt_jobs.specs.declared.job.Step.TheVariants as steps
 use Rattle.rt_jobs.specs.declared.poll.Poll.{Poll}
 use Rattle.rt_jobs.specs.declared.poll.Poll.TheVariants as poll
 use Rattle.rt_jobs.specs.Scripts.{Script, Does, small_job, detach_calls}
@@ -27,7 +29,7 @@ use Rattle.rt_jobs.specs.ScriptMeaning.{script_meaning}
 use Rattle.rt_world.specs.Sends.{actor_of, AreThere, Sends, sent_reply}
 use Rattle.rt_world.specs.Deliveries.{IsDelivery, with_effect, Delivers}
 use Rattle.rt_ids.specs.Filters.{accepted_orders}
-use Rattle.rt_world.specs.Turns.{IsPoll, Turns, pick_notes, settle_note, poll_note}
+use Rattle.rt_world.specs.Turns.{IsPoll, Turns, pick_notes, settle_note, settled_note, poll_note}
 use Rattle.rt_world.specs.Closings.{Shuts}
 use Rattle.rt_world.specs.Collections.{uncollected, collected_notes, Collects, Redeems, Detaches}
 use Rattle.std.proofs.lemmas.Option.{unwrap_or-slice_get}
@@ -57,10 +59,11 @@ few_answered effect name answer notes is =
 
 delivery_few : (name : JobId) (what : Order Script) (before : Journal ℕ) (notes : List (Note ℕ)) → IsDelivery name what before notes → length notes ≤ 3
 delivery_few name (order.Job queue job) before notes is = let e : length notes ≡ 1 = ap length is in omega arith
-delivery_few name (order.Create weight) before notes is = few_answered (effect_note (order.Create weight) is.0) name is.0 notes is.2
-delivery_few name (order.SetShares queue weight) before notes is = few_answered (effect_note (order.SetShares queue weight) is.0) name is.0 notes is.2
-delivery_few name (order.Close queue mode) before notes is = few_answered (effect_note (order.Close queue mode) is.0) name is.0 notes is.2
-delivery_few name (order.CloseCore mode) before notes is = few_answered (effect_note (order.CloseCore mode) is.0) name is.0 notes is.2
+delivery_few name (order.Create weight) before notes is = few_answered (effect_note name.to (order.Create weight) is.0) name is.0 notes is.2
+delivery_few name (order.SetShares queue weight) before notes is = few_answered (effect_note name.to (order.SetShares queue weight) is.0) name is.0 notes is.2
+delivery_few name (order.Close queue mode) before notes is = few_answered (effect_note name.to (order.Close queue mode) is.0) name is.0 notes is.2
+delivery_few name (order.CloseCore mode) before notes is = few_answered (effect_note name.to (order.CloseCore mode) is.0) name is.0 notes is.2
+delivery_few name (order.Wake actor number) before notes is = few_answered (effect_note name.to (order.Wake actor number) is.0) name is.0 notes is.2
 
 -- orders that were accepted are no part of a journal
 with_orders : (most actor : ℕ) (notes : List (Note ℕ)) (old new : ScriptWorld) (sent : List (List (List (Order Script)))) → AreLight most notes → new ≡ record (noted actor notes old) { sent = sent } → Grows most actor old new
@@ -128,6 +131,7 @@ small_grows core to what (Err refusal) old new (left, submits, same) =
 calls_grow : (core : ℕ) (word : Option Poll) (calls : List (Call Script ℕ)) (step : Step ℕ) (told : Option ℕ) (old new : ScriptWorld) → Does word calls step told → Makes (CallsAt script_meaning core) calls old new → Grows 3 core old new
 calls_grow core None calls step told old new does makes = absurd does
 calls_grow core (Some (poll.Yield time)) calls step told old new does makes = quiet_grows core calls old new does.0 makes
+calls_grow core (Some (poll.Park time)) calls step told old new does makes = quiet_grows core calls old new does.0 makes
 calls_grow core (Some (poll.Done time value)) calls step told old new does makes = quiet_grows core calls old new does.0 makes
 calls_grow core (Some (poll.Submit time to queue)) calls step told old new does makes =
     small_grows core to (order.Job queue small_job) (does.0).answer old new (subst (λ all. Makes (CallsAt script_meaning core) all old new) (does.0).are makes)
@@ -137,9 +141,11 @@ pick_light : (name : JobId) (queue runtime : ℕ) (started : Bool) → AreLight 
 pick_light name queue runtime true = light 2 _ (omega arith)
 pick_light name queue runtime false = light 2 _ (omega arith)
 
-settle_light : (name : JobId) (time : ℕ) (step : Step ℕ) → AreLight 1 (settle_note name time step ∷ [])
-settle_light name time (steps.Done out) = light 1 _ (omega arith)
-settle_light name time steps.Yield = light 1 _ (omega arith)
+settle_light : (name : JobId) (time : ℕ) (settled : Settled ℕ) → AreLight 1 (settle_note name time settled ∷ [])
+settle_light name time (settled.Finished out) = light 1 _ (omega arith)
+settle_light name time settled.Yielded = light 1 _ (omega arith)
+settle_light name time settled.Parked = light 1 _ (omega arith)
+settle_light name time settled.Stayed = light 1 _ (omega arith)
 
 -- a poll adds the notes of its pick, those of its calls, and its own
 poll_grows : (core spent : ℕ) (old new : ScriptWorld) → IsPoll script_meaning core spent old new → Grows 6 core old new
@@ -151,7 +157,8 @@ poll_grows core spent old new is =
     (adds 2 core (pick_notes is.name is.queue is.runtime (journal_at core old)) old (pick_light is.name is.queue is.runtime (is_told name_started is.name (journal_at core old))))
     (calls_grow core _ is.calls is.step is.told picked is.posted is.owed is.posts)
     )
-    (adds_to 1 core (settle_note is.name (unwrap_or is.told spent) is.step ∷ []) is.posted new (settle_light is.name (unwrap_or is.told spent) is.step) is.notes)
+    (adds_to 1 core (settled_note is.name (unwrap_or is.told spent) is.step (journal_at core is.posted) ∷ []) is.posted new
+    (settle_light is.name (unwrap_or is.told spent) (settled_of is.step (stays_in_line is.name (journal_at core is.posted)))) is.notes)
 
 turn_grows : (core spent : ℕ) (old new : ScriptWorld) (answer : Reply Script) → Turns script_meaning core spent old new answer → Grows 6 core old new
 turn_grows core spent old new reply.Noted (inl is) = poll_grows core spent old new is

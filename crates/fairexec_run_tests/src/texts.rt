@@ -13,7 +13,7 @@ const NAME: JobId = JobId {
 };
 
 /// Notes of jobs, and their lines in the journal of actor 1.
-const JOB_NOTES: [(Note<u64>, &str); 12] = [
+const JOB_NOTES: [(Note<u64>, &str); 15] = [
     (
         Note::Sent(NAME, Order::Job(QueueNo(4), ())),
         "1 sent 2>1#3 job q4",
@@ -27,6 +27,9 @@ const JOB_NOTES: [(Note<u64>, &str); 12] = [
     (Note::Start(NAME), "1 start 2>1#3"),
     (Note::Resume(NAME), "1 resume 2>1#3"),
     (Note::Yield(NAME, 70), "1 yield 2>1#3 70"),
+    (Note::Park(NAME, 70), "1 park 2>1#3 70"),
+    (Note::Stayed(NAME, 70), "1 stayed 2>1#3 70"),
+    (Note::Woken(NAME), "1 woken 2>1#3"),
     (Note::Done(NAME, 70, 8), "1 done 2>1#3 70 = 8"),
     (
         Note::Returned(NAME, Reason::CoreReturned),
@@ -44,7 +47,7 @@ const JOB_NOTES: [(Note<u64>, &str); 12] = [
 ];
 
 /// The other notes.
-const CORE_NOTES: [(Note<u64>, &str); 6] = [
+const CORE_NOTES: [(Note<u64>, &str); 7] = [
     (
         Note::Sent(NAME, Order::Close(QueueNo(4), Mode::Return)),
         "1 sent 2>1#3 close q4 return",
@@ -52,6 +55,10 @@ const CORE_NOTES: [(Note<u64>, &str); 6] = [
     (
         Note::Sent(NAME, Order::CloseCore(Mode::Finish)),
         "1 sent 2>1#3 closecore finish",
+    ),
+    (
+        Note::Sent(NAME, Order::Wake(ActorNo(255), u64::MAX)),
+        "1 sent 2>1#3 wake 255#18446744073709551615",
     ),
     (
         Note::QueueClosed(QueueNo(7), Mode::Finish),
@@ -66,7 +73,7 @@ const CORE_NOTES: [(Note<u64>, &str); 6] = [
 ];
 
 /// Answers of commands.
-const ANSWERS: [(Answer, &str); 7] = [
+const ANSWERS: [(Answer, &str); 9] = [
     (Answer::TooMany, "1 answered 2>1#3 toomany"),
     (Answer::NoMemory, "1 answered 2>1#3 nomemory"),
     (Answer::CoreClosing, "1 answered 2>1#3 closing"),
@@ -74,6 +81,8 @@ const ANSWERS: [(Answer, &str); 7] = [
     (Answer::NoQueue, "1 answered 2>1#3 noqueue"),
     (Answer::Closed, "1 answered 2>1#3 closed"),
     (Answer::AlreadyClosed, "1 answered 2>1#3 alreadyclosed"),
+    (Answer::Woken, "1 answered 2>1#3 woken"),
+    (Answer::NoJob, "1 answered 2>1#3 nojob"),
 ];
 
 /// What events come to that made no note, at actor 3, with 12 at the other end, and of their submission 7.

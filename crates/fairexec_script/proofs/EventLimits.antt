@@ -8,7 +8,7 @@ use Rattle.rt_words.specs.Numbers.{number_of}
 use Rattle.rt_words.specs.Words.{first, second, others}
 use Rattle.rt_words.specs.Fields.{core_field, actor_field}
 use Rattle.fairexec_script.specs.Polls.{polls_field, job_field}
-use Rattle.fairexec_script.specs.EventLines.{link_fields, gate_fields, name_fields, submit_line, create_line, shares_line, close_line, closecore_line, deliver_line, turn_line, shut_line, collect_line, redeem_line, detach_line}
+use Rattle.fairexec_script.specs.EventLines.{link_fields, gate_fields, name_fields, submit_line, create_line, shares_line, close_line, closecore_line, wake_line, deliver_line, turn_line, shut_line, collect_line, redeem_line, detach_line}
 use Rattle.fairexec_script.specs.Limits.{MayFollow}
 use Rattle.rt_words.proofs.FieldLemmas.{made_ok, both_ok, within_ok}
 
@@ -75,6 +75,13 @@ close_line_ok size ws line some e =
 
 pub closecore_line_ok : (size : ℕ × ℕ) (ws : List (List ℕ)) (line : Line) → 1 ≤ size.0 → closecore_line size.0 ws ≡ Ok line → MayFollow (Some size) line
 closecore_line_ok size ws line some e =
+    let m = made_ok _ _ _ e in
+    let b = both_ok _ _ _ m.1 in
+    let link = link_ok size.0 ws (m.0).0 some b.0 in
+    rw m.2 (record { sender = link.0; core = link.1; some_polls = omega arith; none_made = refl })
+
+pub wake_line_ok : (size : ℕ × ℕ) (ws : List (List ℕ)) (line : Line) → 1 ≤ size.0 → wake_line size.0 ws ≡ Ok line → MayFollow (Some size) line
+wake_line_ok size ws line some e =
     let m = made_ok _ _ _ e in
     let b = both_ok _ _ _ m.1 in
     let link = link_ok size.0 ws (m.0).0 some b.0 in

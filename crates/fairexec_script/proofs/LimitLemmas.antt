@@ -16,7 +16,7 @@ use Rattle.fairexec_script.specs.Drafts.{Drafted, queue_lines}
 use Rattle.fairexec_script.specs.Counts.{HasCountedLines, count_of}
 use Rattle.fairexec_script.specs.Limits.{ArePlaced, IsWithinLimits, IsCoreOf, MayFollow, AreEventsOf, IsEventFor, IsEventOf}
 use Rattle.rt_words.proofs.FieldLemmas.{made_ok, both_ok, within_ok}
-use Rattle.fairexec_script.proofs.EventLimits.{submit_line_ok, create_line_ok, shares_line_ok, close_line_ok, closecore_line_ok, deliver_line_ok, turn_line_ok, shut_line_ok, collect_line_ok, redeem_line_ok, detach_line_ok}
+use Rattle.fairexec_script.proofs.EventLimits.{submit_line_ok, create_line_ok, shares_line_ok, close_line_ok, closecore_line_ok, wake_line_ok, deliver_line_ok, turn_line_ok, shut_line_ok, collect_line_ok, redeem_line_ok, detach_line_ok}
 
 size_line_ok : (ws : List (List ℕ)) (line : Line) → size_line ws ≡ Ok line → MayFollow None line
 size_line_ok ws line e =
@@ -42,6 +42,7 @@ line_of_ok keyword.Create size ws line some e = create_line_ok size ws line some
 line_of_ok keyword.Shares size ws line some e = shares_line_ok size ws line some e
 line_of_ok keyword.Close size ws line some e = close_line_ok size ws line some e
 line_of_ok keyword.CloseCore size ws line some e = closecore_line_ok size ws line some e
+line_of_ok keyword.Wake size ws line some e = wake_line_ok size ws line some e
 line_of_ok keyword.Deliver size ws line some e = deliver_line_ok size ws line some e
 line_of_ok keyword.Turn size ws line some e = turn_line_ok size ws line some e
 line_of_ok keyword.Shut size ws line some e = shut_line_ok size ws line some e

@@ -42,6 +42,10 @@ close_line cores ws = made (λ p. Step (Send (p.0).0 (p.0).1 (order.Close (p.1).
 abbrev pub closecore_line : ℕ → List (List ℕ) → Result Line Cause
 closecore_line cores ws = made (λ p. Step (Send (p.0).0 (p.0).1 (order.CloseCore p.1))) (both (link_fields cores ws) (mode_field (third ws)))
 
+-- `s d a n`, a wake of the job that actor a sent to core d under number n
+abbrev pub wake_line : ℕ → List (List ℕ) → Result Line Cause
+wake_line cores ws = made (λ p. Step (Send (p.0).0 (p.0).1 (order.Wake (p.1).0 (p.1).1))) (both (link_fields cores ws) (both (actor_field cores (third ws)) (submission_field (fourth ws))))
+
 -- `d s`
 abbrev pub deliver_line : ℕ → List (List ℕ) → Result Line Cause
 deliver_line cores ws = made (λ p. Step (Deliver p.0 p.1)) (gate_fields cores ws)

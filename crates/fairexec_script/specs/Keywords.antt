@@ -2,7 +2,7 @@
 use Rattle.std.specs.Prelude.{ℕ, ◌&&◌, Bool, true, false, List, codes, Option, Some, None, nat_le, ◌==◌, if◌then◌else◌}
 use Rattle.std.specs.Str.{bytes_eq}
 use Rattle.fairexec_script.specs.declared.keyword.Keyword.{Keyword}
-use Rattle.fairexec_script.specs.declared.keyword.Keyword.TheVariants.{Queue, Submit, Create, Shares, Close, CloseCore, Deliver, Turn, Shut, Collect, Redeem, Detach}
+use Rattle.fairexec_script.specs.declared.keyword.Keyword.TheVariants.{Queue, Submit, Create, Shares, Close, CloseCore, Wake, Deliver, Turn, Shut, Collect, Redeem, Detach}
 
 -- what a line sends, by its first word
 abbrev pub order_keyword : List ℕ → Option Keyword
@@ -12,7 +12,8 @@ order_keyword word =
     else (if bytes_eq word (codes "shares") then Some Shares
     else (if bytes_eq word (codes "close") then Some Close
     else (if bytes_eq word (codes "closecore") then Some CloseCore
-    else None))))
+    else (if bytes_eq word (codes "wake") then Some Wake
+    else None)))))
 
 -- what a line does that sends nothing, by its first word
 abbrev pub step_keyword : List ℕ → Option Keyword
@@ -44,6 +45,7 @@ takes Create count = count == 4
 takes Shares count = count == 5
 takes Close count = count == 5
 takes CloseCore count = count == 4
+takes Wake count = count == 5
 takes Deliver count = count == 3
 takes Turn count = count == 2
 takes Shut count = count == 3

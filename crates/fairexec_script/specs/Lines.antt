@@ -12,7 +12,7 @@ use Rattle.rt_words.specs.Numbers.{number_of, within}
 use Rattle.rt_words.specs.Words.{first, others, second, third, word_count}
 use Rattle.fairexec_script.specs.Keywords.{keyword_of, takes, is_queue}
 use Rattle.rt_words.specs.Fields.{both, made, core_field, shares_field, fixed_field}
-use Rattle.fairexec_script.specs.EventLines.{submit_line, create_line, shares_line, close_line, closecore_line, deliver_line, turn_line, shut_line, collect_line, redeem_line, detach_line}
+use Rattle.fairexec_script.specs.EventLines.{submit_line, create_line, shares_line, close_line, closecore_line, wake_line, deliver_line, turn_line, shut_line, collect_line, redeem_line, detach_line}
 
 -- `C cap K`
 abbrev pub size_line : List (List ℕ) → Result Line Cause
@@ -30,6 +30,7 @@ line_of keyword.Create cores ws = create_line cores ws
 line_of keyword.Shares cores ws = shares_line cores ws
 line_of keyword.Close cores ws = close_line cores ws
 line_of keyword.CloseCore cores ws = closecore_line cores ws
+line_of keyword.Wake cores ws = wake_line cores ws
 line_of keyword.Deliver cores ws = deliver_line cores ws
 line_of keyword.Turn cores ws = turn_line cores ws
 line_of keyword.Shut cores ws = shut_line cores ws

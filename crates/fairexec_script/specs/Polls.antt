@@ -2,7 +2,7 @@
 use Rattle.std.specs.Prelude.{◌≡◌, ℕ, ◌+◌, ◌≤◌, ◌==◌, List, [], ◌∷◌, ◌++◌, length, Result, Err, if◌then◌else◌}
 use Rattle.std.specs.List.{before_first, after_first}
 use Rattle.rt_jobs.specs.declared.poll.Poll.{Poll}
-use Rattle.rt_jobs.specs.declared.poll.Poll.TheVariants.{Yield, Submit, Done}
+use Rattle.rt_jobs.specs.declared.poll.Poll.TheVariants.{Yield, Submit, Park, Done}
 use Rattle.rt_jobs.specs.Scripts.{Script}
 use Rattle.rt_text.specs.declared.fault.Cause.{Cause}
 use Rattle.rt_text.specs.declared.fault.Cause.TheVariants.{BadWord}
@@ -14,6 +14,7 @@ use Rattle.fairexec_script.specs.declared.polls.Early.TheVariants as early
 abbrev pub poll_of : Early → Poll
 poll_of (early.Yield told) = Yield told
 poll_of (early.Submit told core queue) = Submit told core queue
+poll_of (early.Park told) = Park told
 
 -- `T>D.Q`, behind the letter of a poll that submits to queue Q of core D and tells T; the first `>` counts, and the first `.` behind it
 abbrev pub submit_field : ℕ → List ℕ → Result Poll Cause
@@ -23,12 +24,13 @@ submit_field cores rest =
     (both (core_field cores (before_first (λ byte. byte == 46) (after_first (λ byte. byte == 62) rest)))
     (queue_field (after_first (λ byte. byte == 46) (after_first (λ byte. byte == 62) rest)))))
 
--- `yT`, a poll that yields and tells T, or `pT>D.Q`
+-- `yT`, a poll that yields and tells T, `pT>D.Q`, or `kT`, one that is parked and tells T
 abbrev pub early_field : ℕ → List ℕ → Result Poll Cause
 early_field cores [] = Err BadWord
 early_field cores (letter ∷ rest) =
     if letter == 121 then made Yield (count_field rest)
-    else (if letter == 112 then submit_field cores rest else Err BadWord)
+    else (if letter == 112 then submit_field cores rest
+    else (if letter == 107 then made Park (count_field rest) else Err BadWord))
 
 -- `dT=V`, a poll that is done with V and tells T; the first `=` counts
 abbrev pub done_field : List ℕ → Result Poll Cause
@@ -37,7 +39,7 @@ done_field (letter ∷ rest) =
     if letter == 100 then made (λ p. Done p.0 p.1) (both (count_field (before_first (λ byte. byte == 61) rest)) (count_field (after_first (λ byte. byte == 61) rest)))
     else Err BadWord
 
--- the polls of a job: the last word is a poll that is done, and each before it one that yields
+-- the polls of a job: the last word is a poll that is done, and each before it one that yields or is parked
 abbrev pub polls_field : ℕ → List (List ℕ) → Result (List Poll) Cause
 polls_field cores [] = Err BadWord
 polls_field cores (word ∷ []) = made (λ poll. poll ∷ []) (done_field word)

@@ -103,6 +103,23 @@ pub(crate) fn closecore_line(cores: u8, fields: &mut Words<'_>) -> Result<Line, 
     Ok(Line::Step(ScriptEvent::Send(from, to, Order::CloseCore(mode))))
 }
 
+/// `s d a n`
+pub(crate) fn wake_line(cores: u8, fields: &mut Words<'_>) -> Result<Line, Cause>
+    requires { 1 ≤ cores }
+    ensures { result ≡ spec.wake_line cores fields.old }
+{
+    let link = link_fields(cores, fields);
+    let actor = actor_field(fields.next_word(), cores);
+    let number = submission_field(fields.next_word());
+    match both(link, both(actor, number)) {
+        Ok(((from, to), (actor, number))) => {
+            let order = Order::Wake(actor, number);
+            Ok(Line::Step(ScriptEvent::Send(from, to, order)))
+        }
+        Err(cause) => Err(cause),
+    }
+}
+
 /// A core and a sender of it.
 fn gate_fields(cores: u8, fields: &mut Words<'_>) -> Result<(CoreNo, ActorNo), Cause>
     requires { 1 ≤ cores }

@@ -20,6 +20,8 @@ pub enum Keyword {
     Close,
     /// `closecore s d MODE`
     CloseCore,
+    /// `wake s d a n`
+    Wake,
     /// `deliver d s`
     Deliver,
     /// `turn d`
@@ -66,6 +68,9 @@ fn order_keyword(word: &[u8]) -> Option<Keyword>
     if is_word(word, "closecore") {
         return Some(Keyword::CloseCore);
     }
+    if is_word(word, "wake") {
+        return Some(Keyword::Wake);
+    }
     None
 }
 
@@ -106,6 +111,7 @@ impl Keyword {
             Keyword::Shares => count == 5,
             Keyword::Close => count == 5,
             Keyword::CloseCore => count == 4,
+            Keyword::Wake => count == 5,
             Keyword::Deliver => count == 3,
             Keyword::Turn => count == 2,
             Keyword::Shut => count == 3,

@@ -74,6 +74,7 @@ fn line_of(keyword: Keyword, cores: u8, fields: &mut Words<'_>, count: usize) ->
         Keyword::Shares => event::shares_line(cores, fields),
         Keyword::Close => event::close_line(cores, fields),
         Keyword::CloseCore => event::closecore_line(cores, fields),
+        Keyword::Wake => event::wake_line(cores, fields),
         Keyword::Deliver => event::deliver_line(cores, fields),
         Keyword::Turn => event::turn_line(cores, fields),
         Keyword::Shut => event::shut_line(cores, fields),

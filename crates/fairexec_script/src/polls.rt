@@ -13,13 +13,15 @@ use rt_words::Words;
 use rt_words::field::{both, core_field, count_field, queue_field};
 use rt_words::words::cut_at;
 
-/// A poll that yields, as its word says. Times are nanoseconds.
+/// A poll that isn't the last one of its job, as its word says. Times are nanoseconds.
 #[derive(Clone, Copy)]
 pub(crate) enum Early {
     /// `yT`
     Yield(u64),
     /// `pT>D.Q`
     Submit(u64, CoreNo, QueueNo),
+    /// `kT`
+    Park(u64),
 }
 
 /// Reads the polls that the next words write, so many of them, into a job that has one poll of no time and no answer.
@@ -43,7 +45,7 @@ pub fn read_job(
     end_job(job, found, done_parts(words.next_word()))
 }
 
-/// One more poll that yields, or the worse of what is wrong with it and with those before it.
+/// One more poll before the last, or the worse of what is wrong with it and with those before it.
 fn add_poll(
     job: &mut ScriptJob,
     found: Result<(), Cause>,
@@ -60,6 +62,7 @@ fn add_poll(
     match early {
         Early::Yield(told) => job.add_yield(told),
         Early::Submit(told, core, queue) => job.add_submit(told, core, queue),
+        Early::Park(told) => job.add_park(told),
     }
     Ok(())
 }
@@ -80,7 +83,7 @@ fn end_job(
     Ok(())
 }
 
-/// A poll that yields: `yT` with the time T that it tells, or one that submits.
+/// A poll before the last: `yT` yields and `kT` is parked, each with the time T that it tells, or it submits.
 fn early_poll(word: &[u8], cores: u8) -> Result<Early, Cause>
     requires { 1 ≤ cores }
     ensures { made spec.poll_of result ≡ spec.early_field cores word.now }
@@ -88,6 +91,7 @@ fn early_poll(word: &[u8], cores: u8) -> Result<Early, Cause>
     match word {
         [b'y', rest @ ..] => Ok(Early::Yield(count_field(rest)?)),
         [b'p', rest @ ..] => submit_poll(rest, cores),
+        [b'k', rest @ ..] => Ok(Early::Park(count_field(rest)?)),
         _ => Err(Cause::BadWord),
     }
 }

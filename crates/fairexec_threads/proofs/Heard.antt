@@ -9,7 +9,7 @@ use Rattle.rt_ids.specs.declared.order.Answer.{Answer}
 use Rattle.rt_ids.specs.declared.order.Answer.TheVariants as answers
 use Rattle.rt_ids.specs.declared.order.Mode.{Mode}
 use Rattle.rt_ids.specs.declared.order.Order.{Order}
-use Rattle.rt_ids.specs.declared.order.Order.TheVariants.{Job, Create, SetShares, Close, CloseCore}
+use Rattle.rt_ids.specs.declared.order.Order.TheVariants.{Job, Create, SetShares, Close, CloseCore, Wake}
 use Rattle.rt_ids.specs.Assembly.{Assembly, journal_of, order_of}
 use Rattle.rt_ids.specs.Closing.{core_mode, core_mode_told, count_told, final_count}
 use Rattle.rt_ids.specs.Commands.{effect_awaited, effect_note, has_effect}
@@ -29,16 +29,18 @@ use Rattle.fairexec_threads.specs.Rooms.{room_of}
 use Rattle.fairexec_threads.proofs.Suffixes.{tells, each_behind, told_more, shut_is, closed_is}
 
 -- only an order to close the core has this effect
-closes_core : (order : Order (Unit {0})) (answer : Answer) (mode : Mode) → effect_note {T = ℕ} order answer ≡ Some (CoreClosed mode) → order ≡ CloseCore mode
-closes_core (CloseCore other) answers.Closed mode is = cc
-closes_core (CloseCore other) _ mode is = cc
-closes_core (Close queue other) answers.Closed mode is = cc
-closes_core (Close queue other) _ mode is = cc
-closes_core (SetShares queue weight) answers.SharesSet mode is = cc
-closes_core (SetShares queue weight) _ mode is = cc
-closes_core (Create weight) (answers.Created queue) mode is = cc
-closes_core (Create weight) _ mode is = cc
-closes_core (Job queue task) _ mode is = cc
+closes_core : (core : ℕ) (order : Order (Unit {0})) (answer : Answer) (mode : Mode) → effect_note {T = ℕ} core order answer ≡ Some (CoreClosed mode) → order ≡ CloseCore mode
+closes_core core (CloseCore other) answers.Closed mode is = cc
+closes_core core (CloseCore other) _ mode is = cc
+closes_core core (Close queue other) answers.Closed mode is = cc
+closes_core core (Close queue other) _ mode is = cc
+closes_core core (SetShares queue weight) answers.SharesSet mode is = cc
+closes_core core (SetShares queue weight) _ mode is = cc
+closes_core core (Create weight) (answers.Created queue) mode is = cc
+closes_core core (Create weight) _ mode is = cc
+closes_core core (Wake actor number) answers.Woken mode is = cc
+closes_core core (Wake actor number) _ mode is = cc
+closes_core core (Job queue task) _ mode is = cc
 
 -- an effect is awaited behind an answer alone
 record IsAnswered (mode : Mode) (under : JobId → Option (Order (Unit {0}))) (before : Journal ℕ) : Type 0 where
@@ -54,7 +56,7 @@ answered_close mode under (Answered name answer ∷ older) awaited carries = by_
     by_effect : (effect : Bool) → has_effect answer ≡ effect → IsSome (cond effect (Some answer) None) → IsAnswered mode under (Answered name answer ∷ older)
     by_effect true effect awaited =
         let due = carries (rw effect refl) in
-        record { name = name; answer = answer; older = older; is = refl; order = due.1 ∙ ap (λ order. Some order) (closes_core due.0 answer mode due.2) }
+        record { name = name; answer = answer; older = older; is = refl; order = due.1 ∙ ap (λ order. Some order) (closes_core name.to due.0 answer mode due.2) }
     by_effect false effect awaited = cc
 answered_close mode under [] awaited carries = cc
 answered_close mode under (_ ∷ older) awaited carries = cc

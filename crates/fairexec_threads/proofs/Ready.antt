@@ -17,3 +17,4 @@ ready_told cores core (order.Create weight) told = tt
 ready_told cores core (order.SetShares queue weight) told = tt
 ready_told cores core (order.Close queue mode) told = tt
 ready_told cores core (order.CloseCore mode) told = tt
+ready_told cores core (order.Wake actor number) told = tt

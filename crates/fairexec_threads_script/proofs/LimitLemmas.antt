@@ -17,36 +17,39 @@ use Rattle.rt_words.specs.Words.{first, others}
 use Rattle.fairexec_script.specs.Keywords.{keyword_of}
 use Rattle.fairexec_script.specs.Lines.{first_line, later_line}
 use Rattle.fairexec_threads_script.specs.declared.fault.ThreadsCause.{ThreadsCause}
-use Rattle.fairexec_threads_script.specs.Lines.{of_script, is_barred, size_told, line_told}
+use Rattle.fairexec_threads_script.specs.Lines.{of_script, is_barred, parks, size_told, line_told}
 use Rattle.fairexec_threads_script.specs.Drafts.{Told, Drafted, orders_to, cap_of, polls_of, polls_in}
-use Rattle.fairexec_threads_script.specs.Limits.{IsToldOf, IsToldFor, AreTold, HasSpare, IsWithinLimits, AreCounted}
+use Rattle.fairexec_threads_script.specs.Limits.{job_in, NeverParks, IsToldOf, IsToldFor, AreTold, HasSpare, IsWithinLimits, AreCounted}
 
-of_script_ok : (r : Result Line Cause) (line : Line) → of_script r ≡ Ok line → r ≡ Ok line
+pub of_script_ok : (r : Result Line Cause) (line : Line) → of_script r ≡ Ok line → r ≡ Ok line
 of_script_ok (Ok read) line e = cc
 of_script_ok (Err cause) line e = cc
 
 pub size_told_ok : (ws : List (List ℕ)) (line : Line) → size_told ws ≡ Ok line → script.MayFollow None line
 size_told_ok ws line e = first_line_ok ws line (of_script_ok (first_line ws) line e)
 
-not_barred_ok : (barred : Bool) (r : Result Line ThreadsCause) (cause : ThreadsCause) (line : Line) → cond barred (Err cause) r ≡ Ok line → r ≡ Ok line
+pub not_barred_ok : (barred : Bool) (r : Result Line ThreadsCause) (cause : ThreadsCause) (line : Line) → cond barred (Err cause) r ≡ Ok line → r ≡ Ok line
 not_barred_ok true r cause line e = cc
 not_barred_ok false r cause line e = e
 
 pub line_told_ok : (size : ℕ × ℕ) (late : Bool) (ws : List (List ℕ)) (line : Line) → 1 ≤ size.0 → line_told size.0 late ws ≡ Ok line → script.MayFollow (Some size) line
 line_told_ok size late ws line some e =
-    later_line_ok size late ws line some (of_script_ok (later_line size.0 late ws) line (not_barred_ok (is_barred (keyword_of (first ws)) size.0 (others ws)) _ _ line e))
+    later_line_ok size late ws line some
+    (of_script_ok (later_line size.0 late ws) line
+    (not_barred_ok (parks (keyword_of (first ws)) ws) _ _ line (not_barred_ok (is_barred (keyword_of (first ws)) size.0 (others ws)) _ _ line e)))
 
 -- an order that is sent is told
-sent_of : (cores sender core : ℕ) (one : Order Script) → script.IsEventOf cores (Send sender core one) → IsToldOf cores (core, one)
-sent_of cores sender core (order.Job queue job) h = record { core = h.core; some_polls = h.some_polls; none_made = h.none_made }
-sent_of cores sender core (order.Create weight) h = record { core = h.core; some_polls = h.some_polls; none_made = h.none_made }
-sent_of cores sender core (order.SetShares queue weight) h = record { core = h.core; some_polls = h.some_polls; none_made = h.none_made }
-sent_of cores sender core (order.Close queue mode) h = record { core = h.core; some_polls = h.some_polls; none_made = h.none_made }
-sent_of cores sender core (order.CloseCore mode) h = record { core = h.core; some_polls = h.some_polls; none_made = h.none_made }
+sent_of : (cores sender core : ℕ) (one : Order Script) → script.IsEventOf cores (Send sender core one) → NeverParks (job_in one).polls → IsToldOf cores (core, one)
+sent_of cores sender core (order.Job queue job) h never = record { core = h.core; some_polls = h.some_polls; none_made = h.none_made; never_parks = never }
+sent_of cores sender core (order.Create weight) h never = record { core = h.core; some_polls = h.some_polls; none_made = h.none_made; never_parks = never }
+sent_of cores sender core (order.SetShares queue weight) h never = record { core = h.core; some_polls = h.some_polls; none_made = h.none_made; never_parks = never }
+sent_of cores sender core (order.Close queue mode) h never = record { core = h.core; some_polls = h.some_polls; none_made = h.none_made; never_parks = never }
+sent_of cores sender core (order.CloseCore mode) h never = record { core = h.core; some_polls = h.some_polls; none_made = h.none_made; never_parks = never }
+sent_of cores sender core (order.Wake actor number) h never = record { core = h.core; some_polls = h.some_polls; none_made = h.none_made; never_parks = never }
 
-pub sent_told : (size : Option (ℕ × ℕ)) (sender core : ℕ) (one : Order Script) → script.IsEventFor size (Send sender core one) → IsToldFor size (core, one)
-sent_told None sender core one h = h
-sent_told (Some size) sender core one h = sent_of size.0 sender core one h
+pub sent_told : (size : Option (ℕ × ℕ)) (sender core : ℕ) (one : Order Script) → script.IsEventFor size (Send sender core one) → NeverParks (job_in one).polls → IsToldFor size (core, one)
+sent_told None sender core one h never = h
+sent_told (Some size) sender core one h never = sent_of size.0 sender core one h never
 
 -- the first line
 no_orders : (size : ℕ × ℕ) (orders : List Told) → script.IsSize size.0 size.1 → orders ≡ [] → AreTold (Some size) orders × HasSpare (Some size) orders

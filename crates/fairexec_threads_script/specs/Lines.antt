@@ -1,13 +1,14 @@
 -- Which lines a script for threads has.
-use Rattle.std.specs.Prelude.{ℕ, not, Bool, true, false, List, [], ◌∷◌, Option, Some, None, Result, Ok, Err, if◌then◌else◌}
+use Rattle.std.specs.Prelude.{ℕ, ◌==◌, ◌&&◌, ◌||◌, not, Bool, true, false, List, [], ◌∷◌, Option, Some, None, Result, Ok, Err, if◌then◌else◌}
 use Rattle.fairexec_script.specs.declared.line.Line.{Line}
 use Rattle.fairexec_script.specs.declared.keyword.Keyword.{Keyword}
 use Rattle.fairexec_script.specs.declared.keyword.Keyword.TheVariants as keyword
-use Rattle.fairexec_script.specs.Keywords.{keyword_of}
+use Rattle.fairexec_script.specs.Keywords.{keyword_of, takes}
 use Rattle.fairexec_script.specs.Lines as script
 use Rattle.rt_text.specs.declared.fault.Cause.{Cause}
 use Rattle.rt_words.specs.Numbers.{number_of, within}
-use Rattle.rt_words.specs.Words.{first, others}
+use Rattle.rt_text.specs.declared.fault.Cause.TheVariants.{BadWord}
+use Rattle.rt_words.specs.Words.{first, others, word_count}
 use Rattle.fairexec_threads_script.specs.declared.fault.ThreadsCause.{ThreadsCause}
 use Rattle.fairexec_threads_script.specs.declared.fault.ThreadsCause.TheVariants as why
 
@@ -39,6 +40,22 @@ abbrev pub is_barred : Option Keyword → ℕ → List (List ℕ) → Bool
 is_barred None cores ws = false
 is_barred (Some keyword) cores ws = bars keyword cores ws
 
+-- a word begins as a poll that parks
+abbrev pub is_park : List ℕ → Bool
+is_park [] = false
+is_park (letter ∷ rest) = letter == 107
+
+-- one of these words does
+abbrev pub has_park : List (List ℕ) → Bool
+has_park [] = false
+has_park (word ∷ rest) = is_park word || has_park rest
+
+-- A line with this first word submits a job, has as many words as such lines have, and one of them begins as a poll that parks.
+-- Nobody would wake the job; a number that begins so is a bad word in any script.
+abbrev pub parks : Option Keyword → List (List ℕ) → Bool
+parks (Some keyword.Submit) ws = script.counts (takes keyword.Submit) (word_count ws) && has_park ws
+parks _ ws = false
+
 -- what a line of any script says
 abbrev pub of_script : Result Line Cause → Result Line ThreadsCause
 of_script (Ok line) = Ok line
@@ -52,4 +69,5 @@ size_told ws = of_script (script.first_line ws)
 abbrev pub line_told : ℕ → Bool → List (List ℕ) → Result Line ThreadsCause
 line_told cores late ws =
     if is_barred (keyword_of (first ws)) cores (others ws) then Err why.NotForThreads
-    else of_script (script.later_line cores late ws)
+    else (if parks (keyword_of (first ws)) ws then Err (why.Line BadWord)
+    else of_script (script.later_line cores late ws))

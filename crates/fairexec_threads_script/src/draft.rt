@@ -7,7 +7,7 @@ ghost use Rattle.fairexec_script.specs.Limits.{IsCoreOf, IsSize, MayFollow, IsEv
 ghost use Rattle.rt_lines.specs.Faults.{IfCause};
 ghost use Rattle.rt_lines.specs.declared.fault.Stop.TheVariants.{Memory};
 ghost use Rattle.fairexec_threads_script.specs.Drafts as spec;
-ghost use Rattle.fairexec_threads_script.specs.Limits.{IsToldFor};
+ghost use Rattle.fairexec_threads_script.specs.Limits.{IsToldFor, SendsNoPark, TellsNoPark};
 ghost use Rattle.fairexec_threads_script.specs.Whole.{drafted};
 
 use crate::fault::ThreadsCause;
@@ -118,6 +118,7 @@ impl Draft {
         ensures line { result
             ≡ spec.line_at self.now.size (nat_lt 0 (length self.now.orders)) (words text.now) }
         ensures follows { IfOk result (MayFollow self.now.size) }
+        ensures never { IfOk result TellsNoPark }
     {
         match self.size {
             None => size_told(text),
@@ -127,7 +128,8 @@ impl Draft {
 
     /// Takes what a line says.
     fn add(&mut self, line: Line) -> Result<(), Stop<ThreadsCause>>
-        requires { MayFollow self.old.size line }
+        requires follows { MayFollow self.old.size line }
+        requires never { TellsNoPark line }
         ensures ok { OnOk result (spec.with_line self.old line ≡ Ok self.new) }
         ensures faulty { IfErr result (IfCause (λ cause. spec.with_line self.old line ≡ Err cause)) }
         ensures one_more { OnOk result (length self.new.orders ≤ length self.old.orders + 1) }
@@ -170,7 +172,8 @@ impl Draft {
 
     /// Takes a line that lets something happen.
     fn add_event(&mut self, event: ScriptEvent) -> Result<(), Stop<ThreadsCause>>
-        requires { IsEventFor self.old.size event }
+        requires event { IsEventFor self.old.size event }
+        requires never { SendsNoPark event }
         ensures ok { OnOk result (spec.with_event self.old event ≡ Ok self.new) }
         ensures faulty { IfErr result (IfCause (λ cause. spec.with_event self.old event ≡ Err cause)) }
         ensures one_more { OnOk result (length self.new.orders ≤ length self.old.orders + 1) }

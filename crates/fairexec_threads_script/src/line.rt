@@ -1,15 +1,19 @@
 //! Which lines a script for threads has.
 
 ghost use Rattle.std.specs.Prelude.{◌≡◌, ◌≤◌};
-ghost use Rattle.rt_words.specs.Words.{words, first, others};
-ghost use Rattle.fairexec_script.specs.Keywords.{keyword_of};
+ghost use Rattle.rt_words.specs.Words.{words, first, others, word_count};
+ghost use Rattle.fairexec_script.specs.declared.keyword.Keyword.TheVariants.{Submit};
+ghost use Rattle.fairexec_script.specs.Keywords.{keyword_of, takes};
+ghost use Rattle.fairexec_script.specs.Lines.{counts};
 ghost use Rattle.fairexec_threads_script.specs.Lines as spec;
 
 use crate::fault::ThreadsCause;
 use fairexec_script::keyword::{Keyword, keyword_of};
 use fairexec_script::line::{Line, first_line, later_line};
+use rt_text::Cause;
 use rt_words::Words;
 use rt_words::number::number_within;
+use rt_words::words::word_count as count_words;
 
 /// The first line that isn't skipped.
 pub(crate) fn size_told(line: &[u8]) -> Result<Line, ThreadsCause>
@@ -29,6 +33,9 @@ pub(crate) fn line_told(line: &[u8], cores: u8, late: bool) -> Result<Line, Thre
     if is_barred(line, cores) {
         return Err(ThreadsCause::NotForThreads);
     }
+    if parks(line) {
+        return Err(ThreadsCause::Line(Cause::BadWord));
+    }
     match later_line(line, cores, late) {
         Ok(line) => Ok(line),
         Err(cause) => Err(ThreadsCause::Line(cause)),
@@ -43,6 +50,51 @@ fn is_barred(line: &[u8], cores: u8) -> bool
     match keyword_of(fields.next_word()) {
         None => false,
         Some(keyword) => bars(keyword, cores, &mut fields),
+    }
+}
+
+/// Whether the line submits a job, with as many words as such lines have, and one of them begins as a poll that parks.
+///
+/// Nobody would wake the job. A number that begins so is a bad word in any script.
+fn parks(line: &[u8]) -> bool
+    ensures { result ≡ spec.parks (keyword_of (first (words line.now))) (words line.now) }
+{
+    let mut fields = Words::of(line);
+    match keyword_of(fields.next_word()) {
+        Some(Keyword::Submit) => is_submission(line) && has_park(line),
+        _ => false,
+    }
+}
+
+/// Whether the line has as many words as one that submits a job, and none of them is empty.
+fn is_submission(line: &[u8]) -> bool
+    ensures { result ≡ counts (takes Submit) (word_count (words line.now)) }
+{
+    match count_words(line) {
+        None => false,
+        Some(count) => Keyword::Submit.takes(count),
+    }
+}
+
+/// Whether one of the words of the line begins as a poll that parks.
+fn has_park(line: &[u8]) -> bool
+    ensures { result ≡ spec.has_park (words line.now) }
+{
+    for word in Words::of(line) {
+        if is_park(word) {
+            return true;
+        }
+    }
+    false
+}
+
+/// Whether the word begins as a poll that parks.
+fn is_park(word: &[u8]) -> bool
+    ensures { result ≡ spec.is_park word.now }
+{
+    match word {
+        [] => false,
+        [first, ..] => *first == b'k',
     }
 }
 

@@ -12,7 +12,7 @@ const POLLS_LINE: &str =
 /// What a script begins with, a line that is written so often behind it, and what is told of the whole.
 type Row = (&'static str, &'static str, u32, &'static str);
 
-const ROWS: [Row; 24] = [
+const ROWS: [Row; 29] = [
     (
         "cores 2 cap 8\nqueue 1 500\nsubmit 2 0 0 y10 d10=4\ncreate 2 0 250\nsubmit 2 1 1 d20=5\nsubmit 2 1 7 d1=6\n",
         "",
@@ -72,10 +72,35 @@ const ROWS: [Row; 24] = [
     ("", "#\n", 4097, "line 4097: too many lines"),
     ("", "", 0, "line 1: cores line expected"),
     (
-        "cores 1 cap 4\nwake 1 0 1 1\n",
+        "cores 1 cap 4\nwait 1 0 1 1\n",
         "",
         0,
         "line 2: unknown word",
+    ),
+    (
+        "cores 1 cap 4\nwake 1 0 1 1\n",
+        "",
+        0,
+        "line 2: not for threads",
+    ),
+    ("cores 1 cap 4\nwake\n", "", 0, "line 2: not for threads"),
+    (
+        "cores 1 cap 4\nsubmit 1 0 0 y1 k1 d1=1\n",
+        "",
+        0,
+        "line 2: bad word",
+    ),
+    (
+        "cores 1 cap 4\nsubmit 1 9 0 k1 d1=1\n",
+        "",
+        0,
+        "line 2: bad word",
+    ),
+    (
+        "cores 1 cap 4\nsubmit 1 0 0 k1 d1=1 \n",
+        "",
+        0,
+        "line 2: wrong number of words",
     ),
     ("cores 1 cap 4\nturn 0\n", "", 0, "line 2: not for threads"),
     (

@@ -4,7 +4,7 @@ use Rattle.std.specs.Prelude.{◌&&◌, Some, None, All, sum_by}
 use Rattle.std.proofs.lemmas.List.Elements.{All-nil, All-push}
 use Rattle.std.proofs.lemmas.List.Sums.{sum_by-append}
 use Rattle.rt_shares.specs.Charge.{clamped}
-use Rattle.rt_ids.specs.declared.note.Note.TheVariants.{Pick, Yield, Done}
+use Rattle.rt_ids.specs.declared.note.Note.TheVariants.{Pick, Yield, Park, Stayed, Done}
 use Rattle.rt_ids.specs.Journal.{Journal, EachNote, with_last}
 use Rattle.rt_ids.specs.Lag.{greatest_charge}
 use Rattle.rt_ids.specs.Lawful.{MayStand}
@@ -14,6 +14,7 @@ use Rattle.rt_ids.specs.Work.{has_work}
 use Rattle.rt_ids.proofs.Lag.{runtime_is_near_floor}
 use Rattle.rt_ids.proofs.PicksNeverFall.{floor_below}
 use Rattle.rt_view.specs.Clocks.{busy_time}
+use Rattle.rt_view.specs.declared.ends.End.TheVariants as ends
 use Rattle.fairview_bars.specs.Bars.{bar, bars}
 use Rattle.fairview_bars.specs.Laws.{IsWithinCharges}
 use Rattle.fairview_bars.specs.Leads.{lead, leads}
@@ -57,7 +58,11 @@ none_more time = omega arith
 pub bars_fill : (journal : Journal ℕ) → sum_by bar_time (bars journal) ≡ busy_time journal
 bars_fill [] = refl
 bars_fill (Yield name time ∷ before) =
-    sum_by-append bar_time (bars before) (bar name time false before ∷ []) ∙ last_one (sum_by bar_time (bars before)) (busy_time before) (clamped time) (bars_fill before)
+    sum_by-append bar_time (bars before) (bar name time ends.Yield before ∷ []) ∙ last_one (sum_by bar_time (bars before)) (busy_time before) (clamped time) (bars_fill before)
+bars_fill (Park name time ∷ before) =
+    sum_by-append bar_time (bars before) (bar name time ends.Park before ∷ []) ∙ last_one (sum_by bar_time (bars before)) (busy_time before) (clamped time) (bars_fill before)
+bars_fill (Stayed name time ∷ before) =
+    sum_by-append bar_time (bars before) (bar name time ends.Stayed before ∷ []) ∙ last_one (sum_by bar_time (bars before)) (busy_time before) (clamped time) (bars_fill before)
 bars_fill (Done name time value ∷ before) =
-    sum_by-append bar_time (bars before) (bar name time true before ∷ []) ∙ last_one (sum_by bar_time (bars before)) (busy_time before) (clamped time) (bars_fill before)
+    sum_by-append bar_time (bars before) (bar name time ends.Done before ∷ []) ∙ last_one (sum_by bar_time (bars before)) (busy_time before) (clamped time) (bars_fill before)
 bars_fill (note ∷ before) = bars_fill before ∙ none_more (busy_time before)

@@ -5,7 +5,7 @@ use Rattle.rt_ids.specs.Journal.{Journal}
 use Rattle.rt_journal_facts.specs.Accounts.{greatest_count}
 use Rattle.rt_journal_facts.specs.Names.{SetsEntry}
 use Rattle.rt_journal_facts.specs.Told.{queue_told}
-use Rattle.rt_stats.proofs.SumSteps.{queues_next}
+use Rattle.rt_journal_facts.proofs.Naps.{queues_next}
 use Rattle.rt_view.specs.Clocks.{clock_of, clock_after}
 use Rattle.rt_view.proofs.ClockSteps.{clock_next}
 use Rattle.rt_view.specs.declared.clocks.Clock.{Clock}

@@ -1,32 +1,36 @@
 -- The bars of a core: its settled polls, one behind another on the clock of its processor time.
-use Rattle.std.specs.Prelude.{◌≡◌, ℕ, Bool, true, false, Option, Some, None, option_map, List, [], ◌∷◌}
+use Rattle.std.specs.Prelude.{◌≡◌, ℕ, Option, Some, None, option_map, List, [], ◌∷◌}
 use Rattle.rt_shares.specs.Charge.{clamped}
 use Rattle.rt_ids.specs.declared.names.JobId.{JobId}
 use Rattle.rt_ids.specs.declared.note.Note.{Note}
-use Rattle.rt_ids.specs.declared.note.Note.TheVariants.{Yield, Done}
+use Rattle.rt_ids.specs.declared.note.Note.TheVariants.{Yield, Park, Stayed, Done}
 use Rattle.rt_ids.specs.Journal.{Journal, with_last}
 use Rattle.rt_ids.specs.Picks.{turns}
 use Rattle.rt_ids.specs.Work.{queue_of}
 use Rattle.rt_journal_facts.specs.Names.{known}
 use Rattle.rt_view.specs.Clocks.{busy_time, clock_of}
+use Rattle.rt_view.specs.declared.ends.End.{End}
+use Rattle.rt_view.specs.declared.ends.End.TheVariants as ends
 use Rattle.fairview_bars.specs.declared.polls.Bar.{Bar}
 use Rattle.fairview_bars.specs.declared.polls.Polls.{Polls}
 
 -- a poll that took that time: it starts where the polls before it end
-abbrev pub bar : {T : Type 0} → JobId → ℕ → Bool → Journal T → Bar
-bar name time done before = record {
+abbrev pub bar : {T : Type 0} → JobId → ℕ → End → Journal T → Bar
+bar name time end before = record {
   turn = turns before;
   queue = queue_of name before;
   name = name;
   start = busy_time before;
   time = clamped time;
-  done = done;
+  end = end;
 }
 
--- the poll that a note settles: its job, the time that it took, and whether the job is done
-abbrev pub settled : {T : Type 0} → Note T → Option (JobId × ℕ × Bool)
-settled (Yield name time) = Some (name, time, false)
-settled (Done name time value) = Some (name, time, true)
+-- the poll that a note settles: its job, the time that it took, and how it ended
+abbrev pub settled : {T : Type 0} → Note T → Option (JobId × ℕ × End)
+settled (Yield name time) = Some (name, time, ends.Yield)
+settled (Park name time) = Some (name, time, ends.Park)
+settled (Stayed name time) = Some (name, time, ends.Stayed)
+settled (Done name time value) = Some (name, time, ends.Done)
 settled _ = None
 
 -- a note that settles a poll has a bar

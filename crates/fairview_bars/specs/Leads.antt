@@ -9,7 +9,8 @@ use Rattle.rt_ids.specs.Runtimes.{virtual_runtime}
 use Rattle.rt_ids.specs.Work.{has_work}
 use Rattle.rt_journal_facts.specs.Accounts.{greatest_runtime}
 use Rattle.rt_journal_facts.specs.AllAccounts.{KnowsAccounts}
-use Rattle.rt_stats.specs.Walks.{KnowsQueues, KnowsTallies}
+use Rattle.rt_journal_facts.specs.Parks.{KnowsParks}
+use Rattle.rt_stats.specs.Walks.{KnowsTallies}
 use Rattle.rt_view.specs.Clocks.{clock_of}
 use Rattle.rt_view.specs.Percentiles.{IsFirstGreatest}
 use Rattle.fairview_bars.specs.declared.standing.Lead.{Lead}
@@ -67,9 +68,9 @@ abbrev pub IsGreatestLead : List Lead → Option Lead → Type 0
 IsGreatestLead leads None = leads ≡ []
 IsGreatestLead leads (Some lead) = (place : ℕ) × (slice_get leads place ≡ Some lead) × IsFirstGreatest place (distances leads)
 
--- the clock, the queues of jobs, and the accounts and tallies of queues are those of these notes
+-- the clock, the queues of jobs and where they are parked, and the accounts and tallies of queues are those of these notes
 pub record KnowsStanding {T : Type 0} (standing : Standing) (journal : Journal T) : Type 0 where
   pub clock : standing.clock ≡ clock_of journal
-  pub queues : KnowsQueues standing.queues journal
+  pub parks : KnowsParks standing.parks journal
   pub accounts : KnowsAccounts standing.accounts journal
   pub tallies : KnowsTallies standing.tallies journal

@@ -10,7 +10,7 @@ use rt_ids::{JobId, Note, QueueNo};
 use rt_journal_facts::told::queue_told;
 use rt_journal_facts::{NameTable, note_at};
 use rt_journal_notes::Journal;
-use rt_view::Clock;
+use rt_view::{Clock, End};
 use std::alloc::{AllocError, Global};
 
 /// A poll that ended, on the clock of its core's processor time. Times are nanoseconds.
@@ -25,17 +25,19 @@ pub struct Bar {
     pub start: u128,
     /// How long it took, as it counts for its charge.
     pub time: u64,
-    /// Whether the job is done.
-    pub done: bool,
+    /// How it ended.
+    pub end: End,
 }
 
-/// The poll that a note settles: its job, the time that it took, and whether the job is done.
-pub fn settled(note: &Note<u64>) -> Option<(JobId, u64, bool)>
+/// The poll that a note settles: its job, the time that it took, and how it ended.
+pub fn settled(note: &Note<u64>) -> Option<(JobId, u64, End)>
     ensures { result ≡ spec.settled note.now }
 {
     match *note {
-        Note::Yield(name, time) => Some((name, time, false)),
-        Note::Done(name, time, _) => Some((name, time, true)),
+        Note::Yield(name, time) => Some((name, time, End::Yield)),
+        Note::Park(name, time) => Some((name, time, End::Park)),
+        Note::Stayed(name, time) => Some((name, time, End::Stayed)),
+        Note::Done(name, time, _) => Some((name, time, End::Done)),
         _ => None,
     }
 }
@@ -73,8 +75,8 @@ impl Polls {
     }
 
     /// The poll of a job that took that time, as a bar.
-    pub fn bar_of(&self, name: JobId, time: u64, done: bool) -> Bar
-        ensures { (before : Notes ℕ) → spec.KnowsPolls self.now before → result ≡ spec.bar name time done before }
+    pub fn bar_of(&self, name: JobId, time: u64, end: End) -> Bar
+        ensures { (before : Notes ℕ) → spec.KnowsPolls self.now before → result ≡ spec.bar name time end before }
     {
         Bar {
             turn: self.clock.turns,
@@ -82,7 +84,7 @@ impl Polls {
             name,
             start: self.clock.time,
             time: rt_shares::clamped(time),
-            done,
+            end,
         }
     }
 
@@ -112,8 +114,8 @@ pub fn bars_of(alloc: Global, journal: &Journal<u64>) -> Result<Vec<Bar>, AllocE
     let mut told = Vec::new(alloc);
     for place in 0..journal.len() {
         let note = note_at(journal, place);
-        if let Some((name, time, done)) = settled(&note) {
-            told.push(polls.bar_of(name, time, done))?;
+        if let Some((name, time, end)) = settled(&note) {
+            told.push(polls.bar_of(name, time, end))?;
         }
         polls.add(&note)?;
     }

@@ -8,9 +8,8 @@ ghost use Rattle.rt_stats.specs.Tallies.{tally_of};
 ghost use Rattle.fairview_bars.specs.Leads as spec;
 
 use rt_ids::{Note, QueueNo};
-use rt_journal_facts::told::queue_told;
-use rt_journal_facts::{Accounts, NameTable};
-use rt_stats::tally::{Tallies, Tally, queue_noted, queue_touched};
+use rt_journal_facts::{Accounts, Parks};
+use rt_stats::tally::{Tallies, Tally};
 use rt_view::Clock;
 use std::alloc::{AllocError, Global};
 
@@ -25,11 +24,11 @@ pub struct Lead {
     pub second_most: u64,
 }
 
-/// Of the notes that were read: the clock, the queue of each job, and the account and the tally of each queue.
+/// Of the notes that were read: the clock, the queue of each job and where it is parked, and the account and the tally of each queue.
 #[derive(Drop)]
 pub struct Standing {
     clock: Clock,
-    queues: NameTable<QueueNo>,
+    parks: Parks,
     accounts: Accounts,
     tallies: Tallies,
 }
@@ -41,7 +40,7 @@ impl Standing {
     {
         Standing {
             clock: Clock::new(),
-            queues: NameTable::new(alloc),
+            parks: Parks::new(alloc),
             accounts: Accounts::new(),
             tallies: Tallies::new(),
         }
@@ -55,12 +54,11 @@ impl Standing {
     pub fn add(&mut self, note: &Note<u64>) -> Result<(), AllocError>
         ensures { OnOk result ((before : Notes ℕ) → length before < greatest_count → spec.KnowsStanding self.old before → spec.KnowsStanding self.new (note.now ∷ before)) }
     {
-        let queue = queue_noted(note, &self.queues);
-        let touched = queue_touched(note, &queue);
+        let spot = self.parks.spot(note);
         self.clock.add(note);
-        self.tallies.add(note, &queue, &self.accounts);
-        self.accounts.add(note, touched);
-        self.queues.set_told(queue_told(note))
+        self.tallies.add(note, &spot.queue, &self.accounts);
+        self.accounts.add(note, &spot);
+        self.parks.add(note)
     }
 
     /// How many turns of the core began.

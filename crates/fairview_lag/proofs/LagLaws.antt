@@ -4,7 +4,7 @@ use Rattle.std.specs.Prelude.{◌&&◌, nat_lt, Option, Some, None, All}
 use Rattle.std.proofs.lemmas.List.Elements.{All-nil, All-push, All-weaker, Contains-push, Contains-append_left}
 use Rattle.std.proofs.lemmas.Bool.{ltb-true, ltb-false}
 use Rattle.rt_ids.specs.declared.note.Note.{Note}
-use Rattle.rt_ids.specs.declared.note.Note.TheVariants.{Yield, Done}
+use Rattle.rt_ids.specs.declared.note.Note.TheVariants.{Yield, Park, Stayed, Done}
 use Rattle.rt_ids.specs.Journal.{Journal, EachNote, with_last}
 use Rattle.rt_ids.specs.Lag.{KeepsWork, greatest_charge}
 use Rattle.rt_ids.specs.Lawful.{MayStand}
@@ -79,6 +79,12 @@ module _ (terms : Terms) (first second : ℕ) where
   lags_within [] notes = All-nil IsWithinBound
   lags_within (Yield name time ∷ before) notes =
       let note : Note ℕ = Yield name time in
+      told_within (lags first second before) (note ∷ before) (are_together first second (note ∷ before)) notes refl (lags_within before notes.1)
+  lags_within (Park name time ∷ before) notes =
+      let note : Note ℕ = Park name time in
+      told_within (lags first second before) (note ∷ before) (are_together first second (note ∷ before)) notes refl (lags_within before notes.1)
+  lags_within (Stayed name time ∷ before) notes =
+      let note : Note ℕ = Stayed name time in
       told_within (lags first second before) (note ∷ before) (are_together first second (note ∷ before)) notes refl (lags_within before notes.1)
   lags_within (Done name time value ∷ before) notes =
       let note : Note ℕ = Done name time value in

@@ -1,7 +1,7 @@
 -- The lags of two queues: what each gained since both have work, behind each poll.
 use Rattle.std.specs.Prelude.{◌≡◌, ℕ, ◌+◌, ◌-◌, ◌≤◌, nat_lt, if◌then◌else◌, Option, Some, None, List, [], ◌∷◌, All, Contains}
 use Rattle.rt_ids.specs.declared.note.Note.{Note}
-use Rattle.rt_ids.specs.declared.note.Note.TheVariants.{Yield, Done}
+use Rattle.rt_ids.specs.declared.note.Note.TheVariants.{Yield, Park, Stayed, Done}
 use Rattle.rt_ids.specs.Journal.{Journal, with_last}
 use Rattle.rt_ids.specs.Lag.{greatest_charge}
 use Rattle.rt_ids.specs.Picks.{turns}
@@ -41,6 +41,8 @@ lag_of first second journal = if are_together first second journal then Some (la
 -- the lag behind a note that settles a poll
 abbrev pub lag_told : {T : Type 0} → ℕ → ℕ → Note T → Journal T → Option Lag
 lag_told first second (Yield name time) before = lag_of first second (Yield name time ∷ before)
+lag_told first second (Park name time) before = lag_of first second (Park name time ∷ before)
+lag_told first second (Stayed name time) before = lag_of first second (Stayed name time ∷ before)
 lag_told first second (Done name time value) before = lag_of first second (Done name time value ∷ before)
 lag_told first second _ before = None
 

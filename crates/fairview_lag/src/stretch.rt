@@ -148,6 +148,8 @@ impl Stretch {
     {
         match *note {
             Note::Yield(_, _) => self.lag_now(first, second),
+            Note::Park(_, _) => self.lag_now(first, second),
+            Note::Stayed(_, _) => self.lag_now(first, second),
             Note::Done(_, _, _) => self.lag_now(first, second),
             _ => None,
         }

@@ -10,7 +10,7 @@ use rt_view::{Poll, settled_polls};
 use std::alloc::{AllocError, Global};
 
 /// The first line.
-const HEAD: &str = "core,turn,queue,name,step,time,virtual_runtime\n";
+const HEAD: &str = "core,turn,queue,name,step,time,virtual_runtime,end\n";
 
 /// Puts a row for each poll, by core and turn, behind a first line that names the columns.
 ///

@@ -49,6 +49,7 @@ impl fmt::Display for PollLine {
         let turn = TurnText(self.0, self.1);
         let job = JobText(self.1);
         let runtime = self.1.picked.virtual_runtime;
-        write!(f, "{turn},{job},{runtime}")
+        let end = self.1.end.word();
+        write!(f, "{turn},{job},{runtime},{end}")
     }
 }

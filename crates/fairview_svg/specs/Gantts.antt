@@ -1,11 +1,12 @@
 -- The picture of the polls of a run: a lane for each core, with the shapes of its notes.
-use Rattle.std.specs.Prelude.{ℕ, zero, suc, ◌+◌, ◌-◌, nat_lt, if◌then◌else◌, ◌++◌, true, false, List, [], ◌∷◌, codes, decimal}
+use Rattle.std.specs.Prelude.{ℕ, zero, suc, ◌+◌, ◌-◌, nat_lt, if◌then◌else◌, ◌++◌, List, [], ◌∷◌, codes, decimal}
 use Rattle.rt_ids.specs.declared.note.Note.{Note}
-use Rattle.rt_ids.specs.declared.note.Note.TheVariants.{Created, Yield, Done, Returned, Back, QueueClosed, CoreClosed, Shut}
+use Rattle.rt_ids.specs.declared.note.Note.TheVariants.{Created, Yield, Park, Stayed, Done, Returned, Back, QueueClosed, CoreClosed, Shut}
 use Rattle.rt_ids.specs.Assembly.{Assembly, journal_of}
 use Rattle.rt_ids.specs.Journal.{Journal}
 use Rattle.rt_ids.specs.Picks.{turns}
 use Rattle.rt_view.specs.Clocks.{busy_time}
+use Rattle.rt_view.specs.declared.ends.End.TheVariants as ends
 use Rattle.fairview_bars.specs.Bars.{bar}
 use Rattle.fairview_bars.specs.declared.polls.Bar.{Bar}
 use Rattle.fairview_svg.specs.Cuts.{shows, has_turn, lanes}
@@ -38,8 +39,10 @@ stroke_at frame kind time = record { kind = kind; x = x frame time; y = fitting_
 
 -- the shape of a note, by the notes before it
 abbrev pub shape_text : Frame → Note ℕ → Journal ℕ → List ℕ
-shape_text frame (Yield name time) before = poll_text frame (bar name time false before)
-shape_text frame (Done name time value) before = poll_text frame (bar name time true before)
+shape_text frame (Yield name time) before = poll_text frame (bar name time ends.Yield before)
+shape_text frame (Park name time) before = poll_text frame (bar name time ends.Park before)
+shape_text frame (Stayed name time) before = poll_text frame (bar name time ends.Stayed before)
+shape_text frame (Done name time value) before = poll_text frame (bar name time ends.Done before)
 shape_text frame (Returned name reason) before = back_text (stroke_at frame kind.Back (busy_time before)) name
 shape_text frame (Back name reason) before = back_text (stroke_at frame kind.Back (busy_time before)) name
 shape_text frame (QueueClosed queue mode) before = close_text (stroke_at frame kind.Close (busy_time before)) queue

@@ -2,6 +2,8 @@
 use Rattle.std.specs.Prelude.{ℕ, ◌%◌, ◌==◌, ◌++◌, if◌then◌else◌, Option, Some, None, List, codes, decimal}
 use Rattle.rt_ids.specs.declared.names.JobId.{JobId}
 use Rattle.rt_text.specs.Notes.{name_text}
+use Rattle.rt_view.specs.declared.ends.End.{End}
+use Rattle.rt_view.specs.declared.ends.End.TheVariants.{Park, Stayed}
 use Rattle.fairview_bars.specs.declared.polls.Bar.{Bar}
 use Rattle.fairview_text.specs.Escapes.{xml_text}
 use Rattle.fairview_svg.specs.declared.shapes.BoxText.{BoxText}
@@ -42,13 +44,19 @@ box_text shape =
     ++ (decimal shape.x
     ++ (codes "\" y=\"" ++ (decimal shape.y ++ (codes "\" width=\"" ++ (decimal shape.width ++ (codes "\" height=\"" ++ (decimal shape.height ++ codes "\"")))))))))
 
+-- what is told of a job that asked to be parked
+abbrev pub end_text : End → List ℕ
+end_text Park = codes ", parked"
+end_text Stayed = codes ", stayed"
+end_text _ = codes ""
+
 -- what is told of a poll
 abbrev pub bar_title : Bar → List ℕ
 bar_title bar =
     name_inside bar.name
     ++ (codes " of "
     ++ (queue_text bar.queue
-    ++ (codes ", turn " ++ (decimal bar.turn ++ (codes ": " ++ (decimal bar.time ++ (codes " ns from " ++ decimal bar.start)))))))
+    ++ (codes ", turn " ++ (decimal bar.turn ++ (codes ": " ++ (decimal bar.time ++ (codes " ns from " ++ (decimal bar.start ++ end_text bar.end))))))))
 
 -- the bar of a poll
 abbrev pub bar_text : BoxText → Bar → List ℕ

@@ -12,6 +12,7 @@ use crate::marks::{BackMark, CloseMark, CoreMark, GateMark, Kind, QueueMark, Str
 use crate::shapes::{BarText, BoxText};
 use fairview_bars::{Bar, Polls};
 use rt_ids::Note;
+use rt_view::End;
 use std::alloc::AllocError;
 
 /// The stroke of a mark at this time.
@@ -110,8 +111,10 @@ fn put_shape(
 {
     let time = polls.clock().time;
     match *note {
-        Note::Yield(name, time) => put_poll(frame, &polls.bar_of(name, time, false), page),
-        Note::Done(name, time, _) => put_poll(frame, &polls.bar_of(name, time, true), page),
+        Note::Yield(name, time) => put_poll(frame, &polls.bar_of(name, time, End::Yield), page),
+        Note::Park(name, time) => put_poll(frame, &polls.bar_of(name, time, End::Park), page),
+        Note::Stayed(name, time) => put_poll(frame, &polls.bar_of(name, time, End::Stayed), page),
+        Note::Done(name, time, _) => put_poll(frame, &polls.bar_of(name, time, End::Done), page),
         Note::Returned(name, _) => put_back(BackMark(stroke(frame, Kind::Back, time), name), page),
         Note::Back(name, _) => put_back(BackMark(stroke(frame, Kind::Back, time), name), page),
         Note::QueueClosed(queue, _) => put_close(

@@ -6,6 +6,7 @@ ghost use Rattle.fairview_svg.specs.Shapes as spec;
 use fairview_bars::Bar;
 use fairview_text::XmlName;
 use rt_ids::QueueNo;
+use rt_view::End;
 use std::fmt;
 
 /// The colour of a queue: one of ten, or that of polls whose queue no note tells.
@@ -33,6 +34,17 @@ fn colour_word(number: u8) -> &'static str
         7 => "h",
         8 => "i",
         _ => "j",
+    }
+}
+
+/// What is told of a job that asked to be parked.
+fn end_text(end: End) -> &'static str
+    ensures { result.now ≡ spec.end_text end }
+{
+    match end {
+        End::Park => ", parked",
+        End::Stayed => ", stayed",
+        _ => "",
     }
 }
 
@@ -97,7 +109,11 @@ impl fmt::Display for BarTitle {
         let turn = self.0.turn;
         let time = self.0.time;
         let start = self.0.start;
-        write!(f, "{name} of {queue}, turn {turn}: {time} ns from {start}")
+        let end = end_text(self.0.end);
+        write!(
+            f,
+            "{name} of {queue}, turn {turn}: {time} ns from {start}{end}"
+        )
     }
 }
 

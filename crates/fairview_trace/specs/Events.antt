@@ -2,6 +2,7 @@
 use Rattle.std.specs.Prelude.{ℕ, ◌+◌, ◌^◌, ◌-◌, ◌/◌, ◌%◌, min, ◌++◌, Bool, true, false, Option, Some, None, List, codes, decimal}
 use Rattle.rt_ids.specs.declared.names.JobId.{JobId}
 use Rattle.rt_text.specs.Notes.{name_text}
+use Rattle.rt_view.specs.Ends.{is_done}
 use Rattle.fairview_bars.specs.declared.polls.Bar.{Bar}
 use Rattle.fairview_text.specs.Escapes.{json_text}
 use Rattle.fairview_trace.specs.declared.parts.Place.{Place}
@@ -42,7 +43,7 @@ poll_place actor start bar = record { actor = actor; track = track_of bar.queue;
 
 -- the last part of a poll's event
 abbrev pub poll_tail : Bar → List ℕ
-poll_tail bar = codes ",\"dur\":" ++ (micros bar.time ++ (codes ",\"args\":{\"turn\":" ++ (decimal bar.turn ++ (codes ",\"done\":" ++ (truth bar.done ++ codes "}}")))))
+poll_tail bar = codes ",\"dur\":" ++ (micros bar.time ++ (codes ",\"args\":{\"turn\":" ++ (decimal bar.turn ++ (codes ",\"done\":" ++ (truth (is_done bar.end) ++ codes "}}")))))
 
 abbrev pub poll_event : ℕ → ℕ → Bar → List ℕ
 poll_event actor start bar = poll_head bar.name (poll_place actor start bar) ++ poll_tail bar

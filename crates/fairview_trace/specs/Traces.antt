@@ -1,10 +1,11 @@
 -- The trace of a run: the events of all notes.
 use Rattle.std.specs.Prelude.{ℕ, zero, suc, ◌+◌, ◌++◌, ◌==◌, Bool, true, false, List, [], ◌∷◌, codes, decimal, length}
 use Rattle.rt_ids.specs.declared.note.Note.{Note}
-use Rattle.rt_ids.specs.declared.note.Note.TheVariants.{Created, Sent, Took, Yield, Done, Redeemed}
+use Rattle.rt_ids.specs.declared.note.Note.TheVariants.{Created, Sent, Took, Yield, Park, Stayed, Done, Redeemed}
 use Rattle.rt_ids.specs.Assembly.{Assembly, journal_of}
 use Rattle.rt_ids.specs.Journal.{Journal}
 use Rattle.rt_view.specs.Clocks.{clock_of}
+use Rattle.rt_view.specs.declared.ends.End.TheVariants as ends
 use Rattle.fairview_bars.specs.Bars.{bar}
 use Rattle.fairview_trace.specs.Events.{notes_track, poll_event, queue_event, mark_text, last_poll_text}
 use Rattle.fairview_trace.specs.Times.{times_of, core_time, sent_time, redeemed_time}
@@ -21,8 +22,10 @@ abbrev pub note_text : Times → ℕ → Note ℕ → Journal ℕ → List ℕ
 note_text times actor (Created queue shares) before = queue_event actor queue shares
 note_text times actor (Sent name order) before = mark_text step.Sent name (noted actor (sent_time times actor (length before) (clock_of before)))
 note_text times actor (Took name queue) before = mark_text step.Took name (noted actor (core_time times (clock_of before)))
-note_text times actor (Yield name time) before = poll_event actor times.start (bar name time false before)
-note_text times actor (Done name time value) before = last_poll_text actor times.start (bar name time true before)
+note_text times actor (Yield name time) before = poll_event actor times.start (bar name time ends.Yield before)
+note_text times actor (Park name time) before = poll_event actor times.start (bar name time ends.Park before)
+note_text times actor (Stayed name time) before = poll_event actor times.start (bar name time ends.Stayed before)
+note_text times actor (Done name time value) before = last_poll_text actor times.start (bar name time ends.Done before)
 note_text times actor (Redeemed name outcome) before =
     mark_text step.Redeemed name (noted actor (redeemed_time times actor (length before) (clock_of before)))
 note_text times actor _ before = []

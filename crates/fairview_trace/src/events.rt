@@ -61,7 +61,7 @@ impl fmt::Display for PollTail {
     fn fmt<W: fmt::Write>(&self, f: &mut fmt::Formatter<W>) -> fmt::Result {
         let time = Micros(self.0.time as u128);
         let turn = self.0.turn;
-        let done = Truth(self.0.done);
+        let done = Truth(self.0.end.is_done());
         write!(
             f,
             ",\"dur\":{time},\"args\":{{\"turn\":{turn},\"done\":{done}}}}}"

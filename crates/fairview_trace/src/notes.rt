@@ -11,6 +11,7 @@ use crate::parts::{NOTES, Place, Step};
 use crate::times::Times;
 use fairview_bars::Polls;
 use rt_ids::{ActorNo, Note};
+use rt_view::End;
 use std::alloc::AllocError;
 
 /// Puts a note of a submission, with a step of its arrow.
@@ -21,7 +22,7 @@ fn put_mark(events: MarkEvents, page: &mut String) -> Result<(), AllocError>
     Ok(())
 }
 
-/// Puts a poll after which its job wants another one.
+/// Puts a poll after which its job isn't done.
 fn put_poll(event: PollEvent, page: &mut String) -> Result<(), AllocError>
     ensures { OnOk result (string_bytes page.new ≡ string_bytes page.old ++ poll_event event.0 event.1 event.2) }
 {
@@ -84,11 +85,19 @@ pub(crate) fn put_note(
             put_mark(MarkEvents(Step::Redeemed, name, at), page)
         }
         Note::Yield(name, time) => {
-            let bar = polls.bar_of(name, time, false);
+            let bar = polls.bar_of(name, time, End::Yield);
+            put_poll(PollEvent(actor, times.start, bar), page)
+        }
+        Note::Park(name, time) => {
+            let bar = polls.bar_of(name, time, End::Park);
+            put_poll(PollEvent(actor, times.start, bar), page)
+        }
+        Note::Stayed(name, time) => {
+            let bar = polls.bar_of(name, time, End::Stayed);
             put_poll(PollEvent(actor, times.start, bar), page)
         }
         Note::Done(name, time, _) => {
-            let bar = polls.bar_of(name, time, true);
+            let bar = polls.bar_of(name, time, End::Done);
             put_last_poll(LastPollEvents(actor, times.start, bar), page)
         }
         _ => Ok(()),

@@ -1,15 +1,14 @@
 //! Rule 4, of a drained core: all that was accepted for it has ended.
 
-ghost use Rattle.std.specs.Prelude.{◌≡◌, ◌↔◌, ◌∷◌, ◌+◌, ◌<◌, ◌≤◌, ℕ, IsTrue, Some, false, length, get_or};
+ghost use Rattle.std.specs.Prelude.{◌≡◌, ◌↔◌, ◌∷◌, ◌+◌, ◌<◌, ◌≤◌, ℕ, IsTrue, Some, false, length};
 ghost use Rattle.rt_ids.specs.Assembly.{Assembly as AllJournals, journal_of, order_of};
 ghost use Rattle.rt_ids.specs.Closing.{IsDrained, final_count};
 ghost use Rattle.rt_ids.specs.Filters.{delivered_names};
 ghost use Rattle.rt_ids.specs.Journal.{Journal as Notes, EachNote};
 ghost use Rattle.rt_ids.specs.Limits.{most_cores};
 ghost use Rattle.rt_ids.specs.Sound.{AllEnded};
-ghost use Rattle.rt_ids.specs.Work.{number_if, has_work};
-ghost use Rattle.rt_journal_facts.specs.Accounts.{has_jobs, fresh_account};
-ghost use Rattle.rt_journal_facts.specs.AllAccounts.{KnowsAccounts};
+ghost use Rattle.rt_ids.specs.Work.{number_if};
+ghost use Rattle.rt_journal_facts.specs.AllAccounts.{HasNobody, KnowsAccounts};
 ghost use Rattle.rt_ids.specs.declared.note.Note.{Note};
 ghost use Rattle.rt_audit_rules.specs.Links.{KnowsOrders};
 ghost use Rattle.rt_journal_facts.specs.Histories.{IsHistory};
@@ -17,7 +16,7 @@ ghost use Rattle.rt_audit.specs.Ends.{ended_by, EndedUnder, EndedIfSent};
 
 use rt_audit_rules::links::order_under;
 use rt_ids::{ActorNo, CoreNo, JobId, Note, Order};
-use rt_journal_facts::{Account, Accounts, History, NameTable, note_at, queue_touched};
+use rt_journal_facts::{Accounts, History, NameTable, note_at};
 use rt_journal_notes::{Assembly, Journal};
 
 /// Whether the job has ended, or the command was answered.
@@ -30,15 +29,16 @@ fn has_ended(history: &History, name: &JobId, order: &Order<()>) -> bool
         Order::SetShares(_, _) => history.is_answered(name),
         Order::Close(_, _) => history.is_answered(name),
         Order::CloseCore(_) => history.is_answered(name),
+        Order::Wake(_, _) => history.is_answered(name),
     }
 }
 
-/// Whether no queue has work.
+/// Whether no queue has work, and no job is parked.
 fn is_idle(accounts: &Accounts) -> bool
-    ensures right { (before : Notes ℕ) → KnowsAccounts accounts.now before → IsTrue result → (queue : ℕ) → IsTrue (has_work queue before) → ⊥ }
-    ensures only { (before : Notes ℕ) → KnowsAccounts accounts.now before → ((queue : ℕ) → IsTrue (has_work queue before) → ⊥) → IsTrue result }
+    ensures right { (before : Notes ℕ) → KnowsAccounts accounts.now before → IsTrue result → (queue : ℕ) → HasNobody queue before }
+    ensures only { (before : Notes ℕ) → KnowsAccounts accounts.now before → ((queue : ℕ) → HasNobody queue before) → IsTrue result }
 {
-    accounts.are_idle()
+    accounts.are_empty()
 }
 
 /// The accounts of a core's queues at the end of its journal.
@@ -50,7 +50,7 @@ fn accounts_after(history: &History, journal: &Journal<u64>) -> Accounts
     for place in 0..journal.len() {
         let note = note_at(journal, place);
         let fact = history.fact(place);
-        accounts.add(&note, queue_touched(&note, &fact));
+        accounts.add(&note, &fact.spot(&note));
     }
     accounts
 }

@@ -1,13 +1,15 @@
 -- A virtual runtime is at most 2^50 for each note, if each pick is right and each note is spelled.
 use Rattle.std.proofs.Common.{ℕ, ◌*◌, ◌^◌, ◌<◌, ◌≤◌, Bool, true, false, [], ◌∷◌, length, cond, arith}
-use Rattle.std.specs.Prelude.{Some, None, ◌==◌, unwrap_or}
+use Rattle.std.specs.Prelude.{Option, Some, None, ◌==◌, unwrap_or}
 use Rattle.rt_shares.specs.Charge.{charge, InRange}
+use Rattle.rt_ids.specs.declared.names.JobId.{JobId}
 use Rattle.rt_ids.specs.declared.note.Note.{Note}
-use Rattle.rt_ids.specs.declared.note.Note.TheVariants.{Created, SharesSet, Pick, Yield, Done}
+use Rattle.rt_ids.specs.declared.note.Note.TheVariants.{Created, SharesSet, Pick}
 use Rattle.rt_ids.specs.Clauses.{PicksRight}
 use Rattle.rt_ids.specs.Journal.{Journal, EachNote}
 use Rattle.rt_ids.specs.Names.{is_number}
-use Rattle.rt_ids.specs.Runtimes.{shares, floor, virtual_runtime, runtime_picked, charge_noted}
+use Rattle.rt_ids.specs.Polls.{poll_settled}
+use Rattle.rt_ids.specs.Runtimes.{shares, floor, virtual_runtime, runtime_picked, charge_noted, charge_of}
 use Rattle.rt_ids.specs.Spelled.{IsSpelledNote, AreSpelledNotes}
 use Rattle.rt_ids.specs.Terms.{Terms}
 use Rattle.rt_ids.specs.Work.{queue_of}
@@ -36,17 +38,15 @@ module _ (terms : Terms) where
 
   -- a note costs a queue at most 2^50
   costs_little : (queue : ℕ) (note : Note ℕ) (before : Journal ℕ) → InRange (shares queue before) → charge_noted queue note before ≤ 2 ^ 50
-  costs_little queue (Yield name time) before range = by_test (is_number queue (queue_of name before))
+  costs_little queue note before range = by_poll (poll_settled note)
     where
-      by_test : (test : Bool) → cond test (charge time (shares queue before)) 0 ≤ 2 ^ 50
-      by_test true = let below = charge_below time (shares queue before) range.positive in omega arith
-      by_test false = omega arith
-  costs_little queue (Done name time value) before range = by_test (is_number queue (queue_of name before))
-    where
-      by_test : (test : Bool) → cond test (charge time (shares queue before)) 0 ≤ 2 ^ 50
-      by_test true = let below = charge_below time (shares queue before) range.positive in omega arith
-      by_test false = omega arith
-  costs_little queue _ before range = omega arith
+      by_test : (time : ℕ) (test : Bool) → cond test (charge time (shares queue before)) 0 ≤ 2 ^ 50
+      by_test time true = let below = charge_below time (shares queue before) range.positive in omega arith
+      by_test time false = omega arith
+
+      by_poll : (poll : Option (JobId × ℕ)) → charge_of queue poll before ≤ 2 ^ 50
+      by_poll None = omega arith
+      by_poll (Some poll) = by_test poll.1 (is_number queue (queue_of poll.0 before))
 
   -- a right pick is at the virtual runtime of its queue
   picked_low : (bound : ℕ) (note : Note ℕ) (before : Journal ℕ) → PicksRight note before → ((queue : ℕ) → virtual_runtime queue before ≤ bound) →

@@ -1,6 +1,7 @@
 pub mod Bounds
-pub mod IdleSteps
 pub mod PickLines
 pub mod PickSteps
+pub mod Placings
 pub mod RightPicks
+pub mod WaitingSteps
 pub mod Winners

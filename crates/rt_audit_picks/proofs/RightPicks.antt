@@ -5,7 +5,7 @@ use Rattle.std.proofs.lemmas.Bool.{true≢false}
 use Rattle.rt_ids.specs.declared.names.JobId.{JobId}
 use Rattle.rt_ids.specs.declared.names.Key.{Key}
 use Rattle.rt_ids.specs.declared.note.Note.{Note}
-use Rattle.rt_ids.specs.declared.note.Note.TheVariants.{Pick, Start, Resume, Yield, Done}
+use Rattle.rt_ids.specs.declared.note.Note.TheVariants.{Pick, Start, Resume, Yield, Park, Stayed, Done}
 use Rattle.rt_ids.specs.Clauses.{PicksRight}
 use Rattle.rt_ids.specs.Journal.{Journal, EachNote}
 use Rattle.rt_ids.specs.Keys.{KeyAtMost}
@@ -16,10 +16,11 @@ use Rattle.rt_ids.specs.Work.{has_work}
 use Rattle.rt_journal_facts.specs.declared.accounts.Accounts.{Accounts}
 use Rattle.rt_journal_facts.specs.Accounts.{fresh_account, greatest_runtime}
 use Rattle.rt_journal_facts.specs.AllAccounts.{KnowsAccounts}
+use Rattle.rt_journal_facts.proofs.AccountSteps.{works}
 use Rattle.rt_audit_picks.specs.declared.least.Least.{Least}
 use Rattle.rt_audit_picks.specs.Winners.{key_of}
-use Rattle.rt_audit_picks.specs.Picks.{out_list, FitsOut, IsAt, IsBelowAll, KnowsLeast, KnowsIdle, AreBelow}
-use Rattle.rt_audit_picks.proofs.PickSteps.{works}
+use Rattle.rt_audit_picks.specs.Picks.{out_list, FitsOut, IsAt, IsBelowAll, AreBelow}
+use Rattle.rt_audit_picks.specs.Waiting.{KnowsLeast, KnowsIdle}
 
 -- who is out is who is known to be
 one_out : (out : Option JobId) (name : JobId) → out_list out ≡ name ∷ [] → out ≡ Some name
@@ -45,6 +46,8 @@ module _ (out : Option JobId) where
   fits before known each (Start name) right = behind_pick before known each right.turn
   fits before known each (Resume name) right = behind_pick before known each right.turn
   fits before known each (Yield name time) right = one_out out name (sym known ∙ right.settles)
+  fits before known each (Park name time) right = one_out out name (sym known ∙ right.settles.0)
+  fits before known each (Stayed name time) right = one_out out name (sym known ∙ right.settles.0)
   fits before known each (Done name time value) right = one_out out name (sym known ∙ right.settles)
   fits before known each _ right = tt
 

@@ -1,3 +1,4 @@
 pub mod PickFaults
 pub mod Picks
+pub mod Waiting
 pub mod Winners

@@ -1,21 +1,21 @@
 -- What the walk of the fifth rule knows of the notes that it has read.
-use Rattle.std.specs.Prelude.{◌≡◌, ◌≢◌, ℕ, ◌<◌, min, if◌then◌else◌, get_or, true, false, IsTrue, List, [], ◌∷◌, Option, Some, None, is_some}
+use Rattle.std.specs.Prelude.{◌≡◌, ℕ, ◌<◌, true, false, List, [], ◌∷◌, Option, Some, None, is_some}
 use Rattle.rt_ids.specs.declared.names.JobId.{JobId}
-use Rattle.rt_ids.specs.declared.names.Key.{Key}
 use Rattle.rt_ids.specs.declared.note.Note.{Note}
-use Rattle.rt_ids.specs.declared.note.Note.TheVariants.{Start, Resume, Yield, Done}
+use Rattle.rt_ids.specs.declared.note.Note.TheVariants.{Start, Resume, Yield, Park, Stayed, Done, Returned}
 use Rattle.rt_ids.specs.Clauses.{PicksRight}
+use Rattle.rt_ids.specs.Commands.{stays_in_line}
 use Rattle.rt_ids.specs.Journal.{Journal, EachNote}
 use Rattle.rt_ids.specs.Keys.{KeyAtMost}
 use Rattle.rt_ids.specs.Lines.{jobs_out}
+use Rattle.rt_ids.specs.Parks.{is_parked}
 use Rattle.rt_ids.specs.Picks.{queue_just_picked, queue_served, takes_turn}
 use Rattle.rt_ids.specs.Runtimes.{virtual_runtime}
-use Rattle.rt_ids.specs.Work.{has_work}
 use Rattle.rt_journal_facts.specs.declared.accounts.Account.{Account}
-use Rattle.rt_journal_facts.specs.declared.accounts.Accounts.{Accounts}
-use Rattle.rt_journal_facts.specs.Accounts.{has_jobs, fresh_account, greatest_runtime}
+use Rattle.rt_journal_facts.specs.Accounts.{has_jobs, greatest_runtime}
 use Rattle.rt_journal_facts.specs.AllAccounts.{KnowsAccounts}
 use Rattle.rt_audit_picks.specs.declared.least.Least.{Least}
+use Rattle.rt_audit_picks.specs.Waiting.{AreWaiting}
 use Rattle.rt_audit_picks.specs.Winners.{IsTree, key_of}
 use Rattle.rt_audit_picks.specs.declared.picks.Turns.{Turns}
 
@@ -29,6 +29,8 @@ abbrev pub out_after : {T : Type 0} → Option JobId → Note T → Option JobId
 out_after out (Start name) = Some name
 out_after out (Resume name) = Some name
 out_after out (Yield name time) = None
+out_after out (Park name time) = None
+out_after out (Stayed name time) = None
 out_after out (Done name time value) = None
 out_after out _ = out
 
@@ -37,8 +39,18 @@ abbrev pub FitsOut : {T : Type 0} → Option JobId → Note T → Type 0
 FitsOut out (Start name) = out ≡ None
 FitsOut out (Resume name) = out ≡ None
 FitsOut out (Yield name time) = out ≡ Some name
+FitsOut out (Park name time) = out ≡ Some name
+FitsOut out (Stayed name time) = out ≡ Some name
 FitsOut out (Done name time value) = out ≡ Some name
 FitsOut out _ = Unit {0}
+
+-- a job that asks to be parked stays in its line exactly where it must, and a parked job is neither polled nor handed back
+abbrev pub FitsParks : {T : Type 0} → Note T → Journal T → Type 0
+FitsParks (Park name time) before = stays_in_line name before ≡ false
+FitsParks (Stayed name time) before = stays_in_line name before ≡ true
+FitsParks (Resume name) before = is_parked name before ≡ false
+FitsParks (Returned name reason) before = is_parked name before ≡ false
+FitsParks _ before = Unit {0}
 
 -- behind a pick, and nowhere else, stands a note that takes a turn, of a job of that queue
 pub record Follows {T : Type 0} (note : Note T) (before : Journal T) : Type 0 where
@@ -48,29 +60,6 @@ pub record Follows {T : Type 0} (note : Note T) (before : Journal T) : Type 0 wh
 -- no queue has a lesser pair
 abbrev pub IsBelowAll : ℕ → ℕ → Least → Type 0
 IsBelowAll runtime queue least = (other : ℕ) → other < 256 → KeyAtMost runtime queue (key_of least other).vr (key_of least other).queue
-
--- the virtual runtime at which a queue waits: the last one if it has no work
-abbrev pub runtime_waiting : Account → ℕ
-runtime_waiting account = if has_jobs account then account.virtual_runtime else greatest_runtime
-
--- the key at which a queue waits, if there is a queue
-abbrev pub key_waiting : Accounts → Option ℕ → Option Key
-key_waiting accounts None = None
-key_waiting accounts (Some queue) = Some (record { vr = runtime_waiting (get_or accounts.queues queue fresh_account); queue = queue })
-
--- the queue of a key, if there is one, has this key, and the others have their old ones
-abbrev pub IsPlaced : Least → Least → Option Key → Type 0
-IsPlaced old new None = new ≡ old
-IsPlaced old new (Some key) = (key_of new key.queue ≡ key) × ((other : ℕ) → other ≢ key.queue → key_of new other ≡ key_of old other)
-
--- each queue with work stands at its virtual runtime
-abbrev pub KnowsLeast : Least → Journal ℕ → Type 0
-KnowsLeast least before =
-    (queue : ℕ) → IsTrue (has_work queue before) → key_of least queue ≡ record { vr = min (virtual_runtime queue before) greatest_runtime; queue = queue }
-
--- each queue without work waits behind all others
-abbrev pub KnowsIdle : Least → Journal ℕ → Type 0
-KnowsIdle least before = (queue : ℕ) → queue < 256 → has_work queue before ≡ false → (key_of least queue).vr ≡ greatest_runtime
 
 -- each virtual runtime is below this
 abbrev pub AreBelow : ℕ → Journal ℕ → Type 0
@@ -86,8 +75,7 @@ pub record IsAt (account : Account) (runtime : ℕ) : Type 0 where
 pub record KnowsTurns (turns : Turns) (before : Journal ℕ) : Type 0 where
   pub accounts : KnowsAccounts turns.accounts before
   pub tree : IsTree turns.least
-  pub least : KnowsLeast turns.least before
-  pub idle : KnowsIdle turns.least before
+  pub waiting : AreWaiting turns.accounts turns.least
   pub out : jobs_out before ≡ out_list turns.out
   pub picked : queue_just_picked before ≡ turns.picked
 

@@ -3,5 +3,6 @@
 
 mod least;
 mod picks;
+mod placing;
 
 pub use picks::picks_fault;

@@ -1,6 +1,6 @@
 //! Rule 5: each pick takes the least pair of virtual runtime and number among the queues that have work.
 
-ghost use Rattle.std.specs.Prelude.{◌≡◌, ◌<◌, ◌≤◌, ◌∷◌, ℕ, IfSome, IsTrue, None, Some, [], is_some, true, length, get_or};
+ghost use Rattle.std.specs.Prelude.{◌≡◌, ◌<◌, ◌≤◌, ◌∷◌, ℕ, IfSome, IsTrue, None, Some, [], is_some, true, false, length, get_or};
 ghost use Rattle.rt_ids.specs.Clauses.{PicksRight, IsRightIfPick};
 ghost use Rattle.rt_ids.specs.Journal.{Journal as Notes, EachNote};
 ghost use Rattle.rt_ids.specs.Keys.{KeyAtMost};
@@ -8,14 +8,20 @@ ghost use Rattle.rt_ids.specs.Picks as spec;
 ghost use Rattle.rt_ids.specs.Spelled.{AreSpelledNotes};
 ghost use Rattle.rt_ids.specs.Terms.{Terms};
 ghost use Rattle.rt_journal_facts.specs.Accounts.{fresh_account, has_jobs, greatest_count, greatest_runtime};
+ghost use Rattle.rt_journal_facts.specs.AllAccounts.{KnowsAccounts};
+ghost use Rattle.rt_journal_facts.specs.Endings.{core_ended};
 ghost use Rattle.rt_journal_facts.specs.Histories.{FitsPlace, IsHistory};
+ghost use Rattle.rt_journal_facts.specs.Parks.{is_same_queue};
+ghost use Rattle.rt_journal_facts.specs.Spots.{FitsSpot};
 ghost use Rattle.rt_audit_picks.specs.Winners.{IsTree};
 ghost use Rattle.rt_audit_picks.specs.PickFaults.{IsPickFault, IsLineOf};
-ghost use Rattle.rt_audit_picks.specs.Picks.{KnowsTurns, FitsOut, Follows, out_after, IsAt, IsBelowAll, IsPlaced, AreBelow, runtime_waiting, key_waiting};
+ghost use Rattle.rt_audit_picks.specs.Picks.{KnowsTurns, FitsOut, FitsParks, Follows, out_after, IsAt, IsBelowAll, AreBelow};
+ghost use Rattle.rt_audit_picks.specs.Waiting.{AreWaiting};
 
 use crate::least::Least;
-use rt_ids::{JobId, Key, Note, QueueNo};
-use rt_journal_facts::{Account, Accounts, Fact, History, note_at, queue_touched};
+use crate::placing::{place_if, place_told};
+use rt_ids::{JobId, Note, QueueNo};
+use rt_journal_facts::{Account, Accounts, Fact, History, Spot, core_ended, note_at};
 use rt_journal_notes::{Journal, same_name};
 
 /// The queues, the job that is out, and the queue of the pick that was just made.
@@ -44,42 +50,6 @@ fn is_least(least: &Least, runtime: u128, queue: QueueNo) -> bool
     is_at_most(runtime, queue, top.vr, top.queue)
 }
 
-/// The virtual runtime at which a queue waits for its turn: the last one if it has no work.
-fn runtime_waiting(account: &Account) -> u128
-    ensures { result ≡ runtime_waiting account.now }
-{
-    if account.has_jobs() {
-        account.virtual_runtime
-    } else {
-        u128::MAX
-    }
-}
-
-/// The key at which a queue waits, if there is a queue.
-fn key_waiting(accounts: &Accounts, queue: Option<QueueNo>) -> Option<Key>
-    ensures { result ≡ key_waiting accounts.now queue }
-{
-    match queue {
-        Some(queue) => {
-            let account = accounts.of(queue);
-            let vr = runtime_waiting(&account);
-            Some(Key { vr, queue })
-        }
-        None => None,
-    }
-}
-
-/// Gives the queue of a key, if there is one, this key.
-fn place(least: &mut Least, key: Option<Key>)
-    requires { IsTree least.old }
-    ensures tree { IsTree least.new }
-    ensures placed { IsPlaced least.old least.new key }
-{
-    if let Some(key) = key {
-        least.set(key.queue, key.vr);
-    }
-}
-
 /// Whether a note may change which job is out.
 fn fits_out(out: Option<JobId>, note: &Note<u64>) -> bool
     ensures right { IsTrue result → FitsOut out note.now }
@@ -89,6 +59,8 @@ fn fits_out(out: Option<JobId>, note: &Note<u64>) -> bool
         Note::Start(_) => out.is_none(),
         Note::Resume(_) => out.is_none(),
         Note::Yield(name, _) => is_out(out, &name),
+        Note::Park(name, _) => is_out(out, &name),
+        Note::Stayed(name, _) => is_out(out, &name),
         Note::Done(name, _, _) => is_out(out, &name),
         _ => true,
     }
@@ -112,6 +84,8 @@ fn out_after(out: Option<JobId>, note: &Note<u64>) -> Option<JobId>
         Note::Start(name) => Some(name),
         Note::Resume(name) => Some(name),
         Note::Yield(_, _) => None,
+        Note::Park(_, _) => None,
+        Note::Stayed(_, _) => None,
         Note::Done(_, _, _) => None,
         _ => out,
     }
@@ -136,13 +110,52 @@ impl Turns {
         requires { IsTree self.old.least }
         ensures { (before : Notes ℕ) → length before < greatest_count → FitsPlace fact.now note.now before → FitsOut self.old.out note.now → KnowsTurns self.old before → KnowsTurns self.new (note.now ∷ before) }
     {
-        let queue = queue_touched(note, fact);
-        self.accounts.add(note, queue);
-        let changed = queue_touched(note, fact);
-        let key = key_waiting(&self.accounts, changed);
-        place(&mut self.least, key);
-        self.out = out_after(self.out, note);
+        let spot = fact.spot(note);
+        let out = out_after(self.out, note);
+        self.count(note, &spot);
+        self.out = out;
         self.picked = queue_picked(note);
+    }
+
+    /// Reads the next note, which speaks of the queues of this spot: accounts and keys follow it.
+    fn count(&mut self, note: &Note<u64>, spot: &Spot)
+        requires { IsTree self.old.least }
+        ensures tree { IsTree self.new.least }
+        ensures known { (before : Notes ℕ) → FitsSpot spot.now note.now before → length before < greatest_count → KnowsAccounts self.old.accounts before → KnowsAccounts self.new.accounts (note.now ∷ before) }
+        ensures waiting { (before : Notes ℕ) → KnowsAccounts self.old.accounts before → AreWaiting self.old.accounts self.old.least → AreWaiting self.new.accounts self.new.least }
+    {
+        if core_ended(note) {
+            self.count_end(note, spot);
+        } else {
+            self.count_other(note, spot);
+        }
+    }
+
+    /// The same of a note that may end the parks of all queues.
+    fn count_end(&mut self, note: &Note<u64>, spot: &Spot)
+        requires { IsTree self.old.least }
+        ensures tree { IsTree self.new.least }
+        ensures known { (before : Notes ℕ) → FitsSpot spot.now note.now before → length before < greatest_count → KnowsAccounts self.old.accounts before → KnowsAccounts self.new.accounts (note.now ∷ before) }
+        ensures waiting { (before : Notes ℕ) → KnowsAccounts self.old.accounts before → AreWaiting self.old.accounts self.old.least → AreWaiting self.new.accounts self.new.least }
+    {
+        let recent = self.accounts.recent;
+        self.accounts.add(note, spot);
+        place_told(&mut self.least, &self.accounts, &recent);
+        place_if(&mut self.least, &self.accounts, spot.parked);
+        place_if(&mut self.least, &self.accounts, spot.queue);
+    }
+
+    /// The same of any other note.
+    fn count_other(&mut self, note: &Note<u64>, spot: &Spot)
+        requires tree { IsTree self.old.least }
+        requires going { core_ended note.now ≡ false }
+        ensures tree { IsTree self.new.least }
+        ensures known { (before : Notes ℕ) → FitsSpot spot.now note.now before → length before < greatest_count → KnowsAccounts self.old.accounts before → KnowsAccounts self.new.accounts (note.now ∷ before) }
+        ensures waiting { (before : Notes ℕ) → KnowsAccounts self.old.accounts before → AreWaiting self.old.accounts self.old.least → AreWaiting self.new.accounts self.new.least }
+    {
+        self.accounts.add(note, spot);
+        place_if(&mut self.least, &self.accounts, spot.parked);
+        place_if(&mut self.least, &self.accounts, spot.queue);
     }
 }
 
@@ -200,21 +213,12 @@ fn may_pick(turns: &Turns, queue: QueueNo, runtime: u128) -> bool
     turns.out.is_none() && is_at(&account, runtime)
 }
 
-/// Whether there are no more accounts than queues. There never are more.
-fn has_few(accounts: &Accounts) -> bool
-    ensures few { length accounts.now.queues ≤ 256 }
-    ensures always { IsTrue result }
-{
-    let queues: &[Account] = &accounts.queues;
-    queues.len() <= 256
-}
-
 /// Whether a pick takes the least pair, at the virtual runtime of its queue.
 fn is_right_pick(turns: &Turns, queue: QueueNo, runtime: u128) -> bool
     ensures right { (before : Notes ℕ) → KnowsTurns turns.now before → IsTrue result → spec.IsRightPick queue runtime before }
     ensures only { (before : Notes ℕ) → KnowsTurns turns.now before → AreBelow greatest_runtime before → spec.IsRightPick queue runtime before → IsTrue result }
 {
-    if !has_few(&turns.accounts) {
+    if !turns.accounts.has_few() {
         return false;
     }
     may_pick(turns, queue, runtime) && is_least(&turns.least, runtime, queue)
@@ -230,6 +234,41 @@ fn right_if_pick(turns: &Turns, note: &Note<u64>) -> bool
     }
 }
 
+/// Whether the job is parked in its queue.
+fn is_parked(fact: &Fact) -> bool
+    ensures { result ≡ is_same_queue fact.now.queue fact.now.parked }
+{
+    let Some(queue) = fact.queue else {
+        return false;
+    };
+    match fact.parked {
+        Some(parked) => queue.0 == parked.0,
+        None => false,
+    }
+}
+
+/// Whether a job that asks to be parked stays in its line exactly where it must, and no parked job is polled or handed back.
+fn fits_parks(fact: &Fact, note: &Note<u64>) -> bool
+    ensures right { (before : Notes ℕ) → FitsPlace fact.now note.now before → IsTrue result → FitsParks note.now before }
+    ensures only { (before : Notes ℕ) → FitsPlace fact.now note.now before → FitsParks note.now before → IsTrue result }
+{
+    match *note {
+        Note::Park(_, _) => !fact.stays,
+        Note::Stayed(_, _) => fact.stays,
+        Note::Resume(_) => !is_parked(fact),
+        Note::Returned(_, _) => !is_parked(fact),
+        _ => true,
+    }
+}
+
+/// Whether a note may change which job is out, and fits who is parked.
+fn is_settled(turns: &Turns, fact: &Fact, note: &Note<u64>) -> bool
+    ensures right { (before : Notes ℕ) → FitsPlace fact.now note.now before → IsTrue result → FitsOut turns.now.out note.now × FitsParks note.now before }
+    ensures only { (before : Notes ℕ) → FitsPlace fact.now note.now before → FitsOut turns.now.out note.now → FitsParks note.now before → IsTrue result }
+{
+    fits_out(turns.out, note) && fits_parks(fact, note)
+}
+
 /// Whether a pick is right, and a pick is followed by a turn of its queue.
 fn is_in_turn(turns: &Turns, fact: &Fact, note: &Note<u64>) -> bool
     ensures right { (before : Notes ℕ) → KnowsTurns turns.now before → FitsPlace fact.now note.now before → IsTrue result → IsRightIfPick note.now before × Follows note.now before }
@@ -243,7 +282,7 @@ fn picks_right(turns: &Turns, fact: &Fact, note: &Note<u64>) -> bool
     ensures right { (before : Notes ℕ) → KnowsTurns turns.now before → FitsPlace fact.now note.now before → IsTrue result → PicksRight note.now before × FitsOut turns.now.out note.now }
     ensures only { (before : Notes ℕ) → KnowsTurns turns.now before → FitsPlace fact.now note.now before → AreBelow greatest_runtime before → EachNote PicksRight before → PicksRight note.now before → IsTrue result }
 {
-    is_in_turn(turns, fact, note) && fits_out(turns.out, note)
+    is_in_turn(turns, fact, note) && is_settled(turns, fact, note)
 }
 
 /// The line of a wrong note, or of the pick before it, if that isn't followed as it should be.

@@ -4,6 +4,7 @@
 #[cfg(test)]
 mod again;
 #[cfg(test)]
+mod parks;
 mod rows;
 #[cfg(test)]
 mod verdicts;

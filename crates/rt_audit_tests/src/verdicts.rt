@@ -1,5 +1,6 @@
 //! What an audit finds in each text.
 
+use crate::parks::{PARKED, PARKS};
 use crate::rows::{CLOSES, ORDER, OUTCOMES, PICKS, Row, SOUND, STARTS};
 use rt_audit::{Verdict, audit};
 use rt_ids::ActorNo;
@@ -65,4 +66,16 @@ fn each_fault_of_outcomes_is_named(rt: HostRuntime) {
 #[test]
 fn each_fault_of_picks_is_named(rt: HostRuntime) {
     assert_eq!(rt; first_unnamed(rt.alloc(), 5, &PICKS), None);
+}
+
+#[test]
+fn sound_journals_with_parks_are_found_sound(rt: HostRuntime) {
+    for text in PARKED.iter() {
+        assert!(rt; verdict_on(rt.alloc(), *text) == Some(Verdict::Sound));
+    }
+}
+
+#[test]
+fn each_fault_of_parks_is_named(rt: HostRuntime) {
+    assert_eq!(rt; first_unnamed(rt.alloc(), 5, &PARKS), None);
 }

@@ -1,25 +1,30 @@
 -- What refuses a job, what hands it back, and when a core is drained.
 use Rattle.std.proofs.Common.{◌≡◌, ℕ, zero, suc, ◌+◌, ◌<◌, Bool, true, false, cond, List, [], ◌∷◌, length, max, Option, Some, None, refl, sym, ap, ◌∙◌, subst, arith}
-use Rattle.std.specs.Prelude.{◌||◌, nat_lt, slice_index_or, slice_set}
+use Rattle.std.specs.Prelude.{◌||◌, nat_lt, is_some, slice_index_or, slice_set}
 use Rattle.std.proofs.lemmas.Bool.{ltb-true, true≢false}
 use Rattle.std.proofs.lemmas.List.{get_or-set_same}
 use Rattle.rt_ids.specs.declared.names.Key.{Key}
 use Rattle.rt_ids.specs.declared.names.JobId.{JobId}
 use Rattle.rt_ids.specs.declared.order.Mode.{Mode}
+use Rattle.rt_ids.specs.declared.order.Reason.{Reason}
 use Rattle.rt_ids.specs.declared.order.Reason.TheVariants as why
 use Rattle.rt_ids.specs.Journal.{or_else}
 use Rattle.rt_ids.specs.Names.{is_number}
+use Rattle.rt_ids.specs.Work.{number_if}
 use Rattle.rt_ids.specs.Commands.{reason_if_closed, reason_if_returning}
-use Rattle.rt_taskqueue.specs.Queues.{queue_count, mode_of, waiting_of, ChangesLine}
+use Rattle.rt_taskqueue.specs.Queues.{queue_count, mode_of, waiting_of, held_count, ChangesLine}
+use Rattle.rt_taskqueue.proofs.QueuesLemmas.{waiting_of_none_held, parked_of_none_held, held_count_all_empty}
 use Rattle.rt_core.specs.declared.tally.Tally.{Tally}
 use Rattle.rt_core.specs.Senders.{AreThrough}
 use Rattle.rt_core.specs.State.{CoreView, JobOut, no_tally, tally_of, is_any, queue_out, is_working, runtime_of}
 use Rattle.rt_core.specs.Closing.{refusal, return_reason, IsDrained}
+use Rattle.rt_core.specs.Settling.{stays}
 use Rattle.rt_core.specs.Turns.{TakesOut, HandsBack}
 use Rattle.rt_core.specs.Steps.{ReturnsOut}
-use Rattle.rt_core.specs.Inside.{IsCore, IsListed}
+use Rattle.rt_core.specs.Inside.{IsCore, KeepsCounts, unsettled_count}
+use Rattle.rt_core.proofs.Entries.{none_from_is_any}
 use Rattle.rt_core.proofs.Listed.{eqb-self}
-use Rattle.rt_core.proofs.Picking.{idle_if_no_key, first_waits}
+use Rattle.rt_core.proofs.Parts.{both_false}
 use Rattle.rt_jobs.specs.Meanings.{Meaning}
 
 set-again : {X : Type 0} (items : List X) (place : ℕ) (first last : X) → slice_set (slice_set items place first) place last ≡ slice_set items place last
@@ -29,6 +34,10 @@ set-again (item ∷ items) (suc place) first last = ap (λ rest. item ∷ rest) 
 
 some_is : {X : Type 0} {one other : X} → Some one ≡ Some other → one ≡ other
 some_is same = cc
+
+or_false : (test : Bool) → (test || false) ≡ test
+or_false true = refl
+or_false false = refl
 
 module _ {J : Type 0} where
   -- a job that isn't refused has an open queue
@@ -57,6 +66,18 @@ module _ {J : Type 0} where
   return_reason-taken old new name queue started job takes =
       λ i. or_else (reason_if_returning (takes.line.same_modes queue i) why.QueueReturned) (reason_if_returning ((takes.rest i).mode) why.CoreReturned)
 
+  -- the job that is out from then on
+  pub out_taken : (old mid : CoreView J) (name : JobId) (queue : ℕ) (started : Bool) (job : J) (takes : TakesOut old name queue started job mid) (one : JobOut J) → mid.out ≡ Some one →
+      one ≡ record { name = name; queue = queue; woken = takes.was_woken; job = job }
+  out_taken old mid name queue started job takes one is = some_is (sym is ∙ ap (λ (view : CoreView J). view.out) takes.rest)
+
+  -- where nothing is handed back, it stays exactly if a wake of it was kept
+  pub stays_taken : (old mid : CoreView J) (name : JobId) (queue : ℕ) (started : Bool) (job : J) (takes : TakesOut old name queue started job mid) (one : JobOut J) → mid.out ≡ Some one →
+      return_reason queue old ≡ None → stays one mid ≡ takes.was_woken
+  stays_taken old mid name queue started job takes one is kept =
+      ap (λ (out : JobOut J). stays out mid) (out_taken old mid name queue started job takes one is)
+      ∙ ap (λ (reason : Option Reason). takes.was_woken || is_some reason) (return_reason-taken old mid name queue started job takes ∙ kept) ∙ or_false takes.was_woken
+
   abbrev sent_back : CoreView J → ℕ → CoreView J
   sent_back view queue = record view { tallies = slice_set view.tallies queue (record (tally_of queue view) { returned = (tally_of queue view).returned + 1 }); out = None }
 
@@ -65,7 +86,7 @@ module _ {J : Type 0} where
       HandsBack old name queue job new
   hands_back old mid new name queue started job within takes returns = record {
     next = takes.next;
-    was_started = started;
+    marks = record { started = started; woken = takes.was_woken };
     others = takes.others;
     first = takes.first;
     line = subst (λ queues. ChangesLine old.queues queues queue takes.others) queues takes.line;
@@ -89,35 +110,41 @@ module _ {J : Type 0} where
           set-again old.tallies queue picked _
           ∙ ap (λ (tally : Tally). slice_set old.tallies queue (record tally { returned = tally.returned + 1 })) (get_or-set_same old.tallies queue picked no_tally within)
 
-  -- a core without a key and with no job out has no work
+  -- a core that holds no job and lets none out has no work
   idle_at : (view : CoreView J) (queue : ℕ) → view.out ≡ None → waiting_of queue view.queues ≡ [] → is_working queue view ≡ false
   idle_at view queue free none = λ i. is_any (none i) || is_number queue (queue_out (free i))
 
-  pub drained_if : (view : CoreView J) (keys : List Key) → length view.delivered ≡ view.cores + 1 → IsListed view keys → AreThrough view.delivered view.gates → keys ≡ [] → view.out ≡ None → IsDrained view
-  drained_if view keys senders listed through none free = record {
-    delivered_all = λ sender known. through sender (omega (arith, senders, known));
-    idle = λ queue. idle_at view queue free (idle_if_no_key view keys none free listed queue);
-  }
+  none_out : (out : Option (JobOut J)) → number_if (is_some out) ≡ 0 → out ≡ None
+  none_out None none = refl
+  none_out (Some job) none = absurd (omega (arith, none))
+
+  pub drained_if : (view : CoreView J) (inside room places : ℕ) → KeepsCounts view inside room places → AreThrough view.delivered view.gates → inside ≡ 0 → IsDrained view
+  drained_if view inside room places counted through none =
+      let held : held_count view.queues ≡ 0 = omega (arith, counted.all_inside, none) in
+      let polls : unsettled_count view ≡ 0 = omega (arith, counted.all_inside, none) in
+      record {
+        delivered_all = λ sender known. through sender (omega (arith, counted.senders, known));
+        idle = λ queue. idle_at view queue (none_out view.out polls) (waiting_of_none_held view.queues held queue);
+        nobody_parked = λ queue. parked_of_none_held view.queues held queue;
+      }
 
   pub through_if_drained : (view : CoreView J) → length view.delivered ≡ view.cores + 1 → IsDrained view → AreThrough view.delivered view.gates
   through_if_drained view senders drained sender within = drained.delivered_all sender (omega (arith, senders, within))
 
-  pub free_if_drained : (view : CoreView J) → IsDrained view → view.out ≡ None
-  free_if_drained view drained = by_out view.out (λ queue. both_idle (is_any (waiting_of queue view.queues)) (is_number queue (queue_out view.out)) (drained.idle queue))
+  free_if_drained : (view : CoreView J) → IsDrained view → view.out ≡ None
+  free_if_drained view drained = by_out view.out (λ queue. (both_false (is_any (waiting_of queue view.queues)) (is_number queue (queue_out view.out)) (drained.idle queue)).1)
     where
-      both_idle : (any out : Bool) → (any || out) ≡ false → out ≡ false
-      both_idle true out e = cc
-      both_idle false out e = e
-
       by_out : (out : Option (JobOut J)) → ((queue : ℕ) → is_number queue (queue_out out) ≡ false) → out ≡ None
       by_out None idle = refl
       by_out (Some job) idle = absurd (true≢false (sym (eqb-self job.queue) ∙ idle job.queue))
 
-  pub no_key_if_drained : (view : CoreView J) (keys : List Key) → IsListed view keys → IsDrained view → keys ≡ []
-  no_key_if_drained view [] listed drained = refl
-  no_key_if_drained view (key ∷ later) listed drained =
-      let any = first_waits view (key ∷ later) key later refl listed (free_if_drained view drained) in
-      absurd (true≢false (sym (ap (λ test. test || is_number key.queue (queue_out view.out)) any) ∙ drained.idle key.queue))
+  -- a drained core holds nothing
+  pub none_if_drained : (view : CoreView J) (inside room places : ℕ) → KeepsCounts view inside room places → IsDrained view → inside ≡ 0
+  none_if_drained view inside room places counted drained =
+      let lines : (queue : ℕ) → waiting_of queue view.queues ≡ [] =
+      λ queue. none_from_is_any (waiting_of queue view.queues) (both_false (is_any (waiting_of queue view.queues)) (is_number queue (queue_out view.out)) (drained.idle queue)).0 in
+      let polls : unsettled_count view ≡ 0 = ap (λ (held : Option (JobOut J)). number_if (is_some held)) (free_if_drained view drained) in
+      omega (arith, counted.all_inside, held_count_all_empty view.queues lines drained.nobody_parked, polls)
 
   -- a mode, or a gate, is nothing that the core keeps its counts by
   pub IsCore-closed : {T : Type 0} (meaning : Meaning J T) (view : CoreView J) (gates : List (Option ℕ)) (mode : Option Mode) (slips : List Bool) (keys : List Key) (inside room places : ℕ) →
@@ -135,6 +162,6 @@ module _ {J : Type 0} where
     };
     listed = record { at = core.listed.at };
     slipped = core.slipped;
-    pollable = record { at = core.pollable.at };
+    pollable = record { at = core.pollable.at; parked = core.pollable.parked };
     turns = record { tallies = core.turns.tallies; floor = core.turns.floor };
   }

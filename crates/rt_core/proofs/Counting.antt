@@ -1,11 +1,12 @@
 -- The counts inside a core after each step.
 use Rattle.std.proofs.Common.{◌≡◌, ℕ, suc, zero, ◌+◌, ◌<◌, ◌≤◌, List, [], ◌∷◌, ◌++◌, length, Option, Some, None, refl, sym, ap, ◌∙◌, subst, arith, length-append}
-use Rattle.std.specs.Prelude.{Bool, true, false, ◌-◌, IfSome, is_some, slice_index_or}
+use Rattle.std.specs.Prelude.{true, false, ◌-◌, IfSome, is_some, slice_index_or}
 use Rattle.rt_ids.specs.declared.names.JobId.{JobId}
 use Rattle.rt_ids.specs.declared.names.Key.{Key}
 use Rattle.rt_ids.specs.declared.order.Mode.{Mode}
 use Rattle.rt_ids.specs.Work.{number_if}
-use Rattle.rt_taskqueue.specs.Queues.{QueuesView, waiting_of, queue_count, held_count, ChangesLine, ChangesShares, ChangesMode, AddsQueue, IsWithinLimits}
+use Rattle.rt_taskqueue.specs.Queues.{Line, Marks, QueuesView, waiting_of, parked_of, queue_count, held_count, ChangesLine, ChangesShares, ChangesMode, AddsQueue, IsWithinLimits}
+use Rattle.rt_taskqueue.specs.Parks.{ChangesParks}
 use Rattle.rt_core.specs.State.{CoreView, JobOut, runtime_of}
 use Rattle.rt_core.specs.Inside.{job_out, unsettled_count, KeepsCounts, IsListed}
 use Rattle.rt_core.specs.declared.out.Out.{Out}
@@ -86,7 +87,7 @@ module _ {J : Type 0} where
   }
 
   -- a job goes out
-  pub KeepsCounts-picks : (old new : CoreView J) (inside room places : ℕ) (out : JobOut J) (first : JobId × Bool × J) (others : List (JobId × Bool × J)) →
+  pub KeepsCounts-picks : (old new : CoreView J) (inside room places : ℕ) (out : JobOut J) (first : JobId × Marks × J) (others : Line J) →
       waiting_of out.queue old.queues ≡ first ∷ others → ChangesLine old.queues new.queues out.queue others → IsWithinLimits new.queues → out.queue < queue_count old.queues →
       new.cores ≡ old.cores → old.out ≡ None → new.out ≡ Some out → length new.tallies ≡ length old.tallies → new.delivered ≡ old.delivered →
       KeepsCounts old inside room places → KeepsCounts new inside room places
@@ -106,23 +107,58 @@ module _ {J : Type 0} where
   }
 
   -- it comes back
-  pub KeepsCounts-yields : (old new : CoreView J) (inside room places : ℕ) (out : JobOut J) (name : JobId) (job : J) →
-      ChangesLine old.queues new.queues out.queue (waiting_of out.queue old.queues ++ (name, true, job) ∷ []) → IsWithinLimits new.queues →
+  pub KeepsCounts-yields : (old new : CoreView J) (inside room places : ℕ) (out : JobOut J) (name : JobId) (marks : Marks) (job : J) →
+      ChangesLine old.queues new.queues out.queue (waiting_of out.queue old.queues ++ (name, marks, job) ∷ []) → IsWithinLimits new.queues →
       new.cores ≡ old.cores → old.out ≡ Some out → new.out ≡ None → length new.tallies ≡ length old.tallies → new.delivered ≡ old.delivered →
       KeepsCounts old inside room places → KeepsCounts new inside room places
-  KeepsCounts-yields old new inside room places out name job changes limits cores was_out free tallies delivered counted = record {
+  KeepsCounts-yields old new inside room places out name marks job changes limits cores was_out free tallies delivered counted = record {
     limits = limits;
     tallies = tallies ∙ counted.tallies ∙ sym changes.same_count;
     senders = ap length delivered ∙ counted.senders ∙ ap (λ n. n + 1) (sym cores);
     all_inside =
         let polls : unsettled_count new ≡ 0 = ap polls_of free in
         let one : unsettled_count old ≡ 1 = ap polls_of was_out in
-        let long : length (waiting_of out.queue old.queues ++ (name, true, job) ∷ []) ≡ length (waiting_of out.queue old.queues) + 1 = length-append (waiting_of out.queue old.queues) ((name, true, job) ∷ []) in
+        let long : length (waiting_of out.queue old.queues ++ (name, marks, job) ∷ []) ≡ length (waiting_of out.queue old.queues) + 1 = length-append (waiting_of out.queue old.queues) ((name, marks, job) ∷ []) in
         omega (arith, changes.held, counted.all_inside);
     within_room = counted.within_room;
     same_room = counted.same_room ∙ sym changes.same_room;
     reserved = counted.reserved;
     out = subst (λ (held : Option (JobOut J)). IfSome held (λ job. job.queue < queue_count new.queues)) (sym free) tt;
+  }
+
+  -- it is parked
+  pub KeepsCounts-parks : (old new : CoreView J) (inside room places : ℕ) (out : JobOut J) (name : JobId) (job : J) →
+      ChangesParks old.queues new.queues out.queue (parked_of out.queue old.queues ++ (name, job) ∷ []) → IsWithinLimits new.queues →
+      new.cores ≡ old.cores → old.out ≡ Some out → new.out ≡ None → length new.tallies ≡ length old.tallies → new.delivered ≡ old.delivered →
+      KeepsCounts old inside room places → KeepsCounts new inside room places
+  KeepsCounts-parks old new inside room places out name job changes limits cores was_out free tallies delivered counted = record {
+    limits = limits;
+    tallies = tallies ∙ counted.tallies ∙ sym changes.same_count;
+    senders = ap length delivered ∙ counted.senders ∙ ap (λ n. n + 1) (sym cores);
+    all_inside =
+        let polls : unsettled_count new ≡ 0 = ap polls_of free in
+        let one : unsettled_count old ≡ 1 = ap polls_of was_out in
+        let long : length (parked_of out.queue old.queues ++ (name, job) ∷ []) ≡ length (parked_of out.queue old.queues) + 1 = length-append (parked_of out.queue old.queues) ((name, job) ∷ []) in
+        omega (arith, changes.held, counted.all_inside);
+    within_room = counted.within_room;
+    same_room = counted.same_room ∙ sym changes.same_room;
+    reserved = counted.reserved;
+    out = subst (λ (held : Option (JobOut J)). IfSome held (λ job. job.queue < queue_count new.queues)) (sym free) tt;
+  }
+
+  -- as many jobs are held as before
+  pub KeepsCounts-held : (old new : CoreView J) (inside room places : ℕ) → held_count new.queues ≡ held_count old.queues → queue_count new.queues ≡ queue_count old.queues →
+      new.queues.room ≡ old.queues.room → IsWithinLimits new.queues → new.cores ≡ old.cores → is_some new.out ≡ is_some old.out → IfSome new.out (λ job. job.queue < queue_count old.queues) →
+      length new.tallies ≡ length old.tallies → length new.delivered ≡ length old.delivered → KeepsCounts old inside room places → KeepsCounts new inside room places
+  KeepsCounts-held old new inside room places held count same_room limits cores polls out tallies delivered counted = record {
+    limits = limits;
+    tallies = tallies ∙ counted.tallies ∙ sym count;
+    senders = delivered ∙ counted.senders ∙ ap (λ n. n + 1) (sym cores);
+    all_inside = let same : unsettled_count new ≡ unsettled_count old = ap number_if polls in omega (arith, held, counted.all_inside);
+    within_room = counted.within_room;
+    same_room = counted.same_room ∙ sym same_room;
+    reserved = counted.reserved;
+    out = subst (λ many. IfSome new.out (λ job. job.queue < many)) (sym count) out;
   }
 
   -- it is done

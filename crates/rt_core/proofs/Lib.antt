@@ -16,3 +16,7 @@ pub mod Whole
 pub mod WholeTurn
 pub mod Turned
 pub mod AheadTaken
+pub mod Moved
+pub mod Unparked
+pub mod Woken
+pub mod Wakings

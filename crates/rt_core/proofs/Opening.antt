@@ -1,7 +1,7 @@
 -- What holds inside a core as it opens.
-use Rattle.std.proofs.Common.{◌≡◌, ℕ, zero, suc, ◌+◌, ◌≤◌, length, Bool, false, List, [], ◌∷◌, None, refl, sym, ap, arith}
+use Rattle.std.proofs.Common.{◌≡◌, ℕ, zero, suc, ◌+◌, ◌≤◌, length, false, List, [], ◌∷◌, None, refl, sym, ap, arith}
 use Rattle.std.proofs.lemmas.List.Elements.{All-push}
-use Rattle.rt_taskqueue.specs.Queues.{first_queue, waiting_of}
+use Rattle.rt_taskqueue.specs.Queues.{first_queue, waiting_of, parked_of}
 use Rattle.rt_taskqueue.specs.Slips.{SlippedView, queues_alone}
 use Rattle.rt_taskqueue.specs.Slips as slipped
 use Rattle.rt_ids.specs.declared.names.Key.{Key}
@@ -24,6 +24,11 @@ module _ {J : Type 0} (core cores room turns : ℕ) (senders : SendersView) wher
   no_job tallies zero = refl
   no_job tallies (suc queue) = refl
 
+  -- nor is one parked
+  no_park : (tallies : List Tally) (queue : ℕ) → parked_of queue (first_view tallies).queues ≡ []
+  no_park tallies zero = refl
+  no_park tallies (suc queue) = refl
+
   IsListed-opened : (tallies : List Tally) → IsListed (first_view tallies) []
   IsListed-opened tallies = record {
     at = λ queue. sym (entry_of-none (first_view tallies) queue (may_run-free (first_view tallies) queue false refl (ap is_any (no_job tallies queue))));
@@ -42,7 +47,10 @@ module _ {J : Type 0} (core cores room turns : ℕ) (senders : SendersView) wher
   }
 
   IsPollable-opened : {T : Type 0} (meaning : Meaning J T) (tallies : List Tally) → IsPollable meaning (first_view tallies)
-  IsPollable-opened meaning tallies = record { at = λ queue. rw (no_job tallies queue) (λ k d below. absurd (omega arith)) }
+  IsPollable-opened meaning tallies = record {
+    at = λ queue. rw (no_job tallies queue) (λ k d below. absurd (omega arith));
+    parked = λ queue. rw (no_park tallies queue) (λ k d below. absurd (omega arith));
+  }
 
   IsWithinTurns-opened : IsWithinTurns (first_view (no_tally ∷ []))
   IsWithinTurns-opened = record {

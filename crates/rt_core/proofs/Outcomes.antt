@@ -9,6 +9,7 @@ use Rattle.rt_ids.specs.declared.order.Mode.{Mode}
 use Rattle.rt_ids.specs.declared.order.Answer.{Answer}
 use Rattle.rt_ids.specs.declared.order.Answer.TheVariants as answers
 use Rattle.rt_ids.specs.declared.order.Order.TheVariants as orders
+use Rattle.rt_ids.specs.Commands.{job_at}
 use Rattle.rt_taskqueue.specs.Queues.{QueuesView, queue_count, AddsQueue}
 use Rattle.rt_taskqueue.specs.declared.queues.CreateError.{CreateError}
 use Rattle.rt_taskqueue.specs.declared.queues.CreateError.TheVariants.{TooMany, Memory}
@@ -17,6 +18,7 @@ use Rattle.rt_core.specs.declared.delivery.Delivered.TheVariants as deliveries
 use Rattle.rt_core.specs.State.{CoreView, no_tally}
 use Rattle.rt_core.specs.Closing.{ClosesQueue, ClosesCore}
 use Rattle.rt_core.specs.Deliveries.{Creates, CreatesQueue, CountsAlone, Delivers, counted}
+use Rattle.rt_core.specs.Waking.{Wakes}
 
 -- what isn't there is none
 pub none_if_not : {X : Type 0} (found : Option X) → is_some found ≡ false → found ≡ None
@@ -55,6 +57,8 @@ module _ {J T : Type 0} where
   one_effect old queue mode answers.NoMemory new written closes = absurd closes
   one_effect old queue mode answers.CoreClosing new written closes = absurd closes
   one_effect old queue mode answers.SharesSet new written closes = absurd closes
+  one_effect old queue mode answers.Woken new written closes = absurd closes
+  one_effect old queue mode answers.NoJob new written closes = absurd closes
 
   -- a delivery is counted, and then its closing is done
   pub delivers_closed : (old mid new : CoreView J) (name : JobId) (queue : ℕ) (mode : Mode) (answer : Answer) (told : Delivered J) (note : Note T) (effect written : List (Note T)) →
@@ -90,6 +94,11 @@ module _ {J T : Type 0} where
       )
 
 module _ {J : Type 0} where
+  -- a delivery is counted, and then its wake is made
+  pub wakes_counted : (old mid new : CoreView J) (name : JobId) (actor number : ℕ) (did : Bool) → CountsAlone old name mid → Wakes mid (job_at mid.core actor number) did new →
+      Wakes (record old { delivered = counted name old }) (job_at old.core actor number) did new
+  wakes_counted old mid new name actor number did counts wakes = subst (λ (view : CoreView J). Wakes view (job_at view.core actor number) did new) counts wakes
+
   -- a queue is created, and then the delivery is counted
   pub delivers_created : (old : CoreView J) (weight : ℕ) (mid new : CoreView J) (name : JobId) → Creates old weight mid → mid.delivered ≡ old.delivered →
       CountsAlone mid name new → Creates old weight new × (new.delivered ≡ counted name old)

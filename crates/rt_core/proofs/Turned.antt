@@ -1,5 +1,6 @@
 -- A whole turn is that of the job that was told ahead.
 use Rattle.std.proofs.Common.{◌≡◌, ℕ, Bool, true, false, List, [], ◌∷◌, inl, inr, Some, None, Ok, refl, sym, ap, ◌∙◌, subst, arith}
+use Rattle.std.specs.Prelude.{unwrap_or}
 use Rattle.rt_ids.specs.declared.names.JobId.{JobId}
 use Rattle.rt_ids.specs.declared.names.Key.{Key}
 use Rattle.rt_ids.specs.declared.note.Note.TheVariants as notes
@@ -8,13 +9,16 @@ use Rattle.rt_jobs.specs.Calls.{Call}
 use Rattle.rt_jobs.specs.declared.job.Step.{Step}
 use Rattle.rt_jobs.specs.declared.job.Step.TheVariants as steps
 use Rattle.rt_jobs.specs.Meanings.{Meaning}
+use Rattle.rt_jobs.specs.Steps.{AfterPoll}
 use Rattle.rt_timeline.specs.Rising.{first_key}
-use Rattle.rt_taskqueue.specs.Queues.{waiting_of}
-use Rattle.rt_core.specs.State.{CoreView, runtime_of}
+use Rattle.rt_taskqueue.specs.Queues.{Marks, waiting_of}
+use Rattle.rt_core.specs.State.{CoreView, JobOut, runtime_of}
 use Rattle.rt_core.specs.Closing.{return_reason}
-use Rattle.rt_core.specs.Turns.{IsNext, TakesOut, Picks, SettlesOut}
+use Rattle.rt_core.specs.Settling.{stays, SettlesOut}
+use Rattle.rt_core.specs.Turns.{IsNext, TakesOut, Picks}
 use Rattle.rt_core.specs.Whole.{IsAhead, TurnsFirst, TurnsWhole, SettlesStep, goes_out, pick_notes, settled_of, settle_notes}
-use Rattle.rt_core.proofs.PollsSettled.{settles_yield, settles_done}
+use Rattle.rt_core.proofs.Closings.{out_taken, stays_taken}
+use Rattle.rt_core.proofs.PollsSettled.{settles_yield, settles_stay, settles_park, settles_done}
 
 -- the first of a list of keys
 pub first_of : (keys : List Key) (key : Key) → Some key ≡ first_key keys → (later : List Key) × (keys ≡ key ∷ later)
@@ -47,31 +51,51 @@ module _ {J : Type 0} (T : Type 0) where
   picks_ahead old mid queue vr name false job takes kept stands = (takes, kept, ap (λ at. notes.Pick queue at ∷ notes.Start name ∷ []) stands)
   picks_ahead old mid queue vr name true job takes kept stands = (takes, kept, ap (λ at. notes.Pick queue at ∷ notes.Resume name ∷ []) stands)
 
+module _ {J T : Type 0} where
+  -- its poll is settled in the words of the contract: a park leaves the job in its line exactly where a wake was kept
+  settles_taken : (mid new : CoreView J) (ran : AfterPoll J T) (spent : ℕ) (name : JobId) (time : ℕ) → time ≡ unwrap_or ran.told spent → (step : Step T) (woken : Bool) →
+      ((one : JobOut J) → mid.out ≡ Some one → (one.woken ≡ woken) × (stays one mid ≡ woken)) → ran.step ≡ step → SettlesStep step woken mid name ran.job time new →
+      SettlesOut mid ran spent (settled_of step woken) new (settle_notes name time step woken)
+  settles_taken mid new ran spent name time counts steps.Yield woken known is settles =
+      settles_yield mid ran spent name time new (settle_notes name time steps.Yield woken) counts woken ran.job is refl settles (sym (known settles.out settles.was_out).0) refl
+  settles_taken mid new ran spent name time counts steps.Park true known is settles =
+      settles_stay mid ran spent name time new (settle_notes name time steps.Park true) counts ran.job is refl settles (known settles.out settles.was_out).1 refl
+  settles_taken mid new ran spent name time counts steps.Park false known is settles =
+      settles_park mid ran spent name time new (settle_notes name time steps.Park false) counts ran.job is refl settles (known settles.out settles.was_out).1 refl
+  settles_taken mid new ran spent name time counts (steps.Done answer) woken known is settles =
+      settles_done mid ran spent name time new (settle_notes name time (steps.Done answer) woken) counts answer is settles refl
+
 module _ {J T : Type 0} (meaning : Meaning J T) where
-  pub TurnsWhole-first : (old new : CoreView J) (spent : ℕ) (calls : List (Call J T)) (step : Step T) (time queue vr : ℕ) (name : JobId) (started : Bool) → IsAhead old queue vr name started →
+  pub TurnsWhole-first : (old new : CoreView J) (spent : ℕ) (calls : List (Call J T)) (step : Step T) (time queue vr : ℕ) (name : JobId) (started woken : Bool) → IsAhead old queue vr name started woken →
       TurnsFirst meaning old spent calls step time new →
-      TurnsWhole meaning old spent calls name queue started (pick_notes queue vr name started) (settled_of step) (settle_notes name time step) new
-  TurnsWhole-first old new spent calls step time queue vr name started is_ahead turns =
+      TurnsWhole meaning old spent calls name queue started (pick_notes queue vr name started) (settled_of step woken) (settle_notes name time step woken) new
+  TurnsWhole-first old new spent calls step time queue vr name started woken is_ahead turns =
       let front = is_ahead.front in
-      let there = some_front (waiting_of turns.queue old.queues) (turns.name, turns.started, turns.ran.before) turns.takes.others turns.takes.first in
-      let here = some_front (waiting_of queue old.queues) (name, started, front.0) front.1 front.2 in
+      let was : Marks = record { started = turns.started; woken = turns.takes.was_woken } in
+      let told : Marks = record { started = started; woken = woken } in
+      let there = some_front (waiting_of turns.queue old.queues) (turns.name, was, turns.ran.before) turns.takes.others turns.takes.first in
+      let here = some_front (waiting_of queue old.queues) (name, told, front.0) front.1 front.2 in
       let at : turns.queue ≡ queue = next_same old turns.queue queue turns.takes.next is_ahead.next there here in
-      let both : (turns.name, turns.started, turns.ran.before) ∷ turns.takes.others ≡ (name, started, front.0) ∷ front.1 = sym turns.takes.first ∙ ap (λ (q : ℕ). waiting_of q old.queues) at ∙ front.2 in
+      let both : (turns.name, was, turns.ran.before) ∷ turns.takes.others ≡ (name, told, front.0) ∷ front.1 = sym turns.takes.first ∙ ap (λ (q : ℕ). waiting_of q old.queues) at ∙ front.2 in
       let head = head_same both in
-      let named : turns.name ≡ name = ap (λ (one : JobId × Bool × J). one.0) head in
-      let marked : turns.started ≡ started = ap (λ (one : JobId × Bool × J). one.1) head in
+      let named : turns.name ≡ name = ap (λ (one : JobId × Marks × J). one.0) head in
+      let marked : turns.started ≡ started = ap (λ (one : JobId × Marks × J). one.1.started) head in
+      let kept : turns.takes.was_woken ≡ woken = ap (λ (one : JobId × Marks × J). one.1.woken) head in
       let takes : TakesOut old name queue started turns.ran.before turns.mid =
       subst (λ (one : JobId). TakesOut old one queue started turns.ran.before turns.mid) named
       (subst (λ (one : ℕ). TakesOut old turns.name one started turns.ran.before turns.mid) at
       (subst (λ (one : Bool). TakesOut old turns.name turns.queue one turns.ran.before turns.mid) marked turns.takes)) in
+      let unreturned : return_reason turns.queue old ≡ None = ap (λ (q : ℕ). return_reason q old) at ∙ is_ahead.kept in
+      let known : (one : JobOut J) → turns.mid.out ≡ Some one → (one.woken ≡ woken) × (stays one turns.mid ≡ woken) = λ one is. (
+        ap (λ (out : JobOut J). out.woken) (out_taken old turns.mid turns.name turns.queue turns.started turns.ran.before turns.takes one is) ∙ kept,
+        stays_taken old turns.mid turns.name turns.queue turns.started turns.ran.before turns.takes one is unreturned ∙ kept,
+      ) in
+      let settles : SettlesStep step woken turns.mid name turns.ran.job time new =
+      subst (λ (one : Bool). SettlesStep step one turns.mid name turns.ran.job time new) kept (subst (λ (one : JobId). SettlesStep step turns.takes.was_woken turns.mid one turns.ran.job time new) named turns.settles) in
       record {
         mid = turns.mid;
         ran = turns.ran;
         picks = picks_ahead T old turns.mid queue vr name started turns.ran.before takes is_ahead.kept is_ahead.stands;
         polled = turns.polled;
-        settles = by_step step turns.stepped (subst (λ (one : JobId). SettlesStep step turns.mid one turns.ran.job time new) named turns.settles);
+        settles = settles_taken turns.mid new turns.ran spent name time turns.counts step woken known turns.stepped settles;
       }
-    where
-      by_step : (one : Step T) → turns.ran.step ≡ one → SettlesStep one turns.mid name turns.ran.job time new → SettlesOut turns.mid turns.ran spent (settled_of one) new (settle_notes name time one)
-      by_step steps.Yield is settles = settles_yield turns.mid turns.ran spent name time new (settle_notes name time steps.Yield) turns.counts turns.ran.job is refl settles refl
-      by_step (steps.Done answer) is settles = settles_done turns.mid turns.ran spent name time new (settle_notes name time (steps.Done answer)) turns.counts answer is settles refl

@@ -66,7 +66,7 @@ module _ {J T : Type 0} (meaning : Meaning J T) where
       (turn : HasTurned old slips keys inside room places key calls step told time tally queues) where
     -- the job between its pick and its settling
     abbrev job_between : JobOut J
-    job_between = record { name = turn.turned.name; queue = key.queue; job = turn.turned.was }
+    job_between = record { name = turn.turned.name; queue = key.queue; woken = turn.turned.marks.woken; job = turn.turned.was }
 
     -- the core between them
     abbrev between : CoreView J
@@ -78,9 +78,10 @@ module _ {J T : Type 0} (meaning : Meaning J T) where
       out = Some job_between;
     }
 
-    takes : TakesOut old turn.turned.name key.queue turn.turned.started turn.turned.was between
+    takes : TakesOut old turn.turned.name key.queue turn.turned.marks.started turn.turned.was between
     takes = record {
       next = first_is_next old keys key turn.later turn.are turn.core.listed turn.free turn.rising;
+      was_woken = turn.turned.marks.woken;
       others = waiting_of key.queue turn.turned.between;
       first = turn.turned.first;
       line = turn.turned.leaves;
@@ -92,7 +93,7 @@ module _ {J T : Type 0} (meaning : Meaning J T) where
 
     -- what holds inside between them
     IsCore-between : IsCore meaning between (slice_set slips key.queue true) turn.later inside room places
-    IsCore-between = IsCore-taken meaning old between slips keys turn.later key inside room places turn.turned.name turn.turned.started turn.turned.was turn.core turn.are turn.absent takes turn.turned.limits
+    IsCore-between = IsCore-taken meaning old between slips keys turn.later key inside room places turn.turned.name turn.turned.marks.started turn.turned.was turn.core turn.are turn.absent takes turn.turned.limits
 
     -- the job that has its turn is inside
     pub one_inside : 1 ≤ inside
@@ -102,7 +103,7 @@ module _ {J T : Type 0} (meaning : Meaning J T) where
     pub IsCore-turned : IsCore meaning (after_turn old key tally queues) (slips_after (is_any (waiting_of key.queue queues)) key.queue (slice_set slips key.queue true))
         (keys_after (is_any (waiting_of key.queue queues)) tally.runtime key.queue turn.later) (inside - number_if (is_done_step step)) room places
     IsCore-turned =
-        IsCore-settled meaning between (after_turn old key tally queues) (slice_set slips key.queue true) turn.later inside room places job_between turn.turned.job tally (is_any (waiting_of key.queue queues)) step
+        IsCore-settled meaning between (after_turn old key tally queues) (slice_set slips key.queue true) turn.later inside room places job_between turn.turned.marks turn.turned.job tally (is_any (waiting_of key.queue queues)) step
         IsCore-between refl turn.free turn.turned.joins turn.limits (sym (set-set old.tallies key.queue (picked_tally old key.queue) tally))
         (turn.fits (first_fits meaning old slips keys inside room places key.queue turn.core turn.free)) refl refl refl same_floor turn.turned.polled.ended turn.turned.polled.ready refl
 
@@ -118,11 +119,12 @@ module _ {J T : Type 0} (meaning : Meaning J T) where
 
     -- the turn of the contract
     pub TurnsFirst-turned : (spent : ℕ) → time ≡ unwrap_or told spent → TurnsFirst meaning old spent calls step time (after_turn old key tally queues)
+    unfolding takes
     TurnsFirst-turned spent counts =
         let turned = turn.turned in
         let ended = number_if (is_done_step step) in
         let picked = picked_tally old key.queue in
-        let weight = turned_shares step turned.between queues key.queue turned.name turned.job turned.joins in
+        let weight = turned_shares step turned.between queues key.queue turned.name turned.marks turned.job turned.joins in
         let within : key.queue < length old.tallies = omega (arith, turn.core.counted.tallies, first_exists old keys key turn.later turn.are turn.core.listed turn.free) in
         let there = get_or-set_same old.tallies key.queue picked no_tally within in
         let charged = turn.charged ∙ ap (λ shares. after_poll picked time shares ended) weight ∙ ap (λ (one : Tally). after_poll one time (shares_of key.queue turned.between) ended) (sym there) in
@@ -130,13 +132,13 @@ module _ {J T : Type 0} (meaning : Meaning J T) where
         record {
           name = turned.name;
           queue = key.queue;
-          started = turned.started;
+          started = turned.marks.started;
           mid = between;
           ran = record { job = turned.job; step = step; told = told; before = turned.was };
           takes = takes;
           polled = turned.polled;
           stepped = refl;
           counts = counts;
-          settles = settles_step between (after_turn old key tally queues) job_between turned.job time step refl turned.joins
+          settles = settles_step between (after_turn old key tally queues) job_between turned.marks turned.job time step refl turned.joins
               (λ i. record old { queues = queues; tallies = written i; floor = same_floor i; turns = old.turns + 1; out = turn.free i });
         }

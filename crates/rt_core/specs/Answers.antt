@@ -6,7 +6,7 @@ use Rattle.rt_core.specs.declared.turn.Turn.{Turn}
 use Rattle.rt_core.specs.declared.turn.Turn.TheVariants.{Start, Resume, Back, Idle}
 use Rattle.rt_core.specs.declared.turn.PickError.{PickError}
 use Rattle.rt_core.specs.declared.turn.Settled.{Settled}
-use Rattle.rt_core.specs.declared.turn.Settled.TheVariants.{Yielded, Finished}
+use Rattle.rt_core.specs.declared.turn.Settled.TheVariants.{Yielded, Parked, Stayed, Finished}
 use Rattle.rt_core.specs.State.{JobOut}
 
 module _ {J : Type 0} where
@@ -28,3 +28,5 @@ module _ {J : Type 0} where
   AnswersOut meaning (Some out) (Finished answer) = meaning.answers out.job answer
   AnswersOut meaning None (Finished answer) = ⊥
   AnswersOut meaning out Yielded = Unit {0}
+  AnswersOut meaning out Parked = Unit {0}
+  AnswersOut meaning out Stayed = Unit {0}

@@ -4,8 +4,9 @@ use Rattle.rt_ids.specs.declared.names.JobId.{JobId}
 use Rattle.rt_ids.specs.declared.note.Note.{Note}
 use Rattle.rt_ids.specs.declared.note.Note.TheVariants as notes
 use Rattle.rt_ids.specs.declared.order.Order.{Order}
-use Rattle.rt_ids.specs.declared.order.Order.TheVariants.{Job, Create, SetShares, Close, CloseCore}
+use Rattle.rt_ids.specs.declared.order.Order.TheVariants.{Job, Create, SetShares, Close, CloseCore, Wake}
 use Rattle.rt_ids.specs.declared.order.Answer.TheVariants as answers
+use Rattle.rt_ids.specs.Commands.{job_at}
 use Rattle.rt_ids.specs.Limits.{most_queues}
 use Rattle.rt_taskqueue.specs.declared.queues.CreateError.{CreateError}
 use Rattle.rt_taskqueue.specs.declared.queues.CreateError.TheVariants.{TooMany, Memory}
@@ -14,6 +15,7 @@ use Rattle.rt_core.specs.declared.delivery.Delivered.{Delivered}
 use Rattle.rt_core.specs.declared.delivery.Delivered.TheVariants.{Took, Back, Answered}
 use Rattle.rt_core.specs.State.{CoreView, no_tally, tally_of, entry_runtime}
 use Rattle.rt_core.specs.Closing.{refusal, ClosesQueue, ClosesCore}
+use Rattle.rt_core.specs.Waking.{Wakes}
 
 module _ {J : Type 0} where
   -- the delivery is counted
@@ -23,7 +25,7 @@ module _ {J : Type 0} where
   -- the job enters at the tail, and the queue is placed
   pub record Enters (old : CoreView J) (name : JobId) (queue : ℕ) (job : J) (new : CoreView J) : Type 0 where
     pub exists : queue < queue_count old.queues
-    pub line : ChangesLine old.queues new.queues queue (waiting_of queue old.queues ++ (name, false, job) ∷ [])
+    pub line : ChangesLine old.queues new.queues queue (waiting_of queue old.queues ++ (name, record { started = false; woken = false }, job) ∷ [])
     pub rest : new ≡ record old {
       queues = new.queues;
       tallies = slice_set old.tallies queue (record (tally_of queue old) { runtime = entry_runtime queue old });
@@ -87,4 +89,11 @@ module _ {J T : Type 0} where
   Delivers old name (CloseCore mode) (Answered answers.AlreadyClosed) new written =
       (effect : List (Note T)) × ClosesCore (record old { delivered = counted name old }) mode false new effect
       × (written ≡ notes.Answered name answers.AlreadyClosed ∷ effect)
+  -- a wake is counted, and then names a job of this core by its sender and number
+  Delivers old name (Wake actor number) (Answered answers.Woken) new written =
+      Wakes (record old { delivered = counted name old }) (job_at old.core actor number) true new
+      × (written ≡ notes.Answered name answers.Woken ∷ notes.Woken (job_at old.core actor number) ∷ [])
+  Delivers old name (Wake actor number) (Answered answers.NoJob) new written =
+      Wakes (record old { delivered = counted name old }) (job_at old.core actor number) false new
+      × (written ≡ notes.Answered name answers.NoJob ∷ [])
   Delivers old name order delivered new written = ⊥

@@ -6,7 +6,7 @@ use Rattle.rt_ids.specs.Limits.{most_queues}
 use Rattle.rt_ids.specs.Names.{is_number}
 use Rattle.rt_ids.specs.Work.{number_if}
 use Rattle.rt_jobs.specs.Ready.{IsReady}
-use Rattle.rt_taskqueue.specs.Queues.{QueuesView, waiting_of, queue_count, IsWithinLimits}
+use Rattle.rt_taskqueue.specs.Queues.{QueuesView, waiting_of, parked_of, queue_count, IsWithinLimits}
 use Rattle.rt_core.specs.declared.out.Out.{Out}
 use Rattle.rt_core.specs.declared.tally.Tally.{Tally}
 use Rattle.rt_core.specs.Senders.{SendersView}
@@ -16,7 +16,7 @@ use Rattle.rt_jobs.specs.Meanings.{Meaning}
 -- the job that is out, as callers see it
 abbrev pub job_out : {J : Type 0} → Option (Out J) → Option (JobOut J)
 job_out None = None
-job_out (Some out) = Some (record { name = out.name; queue = out.queue; job = out.job.value })
+job_out (Some out) = Some (record { name = out.name; queue = out.queue; woken = out.woken; job = out.job.value })
 
 -- the virtual runtime of a queue's key, if it is among these keys
 abbrev pub runtime_listed : ℕ → List Key → Option ℕ
@@ -75,9 +75,10 @@ module _ {J : Type 0} where
   pub record IsListed (view : CoreView J) (keys : List Key) : Type 0 where
     pub at : (queue : ℕ) → runtime_listed queue keys ≡ (if may_run queue view then Some (runtime_of queue view) else None)
 
-  -- each job that waits may be polled
+  -- each job that waits may be polled, and so may each that is parked
   pub record IsPollable {T : Type 0} (meaning : Meaning J T) (view : CoreView J) : Type 0 where
     pub at : (queue : ℕ) → All (λ waiting. IsReady meaning waiting.2) (waiting_of queue view.queues)
+    pub parked : (queue : ℕ) → All (λ parked. IsReady meaning parked.1) (parked_of queue view.queues)
 
   -- no count outgrows the turns
   pub record IsWithinTurns (view : CoreView J) : Type 0 where

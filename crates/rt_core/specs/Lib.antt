@@ -1,7 +1,9 @@
 pub mod State
 pub mod Senders
 pub mod Closing
+pub mod Waking
 pub mod Deliveries
+pub mod Settling
 pub mod Turns
 pub mod Answers
 pub mod Inside

@@ -8,10 +8,11 @@ use Rattle.rt_ids.specs.Work.{number_if}
 use Rattle.rt_core.specs.declared.tally.Tally.{Tally}
 use Rattle.rt_taskqueue.specs.Queues.{QueuesView, waiting_of, held_count}
 
--- a job that is out: its name, its queue, and the job as it was when it left
+-- a job that is out: its name, its queue, whether a wake of it is kept, and the job as it was when it left
 pub record JobOut (J : Type 0) : Type 0 where
   pub name : JobId
   pub queue : ℕ
+  pub woken : Bool
   pub job : J
 
 -- what is counted of a new queue
@@ -60,7 +61,7 @@ module _ {J : Type 0} where
   abbrev pub is_working : ℕ → CoreView J → Bool
   is_working queue view = is_any (waiting_of queue view.queues) || is_number queue (queue_out view.out)
 
-  -- how many jobs are inside: those that wait, and the one that is out
+  -- how many jobs are inside: those that wait or are parked, and the one that is out
   abbrev pub inside_count : CoreView J → ℕ
   inside_count view = held_count view.queues + number_if (is_some view.out)
 
@@ -78,7 +79,7 @@ module _ {J : Type 0} where
   opened core cores room turns = record {
     core = core;
     cores = cores;
-    queues = record { queues = record { shares = 1000; mode = None; waiting = [] } ∷ []; room = room };
+    queues = record { queues = record { shares = 1000; mode = None; waiting = []; parked = [] } ∷ []; room = room };
     tallies = no_tally ∷ [];
     floor = 0;
     turns = turns;

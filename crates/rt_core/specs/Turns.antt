@@ -1,22 +1,16 @@
--- What a turn does: a pick takes the first job of the right queue out, or hands it back, and settling its poll charges the queue.
-use Rattle.std.specs.Prelude.{◌≡◌, ℕ, ◌+◌, ◌-◌, ◌^◌, max, List, [], ◌∷◌, ◌++◌, slice_set, Bool, true, false, Some, None, unwrap_or, Result, Ok, Err}
-use Rattle.rt_shares.specs.Charge.{charge, clamped}
+-- What a pick does: it takes the first job of the right queue out, or hands it back.
+use Rattle.std.specs.Prelude.{◌≡◌, ℕ, ◌+◌, ◌-◌, ◌^◌, max, List, [], ◌∷◌, slice_set, Bool, true, false, Some, None, Result, Ok, Err}
 use Rattle.rt_ids.specs.declared.names.JobId.{JobId}
 use Rattle.rt_ids.specs.declared.note.Note.{Note}
 use Rattle.rt_ids.specs.declared.note.Note.TheVariants as notes
 use Rattle.rt_ids.specs.declared.order.Order.TheVariants.{Job}
 use Rattle.rt_ids.specs.Keys.{KeyAtMost}
-use Rattle.rt_jobs.specs.declared.job.Step.{Step}
-use Rattle.rt_jobs.specs.declared.job.Step.TheVariants as step
-use Rattle.rt_jobs.specs.Steps.{AfterPoll}
-use Rattle.rt_taskqueue.specs.Queues.{QueuesView, waiting_of, shares_of, ChangesLine}
+use Rattle.rt_taskqueue.specs.Queues.{Marks, waiting_of, ChangesLine}
 use Rattle.rt_core.specs.declared.turn.Turn.{Turn}
 use Rattle.rt_core.specs.declared.turn.Turn.TheVariants.{Start, Resume, Back, Idle}
 use Rattle.rt_core.specs.declared.turn.PickError.{PickError}
 use Rattle.rt_core.specs.declared.turn.PickError.TheVariants.{Busy, Spent}
-use Rattle.rt_core.specs.declared.turn.Settled.{Settled}
-use Rattle.rt_core.specs.declared.turn.Settled.TheVariants.{Yielded, Finished}
-use Rattle.rt_core.specs.State.{CoreView, JobOut, tally_of, runtime_of}
+use Rattle.rt_core.specs.State.{CoreView, tally_of, runtime_of}
 use Rattle.rt_core.specs.Closing.{return_reason}
 
 module _ {J : Type 0} where
@@ -25,26 +19,27 @@ module _ {J : Type 0} where
     pub free : view.out ≡ None
     pub least : (other : ℕ) → (waiting_of other view.queues ≡ [] → ⊥) → KeyAtMost (runtime_of queue view) queue (runtime_of other view) other
 
-  -- the head of the next queue goes out
+  -- the head of the next queue goes out, with the wake that is kept
   pub record TakesOut (old : CoreView J) (name : JobId) (queue : ℕ) (was_started : Bool) (job : J) (new : CoreView J) : Type 0 where
     pub next : IsNext old queue
-    pub others : List (JobId × Bool × J)
-    pub first : waiting_of queue old.queues ≡ (name, was_started, job) ∷ others
+    pub was_woken : Bool
+    pub others : List (JobId × Marks × J)
+    pub first : waiting_of queue old.queues ≡ (name, record { started = was_started; woken = was_woken }, job) ∷ others
     pub line : ChangesLine old.queues new.queues queue others
     pub rest : new ≡ record old {
       queues = new.queues;
       tallies = slice_set old.tallies queue (record (tally_of queue old) { selected = (tally_of queue old).selected + 1 });
       floor = max old.floor (runtime_of queue old);
       turns = old.turns + 1;
-      out = Some (record { name = name; queue = queue; job = job });
+      out = Some (record { name = name; queue = queue; woken = was_woken; job = job });
     }
 
   -- the head of the next queue is handed back; that is a turn, and nothing is charged
   pub record HandsBack (old : CoreView J) (name : JobId) (queue : ℕ) (job : J) (new : CoreView J) : Type 0 where
     pub next : IsNext old queue
-    pub was_started : Bool
-    pub others : List (JobId × Bool × J)
-    pub first : waiting_of queue old.queues ≡ (name, was_started, job) ∷ others
+    pub marks : Marks
+    pub others : List (JobId × Marks × J)
+    pub first : waiting_of queue old.queues ≡ (name, marks, job) ∷ others
     pub line : ChangesLine old.queues new.queues queue others
     pub rest : new ≡ record old {
       queues = new.queues;
@@ -55,18 +50,6 @@ module _ {J : Type 0} where
       floor = max old.floor (runtime_of queue old);
       turns = old.turns + 1;
     }
-
-  -- the queue of the job that was out is charged for the time, under the shares that it has now
-  abbrev pub settled_view : CoreView J → JobOut J → ℕ → ℕ → QueuesView J → CoreView J
-  settled_view old job time done queues = record old {
-    queues = queues;
-    tallies = slice_set old.tallies job.queue (record (tally_of job.queue old) {
-      runtime = (tally_of job.queue old).runtime + charge time (shares_of job.queue old.queues);
-      time = (tally_of job.queue old).time + clamped time;
-      finished = (tally_of job.queue old).finished + done;
-    });
-    out = None;
-  }
 
 module _ {J T : Type 0} where
   -- what a pick does, by what it answers, with its notes in their order
@@ -85,18 +68,3 @@ module _ {J T : Type 0} where
   Picks old (Err Busy) new written = (old.out ≡ None → ⊥) × (new ≡ old) × (written ≡ [])
   Picks old (Err Spent) new written =
       (old.out ≡ None) × (old.turns ≡ 2 ^ 64 - 1) × ((queue : ℕ) × (waiting_of queue old.queues ≡ [] → ⊥)) × (new ≡ old) × (written ≡ [])
-
-  -- what settling the poll of the job that was out does, by the poll's step; the told time counts, else the time handed in
-  abbrev pub Settles : CoreView J → JobOut J → AfterPoll J T → ℕ → Step T → Settled T → CoreView J → List (Note T) → Type 0
-  Settles old job ran spent step.Yield Yielded new written =
-      ChangesLine old.queues new.queues job.queue (waiting_of job.queue old.queues ++ (job.name, true, ran.job) ∷ [])
-      × (new ≡ settled_view old job (unwrap_or ran.told spent) 0 new.queues)
-      × (written ≡ notes.Yield job.name (unwrap_or ran.told spent) ∷ [])
-  Settles old job ran spent (step.Done out) (Finished answer) new written =
-      (answer ≡ out) × (new ≡ settled_view old job (unwrap_or ran.told spent) 1 old.queues)
-      × (written ≡ notes.Done job.name (unwrap_or ran.told spent) out ∷ [])
-  Settles old job ran spent _ settled new written = ⊥
-
-  abbrev pub SettlesOut : CoreView J → AfterPoll J T → ℕ → Settled T → CoreView J → List (Note T) → Type 0
-  SettlesOut old ran spent settled new written =
-      (job : JobOut J) × (old.out ≡ Some job) × Settles old job ran spent ran.step settled new written

@@ -17,11 +17,12 @@ use Rattle.rt_core.specs.declared.turn.PickError.TheVariants.{Busy, Spent}
 use Rattle.rt_core.specs.declared.turn.Turn.{Turn}
 use Rattle.rt_core.specs.declared.turn.Turn.TheVariants.{Start, Resume}
 use Rattle.rt_core.specs.declared.turn.Settled.{Settled}
-use Rattle.rt_core.specs.declared.turn.Settled.TheVariants.{Yielded, Finished}
+use Rattle.rt_core.specs.declared.turn.Settled.TheVariants.{Yielded, Parked, Stayed, Finished}
 use Rattle.rt_core.specs.State.{CoreView, runtime_of}
 use Rattle.rt_core.specs.Closing.{return_reason}
-use Rattle.rt_core.specs.Turns.{IsNext, TakesOut, Picks, SettlesOut}
-use Rattle.rt_core.specs.Steps.{YieldsOut, FinishesOut}
+use Rattle.rt_core.specs.Settling.{SettlesOut}
+use Rattle.rt_core.specs.Turns.{IsNext, TakesOut, Picks}
+use Rattle.rt_core.specs.Steps.{RejoinsOut, ParksOut, FinishesOut}
 
 module _ {J : Type 0} where
   -- the turn of a job that goes out, for its first poll or for a further one
@@ -29,17 +30,17 @@ module _ {J : Type 0} where
   goes_out name queue false job = Start name queue job
   goes_out name queue true job = Resume name queue job
 
-  -- the job that the next pick takes out: its queue, where the queue stands, its name, and whether it was started
-  pub record IsAhead (view : CoreView J) (queue vr : ℕ) (name : JobId) (started : Bool) : Type 0 where
+  -- the job that the next pick takes out: its queue, where the queue stands, its name, whether it was started, and whether a wake of it is kept
+  pub record IsAhead (view : CoreView J) (queue vr : ℕ) (name : JobId) (started woken : Bool) : Type 0 where
     pub next : IsNext view queue
     pub stands : vr ≡ runtime_of queue view
-    pub front : HasFront view.queues queue name started
+    pub front : HasFront view.queues queue name (record { started = started; woken = woken })
     pub kept : return_reason queue view ≡ None
     pub left : view.turns < 2 ^ 64 - 1
 
   -- what the next pick would come to, told before it is made; a job that is out comes before turns that are used up
   abbrev pub TellsAhead : CoreView J → Result Ahead PickError → Type 0
-  TellsAhead view (Ok (ahead.Job next)) = IsAhead view next.queue next.vr next.name next.started
+  TellsAhead view (Ok (ahead.Job next)) = IsAhead view next.queue next.vr next.name next.started next.woken
   TellsAhead view (Ok ahead.Back) = (queue : ℕ) × IsNext view queue × (waiting_of queue view.queues ≡ [] → ⊥) × (return_reason queue view ≡ None → ⊥) × (view.turns < 2 ^ 64 - 1)
   TellsAhead view (Ok ahead.Idle) = (view.out ≡ None) × ((queue : ℕ) → waiting_of queue view.queues ≡ [])
   TellsAhead view (Err Busy) = view.out ≡ None → ⊥
@@ -51,20 +52,26 @@ module _ {T : Type 0} where
   pick_notes queue vr name false = notes.Pick queue vr ∷ notes.Start name ∷ []
   pick_notes queue vr name true = notes.Pick queue vr ∷ notes.Resume name ∷ []
 
-  -- what a settled poll came to, by its step, and its note
-  abbrev pub settled_of : Step T → Settled T
-  settled_of steps.Yield = Yielded
-  settled_of (steps.Done out) = Finished out
+  -- what a settled poll came to, by its step and by whether a park leaves the job in its line, and its note
+  abbrev pub settled_of : Step T → Bool → Settled T
+  settled_of steps.Yield stays = Yielded
+  settled_of steps.Park true = Stayed
+  settled_of steps.Park false = Parked
+  settled_of (steps.Done out) stays = Finished out
 
-  abbrev pub settle_notes : JobId → ℕ → Step T → List (Note T)
-  settle_notes name time steps.Yield = notes.Yield name time ∷ []
-  settle_notes name time (steps.Done out) = notes.Done name time out ∷ []
+  abbrev pub settle_notes : JobId → ℕ → Step T → Bool → List (Note T)
+  settle_notes name time steps.Yield stays = notes.Yield name time ∷ []
+  settle_notes name time steps.Park true = notes.Stayed name time ∷ []
+  settle_notes name time steps.Park false = notes.Park name time ∷ []
+  settle_notes name time (steps.Done out) stays = notes.Done name time out ∷ []
 
 module _ {J T : Type 0} where
-  -- the poll of the job that was out is settled, by its step
-  abbrev pub SettlesStep : Step T → CoreView J → JobId → J → ℕ → CoreView J → Type 0
-  SettlesStep steps.Yield mid name job time new = YieldsOut mid name job time new
-  SettlesStep (steps.Done out) mid name job time new = FinishesOut mid name time new
+  -- the poll of the job that was out is settled, by its step and by whether a wake of the job is kept
+  abbrev pub SettlesStep : Step T → Bool → CoreView J → JobId → J → ℕ → CoreView J → Type 0
+  SettlesStep steps.Yield woken mid name job time new = RejoinsOut mid name woken job time new
+  SettlesStep steps.Park true mid name job time new = RejoinsOut mid name false job time new
+  SettlesStep steps.Park false mid name job time new = ParksOut mid name job time new
+  SettlesStep (steps.Done out) woken mid name job time new = FinishesOut mid name time new
 
 module _ {J T : Type 0} (meaning : Meaning J T) where
   -- the job is picked, polled once with these calls of its post, and settled; the notes of the pick and of the settling are those of the two calls
@@ -86,4 +93,4 @@ module _ {J T : Type 0} (meaning : Meaning J T) where
     pub polled : IsPolled meaning calls ran
     pub stepped : ran.step ≡ step
     pub counts : time ≡ unwrap_or ran.told spent
-    pub settles : SettlesStep step mid name ran.job time new
+    pub settles : SettlesStep step takes.was_woken mid name ran.job time new

@@ -6,7 +6,8 @@ ghost use Rattle.rt_taskqueue.specs.Queues.{queue_count};
 ghost use Rattle.rt_core.specs.State.{delivered_of, inside_count, IsBounded, opened};
 ghost use Rattle.rt_core.specs.Closing.{IsDrained};
 ghost use Rattle.rt_core.specs.Deliveries.{Delivers, CreatesQueue};
-ghost use Rattle.rt_core.specs.Turns.{Picks, SettlesOut};
+ghost use Rattle.rt_core.specs.Turns.{Picks};
+ghost use Rattle.rt_core.specs.Settling.{SettlesOut};
 ghost use Rattle.rt_core.specs.Answers.{IsReadyTurn, IsTaskOut, AnswersOut};
 ghost use Rattle.rt_core.specs.Figures.{core_stats, queue_stats};
 
@@ -31,8 +32,11 @@ use std::marker::Model;
 mod closings;
 mod deliveries;
 mod figures;
+mod parks;
 mod picks;
 mod polls;
+mod rests;
+mod wakes;
 mod whole;
 
 /// One core: its task queues, what each has used of the core, and the job that is being polled.
@@ -48,7 +52,7 @@ pub struct Core<J: Task, A: Allocator + Clone = Global> {
     senders: Senders<A>,
     floor: u128,
     turns: u64,
-    // How many jobs are inside: those that wait, and the one that is out.
+    // How many jobs are inside: those that wait or are parked, and the one that is out.
     inside: usize,
     room: usize,
     out: Option<Out<J>>,
@@ -162,6 +166,7 @@ impl<J: Task, A: Allocator + Clone> Core<J, A> {
             Order::SetShares(queue, shares) => self.deliver_shares(name, queue, shares),
             Order::Close(queue, mode) => self.deliver_close(name, queue, mode),
             Order::CloseCore(mode) => self.deliver_close_core(name, mode),
+            Order::Wake(actor, number) => self.deliver_wake(name, actor, number),
         }
     }
 
@@ -187,7 +192,8 @@ impl<J: Task, A: Allocator + Clone> Core<J, A> {
         (Ok(turn), notes)
     }
 
-    /// Settles the poll of the job that is out. If the job told no time of its own, `spent` nanoseconds count.
+    /// Settles the poll of the job that is out. If the job told no time of its own, `spent` nanoseconds count. A job that asks to be
+    /// parked is, unless a wake of it is kept or its queue or the core hands back what is inside.
     pub fn settle(&mut self, ran: Ran<J>, spent: u64) -> (Settled<J::Out>, Notes<J::Out>)
     where
         J::Out: Copy,
@@ -200,9 +206,11 @@ impl<J: Task, A: Allocator + Clone> Core<J, A> {
         let time = told.unwrap_or(spent);
         match step {
             Step::Yield => {
-                let name = self.yield_out(job, time);
+                let woken = self.is_out_woken();
+                let name = self.rejoin_out(job, time, woken);
                 (Settled::Yielded, one_note(Note::Yield(name, time)))
             }
+            Step::Park => self.rest_out(job, time),
             Step::Done(answer) => {
                 let name = self.finish_out(time);
                 (

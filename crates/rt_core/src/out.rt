@@ -7,11 +7,12 @@ ghost use Rattle.rt_core.specs.Inside.{job_out};
 use rt_ids::{JobId, QueueNo};
 use std::snapshot::Snapshot;
 
-/// The job that is out: its name, its queue, and, for proofs alone, the job as it was when it left.
+/// The job that is out: its name, its queue, whether a wake of it is kept, and, for proofs alone, the job as it was when it left.
 #[derive(Drop)]
 pub struct Out<J> {
     pub name: JobId,
     pub queue: QueueNo,
+    pub woken: bool,
     pub job: Snapshot<J>,
 }
 

@@ -31,6 +31,10 @@ pub enum PickError {
 pub enum Settled<T> {
     /// It waits at the tail of its queue.
     Yielded,
+    /// It waits outside the line of its queue until it is woken.
+    Parked,
+    /// It asked to be parked and waits at the tail of its queue: a wake was kept, or what is inside is handed back.
+    Stayed,
     /// It is done, with the answer.
     Finished(T),
 }
@@ -44,6 +48,8 @@ pub struct Next {
     pub name: JobId,
     /// Whether it was polled before.
     pub started: bool,
+    /// Whether a wake of it is kept: if it asks to be parked, it stays.
+    pub woken: bool,
 }
 
 /// What the next pick would come to.

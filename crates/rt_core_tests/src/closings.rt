@@ -8,7 +8,12 @@ use rt_core::Turn;
 use rt_ids::{ActorNo, Answer, CoreNo, JobId, Mode, Note, Order, QueueNo, Reason};
 
 /// Closing a queue is answered so, with its note if it did anything.
-fn closes_queue(core: &mut OneCore<'_>, queue: QueueNo, mode: Mode, want: Answer) -> bool {
+pub(crate) fn closes_queue(
+    core: &mut OneCore<'_>,
+    queue: QueueNo,
+    mode: Mode,
+    want: Answer,
+) -> bool {
     let (answer, notes) = core.close_queue(queue, mode);
     answer == want
         && if want == Answer::Closed {
@@ -19,7 +24,7 @@ fn closes_queue(core: &mut OneCore<'_>, queue: QueueNo, mode: Mode, want: Answer
 }
 
 /// Closing the core does something, or not, with its note if it does.
-fn closes(core: &mut OneCore<'_>, mode: Mode, want: bool) -> bool {
+pub(crate) fn closes(core: &mut OneCore<'_>, mode: Mode, want: bool) -> bool {
     let (did, notes) = core.close(mode);
     did == want
         && if want {
@@ -30,7 +35,7 @@ fn closes(core: &mut OneCore<'_>, mode: Mode, want: bool) -> bool {
 }
 
 /// The gate of a sender whose next submission has this name is shut at this count, if the core is closed and wasn't told.
-fn shuts(core: &mut OneCore<'_>, next: &JobId, count: u64) -> bool {
+pub(crate) fn shuts(core: &mut OneCore<'_>, next: &JobId, count: u64) -> bool {
     if !core.is_next(next) {
         return false;
     }
@@ -44,7 +49,7 @@ fn shuts(core: &mut OneCore<'_>, next: &JobId, count: u64) -> bool {
 }
 
 /// The other sender shuts its gate, and has sent nothing.
-fn other_shuts(core: &mut OneCore<'_>) -> bool {
+pub(crate) fn other_shuts(core: &mut OneCore<'_>) -> bool {
     let next = JobId {
         from: ActorNo(1),
         to: CoreNo(0),
@@ -54,7 +59,12 @@ fn other_shuts(core: &mut OneCore<'_>) -> bool {
 }
 
 /// A pick of this queue at this virtual runtime hands this job back.
-fn hands_back(core: &mut OneCore<'_>, at: (QueueNo, u128), number: u64, why: Reason) -> bool {
+pub(crate) fn hands_back(
+    core: &mut OneCore<'_>,
+    at: (QueueNo, u128),
+    number: u64,
+    why: Reason,
+) -> bool {
     let (picked, notes) = core.pick();
     let Ok(Turn::Back(named, reason, _)) = picked else {
         return false;

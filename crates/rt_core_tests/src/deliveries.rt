@@ -16,6 +16,7 @@ pub(crate) fn is_refused(
     want: Reason,
 ) -> bool {
     let job = Steps {
+        parks: 0,
         left: 0,
         time: number,
         done: false,

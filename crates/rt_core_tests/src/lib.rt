@@ -16,6 +16,8 @@ mod memory;
 #[cfg(test)]
 mod one_core;
 #[cfg(test)]
+mod parks;
+#[cfg(test)]
 mod rounds;
 #[cfg(test)]
 mod scenes;

@@ -4,7 +4,7 @@ use crate::one_core::{FIRST, SECOND, THIRD, name, shares};
 use crate::steps::Steps;
 use linked_list_allocator::LocalHeap;
 use rt_ids::{JobId, Mode, QueueNo};
-use rt_taskqueue::{CreateError, Queues};
+use rt_taskqueue::{CreateError, Queues, Woke};
 use std::test::Fail;
 
 /// Task queues in a heap.
@@ -13,6 +13,7 @@ pub(crate) type Lines<'a> = Queues<Steps, &'a LocalHeap>;
 /// A job that tells this number.
 fn job(number: u64) -> Steps {
     Steps {
+        parks: 0,
         left: 0,
         time: number,
         done: false,
@@ -33,27 +34,35 @@ pub(crate) fn joins(queues: &mut Lines<'_>, queue: QueueNo, number: u64) -> bool
     }
 }
 
-/// A job that was started joins again, if its queue is there and there is room.
+/// A job that was started joins again, with the wake that is kept, if its queue is there and there is room.
 pub(crate) fn joins_again(
     queues: &mut Lines<'_>,
     queue: QueueNo,
-    name: JobId,
-    number: u64,
+    front: &(JobId, bool, bool, u64),
 ) -> bool {
     let fits = u16::from(queue.0) < queues.queue_count() && queues.has_room();
     if fits {
-        queues.push_back(queue, name, job(number));
+        queues.push_back(queue, front.0, front.2, job(front.3));
     }
     fits
 }
 
-/// The job at the head of a queue leaves, if there is one: its name, whether it was started, and its number.
-pub(crate) fn leaves(queues: &mut Lines<'_>, queue: QueueNo) -> Option<(JobId, bool, u64)> {
+/// A job that was started is parked, if its queue is there and there is room.
+pub(crate) fn parks(queues: &mut Lines<'_>, queue: QueueNo, number: u64) -> bool {
+    let fits = u16::from(queue.0) < queues.queue_count() && queues.has_room();
+    if fits {
+        queues.park(queue, name(number), job(number));
+    }
+    fits
+}
+
+/// The job at the head of a queue leaves, if there is one: its name, whether it was started, whether a wake of it is kept, and its number.
+pub(crate) fn leaves(queues: &mut Lines<'_>, queue: QueueNo) -> Option<(JobId, bool, bool, u64)> {
     if u16::from(queue.0) >= queues.queue_count() {
         return None;
     }
-    let (name, started, job) = queues.pop_front(queue)?;
-    Some((name, started, job.time))
+    let (name, started, woken, job) = queues.pop_front(queue)?;
+    Some((name, started, woken, job.time))
 }
 
 /// How many jobs wait in a queue, if both calls on it agree.
@@ -72,7 +81,7 @@ pub(crate) fn waiting(queues: &Lines<'_>, queue: QueueNo) -> Option<usize> {
 /// The head of a queue is the job of this number, or none where that is 0. It leaves.
 fn gives(queues: &mut Lines<'_>, queue: QueueNo, number: u64, started: bool) -> bool {
     match leaves(queues, queue) {
-        Some(front) => front == (name(number), started, number),
+        Some(front) => front == (name(number), started, false, number),
         None => number == 0,
     }
 }
@@ -131,7 +140,7 @@ fn lines_stand_apart(queues: &mut Lines<'_>) -> bool {
         && !queues.has_room()
         && waiting(queues, FIRST) == Some(3)
         && gives(queues, FIRST, 1, false)
-        && joins_again(queues, FIRST, name(1), 1)
+        && joins_again(queues, FIRST, &(name(1), true, false, 1))
         && leave_in_turn(queues, &go)
         && queues.has_room()
         && waiting(queues, FIRST) == Some(0)
@@ -176,7 +185,58 @@ fn a_closed_line_takes_no_more(queues: &mut Lines<'_>) -> bool {
         && closes(queues, Mode::Return, true)
         && !joins(queues, SECOND, 2)
         && gives(queues, SECOND, 1, false)
-        && joins_again(queues, SECOND, name(1), 1)
+        && joins_again(queues, SECOND, &(name(1), true, false, 1))
+}
+
+/// How many jobs of a queue are parked, if it is there.
+fn parked(queues: &Lines<'_>, queue: QueueNo) -> Option<usize> {
+    if u16::from(queue.0) < queues.queue_count() {
+        Some(queues.parked_count(queue))
+    } else {
+        None
+    }
+}
+
+/// Parked jobs wait for no turn. One that is woken goes to the tail, and the others follow in their order.
+fn parked_jobs_are_woken(queues: &mut Lines<'_>) -> bool {
+    let parked_three = parks(queues, THIRD, 1)
+        && parks(queues, THIRD, 2)
+        && parks(queues, THIRD, 3);
+    let stand = joins(queues, THIRD, 4)
+        && waiting(queues, THIRD) == Some(1)
+        && parked(queues, THIRD) == Some(3);
+    let woken = queues.wake(name(2)) == Woke::Moved(THIRD) && parked(queues, THIRD) == Some(2);
+    let nobody = queues.wake(name(9)) == Woke::Absent;
+    if queues.queue_count() < 3 {
+        return false;
+    }
+    queues.unpark_all(THIRD);
+    let go = [
+        (THIRD, 4, false),
+        (THIRD, 2, true),
+        (THIRD, 1, true),
+        (THIRD, 3, true),
+        (THIRD, 0, true),
+    ];
+    parked_three
+        && stand
+        && woken
+        && nobody
+        && parked(queues, THIRD) == Some(0)
+        && leave_in_turn(queues, &go)
+}
+
+/// The wakes of a job that waits are kept as one, and go with it.
+fn a_wake_is_kept(queues: &mut Lines<'_>) -> bool {
+    let kept = joins(queues, THIRD, 1)
+        && queues.wake(name(1)) == Woke::Kept
+        && queues.wake(name(1)) == Woke::Kept;
+    let want = (name(1), false, true, 1);
+    let again = (name(1), true, true, 1);
+    kept && leaves(queues, THIRD) == Some(want)
+        && queues.wake(name(1)) == Woke::Absent
+        && joins_again(queues, THIRD, &want)
+        && leaves(queues, THIRD) == Some(again)
 }
 
 /// Queues of six jobs in this heap, if they fit: whether each call on them comes out.
@@ -187,6 +247,8 @@ fn serve(heap: &LocalHeap) -> Option<bool> {
             && lines_stand_apart(&mut queues)
             && shares_change(&mut queues)
             && slip_goes_and_comes(&mut queues)
+            && parked_jobs_are_woken(&mut queues)
+            && a_wake_is_kept(&mut queues)
             && a_closed_line_takes_no_more(&mut queues),
     )
 }
@@ -221,7 +283,7 @@ fn a_refused_creation_comes_later(heap: &LocalHeap) -> Option<bool> {
 fn lines_serve_and_give_their_memory_back(rt: HostRuntime) -> Result<(), Fail> {
     let heap = LocalHeap::new(rt.alloc(), 1 << 17)?;
     assert!(rt; serve(&heap) == Some(true) && heap.used() == 0);
-    let small = LocalHeap::new(rt.alloc(), 1 << 14)?;
+    let small = LocalHeap::new(rt.alloc(), 1 << 15)?;
     assert!(rt; a_refused_creation_comes_later(&small) == Some(true) && small.used() == 0);
     Ok(())
 }

@@ -1,4 +1,5 @@
 //! A core, step by step: each step tells whether it came out as wanted.
+ghost use Rattle.std.specs.Prelude.{◌≡◌, false};
 ghost use Rattle.rt_jobs.specs.Ready.{HasReadyJob};
 
 use crate::steps::Steps;
@@ -55,11 +56,42 @@ pub(crate) fn takes(
     left: u8,
     time: u64,
 ) -> bool {
-    let job = Steps {
-        left,
-        time,
-        done: false,
-    };
+    took(
+        core,
+        number,
+        queue,
+        Steps {
+            parks: 0,
+            left,
+            time,
+            done: false,
+        },
+    )
+}
+
+/// The core takes a job that asks once to be parked, and is done at the next poll.
+pub(crate) fn takes_parking(
+    core: &mut OneCore<'_>,
+    number: u64,
+    queue: QueueNo,
+    time: u64,
+) -> bool {
+    took(
+        core,
+        number,
+        queue,
+        Steps {
+            parks: 1,
+            left: 0,
+            time,
+            done: false,
+        },
+    )
+}
+
+fn took(core: &mut OneCore<'_>, number: u64, queue: QueueNo, job: Steps) -> bool
+    requires { job.done ≡ false }
+{
     let Some((delivered, notes)) = submit(core, number, Order::Job(queue, job)) else {
         return false;
     };

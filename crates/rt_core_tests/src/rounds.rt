@@ -57,16 +57,16 @@ impl Round {
 #[derive(PartialEq, Drop)]
 struct Answered {
     came: bool,
-    turned: Option<(JobId, bool, u64)>,
-    went: Option<(JobId, bool, u64)>,
+    turned: Option<(JobId, bool, bool, u64)>,
+    went: Option<(JobId, bool, bool, u64)>,
     left: Option<usize>,
     has_room: bool,
 }
 
 /// The head of a queue leaves and joins again.
-fn turn(queues: &mut Lines<'_>, queue: QueueNo) -> Option<(JobId, bool, u64)> {
+fn turn(queues: &mut Lines<'_>, queue: QueueNo) -> Option<(JobId, bool, bool, u64)> {
     let front = leaves(queues, queue)?;
-    joins_again(queues, queue, front.0, front.2);
+    joins_again(queues, queue, &front);
     Some(front)
 }
 

@@ -3,6 +3,10 @@
 use crate::closings::{a_core_finishes, a_core_hands_back, a_queue_finishes, a_queue_hands_back};
 use crate::deliveries::{all_queues, commands, eight_jobs};
 use crate::one_core::OneCore;
+use crate::parks::{
+    a_closing_ends_parks, a_core_with_a_parked_job, a_kept_wake_lets_one_park_pass,
+    a_parked_job_is_woken,
+};
 use crate::turns::{a_core_is_busy, a_job_waits_behind};
 use crate::whole::{a_hand_back_is_told, turns_come_as_they_are_told};
 use linked_list_allocator::LocalHeap;
@@ -22,6 +26,10 @@ fn plays(core: &mut OneCore<'_>, scene: u8) -> bool {
         7 => a_core_hands_back(core),
         8 => turns_come_as_they_are_told(core),
         9 => a_hand_back_is_told(core),
+        10 => a_parked_job_is_woken(core),
+        11 => a_kept_wake_lets_one_park_pass(core),
+        12 => a_closing_ends_parks(core),
+        13 => a_core_with_a_parked_job(core),
         _ => a_core_is_busy(core),
     }
 }
@@ -35,7 +43,7 @@ fn plays_in(heap: &LocalHeap, scene: u8) -> Option<bool> {
 #[test]
 fn each_scene_comes_out(rt: HostRuntime) -> Result<(), Fail> {
     let heap = LocalHeap::new(rt.alloc(), 1 << 18)?;
-    for scene in 0..11 {
+    for scene in 0..15 {
         let went = plays_in(&heap, scene);
         assert!(rt; went == Some(true) && heap.used() == 0, "scene {scene}");
     }

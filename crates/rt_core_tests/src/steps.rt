@@ -2,11 +2,12 @@
 
 use rt_jobs::{Job, Post, Step, Task};
 
-/// A job that yields so many times and is then done. Each poll tells the same time, which is its answer too.
+/// A job that asks so many times to be parked, then yields so many times, and is then done. Each poll tells the same time, which is its answer too.
 ///
 /// It is copied, so nothing has to be dropped, and a test has less to prove.
 #[derive(Clone, Copy, PartialEq)]
 pub(crate) struct Steps {
+    pub(crate) parks: u8,
     pub(crate) left: u8,
     pub(crate) time: u64,
     pub(crate) done: bool,
@@ -45,6 +46,10 @@ impl Task for Steps {
 
 impl Job for Steps {
     fn poll<P: Post<Self, u64>>(&mut self, _post: &mut P) -> Step<u64> {
+        if self.parks > 0 {
+            self.parks -= 1;
+            return Step::Park;
+        }
         if self.left > 0 {
             self.left -= 1;
             return Step::Yield;

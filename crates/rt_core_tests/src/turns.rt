@@ -8,7 +8,7 @@ use rt_ids::{CoreNo, Note, QueueStats};
 use std::test::Fail;
 
 /// One turn with these notes.
-fn is_turn(core: &mut OneCore<'_>, picked: [Note<u64>; 2], settled: Note<u64>) -> bool {
+pub(crate) fn is_turn(core: &mut OneCore<'_>, picked: [Note<u64>; 2], settled: Note<u64>) -> bool {
     let (first, second) = one_turn(core);
     first.as_slice() == picked.as_slice() && is_one(&second, settled)
 }

@@ -12,7 +12,7 @@ type Row = (QueueNo, u128, u64, bool, Option<u64>);
 
 /// The job that the next pick takes out, if it takes one.
 fn next_of(core: &OneCore<'_>) -> Option<Next>
-    ensures { IfSome result (λ next. IsAhead core.now next.queue next.vr next.name next.started) }
+    ensures { IfSome result (λ next. IsAhead core.now next.queue next.vr next.name next.started next.woken) }
 {
     match core.ahead() {
         Ok(Ahead::Job(next)) => Some(next),
@@ -26,7 +26,7 @@ fn is_told(next: &Next, row: &Row) -> bool {
 
 fn came_to(step: &Step<u64>, want: Option<u64>) -> bool {
     match step {
-        Step::Yield => want.is_none(),
+        Step::Yield | Step::Park => want.is_none(),
         Step::Done(answer) => want == Some(*answer),
     }
 }

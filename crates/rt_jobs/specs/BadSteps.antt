@@ -3,7 +3,7 @@ use Rattle.std.specs.Prelude.{◌≡◌, ℕ, Some, refl}
 use Rattle.rt_jobs.specs.Bodies.{IsStepOf}
 use Rattle.rt_jobs.specs.declared.boxed.Body.TheVariants.{Polled, Once}
 use Rattle.rt_jobs.specs.declared.job.Step.{Step}
-use Rattle.rt_jobs.specs.declared.job.Step.TheVariants.{Done, Yield}
+use Rattle.rt_jobs.specs.declared.job.Step.TheVariants.{Done, Yield, Park}
 
 -- work and a call that are numbers: the next poll of the work yields, and the call gives its number; the key must be the number
 abbrev pub OnlyYields : ℕ → ℕ → Step ℕ → Type 0
@@ -23,3 +23,14 @@ call_not_called own = cc own.1
 -- a call that is for the key is put off
 pub call_put_off : IsStepOf OnlyYields IsNumber IsNumber 7 (Once (Some 7)) Yield → ⊥
 call_put_off own = own refl
+
+-- work that yields is parked
+pub parked_unasked : IsStepOf OnlyYields IsNumber IsNumber 7 (Polled (Some 7)) Park → ⊥
+parked_unasked own = cc
+
+-- a call is parked, one that is for the key and one that isn't
+pub call_parked : IsStepOf OnlyYields IsNumber IsNumber 7 (Once (Some 7)) Park → ⊥
+call_parked own = own
+
+pub other_call_parked : IsStepOf OnlyYields IsNumber IsNumber 7 (Once (Some 8)) Park → ⊥
+other_call_parked own = own

@@ -3,7 +3,7 @@ use Rattle.std.specs.Prelude.{ℕ, Bool, Some, None, is_none}
 use Rattle.rt_jobs.specs.declared.boxed.Body.{Body}
 use Rattle.rt_jobs.specs.declared.boxed.Body.TheVariants.{Polled, Once}
 use Rattle.rt_jobs.specs.declared.job.Step.{Step}
-use Rattle.rt_jobs.specs.declared.job.Step.TheVariants.{Done, Yield}
+use Rattle.rt_jobs.specs.declared.job.Step.TheVariants.{Done, Yield, Park}
 
 -- whether nothing is left to poll or to call
 abbrev pub is_ended : {B C : Type 0} → Body B C → Bool
@@ -15,5 +15,6 @@ abbrev pub IsStepOf : {B C K : Type 0} → (B → K → Step ℕ → Type 0) →
 IsStepOf steps is_for gives key (Polled (Some work)) step = steps work key step
 IsStepOf steps is_for gives key (Once (Some call)) (Done out) = is_for call key × gives call out
 IsStepOf steps is_for gives key (Once (Some call)) Yield = ¬ (is_for call key)
+IsStepOf steps is_for gives key (Once (Some call)) Park = ⊥
 IsStepOf steps is_for gives key (Polled None) step = ⊥
 IsStepOf steps is_for gives key (Once None) step = ⊥

@@ -1,7 +1,7 @@
 -- When what is handed in may be polled.
 use Rattle.std.specs.Prelude.{◌≡◌, false}
 use Rattle.rt_ids.specs.declared.order.Order.{Order}
-use Rattle.rt_ids.specs.declared.order.Order.TheVariants.{Job, Create, SetShares, Close, CloseCore}
+use Rattle.rt_ids.specs.declared.order.Order.TheVariants.{Job, Create, SetShares, Close, CloseCore, Wake}
 use Rattle.rt_jobs.specs.Meanings.{Meaning}
 
 -- a job isn't done, and has what a poll needs
@@ -15,3 +15,4 @@ HasReadyJob meaning (Create weight) = Unit {0}
 HasReadyJob meaning (SetShares queue weight) = Unit {0}
 HasReadyJob meaning (Close queue mode) = Unit {0}
 HasReadyJob meaning (CloseCore mode) = Unit {0}
+HasReadyJob meaning (Wake actor number) = Unit {0}

@@ -2,23 +2,26 @@
 use Rattle.std.specs.Prelude.{◌≡◌, ℕ, ◌+◌, Bool, true, false, Option, None, List, []}
 use Rattle.rt_jobs.specs.Calls.{Call, Doing, Makes}
 use Rattle.rt_jobs.specs.declared.job.Step.{Step}
-use Rattle.rt_jobs.specs.declared.job.Step.TheVariants.{Done, Yield}
+use Rattle.rt_jobs.specs.declared.job.Step.TheVariants.{Done, Yield, Park}
 use Rattle.rt_jobs.specs.Meanings.{Meaning}
 
 -- whether a poll answered
 abbrev pub is_done_step : {T : Type 0} → Step T → Bool
 is_done_step (Done out) = true
 is_done_step Yield = false
+is_done_step Park = false
 
 -- a fact of the answer, if there is one
 abbrev pub IfDone : {T : Type 0} → Step T → (T → Type 0) → Type 0
 IfDone (Done out) fact = fact out
 IfDone Yield fact = Unit {0}
+IfDone Park fact = Unit {0}
 
--- a fact, if the job wants another poll
-abbrev pub OnYield : {T : Type 0} → Step T → Type 0 → Type 0
-OnYield (Done out) fact = Unit {0}
-OnYield Yield fact = fact
+-- a fact, if the job wants another poll, at once or when it is woken
+abbrev pub IfUndone : {T : Type 0} → Step T → Type 0 → Type 0
+IfUndone (Done out) fact = Unit {0}
+IfUndone Yield fact = fact
+IfUndone Park fact = fact
 
 -- after a poll of the old job, each poll of the new one owes what that poll of the old one owed: both are counted alike
 abbrev pub OwesOn : {J T : Type 0} → Meaning J T → J → J → Type 0

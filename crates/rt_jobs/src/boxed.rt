@@ -5,7 +5,7 @@
 
 ghost use Rattle.std.specs.Prelude.{◌≡◌, ℕ, false, IfOk, IfErr, Some};
 ghost use Rattle.rt_jobs.specs.Bodies.{IsStepOf, is_ended};
-ghost use Rattle.rt_jobs.specs.Steps.{IfDone, OnYield, is_done_step};
+ghost use Rattle.rt_jobs.specs.Steps.{IfDone, IfUndone, is_done_step};
 ghost use Rattle.rt_jobs.specs.declared.boxed.Body.TheVariants.{Polled, Once};
 ghost use Rattle.rt_jobs.specs.declared.job.Step.{Step};
 
@@ -139,7 +139,7 @@ impl<B: PolledAs<M>, C: CalledAs<M>, M: KeyAnswers> Job for BoxedJob<B, C, M> {
         requires { is_ended self.old.body ≡ false }
         ensures own { IsStepOf B.steps C.IsFor C.gives self.old.key self.old.body result }
         ensures answers { IfDone result (M.answers self.old.key) }
-        ensures same { OnYield result (self.old.key ≡ self.new.key) }
+        ensures same { IfUndone result (self.old.key ≡ self.new.key) }
         ensures done { is_ended self.new.body ≡ is_done_step result }
         ensures posts { _post.new ≡ _post.old }
     {

@@ -81,7 +81,7 @@ pub fn drive<J: Job>(job: J, most: u32) -> Result<J::Out, J>
         let (back, step, _told) = Ran::poll(job, &mut NoPost).into_parts();
         match step {
             Step::Done(out) => return Ok(out),
-            Step::Yield => job = back,
+            Step::Yield | Step::Park => job = back,
         }
     }
     Err(job)

@@ -2,7 +2,7 @@
 
 ghost use Rattle.std.specs.Prelude.{◌≡◌, false};
 ghost use Rattle.rt_jobs.specs.Meanings.{Meaning, IsMeaning};
-ghost use Rattle.rt_jobs.specs.Steps.{IfDone, OnYield, OwesAt, OwesOn, OwesOnce, is_done_step};
+ghost use Rattle.rt_jobs.specs.Steps.{IfDone, IfUndone, OwesAt, OwesOn, OwesOnce, is_done_step};
 
 use crate::post::Post;
 use std::marker::Model;
@@ -15,6 +15,8 @@ pub enum Step<T> {
     Done(T),
     /// The job wants another poll.
     Yield,
+    /// The job wants another poll once it is woken.
+    Park,
 }
 
 /// What a job is asked to do. A type that keeps facts of jobs has this bound, and a function that polls has the bound `Job`.
@@ -45,10 +47,10 @@ pub trait Job: Task {
         requires ready { Self.meaning.can_poll self.old }
         ensures owed { OwesAt Self.meaning P.Does self.old post.old post.new result (Self.meaning.says self.new) }
         ensures answers { IfDone result (Self.meaning.answers self.old) }
-        ensures same { OnYield result (Self.meaning.same self.old self.new) }
-        ensures later { OnYield result (OwesOn Self.meaning self.old self.new) }
+        ensures same { IfUndone result (Self.meaning.same self.old self.new) }
+        ensures later { IfUndone result (OwesOn Self.meaning self.old self.new) }
         ensures done { Self.meaning.done self.new ≡ is_done_step result }
-        ensures ready { OnYield result (Self.meaning.can_poll self.new) };
+        ensures ready { IfUndone result (Self.meaning.can_poll self.new) };
 }
 
 /// A job after one poll. It keeps the job as it was before, and what the poll owes.
@@ -62,7 +64,7 @@ pub struct Ran<J: Task> {
 
 impl<J: Task> Model for Ran<J> {
     ghost use Rattle.std.specs.Prelude.{◌≡◌};
-    ghost use Rattle.rt_jobs.specs.Steps.{AfterPoll, IfDone, OnYield, OwesOn, OwesOnce, is_done_step};
+    ghost use Rattle.rt_jobs.specs.Steps.{AfterPoll, IfDone, IfUndone, OwesOn, OwesOnce, is_done_step};
 
     ghost Value = { AfterPoll J J.Out };
 
@@ -71,9 +73,9 @@ impl<J: Task> Model for Ran<J> {
     ghost invariant = { λ r.
         OwesOnce J.meaning r.before.value r.step r.told
         × IfDone r.step (J.meaning.answers r.before.value)
-        × OnYield r.step (J.meaning.same r.before.value r.job)
-        × OnYield r.step (OwesOn J.meaning r.before.value r.job)
-        × OnYield r.step (J.meaning.can_poll r.job)
+        × IfUndone r.step (J.meaning.same r.before.value r.job)
+        × IfUndone r.step (OwesOn J.meaning r.before.value r.job)
+        × IfUndone r.step (J.meaning.can_poll r.job)
         × (J.meaning.done r.job ≡ is_done_step r.step) };
 }
 
@@ -85,8 +87,8 @@ impl<J: Job> Ran<J> {
         ensures before { result.before ≡ job }
         ensures owed { OwesAt J.meaning P.Does job post.old post.new result.step result.told }
         ensures answers { IfDone result.step (J.meaning.answers job) }
-        ensures same { OnYield result.step (J.meaning.same job result.job) }
-        ensures later { OnYield result.step (OwesOn J.meaning job result.job) }
+        ensures same { IfUndone result.step (J.meaning.same job result.job) }
+        ensures later { IfUndone result.step (OwesOn J.meaning job result.job) }
     {
         let before = Snapshot::of(&job);
         let mut job = job;
@@ -109,9 +111,9 @@ impl<J: Task> Ran<J> {
         ensures told { result.2 ≡ self.told }
         ensures owed { OwesOnce J.meaning self.before result.1 result.2 }
         ensures answers { IfDone result.1 (J.meaning.answers self.before) }
-        ensures same { OnYield result.1 (J.meaning.same self.before result.0) }
-        ensures later { OnYield result.1 (OwesOn J.meaning self.before result.0) }
-        ensures ready { OnYield result.1 (J.meaning.can_poll result.0) }
+        ensures same { IfUndone result.1 (J.meaning.same self.before result.0) }
+        ensures later { IfUndone result.1 (OwesOn J.meaning self.before result.0) }
+        ensures ready { IfUndone result.1 (J.meaning.can_poll result.0) }
         ensures done { J.meaning.done result.0 ≡ is_done_step result.1 }
     {
         let Ran {

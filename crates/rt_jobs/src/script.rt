@@ -1,11 +1,12 @@
 //! A job whose polls are written down.
 
 ghost use Rattle.std.specs.Prelude.{◌≡◌, ◌∷◌, [], ◌↔◌, length, Some, IsSome, IfSome};
+ghost use Rattle.rt_jobs.specs.declared.poll.Early.TheVariants.{Submits};
 ghost use Rattle.rt_jobs.specs.declared.poll.Poll.TheVariants.{Done};
-ghost use Rattle.rt_jobs.specs.Scripts.{IsScript, Posts};
+ghost use Rattle.rt_jobs.specs.Scripts.{IsScript, Posts, step_of};
 
 use crate::job::{Job, Step, Task};
-use crate::poll::{Poll, Yielding};
+use crate::poll::{Early, Poll, Yielding};
 use crate::post::Post;
 use arrayvec::ArrayVec;
 use rt_ids::{CoreNo, Order, QueueNo};
@@ -19,7 +20,7 @@ pub const MOST_POLLS: usize = 64;
 /// The most polls of a script job that yield: all but the last.
 const MOST_YIELDS: usize = 63;
 
-/// A job whose polls are written down: some that yield, then one that is done with a number.
+/// A job whose polls are written down: some that yield or are parked, then one that is done with a number.
 ///
 /// A contract sees the list of its polls, and how many of them were made. Each poll tells its own time.
 /// The last poll stands by itself, so that the answer is stored once.
@@ -87,10 +88,17 @@ impl ScriptJob {
         let mut yields = ArrayVec::new();
         for poll in early {
             let kept = match *poll {
-                Poll::Yield(told) => Yielding { told, to: None },
+                Poll::Yield(told) => Yielding {
+                    told,
+                    does: Early::Yields,
+                },
                 Poll::Submit(told, core, queue) => Yielding {
                     told,
-                    to: Some((core, queue)),
+                    does: Early::Submits(core, queue),
+                },
+                Poll::Park(told) => Yielding {
+                    told,
+                    does: Early::Parks,
                 },
                 Poll::Done(_, _) => return None,
             };
@@ -147,23 +155,35 @@ impl Job for ScriptJob {
             return Step::Done(self.answer);
         }
         let yielding = self.yields[place];
-        post_as(yielding, post);
-        Step::Yield
+        post_as(yielding.does, post);
+        yielding.does.step()
     }
 }
 
-/// What a poll that yields does at its post: nothing, or it sends the small job.
-fn post_as<P: Post<ScriptJob, u64>>(yielding: Yielding, post: &mut P)
-    ensures posts { Posts P.Does yielding.to post.old post.new }
+impl Early {
+    /// What the poll comes to.
+    fn step(self) -> Step<u64>
+        ensures { result ≡ step_of self }
+    {
+        match self {
+            Early::Parks => Step::Park,
+            _ => Step::Yield,
+        }
+    }
+}
+
+/// What a poll that isn't the last one does at its post: nothing, or it sends the small job.
+fn post_as<P: Post<ScriptJob, u64>>(does: Early, post: &mut P)
+    ensures posts { Posts P.Does does post.old post.new }
 {
-    if let Some(place) = yielding.to {
-        send_small(place.0, place.1, post);
+    if let Early::Submits(core, queue) = does {
+        send_small(core, queue, post);
     }
 }
 
 /// Submits the job `d1=0` to this queue of this core, and detaches it if it is accepted.
 fn send_small<P: Post<ScriptJob, u64>>(core: CoreNo, queue: QueueNo, post: &mut P)
-    ensures posts { Posts P.Does (Some (core, queue)) post.old post.new }
+    ensures posts { Posts P.Does (Submits core queue) post.old post.new }
 {
     let order = Order::Job(queue, ScriptJob::done(1, 0));
     if let Ok(ticket) = post.submit(core, order) {

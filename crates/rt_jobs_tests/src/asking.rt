@@ -108,7 +108,7 @@ fn polls_until<J: Job<Out = u64>, P: Post<J, J::Out>>(
         match step {
             Step::Done(out) if out == answer => return Some(polled + 1),
             Step::Done(_) => return None,
-            Step::Yield => job = back,
+            Step::Yield | Step::Park => job = back,
         }
     }
     None

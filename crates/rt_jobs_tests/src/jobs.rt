@@ -68,6 +68,37 @@ fn script_jobs_do_their_words(rt: HostRuntime) {
     assert!(rt; does_its_words() && tells(ScriptJob::done(1, 0), &[], 0));
 }
 
+/// Whether a job's first poll tells its time and asks to be parked.
+fn parks_first() -> bool {
+    let words = [Poll::Park(10), Poll::Done(5, 7)];
+    let Some(job) = ScriptJob::try_new(&words) else {
+        return false;
+    };
+    let (job, step, told) = Ran::poll(job, &mut NoPost).into_parts();
+    matches!(step, Step::Park) && told == Some(10) && !job.is_done()
+}
+
+/// Whether it answers at its second poll.
+fn answers_behind_a_park() -> bool {
+    let words = [Poll::Park(10), Poll::Done(5, 7)];
+    match ScriptJob::try_new(&words) {
+        Some(job) => tells(job, &[10], 7),
+        None => false,
+    }
+}
+
+/// Whether the same polls, written one after another, are those of the words.
+fn parks_as_written() -> bool {
+    let mut job = ScriptJob::done(5, 7);
+    job.add_park(10);
+    job.poll_count() == 2 && tells(job, &[10], 7)
+}
+
+#[test]
+fn a_script_job_parks(rt: HostRuntime) {
+    assert!(rt; parks_first() && answers_behind_a_park() && parks_as_written());
+}
+
 #[test]
 fn sizes(rt: HostRuntime) {
     assert!(rt; size_of::<ScriptJob>() == 1040 && size_of::<Order<ScriptJob>>() == 1048);
@@ -84,13 +115,14 @@ fn two_words(first: u64, second: u64, value: u64) -> (Option<u64>, Option<u64>, 
         return (None, None, 0);
     };
     let (job, step, first_told) = Ran::poll(job, &mut NoPost).into_parts();
-    if let Step::Done(_) = step {
+    let Step::Yield = step else {
         return (None, None, 0);
-    }
+    };
     let (_job, step, second_told) = Ran::poll(job, &mut NoPost).into_parts();
     match step {
         Step::Done(out) => (first_told, second_told, out),
         Step::Yield => (None, None, 0),
+        Step::Park => (None, None, 0),
     }
 }
 

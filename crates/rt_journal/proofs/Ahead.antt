@@ -9,7 +9,7 @@ use Rattle.rt_journal.proofs.Names.{Reason, Journal, is_told, pick_count, number
 use Rattle.rt_journal.proofs.Names.{name_ended, given_outcomes, held_count, inside_count, HandsBack, polls_made}
 use Rattle.rt_journal.proofs.Names.{poll_note, HasTask, note_taken, sum_upto, given_count, IsPick, IsHandBack}
 use Rattle.rt_journal.proofs.Names.{owed_back, known_of, among, same_as_itself, without_job, option_map, QueuesView}
-use Rattle.rt_journal.proofs.Names.{none-some, JobOut, CorePicks, names_of, Returned, Picks}
+use Rattle.rt_journal.proofs.Names.{HaveTasks, Line, Marks, parked_of, none-some, JobOut, CorePicks, names_of, Returned, Picks}
 use Rattle.rt_core.specs.declared.turn.Ahead.TheVariants as ahead
 use Rattle.rt_core.specs.declared.turn.Turn.TheVariants.{Back}
 use Rattle.rt_core.specs.declared.turn.PickError.TheVariants.{Spent}
@@ -19,8 +19,9 @@ use Rattle.rt_journal.proofs.Places.{each_line}
 use Rattle.rt_journal.proofs.Sums.{sum_upto-at_most_one, sum_upto-same}
 use Rattle.rt_journal.proofs.KeptPicks.{LeavesFront, first_in_line, kept-picked, kept-returned, picked_view}
 use Rattle.rt_journal.proofs.KeptPicks.{reason_told, returned_view}
-use Rattle.rt_journal.proofs.KeptPicks.{right_pick, start_told}
-use Rattle.rt_journal.proofs.Received.{waiting_stays}
+use Rattle.rt_journal.proofs.KeptPicks.{right_pick, start_told, wake_is}
+use Rattle.rt_journal.proofs.Inside.{HoldsOfAll}
+use Rattle.rt_journal.proofs.Received.{tasks_stay}
 use Rattle.rt_journal.proofs.EndsKept.{ungiven_if, not_given}
 use Rattle.rt_ids.specs.declared.note.OutcomeNote.TheVariants as outcomes
 use Rattle.rt_journal.proofs.QuietSteps.{nobody, quiet-picked, stepped, IsQuietStep}
@@ -34,7 +35,7 @@ module _ {J : Type 0} (view core : CoreView J) (told : TellsAhead view (Ok ahead
   -- the next queue hands back, so no job of it goes out
   no_job : (name : JobId) (queue : ℕ) (started : Bool) (job : J) → TakesOut view name queue started job core → return_reason queue view ≡ None → ⊥
   no_job name queue started job takes kept =
-      let some = some_front (waiting_of queue view.queues) (name, started, job) takes.others takes.first in
+      let some = some_front (waiting_of queue view.queues) (name, record { started = started; woken = takes.was_woken }, job) takes.others takes.first in
       let one = one_key (runtime_of queue view) queue (runtime_of told.0 view) told.0 (takes.next.least told.0 told.2) (told.1.least queue some) in
       told.3 (subst (λ at. return_reason at view ≡ None) one kept)
 
@@ -56,7 +57,7 @@ module _ {J T : Type 0} {meaning : Meaning J T} (view : RecordedView J T) (recor
   pub works : (queue : ℕ) → (waiting_of queue view.core.queues ≡ [] → ⊥) → has_work queue view.journal.notes ≡ true
   works queue some = by_line (waiting_of queue view.core.queues) refl
     where
-      by_line : (waiting : List (JobId × Bool × J)) → waiting_of queue view.core.queues ≡ waiting → has_work queue view.journal.notes ≡ true
+      by_line : (waiting : Line J) → waiting_of queue view.core.queues ≡ waiting → has_work queue view.journal.notes ≡ true
       by_line [] none = absurd (some none)
       by_line (entry ∷ others) first =
           work_of_line (terms_at view) queue view.journal.notes recorded.kept.notes entry.0 (names_of others) (sym (recorded.kept.agrees.lines queue) ∙ ap names_of first)
@@ -84,7 +85,7 @@ module _ {J T : Type 0} {meaning : Meaning J T}
   notes = old.journal.notes
 
   -- the first job of a line leaves it
-  module _ (name : JobId) (queue : ℕ) (was_started : Bool) (job : J) (queues : QueuesView J) (front : LeavesFront old.core name queue was_started job queues) where
+  module _ (name : JobId) (queue : ℕ) (marks : Marks) (job : J) (queues : QueuesView J) (front : LeavesFront old.core name queue marks job queues) where
     abbrev runtime : ℕ
     runtime = runtime_of queue old.core
 
@@ -96,47 +97,59 @@ module _ {J T : Type 0} {meaning : Meaning J T}
 
     -- and no poll is settled by these notes
     module _ (written : List (Note T)) (unpolled : (which : JobId) → polls_made which (written ++ notes) ≡ polls_made which notes) where
-      abbrev Task : ℕ → JobId × Bool × J → Type 0
+      abbrev Task : ℕ → JobId × Marks × J → Type 0
       Task other entry = HasTask meaning old.took (written ++ notes) other entry.0 entry.2
 
-      all_first : All (Task queue) ((name, was_started, job) ∷ front.others)
-      all_first = subst (All (Task queue)) front.first (waiting_stays old recorded written unpolled queue)
+      stay : HoldsOfAll (λ other which job. HasTask meaning old.took (written ++ notes) other which job) old.core.queues
+      stay = tasks_stay old recorded written unpolled
 
-      its_task : Task queue (name, was_started, job)
-      its_task = All-head (Task queue) (name, was_started, job) front.others all_first
+      all_first : All (Task queue) ((name, marks, job) ∷ front.others)
+      all_first = subst (All (Task queue)) front.first (stay.waiting queue)
+
+      its_task : Task queue (name, marks, job)
+      its_task = All-head (Task queue) (name, marks, job) front.others all_first
 
       still_waiting : (other : ℕ) → All (Task other) (waiting_of other queues)
-      still_waiting = each_line (λ at. All (Task at)) front.line (All-tail (Task queue) (name, was_started, job) front.others all_first) (waiting_stays old recorded written unpolled)
+      still_waiting = each_line (λ at. All (Task at)) front.line (All-tail (Task queue) (name, marks, job) front.others all_first) stay.waiting
+
+      still_tasks : (core : CoreView J) → core.queues ≡ queues → HaveTasks meaning (stepped old core written)
+      still_tasks core is = record {
+        waiting = subst (λ queues. (other : ℕ) → All (Task other) (waiting_of other queues)) (sym is) still_waiting;
+        parked = λ other. subst (All (λ entry. HasTask meaning old.took (written ++ notes) other entry.0 entry.1)) (sym (ap (parked_of other) is ∙ front.line.same_parks other)) (stay.parked other);
+      }
 
     abbrev written : List (Note T)
-    written = poll_note name was_started ∷ Pick queue runtime ∷ []
+    written = poll_note name marks.started ∷ Pick queue runtime ∷ []
 
-    picked : core_says.return_reason queue old.core ≡ None → IsQuietStep old (picked_view old.core name queue job queues) written meaning everyone nobody
+    abbrev its_view : CoreView J
+    its_view = picked_view old.core name queue marks.woken job queues
+
+    picked : core_says.return_reason queue old.core ≡ None → IsQuietStep old its_view written meaning everyone nobody
     picked keeps =
-        let unpolled = λ (which : JobId). no_polls which name queue runtime was_started notes in
+        let unpolled = λ (which : JobId). no_polls which name queue runtime marks.started notes in
         let task = its_task written unpolled in
-        let quiet = quiet-picked notes name queue runtime was_started in
+        let quiet = quiet-picked notes name queue runtime marks.started in
         let given = sum_upto-same (given_count (written ++ notes)) (given_count notes) old.core.cores (λ sender. ap length (quiet.given sender)) in
         let fewer : held_count queues + 1 + sum_upto (given_count (written ++ notes)) old.core.cores ≤ inside_count old.core + sum_upto (given_count notes) old.core.cores = omega (arith, one_fewer, given) in
         assumption (
-          kept-picked (terms_at old) old.core name queue was_started job queues notes recorded.kept front keeps left,
+          kept-picked (terms_at old) old.core name queue marks job queues notes recorded.kept front keeps left,
           front.line.same_room,
-          still_waiting written unpolled,
-          λ (out : JobOut J) (at : Some (record { name = name; queue = queue; job = job }) ≡ Some out). subst (λ out. HasTask meaning old.took (written ++ notes) out.queue out.name out.job) (same_Some _ out at) task,
+          still_tasks written unpolled its_view refl,
+          λ (out : JobOut J) (at : Some (record { name = name; queue = queue; woken = marks.woken; job = job }) ≡ Some out). subst (λ out. HasTask meaning old.took (written ++ notes) out.queue out.name out.job) (same_Some _ out at) task,
         )
 
-    pick_is : core_says.return_reason queue old.core ≡ None → IsPick old name queue was_started job (stepped old (picked_view old.core name queue job queues) written)
+    pick_is : core_says.return_reason queue old.core ≡ None → IsPick old name queue marks.started job (stepped old its_view written)
     pick_is keeps = record {
       nobody_out = front.next.free;
       turn_left = left;
       runtime = runtime;
-      right = right_pick (terms_at old) old.core name queue was_started job queues notes recorded.kept front;
+      right = right_pick (terms_at old) old.core name queue marks job queues notes recorded.kept front;
       others = names_of front.others;
-      first = first_in_line (terms_at old) old.core name queue was_started job queues notes recorded.kept front;
-      kept = reason_told (terms_at old) old.core name queue was_started job queues notes recorded.kept front ∙ keeps;
-      started = start_told (terms_at old) old.core name queue was_started job queues notes recorded.kept front;
+      first = first_in_line (terms_at old) old.core name queue marks job queues notes recorded.kept front;
+      kept = reason_told (terms_at old) old.core name queue marks job queues notes recorded.kept front ∙ keeps;
+      started = start_told (terms_at old) old.core name queue marks job queues notes recorded.kept front;
       journal = refl;
-      out = refl;
+      out = λ i. Some (record { name = name; queue = queue; woken = wake_is (terms_at old) old.core name queue marks job queues notes recorded.kept front i; job = job });
       took = refl;
     }
 
@@ -148,12 +161,12 @@ module _ {J T : Type 0} {meaning : Meaning J T}
 
     going_on : is_told name_ended name notes ≡ false
     going_on = ((known_of (terms_at old) notes recorded.kept.notes).line_inside queue name
-        (ap (among name) (first_in_line (terms_at old) old.core name queue was_started job queues notes recorded.kept front) ∙ rw (same_as_itself name) refl)).going_on
+        (ap (among name) (first_in_line (terms_at old) old.core name queue marks job queues notes recorded.kept front) ∙ rw (same_as_itself name) refl)).going_on
 
     handed : (reason : Reason) → core_says.return_reason queue old.core ≡ Some reason →
         IsQuietStep old (returned_view old.core queue queues) (back reason) meaning everyone (λ sender. if_from sender name (name, outcomes.Returned reason))
     handed reason returns = record {
-      kept = kept-returned (terms_at old) old.core name queue was_started job queues notes recorded.kept front reason returns left;
+      kept = kept-returned (terms_at old) old.core name queue marks job queues notes recorded.kept front reason returns left;
       number = refl;
       cores = refl;
       room = front.line.same_room;
@@ -167,7 +180,7 @@ module _ {J T : Type 0} {meaning : Meaning J T}
           sum_upto-at_most_one (given_count notes) (given_count (back reason ++ notes)) name.from (λ from. length-with_last_if (given_outcomes from notes) _ (name.from == from)) old.core.cores in
           let now : inside_count (returned_view old.core queue queues) ≡ held_count queues + 0 = ap (λ out. held_count queues + number_if (is_some out)) front.next.free in
           omega (arith, given_more, now, one_fewer);
-      waiting = still_waiting (back reason) (unpolled_back reason);
+      tasks = still_tasks (back reason) (unpolled_back reason) (returned_view old.core queue queues) refl;
       out = λ out at. absurd (none-some out (sym front.next.free ∙ at));
     }
 
@@ -179,10 +192,10 @@ module _ {J T : Type 0} {meaning : Meaning J T}
           turn_left = left;
           queue = queue;
           runtime = runtime;
-          right = right_pick (terms_at old) old.core name queue was_started job queues notes recorded.kept front;
+          right = right_pick (terms_at old) old.core name queue marks job queues notes recorded.kept front;
           others = names_of front.others;
-          first = first_in_line (terms_at old) old.core name queue was_started job queues notes recorded.kept front;
-          returns = reason_told (terms_at old) old.core name queue was_started job queues notes recorded.kept front ∙ returns;
+          first = first_in_line (terms_at old) old.core name queue marks job queues notes recorded.kept front;
+          returns = reason_told (terms_at old) old.core name queue marks job queues notes recorded.kept front ∙ returns;
           sent = task.sent;
           task = task.task;
           job = job;
@@ -197,20 +210,23 @@ module _ {J T : Type 0} {meaning : Meaning J T}
     abbrev Did : Result (Turn J) PickError → List (Note T) → CoreView J → Type 0
     Did answer told core = HasDone meaning old core everyone (owed_back answer) 2 (λ old new. Picks meaning old answer new) told
 
-    taken : {name : JobId} {queue : ℕ} {was_started : Bool} {job : J} → TakesOut old.core name queue was_started job core → LeavesFront old.core name queue was_started job core.queues
+    abbrev marks_of : Bool → Bool → Marks
+    marks_of started woken = record { started = started; woken = woken }
+
+    taken : {name : JobId} {queue : ℕ} {was_started : Bool} {job : J} (takes : TakesOut old.core name queue was_started job core) → LeavesFront old.core name queue (marks_of was_started takes.was_woken) job core.queues
     taken takes = record { next = takes.next; others = takes.others; first = takes.first; line = takes.line }
 
-    given_back : {name : JobId} {queue : ℕ} {job : J} (hands : HandsBack old.core name queue job core) → LeavesFront old.core name queue hands.was_started job core.queues
+    given_back : {name : JobId} {queue : ℕ} {job : J} (hands : HandsBack old.core name queue job core) → LeavesFront old.core name queue hands.marks job core.queues
     given_back hands = record { next = hands.next; others = hands.others; first = hands.first; line = hands.line }
 
     -- whatever the pick answers
     pub picked_did : (answer : Result (Turn J) PickError) (told : List (Note T)) → CorePicks old.core answer core told → Did answer told core
     picked_did (Ok (Start name queue job)) told does = subst (Did (Ok (Start name queue job)) told) (sym does.0.rest)
-        (done_so does.2 (picked name queue false job core.queues (taken does.0) does.1) (omega arith) (pick_is name queue false job core.queues (taken does.0) does.1))
+        (done_so does.2 (picked name queue (marks_of false does.0.was_woken) job core.queues (taken does.0) does.1) (omega arith) (pick_is name queue (marks_of false does.0.was_woken) job core.queues (taken does.0) does.1))
     picked_did (Ok (Resume name queue job)) told does = subst (Did (Ok (Resume name queue job)) told) (sym does.0.rest)
-        (done_so does.2 (picked name queue true job core.queues (taken does.0) does.1) (omega arith) (pick_is name queue true job core.queues (taken does.0) does.1))
+        (done_so does.2 (picked name queue (marks_of true does.0.was_woken) job core.queues (taken does.0) does.1) (omega arith) (pick_is name queue (marks_of true does.0.was_woken) job core.queues (taken does.0) does.1))
     picked_did (Ok (Back name reason (Job queue job))) told does = subst (Did (Ok (Back name reason (Job queue job))) told) (sym does.0.rest)
-        (done_so does.2 (handed name queue does.0.was_started job core.queues (given_back does.0) reason does.1) (omega arith) (handed_is name queue does.0.was_started job core.queues (given_back does.0) reason does.1))
+        (done_so does.2 (handed name queue does.0.marks job core.queues (given_back does.0) reason does.1) (omega arith) (handed_is name queue does.0.marks job core.queues (given_back does.0) reason does.1))
     picked_did (Ok (Back name reason _)) told does = absurd does
     picked_did (Ok Idle) told does = nothing_did recorded does.2 does.3 (idle old recorded does.0 does.1, refl)
     picked_did (Err Busy) told does = nothing_did recorded does.1 does.2 (does.0, refl)

@@ -1,5 +1,6 @@
 -- What a core does with an order that is delivered to it, case by case, told in one form.
-use Rattle.rt_journal.proofs.Names.{All-append, ◌≡◌, ℕ, ◌+◌, ◌≤◌, Bool, true, false, List, [], ◌∷◌, ◌++◌, length}
+use Rattle.rt_journal.proofs.Names.{Line, Marks, MayStand, Wake, ◌&&◌, is_inside, is_return, job_at, out_told, parked_of, suc, ⊎_elim}
+use Rattle.rt_journal.proofs.Names.{All-append, ◌≡◌, ℕ, ◌+◌, ◌≤◌, true, false, List, [], ◌∷◌, ◌++◌, length}
 use Rattle.rt_journal.proofs.Names.{refl, sym, ◌∙◌, ap, subst, arith, add-zero, cond, ◌==◌, Option, Some, None}
 use Rattle.rt_journal.proofs.Names.{is_some, All, length-append, All-cons, All-nil, InRange, JobId, Note, Order, Job}
 use Rattle.rt_journal.proofs.Names.{Create, SetShares, Reason, Answer, Journal, EachNote, with_last, delivered_names}
@@ -16,32 +17,26 @@ use Rattle.rt_ids.specs.declared.order.Answer.TheVariants as answers
 pub use Rattle.rt_journal.specs.Ends.{KeepsLists}
 use Rattle.rt_ids.specs.declared.note.OutcomeNote.TheVariants as outcome
 use Rattle.rt_journal.proofs.KeptDeliveries.{kept-took, kept-back, kept-answered, agrees-answered, kept-effect}
-use Rattle.rt_journal.proofs.KeptDeliveries.{kept-created, kept-weighed, agrees-core_closed, agrees-queue_closed}
+use Rattle.rt_journal.proofs.KeptDeliveries.{kept-created, kept-weighed}
+use Rattle.rt_journal.proofs.KeptClosings.{agrees-core_closed, agrees-queue_closed, ended_if}
+use Rattle.rt_journal.proofs.KeptParks.{absent_outside, agrees-line_woken, agrees-out_woken, agrees-park_ended, inside-line}
+use Rattle.rt_journal.proofs.KeptParks.{inside-out, inside-parked}
+pub use Rattle.rt_journal.proofs.Inside.{HoldsOfAll, HoldsSame, SameOut, same_out, same_out-holds, same_out-some, same_out-told}
+use Rattle.rt_journal.proofs.Inside.{carries-kept_wake, carries-same, carries-woken, holds-closed}
+use Rattle.rt_core.specs.Closing as core_says
+use Rattle.rt_core.specs.Waking.{EndsPark, IsAbsent, KeepsLineWake, KeepsOutWake, WakesJob}
+use Rattle.rt_journal.proofs.Marks.{unmarked}
 use Rattle.rt_journal.proofs.Places.{each_line}
 use Rattle.rt_journal.proofs.Sums.{sum_upto-at_most_one}
 use Rattle.rt_core.specs.Deliveries.{Delivers as CarriesOut}
 use Rattle.rt_core.specs.declared.delivery.Delivered.TheVariants.{Back, Answered}
-use Rattle.rt_journal.proofs.Kept.{refusal-agrees}
+use Rattle.rt_journal.proofs.Kept.{refusal-agrees, stands_behind}
 use Rattle.rt_jobs.specs.Meanings.{Meaning}
-
--- a job that came is the one of this order
-abbrev pub IsOf : {J : Type 0} → JobId → Order J → ℕ → JobId × Bool × J → Type 0
-IsOf name order queue entry = (entry.0 ≡ name) × (order ≡ Job queue entry.2)
 
 -- what holds of the jobs that were inside, and of the one that came, holds of all
 abbrev pub EntersAlone : {J : Type 0} → CoreView J → JobId → Order J → CoreView J → Type 1
 EntersAlone {J} old name order core =
-    (P : ℕ → JobId × Bool × J → Type 0) → ((queue : ℕ) → All (P queue) (waiting_of queue old.queues)) →
-    ((queue : ℕ) (entry : JobId × Bool × J) → IsOf name order queue entry → P queue entry) → (queue : ℕ) → All (P queue) (waiting_of queue core.queues)
-
--- the same core holds the same jobs
-pub record HoldsSame {J : Type 0} (old core : CoreView J) : Type 0 where
-  pub number : core.core ≡ old.core
-  pub cores : core.cores ≡ old.cores
-  pub room : core.queues.room ≡ old.queues.room
-  pub same_held : held_count core.queues ≡ held_count old.queues
-  pub same_lines : (queue : ℕ) → waiting_of queue core.queues ≡ waiting_of queue old.queues
-  pub out : core.out ≡ old.out
+    (P : ℕ → JobId → J → Type 0) → HoldsOfAll P old.queues → ((queue : ℕ) (job : J) → order ≡ Job queue job → P queue name job) → HoldsOfAll P core.queues
 
 -- what a core did with an order: these notes, and at most one job more is inside or one outcome is given
 pub record IsCarriedOut {J T : Type 0} (old : RecordedView J T) (name : JobId) (order : Order J) (told : Option (OutcomeNote T)) (core : CoreView J) (written : List (Note T)) : Type 1 where
@@ -49,7 +44,8 @@ pub record IsCarriedOut {J T : Type 0} (old : RecordedView J T) (name : JobId) (
   pub number : core.core ≡ old.core.core
   pub cores : core.cores ≡ old.core.cores
   pub room : core.queues.room ≡ old.core.queues.room
-  pub out : core.out ≡ old.core.out
+  pub out : core.out ≡ out_told (written ++ old.journal.notes) old.core.out
+  pub same_out : SameOut old.core.out core.out
   pub lists : KeepsLists old.journal.notes (written ++ old.journal.notes)
   pub given : GivesMore (told_under name told) old.journal.notes (written ++ old.journal.notes)
   pub delivered : (sender : ℕ) → delivered_count (written ++ old.journal.notes) sender ≡ delivered_count old.journal.notes sender + number_if (name.from == sender)
@@ -84,16 +80,23 @@ module _ {J T : Type 0} (old : RecordedView J T) (name : JobId)
   enters_queue : (queue : ℕ) (job : J) (core : CoreView J) → refusal queue journal ≡ None → Enters old.core name queue job core → IsCarriedOut old name (Job queue job) None core (writes.Took name queue ∷ [])
   enters_queue queue job core accepted enters =
       let inside : inside_count core ≡ held_count core.queues + number_if (is_some old.core.out) = ap (λ core_now. held_count core.queues + number_if (is_some core_now.out)) enters.rest in
-      let held : Held core (writes.Took name queue ∷ []) = omega (arith, inside, enters.line.held, length-append (waiting_of queue old.core.queues) ((name, false, job) ∷ [])) in
+      let held : Held core (writes.Took name queue ∷ []) = omega (arith, inside, enters.line.held, length-append (waiting_of queue old.core.queues) ((name, unmarked, job) ∷ [])) in
       let few : 1 ≤ 2 = omega arith in
-      let entered : EntersAlone old.core name (Job queue job) core = λ P was came. each_line (λ at. All (P at)) enters.line
-      (All-append (P queue) (waiting_of queue old.core.queues) ((name, false, job) ∷ []) (was queue) (All-cons (P queue) (name, false, job) [] (came queue (name, false, job) (refl, refl)) (All-nil (P queue)))) was in
+      let entered : EntersAlone old.core name (Job queue job) core = λ P was came. record {
+        waiting = each_line (λ at. All (λ entry. P at entry.0 entry.2)) enters.line
+            (All-append (λ entry. P queue entry.0 entry.2) (waiting_of queue old.core.queues) ((name, unmarked, job) ∷ []) (was.waiting queue)
+            (All-cons (λ entry. P queue entry.0 entry.2) (name, unmarked, job) [] (came queue job refl) (All-nil (λ entry. P queue entry.0 entry.2)))) was.waiting;
+        parked = λ other. subst (All (λ entry. P other entry.0 entry.1)) (sym (enters.line.same_parks other)) (was.parked other);
+      } in
+      let kept_now = kept-took (terms_at old) old.core name queue job journal kept next sender accepted enters.exists core.queues enters.line enters.rest in
+      let stays : SameOut old.core.out core.out = subst (SameOut old.core.out) (sym (ap (λ core. core.out) enters.rest)) (same_out old.core.out) in
       assumption (
-        kept-took (terms_at old) old.core name queue job journal kept next sender accepted enters.exists core.queues enters.line enters.rest,
+        kept_now,
+        stays,
+        same_out-told (writes.Took name queue ∷ journal) old.core.out core.out stays kept_now.agrees.out,
         ap (λ core. core.core) enters.rest,
         ap (λ core. core.cores) enters.rest,
         enters.line.same_room,
-        ap (λ core. core.out) enters.rest,
         counted_one,
         unpolled,
         ap (λ reason. entry_note {T = T} name queue reason ∷ []) (sym accepted),
@@ -107,28 +110,32 @@ module _ {J T : Type 0} (old : RecordedView J T) (name : JobId)
       ((under : JobId → Option (Order (Unit {0}))) → under name ≡ Some (without_job order) → EachNote (DeliversAs under) journal → EachNote (DeliversAs under) (written ++ journal)) →
       length written ≤ 2 → IsCarriedOut old name order (Some what) core written
   moves_none order what written core kept_now holds lists given delivered polls delivery as_sent few =
-      let inside : inside_count core ≡ inside_count old.core = λ i. holds.same_held i + number_if (is_some (holds.out i)) in
+      let inside : inside_count core ≡ inside_count old.core = λ i. holds.same_held i + number_if (same_out-some old.core.out core.out holds.out i) in
       let one_given = sum_upto-at_most_one (given_count journal) (given_count (written ++ journal)) name.from
       (λ from. ap length (given from) ∙ length-with_last_if (given_outcomes from journal) _ (name.from == from)) old.core.cores in
       let held : Held core written = omega (arith, inside, one_given) in
-      let entered : EntersAlone old.core name order core = λ P was came queue. subst (All (P queue)) (sym (holds.same_lines queue)) (was queue) in
-      assumption
+      let entered : EntersAlone old.core name order core = λ P was came. holds.carries P was in
+      assumption (same_out-told (written ++ journal) old.core.out core.out holds.out kept_now.agrees.out)
 
   -- the core that has counted the delivery
   abbrev middle : CoreView J
   middle = record old.core { delivered = counted name old.core }
 
+  -- the core that has counted the delivery holds the same jobs as before
+  holds_middle : HoldsSame old.core middle
+  holds_middle = record { number = refl; cores = refl; room = refl; same_held = refl; carries = λ P was. was; out = same_out old.core.out }
+
   -- a job that is refused goes back
   goes_back : (queue : ℕ) (job : J) (reason : Reason) → refusal queue journal ≡ Some reason → IsCarriedOut old name (Job queue job) (Some (outcome.Returned reason)) middle (writes.Back name reason ∷ [])
   goes_back queue job reason refused =
-      moves_none (Job queue job) (outcome.Returned reason) (writes.Back name reason ∷ []) middle (kept-back (terms_at old) old.core middle name journal kept next sender refl queue reason refused) (assumption) (assumption)
+      moves_none (Job queue job) (outcome.Returned reason) (writes.Back name reason ∷ []) middle (kept-back (terms_at old) old.core middle name journal kept next sender refl queue reason refused) holds_middle (assumption)
       (λ from. refl) counted_one unpolled (ap (λ reason. entry_note {T = T} name queue reason ∷ []) (sym refused)) (λ under at before. ((queue, at, refused), before)) (omega arith)
 
   -- a command is answered, and has no effect
-  answers_alone : (order : Order J) (answer : Answer) → IsAnswer (without_job order) answer journal → has_effect answer ≡ false →
-      (IsAnswer (without_job order) answer journal → IsDelivery name order journal (writes.Answered name answer ∷ [])) → IsCarriedOut old name order (Some (outcome.Answered answer)) middle (writes.Answered name answer ∷ [])
+  answers_alone : (order : Order J) (answer : Answer) → IsAnswer name.to (without_job order) answer journal → has_effect answer ≡ false →
+      (IsAnswer name.to (without_job order) answer journal → IsDelivery name order journal (writes.Answered name answer ∷ [])) → IsCarriedOut old name order (Some (outcome.Answered answer)) middle (writes.Answered name answer ∷ [])
   answers_alone order answer right plain tells =
-      moves_none order (outcome.Answered answer) (writes.Answered name answer ∷ []) middle (kept-answered (terms_at old) old.core middle name journal kept next sender refl (without_job order) answer right plain) (assumption) (assumption)
+      moves_none order (outcome.Answered answer) (writes.Answered name answer ∷ []) middle (kept-answered (terms_at old) old.core middle name journal kept next sender refl (without_job order) answer right plain) holds_middle (assumption)
       (λ from. refl) counted_one unpolled (tells right) (λ under at before. ((without_job order, at, right), before)) (omega arith)
 
   module _ (core : CoreView J) where
@@ -137,7 +144,14 @@ module _ {J T : Type 0} (old : RecordedView J T) (name : JobId)
         IsCarriedOut old name (Create weight) (Some (outcome.Answered (answers.Created queue))) core (writes.Created queue weight ∷ writes.Answered name (answers.Created queue) ∷ [])
     creates_queue queue weight in_range number_is creates now =
         let answered = kept-created (terms_at old) old.core core name queue weight journal kept next sender in_range now number_is creates in
-        let holds : HoldsSame old.core core = assumption (ap (λ core. core.core) creates.rest, ap (λ core. core.cores) creates.rest, creates.added, ap (λ core. core.out) creates.rest) in
+        let holds : HoldsSame old.core core = record {
+          number = ap (λ core. core.core) creates.rest;
+          cores = ap (λ core. core.cores) creates.rest;
+          room = creates.added.same_room;
+          same_held = creates.added.same_held;
+          carries = carries-same creates.added.same_lines creates.added.same_parks;
+          out = subst (SameOut old.core.out) (sym (ap (λ core. core.out) creates.rest)) (same_out old.core.out);
+        } in
         moves_none (Create weight) (outcome.Answered (answers.Created queue)) (writes.Created queue weight ∷ writes.Answered name (answers.Created queue) ∷ []) core answered.1 holds (assumption)
         (λ from. refl) counted_one unpolled_twice (answers.Created queue, answered.0, refl) (λ under at before. (λ has. (Create weight, at, refl), ((Create weight, at, answered.0), before))) (omega arith)
 
@@ -146,39 +160,134 @@ module _ {J T : Type 0} (old : RecordedView J T) (name : JobId)
         IsCarriedOut old name (SetShares queue weight) (Some (outcome.Answered answers.SharesSet)) core (writes.SharesSet queue weight ∷ writes.Answered name answers.SharesSet ∷ [])
     sets_shares queue weight in_range weighs now =
         let answered = kept-weighed (terms_at old) old.core core name queue weight journal kept next sender in_range now weighs in
-        let holds : HoldsSame old.core core = assumption (ap (λ core. core.core) weighs.rest, ap (λ core. core.cores) weighs.rest, weighs.shares, ap (λ core. core.out) weighs.rest) in
+        let holds : HoldsSame old.core core = record {
+          number = ap (λ core. core.core) weighs.rest;
+          cores = ap (λ core. core.cores) weighs.rest;
+          room = weighs.shares.same_room;
+          same_held = weighs.shares.same_held;
+          carries = carries-same weighs.shares.same_lines weighs.shares.same_parks;
+          out = subst (SameOut old.core.out) (sym (ap (λ core. core.out) weighs.rest)) (same_out old.core.out);
+        } in
         moves_none (SetShares queue weight) (outcome.Answered answers.SharesSet) (writes.SharesSet queue weight ∷ writes.Answered name answers.SharesSet ∷ []) core answered.1 holds (assumption)
         (λ from. refl) counted_one unpolled_twice (answers.SharesSet, answered.0, refl) (λ under at before. (λ has. (SetShares queue weight, at, refl), ((SetShares queue weight, at, answered.0), before))) (omega arith)
 
-  answered_agrees : Agrees middle (writes.Answered name answers.Closed ∷ journal)
-  answered_agrees = agrees-answered (terms_at old) old.core middle name journal kept next sender refl answers.Closed
+  from_middle : (core : CoreView J) → HoldsSame middle core → HoldsSame old.core core
+  from_middle core holds = record { number = holds.number; cores = holds.cores; room = holds.room; same_held = holds.same_held; carries = holds.carries; out = holds.out }
 
-  -- a queue is closed
-  closes_queue : (queue : ℕ) (mode : Mode) (core : CoreView J) → closes (mode_of queue old.core.queues) mode ≡ true → HasClosed middle queue mode core →
+  -- the answer to a command, which may stand
+  module _ (order : Order (Unit {0})) (answer : Answer) (right : IsAnswer name.to order answer journal) where
+    answered_notes : EachNote (MayStand (terms_at old)) (writes.Answered name answer ∷ journal)
+    answered_notes = (stands_behind (terms_at old) (writes.Answered name answer) kept kept.is_core (next, (order, right)) refl tt, kept.notes)
+
+  answered_agrees : (answer : Answer) → Agrees middle (writes.Answered name answer ∷ journal)
+  answered_agrees answer = agrees-answered (terms_at old) old.core middle name journal kept next sender refl answer
+
+  -- a queue is closed, and its parks may end
+  closes_queue : (queue : ℕ) (mode : Mode) (closed core : CoreView J) → closes (mode_of queue old.core.queues) mode ≡ true → HasClosed middle queue mode closed →
+      core_says.EndsParksIf (is_return mode) closed (λ other. queue == other) core →
       IsCarriedOut old name (Close queue mode) (Some (outcome.Answered answers.Closed)) core (writes.QueueClosed queue mode ∷ writes.Answered name answers.Closed ∷ [])
-  closes_queue queue mode core changes has =
+  closes_queue queue mode closed core changes has ended =
       let exists : queue ≤ created_count journal = omega (arith, has.exists, kept.agrees.last) in
       let changes_told : closes (queue_mode queue journal) mode ≡ true = ap (λ was. closes was mode) (sym (kept.agrees.closing.modes queue)) ∙ changes in
-      let right : IsAnswer (Close queue mode) answers.Closed journal = rw (le-leb queue (created_count journal) exists, changes_told) refl in
-      let holds : HoldsSame old.core core = assumption (ap (λ core. core.core) has.rest, ap (λ core. core.cores) has.rest, has.closed, ap (λ core. core.out) has.rest) in
+      let right : IsAnswer name.to (Close queue mode) answers.Closed journal = rw (le-leb queue (created_count journal) exists, changes_told) refl in
+      let is = has.rest ∙ ap (λ mode. record middle { queues = closed.queues; mode = mode }) (sym (ap (λ core. core.mode) has.rest)) in
+      let holds = holds-closed middle closed core (λ other. is_return mode && (queue == other)) is has.closed.same_lines has.closed.same_parks has.closed.same_room has.closed.same_held
+      (ended_if closed core (λ other. queue == other) (is_return mode) ended) in
       let kept_now = kept-effect (terms_at old) old.core middle name journal kept next sender refl (Close queue mode) answers.Closed right (writes.QueueClosed queue mode)
-      (agrees-queue_closed middle core (writes.Answered name answers.Closed ∷ journal) answered_agrees queue mode has) (record { may_follow = (exists, changes_told); turn = refl; effect = refl; writer = kept.is_core }) refl refl in
-      moves_none (Close queue mode) (outcome.Answered answers.Closed) (writes.QueueClosed queue mode ∷ writes.Answered name answers.Closed ∷ []) core kept_now holds (assumption)
+      (agrees-queue_closed (terms_at old) middle core (writes.Answered name answers.Closed ∷ journal) (answered_notes (Close queue mode) answers.Closed right) (answered_agrees answers.Closed) queue mode closed has ended)
+      (record { may_follow = (exists, changes_told); turn = refl; effect = refl; writer = kept.is_core }) refl refl in
+      moves_none (Close queue mode) (outcome.Answered answers.Closed) (writes.QueueClosed queue mode ∷ writes.Answered name answers.Closed ∷ []) core kept_now (from_middle core holds) (assumption)
       (λ from. refl) counted_one unpolled_twice (answers.Closed, right, refl) (λ under at before. (λ has. (Close queue mode, at, refl), ((Close queue mode, at, right), before))) (omega arith)
 
-  -- the core is closed
-  closes_core : (mode : Mode) → closes old.core.mode mode ≡ true →
-      IsCarriedOut old name (CloseCore mode) (Some (outcome.Answered answers.Closed)) (record middle { mode = Some mode }) (writes.CoreClosed mode ∷ writes.Answered name answers.Closed ∷ [])
-  closes_core mode changes =
+  -- the core is closed, and all parks may end
+  closes_core : (mode : Mode) (core : CoreView J) → closes old.core.mode mode ≡ true → core_says.EndsParksIf (is_return mode) (record middle { mode = Some mode }) (λ queue. true) core →
+      IsCarriedOut old name (CloseCore mode) (Some (outcome.Answered answers.Closed)) core (writes.CoreClosed mode ∷ writes.Answered name answers.Closed ∷ [])
+  closes_core mode core changes ended =
       let changes_told : closes (core_mode journal) mode ≡ true = ap (λ was. closes was mode) (sym kept.agrees.closing.mode) ∙ changes in
-      let right : IsAnswer (CloseCore mode) answers.Closed journal = rw changes_told refl in
+      let right : IsAnswer name.to (CloseCore mode) answers.Closed journal = rw changes_told refl in
+      let holds = holds-closed middle (record middle { mode = Some mode }) core (λ queue. is_return mode && true) refl (λ queue. refl) (λ queue. refl) refl refl
+      (ended_if (record middle { mode = Some mode }) core (λ queue. true) (is_return mode) ended) in
       let kept_now = kept-effect (terms_at old) old.core middle name journal kept next sender refl (CloseCore mode) answers.Closed right (writes.CoreClosed mode)
-      (agrees-core_closed middle (record middle { mode = Some mode }) (writes.Answered name answers.Closed ∷ journal) answered_agrees mode refl) (record { may_follow = changes_told; turn = refl; effect = refl; writer = kept.is_core }) refl refl in
-      moves_none (CloseCore mode) (outcome.Answered answers.Closed) (writes.CoreClosed mode ∷ writes.Answered name answers.Closed ∷ []) (record middle { mode = Some mode }) kept_now (assumption) (assumption)
+      (agrees-core_closed (terms_at old) middle core (writes.Answered name answers.Closed ∷ journal) (answered_notes (CloseCore mode) answers.Closed right) (answered_agrees answers.Closed) mode ended)
+      (record { may_follow = changes_told; turn = refl; effect = refl; writer = kept.is_core }) refl refl in
+      moves_none (CloseCore mode) (outcome.Answered answers.Closed) (writes.CoreClosed mode ∷ writes.Answered name answers.Closed ∷ []) core kept_now (from_middle core holds) (assumption)
       (λ from. refl) counted_one unpolled_twice (answers.Closed, right, refl) (λ under at before. (λ has. (CloseCore mode, at, refl), ((CloseCore mode, at, right), before))) (omega arith)
 
+  -- a job that is inside is woken
+  module _ (actor number : ℕ) where
+    abbrev job : JobId
+    job = job_at name.to actor number
+
+    wakes_job : (core : CoreView J) → HoldsSame old.core core → Agrees core (writes.Woken job ∷ writes.Answered name answers.Woken ∷ journal) → is_inside job journal ≡ true →
+        IsCarriedOut old name (Wake actor number) (Some (outcome.Answered answers.Woken)) core (writes.Woken job ∷ writes.Answered name answers.Woken ∷ [])
+    wakes_job core holds agrees inside =
+        let right : IsAnswer name.to (Wake actor number) answers.Woken journal = ap (λ test. cond test answers.Woken answers.NoJob) (sym inside) in
+        let kept_now = kept-effect (terms_at old) old.core middle name journal kept next sender refl (Wake actor number) answers.Woken right (writes.Woken job) agrees
+        (record { may_follow = inside; turn = refl; effect = refl; writer = kept.is_core }) refl refl in
+        moves_none (Wake actor number) (outcome.Answered answers.Woken) (writes.Woken job ∷ writes.Answered name answers.Woken ∷ []) core kept_now holds (assumption)
+        (λ from. refl) counted_one unpolled_twice (answers.Woken, right, refl) (λ under at before. (λ has. (Wake actor number, at, refl), ((Wake actor number, at, right), before))) (omega arith)
+
+    woken_notes : is_inside job journal ≡ true → EachNote (MayStand (terms_at old)) (writes.Answered name answers.Woken ∷ journal)
+    woken_notes inside = answered_notes (Wake actor number) answers.Woken (ap (λ test. cond test answers.Woken answers.NoJob) (sym inside))
+
+    -- it is the one that is out, one that waits, or one that is parked
+    wakes_out : (core : CoreView J) → KeepsOutWake middle job core → IsCarriedOut old name (Wake actor number) (Some (outcome.Answered answers.Woken)) core (writes.Woken job ∷ writes.Answered name answers.Woken ∷ [])
+    wakes_out core keeps =
+        let inside = inside-out (terms_at old) old.core job journal kept.notes kept.agrees keeps.out keeps.was_out keeps.named in
+        let holds : HoldsSame old.core core = record {
+          number = ap (λ core. core.core) keeps.rest;
+          cores = ap (λ core. core.cores) keeps.rest;
+          room = ap (λ core. core.queues.room) keeps.rest;
+          same_held = ap (λ core. held_count core.queues) keeps.rest;
+          carries = carries-same (λ queue. ap (λ core. waiting_of queue core.queues) keeps.rest) (λ queue. ap (λ core. parked_of queue core.queues) keeps.rest);
+          out = subst (λ out. SameOut out core.out) (sym keeps.was_out) (true, ap (λ core. core.out) keeps.rest);
+        } in
+        wakes_job core holds (agrees-out_woken (terms_at old) middle job (writes.Answered name answers.Woken ∷ journal) (woken_notes inside) (answered_agrees answers.Woken) core keeps) inside
+
+    wakes_line : (core : CoreView J) → KeepsLineWake middle job core → IsCarriedOut old name (Wake actor number) (Some (outcome.Answered answers.Woken)) core (writes.Woken job ∷ writes.Answered name answers.Woken ∷ [])
+    wakes_line core wakes =
+        let inside = inside-line (terms_at old) old.core job journal kept.notes kept.agrees wakes.keeps in
+        let holds : HoldsSame old.core core = record {
+          number = ap (λ core. core.core) wakes.rest;
+          cores = ap (λ core. core.cores) wakes.rest;
+          room = wakes.keeps.line.same_room;
+          same_held = omega (arith, wakes.keeps.line.held, ap length wakes.keeps.was, same_length wakes.keeps.before wakes.keeps.marks (record wakes.keeps.marks { woken = true }) wakes.keeps.job wakes.keeps.behind);
+          carries = carries-kept_wake job wakes.keeps;
+          out = subst (SameOut old.core.out) (sym (ap (λ core. core.out) wakes.rest)) (same_out old.core.out);
+        } in
+        wakes_job core holds (agrees-line_woken (terms_at old) middle job (writes.Answered name answers.Woken ∷ journal) (woken_notes inside) (answered_agrees answers.Woken) core wakes) inside
+      where
+        same_length : (front : Line J) (was now : Marks) (its : J) (rest : Line J) → length (front ++ (job, now, its) ∷ rest) ≡ length (front ++ (job, was, its) ∷ rest)
+        same_length [] was now its rest = refl
+        same_length (first ∷ front) was now its rest = ap suc (same_length front was now its rest)
+
+    wakes_parked : (core : CoreView J) → EndsPark middle job core → IsCarriedOut old name (Wake actor number) (Some (outcome.Answered answers.Woken)) core (writes.Woken job ∷ writes.Answered name answers.Woken ∷ [])
+    wakes_parked core ends =
+        let inside = inside-parked (terms_at old) old.core job journal kept.notes kept.agrees ends.queue ends.wakes in
+        let holds : HoldsSame old.core core = record {
+          number = ap (λ core. core.core) ends.rest;
+          cores = ap (λ core. core.cores) ends.rest;
+          room = ends.wakes.moves.same_room;
+          same_held = ends.wakes.moves.same_held;
+          carries = carries-woken job ends.queue ends.wakes;
+          out = subst (SameOut old.core.out) (sym (ap (λ core. core.out) ends.rest)) (same_out old.core.out);
+        } in
+        wakes_job core holds (agrees-park_ended (terms_at old) middle job (writes.Answered name answers.Woken ∷ journal) (woken_notes inside) (answered_agrees answers.Woken) core ends) inside
+
+    wakes : (core : CoreView J) → WakesJob middle job core → IsCarriedOut old name (Wake actor number) (Some (outcome.Answered answers.Woken)) core (writes.Woken job ∷ writes.Answered name answers.Woken ∷ [])
+    wakes core did = ⊎_elim (wakes_out core) (λ other. ⊎_elim (wakes_line core) (wakes_parked core) other.1) did
+
+    -- a job that isn't inside is woken by nobody
+    wakes_none : IsAbsent job middle → IsAnswer name.to (Wake actor number) answers.NoJob journal
+    wakes_none absent =
+        ap (λ test. cond test answers.Woken answers.NoJob) (sym (absent_outside (terms_at old) old.core job journal kept.notes kept.agrees absent))
+
+    -- the core names the job by its own number
+    same_job : job_at old.core.core actor number ≡ job
+    same_job = ap (λ core. job_at core actor number) (sym next.receiver)
+
   -- a creation that is refused, by why
-  closed_answer : old.core.mode ≢ None → (weight : ℕ) → IsAnswer (Create weight) answers.CoreClosing journal
+  closed_answer : old.core.mode ≢ None → (weight : ℕ) → IsAnswer name.to (Create weight) answers.CoreClosing journal
   closed_answer closed weight = grind (arith, kept.agrees.closing.mode)
 
   module _ (core : CoreView J) where
@@ -190,8 +299,8 @@ module _ {J T : Type 0} (old : RecordedView J T) (name : JobId)
     placed order delivered {notes = notes} core_is written_is done = subst (Done order delivered core) (sym written_is) (subst (λ core. Done order delivered core notes) (sym core_is) done)
 
     -- a command that is refused
-    refused : (order : Order J) (answer : Answer) {written : List (Note T)} → core ≡ middle → written ≡ writes.Answered name answer ∷ [] → IsAnswer (without_job order) answer journal → has_effect answer ≡ false →
-        (IsAnswer (without_job order) answer journal → IsDelivery name order journal (writes.Answered name answer ∷ [])) → Done order (Answered answer) core written
+    refused : (order : Order J) (answer : Answer) {written : List (Note T)} → core ≡ middle → written ≡ writes.Answered name answer ∷ [] → IsAnswer name.to (without_job order) answer journal → has_effect answer ≡ false →
+        (IsAnswer name.to (without_job order) answer journal → IsDelivery name order journal (writes.Answered name answer ∷ [])) → Done order (Answered answer) core written
     refused order answer core_is written_is right plain tells = placed order (Answered answer) core_is written_is (answers_alone order answer right plain tells)
 
     -- whatever the core does with the order
@@ -217,7 +326,7 @@ module _ {J T : Type 0} (old : RecordedView J T) (name : JobId)
         refused (SetShares queue weight) answers.NoQueue does.1 does.2 (rw (lt-leb queue (created_count journal) (omega (arith, does.0, kept.agrees.last))) refl) refl (λ right. (answers.NoQueue, right, refl))
     carries_out (SetShares queue weight) spelled _ written does = absurd does
     carries_out (Close queue mode) spelled (Answered answers.Closed) written does =
-        placed (Close queue mode) (Answered answers.Closed) refl (does.2 ∙ ap (λ effect. writes.Answered name answers.Closed ∷ effect) does.1.2) (closes_queue queue mode core does.1.0 does.1.1)
+        placed (Close queue mode) (Answered answers.Closed) refl (does.2 ∙ ap (λ effect. writes.Answered name answers.Closed ∷ effect) does.1.2) (closes_queue queue mode does.1.1.0 core does.1.0 does.1.1.1 does.1.1.2)
     carries_out (Close queue mode) spelled (Answered answers.AlreadyClosed) written does =
         refused (Close queue mode) answers.AlreadyClosed does.1.2 (does.2 ∙ ap (λ effect. writes.Answered name answers.AlreadyClosed ∷ effect) does.1.3)
         (rw (le-leb queue (created_count journal) (omega (arith, does.1.0, kept.agrees.last)), ← kept.agrees.closing.modes queue, does.1.1) refl) refl (λ right. (answers.AlreadyClosed, right, refl))
@@ -227,11 +336,17 @@ module _ {J T : Type 0} (old : RecordedView J T) (name : JobId)
     carries_out (Close queue mode) spelled (Answered _) written does = absurd does.1
     carries_out (Close queue mode) spelled _ written does = absurd does
     carries_out (CloseCore mode) spelled (Answered answers.Closed) written does =
-        placed (CloseCore mode) (Answered answers.Closed) does.1.1 (does.2 ∙ ap (λ effect. writes.Answered name answers.Closed ∷ effect) does.1.2) (closes_core mode does.1.0)
+        placed (CloseCore mode) (Answered answers.Closed) refl (does.2 ∙ ap (λ effect. writes.Answered name answers.Closed ∷ effect) does.1.2) (closes_core mode core does.1.0 does.1.1)
     carries_out (CloseCore mode) spelled (Answered answers.AlreadyClosed) written does =
         refused (CloseCore mode) answers.AlreadyClosed does.1.1 (does.2 ∙ ap (λ effect. writes.Answered name answers.AlreadyClosed ∷ effect) does.1.2)
         (rw (← kept.agrees.closing.mode, does.1.0) refl) refl (λ right. (answers.AlreadyClosed, right, refl))
     carries_out (CloseCore mode) spelled _ written does = absurd does
+    carries_out (Wake actor number) spelled (Answered answers.Woken) written does =
+        placed (Wake actor number) (Answered answers.Woken) refl (does.1 ∙ ap (λ job. writes.Answered name answers.Woken ∷ writes.Woken job ∷ []) (same_job actor number))
+        (wakes actor number core (subst (λ job. WakesJob middle job core) (same_job actor number) does.0))
+    carries_out (Wake actor number) spelled (Answered answers.NoJob) written does =
+        refused (Wake actor number) answers.NoJob does.0.1 does.1 (wakes_none actor number (subst (λ job. IsAbsent job middle) (same_job actor number) does.0.0)) refl (λ right. (answers.NoJob, right, refl))
+    carries_out (Wake actor number) spelled _ written does = absurd does
 
 -- the outcome of a delivery fits its order
 module _ {J T : Type 0} (meaning : Meaning J T) (laws : IsMeaning meaning) (old core : CoreView J) (name : JobId) (written : List (Note T)) where

@@ -1,6 +1,7 @@
 -- A core beside its journal creates a queue before anything else is done, closes by itself, and shuts the gate of a sender, whose end stays beside it.
+use Rattle.rt_journal.proofs.Names.{HaveTasks, held_count, is_return, parked_of, waiting_of, ◌&&◌}
 use Rattle.rt_journal.proofs.Names.{DeliversAs, EachNote, none-some, ◌≡◌, ℕ, ◌+◌, List, [], ◌∷◌, refl, sym, ◌∙◌, ap}
-use Rattle.rt_journal.proofs.Names.{subst, arith, add-zero, All, is_some, Result, Ok, Err, InRange, JobId, Note}
+use Rattle.rt_journal.proofs.Names.{subst, arith, add-zero, is_some, Result, Ok, Err, InRange, JobId, Note}
 use Rattle.rt_journal.proofs.Names.{Journal, IsOpening, number_if, Meaning, queue_count, CreateError, TooMany, Memory}
 use Rattle.rt_journal.proofs.Names.{CoreView, inside_count, Creates, polls_made, RecordedView, terms_at, IsRecorded}
 use Rattle.rt_journal.proofs.Names.{HasTask, CreatesQueue, Bool, true, false, cond, Option, Some, None, Mode, Order}
@@ -11,9 +12,11 @@ use Rattle.rt_journal.proofs.Names.{SoundIn, Shuts, IsInOf, TellsShut, given_cou
 use Rattle.rt_ids.specs.declared.note.Note.TheVariants as writes
 use Rattle.rt_journal.specs.Agreement.{IsKept}
 use Rattle.rt_journal.proofs.Kept.{kept_after}
-use Rattle.rt_journal.proofs.CarriedOut.{HoldsSame}
-use Rattle.rt_journal.proofs.KeptDeliveries.{agrees-created, agrees-core_closed, agrees-shut}
-use Rattle.rt_journal.proofs.Received.{task_stays, waiting_stays}
+use Rattle.rt_core.specs.Closing as core_says
+use Rattle.rt_journal.proofs.Inside.{HoldsSame, SameOut, carries-same, holds-closed, same_out, same_out-holds, same_out-some}
+use Rattle.rt_journal.proofs.KeptClosings.{agrees-core_closed, ended_if}
+use Rattle.rt_journal.proofs.KeptDeliveries.{agrees-created, agrees-shut}
+use Rattle.rt_journal.proofs.Received.{task_stays, tasks_stay}
 use Rattle.rt_journal.proofs.QuietSteps.{nobody, IsQuiet, IsQuietStep, everyone, HasDone, nothing_did, done_so, stepped}
 use Rattle.rt_journal.proofs.Sums.{sum_upto-same}
 use Rattle.rt_journal.proofs.EndsKept.{sees_more_in}
@@ -29,11 +32,13 @@ module _ {J T : Type 0} {meaning : Meaning J T} (old : RecordedView J T) (record
   unmoved_step : {keeps : ℕ → Type 0} → IsKept (terms_at old) core (note ∷ old.journal.notes) → IsQuiet keeps nobody old.journal.notes (note ∷ old.journal.notes) →
       ((which : JobId) → polls_made which (note ∷ old.journal.notes) ≡ polls_made which old.journal.notes) → IsQuietStep old core (note ∷ []) meaning keeps nobody
   unmoved_step kept quiet unpolled =
-      let inside : inside_count core ≡ inside_count old.core = λ i. holds.same_held i + number_if (is_some (holds.out i)) in
+      let inside : inside_count core ≡ inside_count old.core = λ i. holds.same_held i + number_if (same_out-some old.core.out core.out holds.out i) in
       let given = sum_upto-same (given_count (note ∷ old.journal.notes)) (given_count old.journal.notes) old.core.cores (λ sender. ap length (quiet.given sender)) in
       let fewer : inside_count core + sum_upto (given_count (note ∷ old.journal.notes)) old.core.cores ≤ inside_count old.core + sum_upto (given_count old.journal.notes) old.core.cores = omega (arith, inside, given) in
-      let waiting = λ (queue : ℕ). subst (All (λ entry. HasTask meaning old.took (note ∷ old.journal.notes) queue entry.0 entry.2)) (sym (holds.same_lines queue)) (waiting_stays old recorded (note ∷ []) unpolled queue) in
-      let out : (job : JobOut J) → core.out ≡ Some job → HasTask meaning old.took (note ∷ old.journal.notes) job.queue job.name job.job = λ job at. task_stays (λ order at. at) (unpolled job.name) (recorded.out job (sym holds.out ∙ at)) in
+      let moved = holds.carries (λ queue name job. HasTask meaning old.took (note ∷ old.journal.notes) queue name job) (tasks_stay old recorded (note ∷ []) unpolled) in
+      let tasks : HaveTasks meaning (stepped old core (note ∷ [])) = record { waiting = moved.waiting; parked = moved.parked } in
+      let out : (job : JobOut J) → core.out ≡ Some job → HasTask meaning old.took (note ∷ old.journal.notes) job.queue job.name job.job =
+      same_out-holds (λ queue name job. HasTask meaning old.took (note ∷ old.journal.notes) queue name job) old.core.out core.out holds.out (λ job at. task_stays (λ order at. at) (unpolled job.name) (recorded.out job at)) in
       assumption
 
 module _ {J T : Type 0} {meaning : Meaning J T}
@@ -43,7 +48,14 @@ module _ {J T : Type 0} {meaning : Meaning J T}
     created =
         let kept = kept_after (terms_at old) (writes.Created queue weight) recorded.kept (agrees-created old.core core queue weight old.journal.notes recorded.kept.agrees next creates delivered)
         recorded.kept.is_core (record { next = next ∙ recorded.kept.agrees.last; in_range = omega (arith, next, creates.few); shares = in_range }) refl opening refl refl in
-        let holds : HoldsSame old.core core = assumption (ap (λ core. core.core) creates.rest, ap (λ core. core.cores) creates.rest, creates.added.same_room, ap (λ core. core.out) creates.rest) in
+        let holds : HoldsSame old.core core = record {
+          number = ap (λ core. core.core) creates.rest;
+          cores = ap (λ core. core.cores) creates.rest;
+          room = creates.added.same_room;
+          same_held = creates.added.same_held;
+          carries = carries-same creates.added.same_lines creates.added.same_parks;
+          out = subst (SameOut old.core.out) (sym (ap (λ core. core.out) creates.rest)) (same_out old.core.out);
+        } in
         let as_sent : (under : _) → EachNote (DeliversAs under) old.journal.notes → EachNote (DeliversAs under) (writes.Created queue weight ∷ old.journal.notes) = λ under before. (carries_none under (writes.Created queue weight) old.journal.notes recorded.kept.no_answer, before) in
         unmoved_step old recorded core holds (writes.Created queue weight) kept (assumption as_sent) (λ which. add-zero (polls_made which old.journal.notes))
 
@@ -60,18 +72,26 @@ module _ {J T : Type 0} {meaning : Meaning J T} (old : RecordedView J T) (record
   closes_told : (test : Bool) → closes old.core.mode mode ≡ test → closes (core_mode old.journal.notes) mode ≡ test
   closes_told test changes = ap (λ was. closes was mode) (sym recorded.kept.agrees.closing.mode) ∙ changes
 
-  close_step : (core : CoreView J) → closes old.core.mode mode ≡ true → core ≡ record old.core { mode = Some mode } →
+  closed_holds : (core : CoreView J) → core_says.EndsParksIf (is_return mode) (record old.core { mode = Some mode }) (λ queue. true) core → HoldsSame old.core core
+  closed_holds core ended = holds-closed old.core (record old.core { mode = Some mode }) core (λ queue. is_return mode && true) refl (λ queue. refl) (λ queue. refl) refl refl
+      (ended_if (record old.core { mode = Some mode }) core (λ queue. true) (is_return mode) ended)
+
+  -- no job goes out or comes back
+  closed_out : (core : CoreView J) → core_says.EndsParksIf (is_return mode) (record old.core { mode = Some mode }) (λ queue. true) core → core.out ≡ old.core.out
+  closed_out core ended = ap (λ core. core.out) (ended_if (record old.core { mode = Some mode }) core (λ queue. true) (is_return mode) ended).rest
+
+  close_step : (core : CoreView J) → closes old.core.mode mode ≡ true → core_says.EndsParksIf (is_return mode) (record old.core { mode = Some mode }) (λ queue. true) core →
       IsQuietStep old core (writes.CoreClosed mode ∷ []) meaning everyone nobody
-  close_step core changes is =
-      let kept = kept_after (terms_at old) (writes.CoreClosed mode) recorded.kept (agrees-core_closed old.core core old.journal.notes recorded.kept.agrees mode is) recorded.kept.is_core
+  close_step core changes ended =
+      let kept = kept_after (terms_at old) (writes.CoreClosed mode) recorded.kept (agrees-core_closed (terms_at old) old.core core old.journal.notes recorded.kept.notes recorded.kept.agrees mode ended) recorded.kept.is_core
       (closes_told true changes) refl tt refl refl in
       let as_sent : (under : _) → EachNote (DeliversAs under) old.journal.notes → EachNote (DeliversAs under) (writes.CoreClosed mode ∷ old.journal.notes) = λ under before. (carries_none under (writes.CoreClosed mode) old.journal.notes recorded.kept.no_answer, before) in
-      unmoved_step old recorded core (subst (HoldsSame old.core) (sym is) assumption) (writes.CoreClosed mode) kept (assumption as_sent) (λ which. add-zero (polls_made which old.journal.notes))
+      unmoved_step old recorded core (closed_holds core ended) (writes.CoreClosed mode) kept (assumption as_sent) (λ which. add-zero (polls_made which old.journal.notes))
 
   -- whether or not that changes anything
   pub closed_did : (closed : Bool) (core : CoreView J) (notes : List (Note T)) → ClosesCore old.core mode closed core notes →
       HasDone meaning old core everyone nobody 1 (λ old new. ClosesItself old mode closed new) notes
-  closed_did true core notes did = done_so did.2 (close_step core did.0 did.1) (omega arith) (closes_told true did.0, refl, ap (λ core. core.out) did.1, refl)
+  closed_did true core notes did = done_so did.2 (close_step core did.0 did.1) (omega arith) (closes_told true did.0, refl, closed_out core did.1, refl)
   closed_did false core notes did = nothing_did recorded did.1 did.2 (closes_told false did.0, refl)
 
 module _ {J T : Type 0} (old : RecordedView J T) (from count : ℕ) (core : CoreView J) (is : core ≡ record old.core { gates = slice_set old.core.gates from (Some count) }) where
@@ -85,7 +105,15 @@ module _ {J T : Type 0} (old : RecordedView J T) (from count : ℕ) (core : Core
       let kept = kept_after (terms_at old) (writes.Shut from count) recorded.kept (agrees-shut old.core core old.journal.notes recorded.kept.agrees from count next.known is) recorded.kept.is_core next
       refl tt refl refl in
       let gates = λ (sender : ℕ) (away : sender ≡ from → ⊥). ap (λ test. or_else (cond test (Some count) None) (final_count sender old.journal.notes)) (ne_eqb sender from away) in
-      unmoved_step old recorded core (subst (HoldsSame old.core) (sym is) assumption) (writes.Shut from count) kept (assumption gates) (λ which. add-zero (polls_made which old.journal.notes))
+      let holds : HoldsSame old.core core = record {
+        number = ap (λ core. core.core) is;
+        cores = ap (λ core. core.cores) is;
+        room = ap (λ core. core.queues.room) is;
+        same_held = ap (λ core. held_count core.queues) is;
+        carries = carries-same (λ queue. ap (λ core. waiting_of queue core.queues) is) (λ queue. ap (λ core. parked_of queue core.queues) is);
+        out = subst (SameOut old.core.out) (sym (ap (λ core. core.out) is)) (same_out old.core.out);
+      } in
+      unmoved_step old recorded core holds (writes.Shut from count) kept (assumption gates) (λ which. add-zero (polls_made which old.journal.notes))
 
   -- the end of this sender is shut where the journal says so
   pub shut_beside : (before after : Inward J T) → IsInOf from old before → Shuts before after count → IsInOf from (stepped old core written) after

@@ -79,7 +79,7 @@ module _ {T : Type 0} (under : JobId → Option (Order (Unit {0}))) (name : JobI
       not_now (writes.Returned other reason) delivers apart now = another name other apart (its_name other _ entry (other.from == sender) now ∙ one)
       not_now (writes.Answered other answer) delivers apart now =
           let is_order = same_Some _ _ (sym delivers.1 ∙ (ap under (its_name other _ entry (other.from == sender) now ∙ one) ∙ is_job)) in
-          subst (λ order. IsAnswer order answer before) is_order delivers.2
+          subst (λ order. IsAnswer other.to order answer before) is_order delivers.2
       not_now _ delivers apart now = none-some entry now
 
 -- and so nothing is given under it on the end of its sender

@@ -32,6 +32,12 @@ module _ {T : Type 0} (other queue : ℕ) (journal : Journal T) where
     pub told-yield : (time : ℕ) → figures_told other (writes.Yield name time ∷ journal) ≡ grown (one_poll time 0)
     told-yield time = grind (arith, its)
 
+    pub told-park : (time : ℕ) → figures_told other (writes.Park name time ∷ journal) ≡ grown (one_poll time 0)
+    told-park time = grind (arith, its)
+
+    pub told-stayed : (time : ℕ) → figures_told other (writes.Stayed name time ∷ journal) ≡ grown (one_poll time 0)
+    told-stayed time = grind (arith, its)
+
     pub told-done : (time : ℕ) (value : T) → figures_told other (writes.Done name time value ∷ journal) ≡ grown (one_poll time 1)
     told-done time value = grind (arith, its)
 

@@ -1,7 +1,7 @@
 -- An outcome that is owed may be given on the end of its sender, and is owed no more then.
 use Rattle.rt_journal.proofs.Names.{◌≡◌, ℕ, [], ◌∷◌, ◌++◌, refl, sym, ◌∙◌, ap, subst, arith, cond, Option, Some, None}
 use Rattle.rt_journal.proofs.Names.{IfSome, option_map, eq-eqb, map-append, JobId, Order, Job, Outcome, Reason}
-use Rattle.rt_journal.proofs.Names.{outcome_note, Meaning, Inward, MayGive, Fits, Settled, Yielded, IsSentUnder}
+use Rattle.rt_journal.proofs.Names.{outcome_note, Meaning, Inward, MayGive, Fits, Parked, Settled, Stayed, Yielded, IsSentUnder}
 use Rattle.rt_journal.proofs.Names.{outcome_settled, MayAnswer, RecordedView, IsRecorded, IsTaken, order_taken}
 use Rattle.rt_journal.proofs.Names.{IsInOf, IsInOwing, Gives, told_under, name_of, named_outcomes, Finished}
 use Rattle.rt_ids.specs.declared.order.Outcome.TheVariants as outcome
@@ -57,5 +57,7 @@ pub given_done : {J T : Type 0} (meaning : Meaning J T) (view : RecordedView J T
     (settled : Settled T) → MayAnswer meaning view.took name settled → IsInOwing name.from (told_under name (option_map outcome_note (outcome_settled {J = J} settled)) name.from) view inward →
     IfSome (outcome_settled settled) (λ outcome. MayGive (Fits meaning) inward name.number outcome) × ((after : Inward J T) → Gives inward name.number (outcome_settled settled) after → IsInOf name.from view after)
 given_done meaning view recorded name inward Yielded may is = (tt, λ after gives. subst (IsInOf name.from view) (sym gives) is)
+given_done meaning view recorded name inward Parked may is = (tt, λ after gives. subst (IsInOf name.from view) (sym gives) is)
+given_done meaning view recorded name inward Stayed may is = (tt, λ after gives. subst (IsInOf name.from view) (sym gives) is)
 given_done meaning view recorded name inward (Finished answer) may is =
     given view name (Job may.0 may.1) may.2 inward (recorded.taken name _ may.2) (Fits meaning) (Some (outcome.Finished answer)) may.3 is

@@ -1,37 +1,30 @@
 -- A core that agrees with a journal in which each note may stand: what follows for a note that changes nothing of the core, and for modes and gates.
-use Rattle.rt_journal.proofs.AgreementNames.{add-zero, All-append, All-cons, All-nil, nat_lt, slice_index_or}
+use Rattle.rt_journal.proofs.AgreementNames.{Line, add-zero, brings_work, is_wake_kept, marks_told, name_parked, name_parking, names_parked}
+use Rattle.rt_journal.proofs.AgreementNames.{nat_lt, parked, parked-stays, parked_of, slice_index_or, still_parked, unparked, unwrap_or}
+use Rattle.rt_journal.proofs.AgreementNames.{is_name, is_some, reason_if_returning, return_reason, return_reason_of, stays, stays_in_line}
+use Rattle.rt_journal.proofs.AgreementNames.{wake_told}
+use Rattle.rt_ids.specs.declared.order.Reason.TheVariants as why
 use Rattle.rt_journal.proofs.AgreementNames.{CoreView, JobOut, is_any, is_working, tally_of, Tally, queue_out-alone}
 use Rattle.rt_journal.proofs.AgreementNames.{queue_out-nobody, line-stays, floor-stays, virtual_runtime-stays, has_work-line}
 use Rattle.rt_journal.proofs.AgreementNames.{core_mode, core_mode_told, count_told, final_count, mode_told, queue_mode}
 use Rattle.rt_journal.proofs.AgreementNames.{IsOpening, created_count, refusal, delivered_names, name_started, or_else}
 use Rattle.rt_journal.proofs.AgreementNames.{name_joining, name_leaving, name_polled, name_settled, queue_out, is_number}
 use Rattle.rt_journal.proofs.AgreementNames.{pick_count, turns, charge_noted, runtime_picked, shares, has_work, number_if}
-use Rattle.rt_journal.proofs.AgreementNames.{queue_entered, queue_joined, Created, Mode, Agrees, AgreesOnClosing, AreMarked}
+use Rattle.rt_journal.proofs.AgreementNames.{queue_entered, Created, Mode, Agrees, AgreesOnClosing, AreMarked}
 use Rattle.rt_journal.proofs.AgreementNames.{IsJobOut, IsKept, names_of, figures_in, figures_noted, no_figures, Bool}
 use Rattle.rt_journal.proofs.AgreementNames.{EachNote, IsEffectDue, JobId, Journal, List, MayFollow, MayStand, MayWrite}
 use Rattle.rt_journal.proofs.AgreementNames.{None, Note, Option, Some, Terms, [], ap, arith, effect_awaited, false, is_told}
 use Rattle.rt_journal.proofs.AgreementNames.{length, queue_just_picked, refl, subst, sym, takes_turn, ℕ, ◌++◌, ◌+◌, ◌<◌}
-use Rattle.rt_journal.proofs.AgreementNames.{◌||◌, ◌∙◌, ◌∷◌, ◌≡◌, ◌≤◌, ChangesLine, QueuesView, mode_of, queue_count}
+use Rattle.rt_journal.proofs.AgreementNames.{◌||◌, ◌∙◌, ◌∷◌, ◌≡◌, ◌≤◌, QueuesView, mode_of, queue_count}
 use Rattle.rt_journal.proofs.AgreementNames.{shares_of, waiting_of}
 use Rattle.rt_core.specs.State as state
 use Rattle.rt_core.specs.Closing as core_says
-use Rattle.rt_journal.proofs.Places.{each_line}
+use Rattle.rt_journal.proofs.Marks.{marks-stay}
 use Rattle.rt_journal.proofs.Figures.{figures-stays}
-
-module _ {J T : Type 0} where
-  -- a job in a line is marked as started where the journal says so
-  abbrev pub is_marked : Journal T → JobId × Bool × J → Type 0
-  is_marked journal entry = entry.1 ≡ is_told name_started entry.0 journal
-
-  -- so they stay, as one more that is marked so enters a line
-  pub marks_longer : (journal : Journal T) {old queues : QueuesView J} {queue : ℕ} (name : JobId) (started : Bool) (job : J) → started ≡ is_told name_started name journal →
-      ChangesLine old queues queue (waiting_of queue old ++ (name, started, job) ∷ []) → ((other : ℕ) → AreMarked journal (waiting_of other old)) → (other : ℕ) → AreMarked journal (waiting_of other queues)
-  marks_longer journal {old = old} {queue = queue} name started job is changes were = each_line (λ at. AreMarked journal) changes
-      (All-append (is_marked journal) (waiting_of queue old) ((name, started, job) ∷ []) (were queue) (All-cons (is_marked journal) (name, started, job) [] is (All-nil (is_marked journal)))) were
 
 module _ {J : Type 0} where
   -- something is there where a job waits or is out
-  nat_lt-line : (waiting : List (JobId × Bool × J)) (out : Bool) → nat_lt 0 (length (names_of waiting) + number_if out) ≡ (is_any waiting || out)
+  nat_lt-line : (waiting : Line J) (out : Bool) → nat_lt 0 (length (names_of waiting) + number_if out) ≡ (is_any waiting || out)
   nat_lt-line waiting out = grind arith
 
 module _ {J T : Type 0} (core : CoreView J) (journal : Journal T) where
@@ -45,41 +38,51 @@ module _ {J T : Type 0} (core : CoreView J) (journal : Journal T) where
       rw (has_work-line terms queue journal notes, ← queue_out-agrees agrees.out, ← agrees.lines queue)
       (sym (nat_lt-line (waiting_of queue core.queues) (is_number queue (state.queue_out core.out))))
 
--- a note by which no job comes, goes, is polled, settled or started, none enters a queue, and nothing is charged, picked or counted, as that of a gate that is shut
+-- a note by which no job comes, goes, is polled, settled, started, parked or woken, and nothing is charged, picked or counted, as that of a gate that is shut
 pub record IsCalm {T : Type 0} (note : Note T) (before : Journal T) : Type 0 where
   pub joins : (queue : ℕ) → name_joining queue note before ≡ None
   pub leaves : name_leaving note ≡ None
   pub polls : name_polled note ≡ None
   pub settles : name_settled note ≡ None
   pub starts : name_started note ≡ None
-  pub enters : queue_joined note ≡ None
+  pub brings : (queue : ℕ) → brings_work queue note before ≡ false
   pub takes : (name : JobId) → queue_entered name note ≡ None
   pub costs : (queue : ℕ) → charge_noted queue note before ≡ 0
   pub picks : runtime_picked note ≡ 0
   pub turns_made : pick_count note ≡ 0
   pub counts : (queue : ℕ) → figures_noted queue note before ≡ no_figures
+  pub ends : (queue : ℕ) → unparked queue note (parked queue before) ≡ []
+  pub still : (queue : ℕ) → still_parked queue note (parked queue before) ≡ parked queue before
+  pub parks : name_parked note ≡ None
+  pub parks_here : (queue : ℕ) → name_parking queue note before ≡ None
+  pub wakes : (name : JobId) → wake_told name note before ≡ None
 
 -- what is no pick makes no turn
 pub turns-stays : {T : Type 0} (note : Note T) (before : Journal T) → pick_count note ≡ 0 → turns (note ∷ before) ≡ turns before
 turns-stays note before none = ap (λ count. turns before + count) none ∙ add-zero (turns before)
 
+-- by a calm note the marks of each job stay
+marks-calm : {T : Type 0} (note : Note T) (before : Journal T) → IsCalm note before → (name : JobId) → marks_told name (note ∷ before) ≡ marks_told name before
+marks-calm note before calm name = λ i. record { started = is_name name (calm.starts i) || is_told name_started name before; woken = unwrap_or (calm.wakes name i) (is_wake_kept name before) }
+
 module _ {J T : Type 0} (note : Note T) (before : Journal T) (calm : IsCalm note before) where
   out-calm : (out : Option (JobOut J)) → IsJobOut out before → IsJobOut out (note ∷ before)
   out-calm None nobody = rw (calm.settles, calm.polls) nobody
-  out-calm (Some job) alone = (rw (calm.settles, calm.polls) alone.0, rw (calm.takes job.name) alone.1)
+  out-calm (Some job) alone = (rw (calm.settles, calm.polls) alone.0, rw (calm.takes job.name) alone.1, alone.2 ∙ sym (ap (λ told. unwrap_or told (is_wake_kept job.name before)) (calm.wakes job.name)))
 
   -- a core whose queues hold the same jobs and count the same of them agrees with a calm note
   agrees_calm : (old : CoreView J) → Agrees old before → (queues : QueuesView J) (tallies : List Tally) (delivered : List ℕ) (gates : List (Option ℕ)) (mode : Option Mode) →
-      ((queue : ℕ) → waiting_of queue queues ≡ waiting_of queue old.queues) → ((queue : ℕ) → tally_of queue (record old { tallies = tallies }) ≡ tally_of queue old) →
-      length tallies ≡ queue_count queues → queue_count queues ≡ created_count (note ∷ before) + 1 → queue_count old.queues ≤ queue_count queues →
+      ((queue : ℕ) → waiting_of queue queues ≡ waiting_of queue old.queues) → ((queue : ℕ) → parked_of queue queues ≡ parked_of queue old.queues) →
+      ((queue : ℕ) → tally_of queue (record old { tallies = tallies }) ≡ tally_of queue old) → length tallies ≡ queue_count queues → queue_count queues ≡ created_count (note ∷ before) + 1 → queue_count old.queues ≤ queue_count queues →
       ((queue : ℕ) → queue < queue_count queues → shares_of queue queues ≡ shares queue (note ∷ before)) → length delivered ≡ old.cores + 1 →
       ((sender : ℕ) → sender ≤ old.cores → slice_index_or delivered sender 0 ≡ length (delivered_names sender (note ∷ before))) →
       AgreesOnClosing (record old { queues = queues; tallies = tallies; delivered = delivered; gates = gates; mode = mode }) (note ∷ before) →
       Agrees (record old { queues = queues; tallies = tallies; delivered = delivered; gates = gates; mode = mode }) (note ∷ before)
-  agrees_calm old agrees queues tallies delivered gates mode same_lines same tallied last more weights senders counted closing =
-      let lines = λ (queue : ℕ). ap names_of (same_lines queue) ∙ (agrees.lines queue ∙ sym (line-stays queue note before calm.leaves (calm.joins queue))) in
-      let marks = λ (queue : ℕ). subst (AreMarked (note ∷ before)) (sym (same_lines queue)) (rw calm.starts (agrees.marks queue)) in
-      let runtimes = λ (queue : ℕ). ap (λ tally. tally.runtime) (same queue) ∙ (agrees.runtimes queue ∙ sym (virtual_runtime-stays queue before note calm.enters (calm.costs queue))) in
+  agrees_calm old agrees queues tallies delivered gates mode same_lines same_parks same tallied last more weights senders counted closing =
+      let lines = λ (queue : ℕ). ap names_of (same_lines queue) ∙ (agrees.lines queue ∙ sym (line-stays queue note before calm.leaves (calm.joins queue) (calm.ends queue))) in
+      let parks = λ (queue : ℕ). ap names_parked (same_parks queue) ∙ (agrees.parks queue ∙ sym (parked-stays queue note before (calm.still queue) calm.parks (calm.parks_here queue))) in
+      let marks = λ (queue : ℕ). subst (AreMarked (note ∷ before)) (sym (same_lines queue)) (marks-stay note before (marks-calm note before calm) (waiting_of queue old.queues) (agrees.marks queue)) in
+      let runtimes = λ (queue : ℕ). ap (λ tally. tally.runtime) (same queue) ∙ (agrees.runtimes queue ∙ sym (virtual_runtime-stays queue before note (calm.brings queue) (calm.costs queue))) in
       let floor_now = agrees.the_floor ∙ sym (floor-stays note before calm.picks) in
       let turns_now = agrees.turns ∙ sym (turns-stays note before calm.turns_made) in
       let figures = λ (queue : ℕ). ap figures_in (same queue) ∙ (agrees.figures queue ∙ sym (figures-stays queue note before (calm.counts queue))) in
@@ -93,19 +96,19 @@ pub agrees_unmoved : {J T : Type 0} (old : CoreView J) (journal : Journal T) (no
     (gates : List (Option ℕ)) (mode : Option Mode) → AgreesOnClosing (record old { delivered = delivered; gates = gates; mode = mode }) (note ∷ journal) →
     Agrees (record old { delivered = delivered; gates = gates; mode = mode }) (note ∷ journal)
 agrees_unmoved old journal note agrees calm creates weighs delivered senders counted gates mode closing =
-    agrees_calm note journal calm old agrees old.queues old.tallies delivered gates mode (λ queue. refl) (λ queue. refl) agrees.tallied (agrees.last ∙ ap (λ count. count + 1) (sym creates)) (omega arith)
+    agrees_calm note journal calm old agrees old.queues old.tallies delivered gates mode (λ queue. refl) (λ queue. refl) (λ queue. refl) agrees.tallied (agrees.last ∙ ap (λ count. count + 1) (sym creates)) (omega arith)
     (λ queue there. agrees.weights queue there ∙ sym (weighs queue)) senders counted closing
 
 -- and one that has delivered nothing
 pub agrees_steady : {J T : Type 0} (old new : CoreView J) (journal : Journal T) (note : Note T) → Agrees old journal → IsCalm note journal → (queues : QueuesView J) (tallies : List Tally) →
     new ≡ record old { queues = queues; tallies = tallies } → ((queue : ℕ) → waiting_of queue queues ≡ waiting_of queue old.queues) →
-    ((queue : ℕ) → tally_of queue (record old { tallies = tallies }) ≡ tally_of queue old) → length tallies ≡ queue_count queues →
+    ((queue : ℕ) → parked_of queue queues ≡ parked_of queue old.queues) → ((queue : ℕ) → tally_of queue (record old { tallies = tallies }) ≡ tally_of queue old) → length tallies ≡ queue_count queues →
     queue_count queues ≡ created_count (note ∷ journal) + 1 → queue_count old.queues ≤ queue_count queues →
     ((queue : ℕ) → queue < queue_count queues → shares_of queue queues ≡ shares queue (note ∷ journal)) → ((sender : ℕ) → delivered_names sender (note ∷ journal) ≡ delivered_names sender journal) →
     AgreesOnClosing (record old { queues = queues; tallies = tallies }) (note ∷ journal) → Agrees new (note ∷ journal)
-agrees_steady old new journal note agrees calm queues tallies is lines same tallied last more weights delivers closing =
+agrees_steady old new journal note agrees calm queues tallies is lines parks same tallied last more weights delivers closing =
     subst (λ core. Agrees core (note ∷ journal)) (sym is)
-    (agrees_calm note journal calm old agrees queues tallies old.delivered old.gates old.mode lines same tallied last more weights agrees.senders
+    (agrees_calm note journal calm old agrees queues tallies old.delivered old.gates old.mode lines parks same tallied last more weights agrees.senders
     (λ sender known. agrees.delivered sender known ∙ ap length (sym (delivers sender))) closing)
 
 -- a note that takes no turn and is no effect may stand behind those of a kept core
@@ -152,6 +155,18 @@ module _ {J T : Type 0} (view : CoreView J) (journal : Journal T) (agrees : Agre
   -- a job is refused for the reason that the journal gives
   pub refusal-agrees : queue_count view.queues ≡ created_count journal + 1 → (queue : ℕ) → core_says.refusal queue view ≡ refusal queue journal
   refusal-agrees last queue = grind (arith, agrees.modes queue)
+
+  -- and goes back for that reason
+  pub return_reason-agrees : (queue : ℕ) → core_says.return_reason queue view ≡ return_reason queue journal
+  return_reason-agrees queue = λ i. or_else (reason_if_returning (agrees.modes queue i) why.QueueReturned) (reason_if_returning (agrees.mode i) why.CoreReturned)
+
+-- the job that is out stays in its line where the journal says so, if it asks to be parked
+pub stays-agrees : {J T : Type 0} (core : CoreView J) (journal : Journal T) → Agrees core journal → (job : JobOut J) → core.out ≡ Some job → stays job core ≡ stays_in_line job.name journal
+stays-agrees core journal agrees job at =
+    let is = subst (λ out. IsJobOut out journal) at agrees.out in
+    ap (λ kept. kept || is_some (core_says.return_reason job.queue core)) is.2
+    ∙ ap (λ reason. is_wake_kept job.name journal || is_some reason)
+    (return_reason-agrees core journal agrees.closing job.queue ∙ ap (λ queue. return_reason_of queue journal) (sym is.1))
 
 -- a core that opens is open
 module _ {T : Type 0} where

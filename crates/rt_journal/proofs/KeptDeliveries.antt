@@ -1,26 +1,29 @@
 -- What a core tells of itself stays what its journal says, as a submission is delivered: a job enters or goes back, a command is answered, creates, weighs or closes; and as a gate is shut.
-use Rattle.rt_journal.proofs.AgreementNames.{get_or-set_other, length-set, le-leb, lt-leb, max, nat_le, slice_index_or}
-use Rattle.rt_journal.proofs.AgreementNames.{slice_set, HasClosed, CountsAlone, Creates, Weighs, counted, CoreView, JobOut}
+use Rattle.rt_journal.proofs.AgreementNames.{Marks, get_or-set_other, is_wake_kept, keeps_wakes, length-set, le-leb, lt-leb}
+use Rattle.rt_journal.proofs.AgreementNames.{marks_told, names_parked, nat_le, slice_index_or}
+use Rattle.rt_journal.proofs.AgreementNames.{slice_set, CountsAlone, Creates, Weighs, counted, CoreView, JobOut}
 use Rattle.rt_journal.proofs.AgreementNames.{entry_runtime, is_working, no_tally, runtime_of, tally_of, Tally, known_of}
 use Rattle.rt_journal.proofs.AgreementNames.{not_old, line-took, line-took_elsewhere, floor-stays, shares-created}
 use Rattle.rt_journal.proofs.AgreementNames.{shares-created_elsewhere, shares-set, shares-set_elsewhere}
 use Rattle.rt_journal.proofs.AgreementNames.{virtual_runtime-took_busy, virtual_runtime-took_elsewhere}
-use Rattle.rt_journal.proofs.AgreementNames.{virtual_runtime-took_idle, started_of, final_count, queue_mode, IsAnswer}
+use Rattle.rt_journal.proofs.AgreementNames.{virtual_runtime-took_idle, started_of, final_count, IsAnswer}
 use Rattle.rt_journal.proofs.AgreementNames.{created_count, has_effect, queue_created, refusal, delivered_names, if_from}
 use Rattle.rt_journal.proofs.AgreementNames.{name_started, list_told, or_else, IsNextDelivered, shares, virtual_runtime}
-use Rattle.rt_journal.proofs.AgreementNames.{has_work, queue_of, Answer, Mode, Reason, Agrees, IsJobOut, IsKept, names_of}
-use Rattle.rt_journal.proofs.AgreementNames.{Bool, EachNote, JobId, Journal, List, MayStand, None, Note, Option, Order, Some}
+use Rattle.rt_journal.proofs.AgreementNames.{has_work, queue_of, Answer, Reason, Agrees, IsJobOut, IsKept, names_of}
+use Rattle.rt_journal.proofs.AgreementNames.{EachNote, JobId, Journal, List, MayStand, None, Note, Option, Order, Some}
 use Rattle.rt_journal.proofs.AgreementNames.{Terms, [], ap, arith, cond, effect_awaited, false, false_from_ne_true, get_or}
 use Rattle.rt_journal.proofs.AgreementNames.{get_or-set_same, inr, is_some, is_told, length, length-append, map-append}
 use Rattle.rt_journal.proofs.AgreementNames.{queue_just_picked, refl, same_as_itself, same_name, set, subst, sym, true}
 use Rattle.rt_journal.proofs.AgreementNames.{true≢false, with_last, ℕ, ◌++◌, ◌+◌, ◌<◌, ◌==◌, ◌∙◌, ◌∷◌, ◌≡◌, ◌≤◌}
-use Rattle.rt_journal.proofs.AgreementNames.{InRange, ChangesLine, QueuesView, mode_of, line, queue_count, shares_of, waiting_of}
+use Rattle.rt_journal.proofs.AgreementNames.{InRange, ChangesLine, QueuesView, line, queue_count, shares_of, waiting_of}
 use Rattle.rt_ids.specs.declared.note.Note.TheVariants as writes
 use Rattle.rt_ids.specs.declared.order.Order.TheVariants as orders
 use Rattle.rt_ids.specs.declared.order.Answer.TheVariants as answers
 use Rattle.rt_journal.proofs.Figures.{figures-same, figures-stays}
 use Rattle.rt_journal.proofs.Kept.{IsCalm, IsOpenNote, agrees_steady, agrees_unmoved, closing-stays, kept_after}
-use Rattle.rt_journal.proofs.Kept.{marks_longer, stands_behind, turns-stays, working}
+use Rattle.rt_journal.proofs.Kept.{stands_behind, turns-stays, working}
+use Rattle.rt_journal.proofs.KeptParks.{entering}
+use Rattle.rt_journal.proofs.Marks.{marks_longer, unmarked}
 
 -- the next name from its sender is counted
 module _ {J T : Type 0} (terms : Terms) (old : CoreView J) (name : JobId) (journal : Journal T) (known : name.from ≤ old.cores) (next : IsNextDelivered terms name journal) (agrees : Agrees old journal) where
@@ -41,14 +44,15 @@ module _ {T : Type 0} (terms : Terms) (journal : Journal T) (notes : EachNote (M
   not_started name next = false_from_ne_true _
       (λ started. true≢false (sym (same_as_itself name) ∙ not_entered name name next ((started_of terms journal notes).started_entered name started)))
 
--- a queue that works keeps its runtime, and one that doesn't is placed at the floor at least
-entering : (works busy : Bool) (runtime told floor_now floor_told entered : ℕ) → works ≡ busy → runtime ≡ told → floor_now ≡ floor_told →
-    (busy ≡ true → entered ≡ told) → (busy ≡ false → entered ≡ max told floor_told) → cond works runtime (max runtime floor_now) ≡ entered
-entering works busy runtime told floor_now floor_told entered same_work same_runtime same_floor at_work at_rest = grind arith
+  -- nor was it woken
+  pub new_marks : (name : JobId) → IsNextDelivered terms name journal → unmarked ≡ marks_told name journal
+  new_marks name next =
+      let unkept : is_wake_kept name journal ≡ false = false_from_ne_true _ (λ kept. true≢false (sym (same_as_itself name) ∙ not_entered name name next ((keeps_wakes terms journal notes).entered name kept))) in
+      λ i. record { started = sym (not_started name next) i; woken = sym unkept i }
 
 -- a job that isn't refused enters its queue
 module _ {J T : Type 0} (terms : Terms) (old : CoreView J) (name : JobId) (queue : ℕ) (job : J) (journal : Journal T) (kept : IsKept terms old journal) (next : IsNextDelivered terms name journal) (sender : name.from ≤ old.cores)
-    (accepted : refusal queue journal ≡ None) (exists : queue < queue_count old.queues) (queues : QueuesView J) (changes : ChangesLine old.queues queues queue (waiting_of queue old.queues ++ (name, false, job) ∷ [])) where
+    (accepted : refusal queue journal ≡ None) (exists : queue < queue_count old.queues) (queues : QueuesView J) (changes : ChangesLine old.queues queues queue (waiting_of queue old.queues ++ (name, unmarked, job) ∷ [])) where
   abbrev its_tally : Tally
   its_tally = record (tally_of queue old) { runtime = entry_runtime queue old }
 
@@ -57,7 +61,7 @@ module _ {J T : Type 0} (terms : Terms) (old : CoreView J) (name : JobId) (queue
 
   took_lines : (other : ℕ) → names_of (waiting_of other queues) ≡ line other (writes.Took name queue ∷ journal)
   took_lines other =
-      grind (arith, line-took queue name journal, line-took_elsewhere other queue name journal, changes.others other, kept.agrees.lines other, map-append (λ (entry : JobId × Bool × J). entry.0) (waiting_of queue old.queues) ((name, false, job) ∷ []))
+      grind (arith, line-took queue name journal, line-took_elsewhere other queue name journal, changes.others other, kept.agrees.lines other, map-append (λ (entry : JobId × Marks × J). entry.0) (waiting_of queue old.queues) ((name, unmarked, job) ∷ []))
 
   there : queue < length old.tallies
   there = omega (arith, exists, kept.agrees.tallied)
@@ -73,7 +77,7 @@ module _ {J T : Type 0} (terms : Terms) (old : CoreView J) (name : JobId) (queue
 
   took_out : (out : Option (JobOut J)) → IsJobOut out journal → IsJobOut out (writes.Took name queue ∷ journal)
   took_out None nobody = nobody
-  took_out (Some job) alone = (alone.0, rw (not_entered terms journal kept.notes name job.name next (rw alone.1 refl)) alone.1)
+  took_out (Some job) alone = (alone.0, rw (not_entered terms journal kept.notes name job.name next (rw alone.1 refl)) alone.1, alone.2)
 
   pub kept-took : {new : CoreView J} → new ≡ entered → IsKept terms new (writes.Took name queue ∷ journal)
   kept-took is =
@@ -88,7 +92,8 @@ module _ {J T : Type 0} (terms : Terms) (old : CoreView J) (name : JobId) (queue
       let agrees : Agrees entered (writes.Took name queue ∷ journal) = assumption (
         senders_counted terms old name journal sender next kept.agrees,
         took_lines,
-        marks_longer journal name false job (sym (not_started terms journal kept.notes name next)) changes kept.agrees.marks,
+        (λ (other : ℕ). ap names_parked (changes.same_parks other) ∙ kept.agrees.parks other),
+        marks_longer journal name unmarked job (new_marks terms journal kept.notes name next) changes kept.agrees.marks,
         took_runtimes,
         took_out old.out kept.agrees.out,
         delivered_counted terms old name journal sender next kept.agrees,
@@ -118,13 +123,13 @@ module _ {J T : Type 0} (terms : Terms) (old new : CoreView J) (name : JobId) (j
       kept_after terms (writes.Back name reason) kept agrees kept.is_core (next, (queue, refused)) refl tt refl refl
 
   -- a command is answered, and the note of its effect follows
-  pub kept-effect : (order : Order (Unit {0})) (answer : Answer) → IsAnswer order answer journal → (note : Note T) {core : CoreView J} → Agrees core (note ∷ writes.Answered name answer ∷ journal) →
+  pub kept-effect : (order : Order (Unit {0})) (answer : Answer) → IsAnswer name.to order answer journal → (note : Note T) {core : CoreView J} → Agrees core (note ∷ writes.Answered name answer ∷ journal) →
       MayStand terms note (writes.Answered name answer ∷ journal) → queue_just_picked (note ∷ writes.Answered name answer ∷ journal) ≡ None → effect_awaited (note ∷ writes.Answered name answer ∷ journal) ≡ None →
       IsKept terms core (note ∷ writes.Answered name answer ∷ journal)
   kept-effect order answer right note agrees stands no_pick no_answer =
       assumption (stands_behind terms (writes.Answered name answer) kept kept.is_core (next, (order, right)) refl tt)
 
-  pub kept-answered : (order : Order (Unit {0})) (answer : Answer) → IsAnswer order answer journal → has_effect answer ≡ false →
+  pub kept-answered : (order : Order (Unit {0})) (answer : Answer) → IsAnswer name.to order answer journal → has_effect answer ≡ false →
       IsKept terms new (writes.Answered name answer ∷ journal)
   kept-answered order answer right plain =
       kept_after terms (writes.Answered name answer) kept (agrees-answered answer) kept.is_core (next, (order, right)) refl tt refl (ap (λ awaited. cond awaited (Some answer) None) plain)
@@ -140,7 +145,7 @@ module _ {J T : Type 0} (old new : CoreView J) (queue weight : ℕ) (journal : J
   agrees-created next creates same =
       agrees_steady old new journal (writes.Created queue weight) agrees (assumption) new.queues (old.tallies ++ no_tally ∷ [])
       (creates.rest ∙ ap (λ delivered. record old { queues = new.queues; tallies = old.tallies ++ no_tally ∷ []; delivered = delivered }) same)
-      creates.added.same_lines (get_or-append_default old.tallies no_tally) (length-append old.tallies (no_tally ∷ []) ∙ (ap (λ count. count + 1) agrees.tallied ∙ sym creates.added.count))
+      creates.added.same_lines creates.added.same_parks (get_or-append_default old.tallies no_tally) (length-append old.tallies (no_tally ∷ []) ∙ (ap (λ count. count + 1) agrees.tallied ∙ sym creates.added.count))
       (creates.added.count ∙ ap (λ count. count + 1) (agrees.last ∙ sym (length-append (list_told queue_created journal) (queue ∷ [])))) (omega (arith, creates.added.count)) weights (λ sender. refl)
       (assumption (λ (other : ℕ). creates.added.same_modes other ∙ agrees.closing.modes other))
     where
@@ -152,7 +157,7 @@ module _ {J T : Type 0} (old new : CoreView J) (queue weight : ℕ) (journal : J
   pub agrees-weighed : Weighs old queue weight new → new.delivered ≡ old.delivered → Agrees new (writes.SharesSet queue weight ∷ journal)
   agrees-weighed weighs same =
       agrees_steady old new journal (writes.SharesSet queue weight) agrees (assumption) new.queues old.tallies (weighs.rest ∙ ap (λ delivered. record old { queues = new.queues; delivered = delivered }) same)
-      weighs.shares.same_lines (λ other. refl) (agrees.tallied ∙ sym weighs.shares.same_count) (weighs.shares.same_count ∙ agrees.last) (omega (arith, weighs.shares.same_count)) weights (λ sender. refl)
+      weighs.shares.same_lines weighs.shares.same_parks (λ other. refl) (agrees.tallied ∙ sym weighs.shares.same_count) (weighs.shares.same_count ∙ agrees.last) (omega (arith, weighs.shares.same_count)) weights (λ sender. refl)
       (assumption (λ (other : ℕ). weighs.shares.same_modes other ∙ agrees.closing.modes other))
     where
       weights : (other : ℕ) → other < queue_count new.queues → shares_of other new.queues ≡ shares other (writes.SharesSet queue weight ∷ journal)
@@ -167,11 +172,11 @@ module _ {J T : Type 0} (terms : Terms) (old new : CoreView J) (name : JobId) (q
 
   -- a creation finds a core that isn't closed, and room for one more queue
   pub kept-created : queue ≡ queue_count old.queues → Creates old weight new →
-      IsAnswer (orders.Create weight) (answers.Created queue) journal
+      IsAnswer name.to (orders.Create weight) (answers.Created queue) journal
       × IsKept terms new (writes.Created queue weight ∷ writes.Answered name (answers.Created queue) ∷ journal)
   kept-created number creates =
       let few : nat_le 255 (created_count journal) ≡ false = lt-leb 255 (created_count journal) (omega (arith, creates.few, kept.agrees.last)) in
-      let right : IsAnswer (orders.Create weight) (answers.Created queue) journal = rw (sym kept.agrees.closing.mode ∙ creates.is_open, few) (inr (ap answers.Created (number ∙ kept.agrees.last))) in (
+      let right : IsAnswer name.to (orders.Create weight) (answers.Created queue) journal = rw (sym kept.agrees.closing.mode ∙ creates.is_open, few) (inr (ap answers.Created (number ∙ kept.agrees.last))) in (
         right,
         kept-effect terms old middle name journal kept next sender refl (orders.Create weight) (answers.Created queue) right (writes.Created queue weight)
             (agrees-created middle new queue weight _ (agrees-answered terms old middle name journal kept next sender refl (answers.Created queue)) number
@@ -180,11 +185,11 @@ module _ {J T : Type 0} (terms : Terms) (old new : CoreView J) (name : JobId) (q
       )
 
   pub kept-weighed : Weighs old queue weight new →
-      IsAnswer (orders.SetShares queue weight) answers.SharesSet journal
+      IsAnswer name.to (orders.SetShares queue weight) answers.SharesSet journal
       × IsKept terms new (writes.SharesSet queue weight ∷ writes.Answered name answers.SharesSet ∷ journal)
   kept-weighed weighs =
       let exists : queue ≤ created_count journal = omega (arith, weighs.exists, kept.agrees.last) in
-      let right : IsAnswer (orders.SetShares queue weight) answers.SharesSet journal = rw (le-leb queue (created_count journal) exists) refl in (
+      let right : IsAnswer name.to (orders.SetShares queue weight) answers.SharesSet journal = rw (le-leb queue (created_count journal) exists) refl in (
         right,
         kept-effect terms old middle name journal kept next sender refl (orders.SetShares queue weight) answers.SharesSet right (writes.SharesSet queue weight)
             (agrees-weighed middle new queue weight _ (agrees-answered terms old middle name journal kept next sender refl answers.SharesSet)
@@ -193,13 +198,6 @@ module _ {J T : Type 0} (terms : Terms) (old new : CoreView J) (name : JobId) (q
       )
 
 module _ {J T : Type 0} (old new : CoreView J) (journal : Journal T) (agrees : Agrees old journal) where
-  -- the core is closed
-  pub agrees-core_closed : (mode : Mode) → new ≡ record old { mode = Some mode } → Agrees new (writes.CoreClosed mode ∷ journal)
-  agrees-core_closed mode is =
-      subst (λ core. Agrees core (writes.CoreClosed mode ∷ journal)) (sym is)
-      (agrees_unmoved old journal (writes.CoreClosed mode) agrees (assumption) refl (λ queue. refl) old.delivered agrees.senders agrees.delivered old.gates (Some mode)
-      (record { modes = agrees.closing.modes; mode = refl; gate_places = agrees.closing.gate_places; gates = agrees.closing.gates }))
-
   -- a gate is shut
   pub agrees-shut : (from count : ℕ) → from ≤ old.cores → new ≡ record old { gates = slice_set old.gates from (Some count) } → Agrees new (writes.Shut from count ∷ journal)
   agrees-shut from count known is =
@@ -209,12 +207,3 @@ module _ {J T : Type 0} (old new : CoreView J) (journal : Journal T) (agrees : A
       subst (λ core. Agrees core (writes.Shut from count ∷ journal)) (sym is)
       (agrees_unmoved old journal (writes.Shut from count) agrees (assumption) refl (λ queue. refl) old.delivered agrees.senders agrees.delivered
       (slice_set old.gates from (Some count)) old.mode (assumption (places, gates)))
-
-  -- a queue is closed
-  pub agrees-queue_closed : (queue : ℕ) (mode : Mode) → HasClosed old queue mode new → Agrees new (writes.QueueClosed queue mode ∷ journal)
-  agrees-queue_closed queue mode has =
-      let modes : (other : ℕ) → mode_of other new.queues ≡ or_else (cond (other == queue) (Some mode) None) (queue_mode other journal) =
-      λ other. grind (arith, has.closed.changed, has.closed.others other, agrees.closing.modes other) in
-      agrees_steady old new journal (writes.QueueClosed queue mode) agrees (assumption) new.queues old.tallies has.rest has.closed.same_lines (λ other. refl) (agrees.tallied ∙ sym has.closed.same_count)
-      (has.closed.same_count ∙ agrees.last) (omega (arith, has.closed.same_count))
-      (λ other there. has.closed.same_shares other ∙ agrees.weights other (rw (← has.closed.same_count) there)) (λ sender. refl) (assumption modes)

@@ -1,25 +1,47 @@
--- What a core tells of itself stays what its journal says, as a poll is settled: the job yields, or is done.
+-- What a core tells of itself stays what its journal says, as a poll is settled: the job yields, is parked or stays, or is done.
+use Rattle.rt_journal.proofs.AgreementNames.{ChangesParks, Marks, MayFollow, alone_out, among, awake, false, false_from_ne_true, is_told}
+use Rattle.rt_journal.proofs.AgreementNames.{is_wake_kept, is_wake_kept-stayed, is_wake_kept-stayed_elsewhere, jobs_out-park, jobs_out-stayed}
+use Rattle.rt_journal.proofs.AgreementNames.{known_of, line-stayed, line-stayed_elsewhere, marks_told, name_started, names_parked, parked}
+use Rattle.rt_journal.proofs.AgreementNames.{parked-park, parked-park_elsewhere, parked_of, same_name, stays, virtual_runtime-park}
+use Rattle.rt_journal.proofs.AgreementNames.{virtual_runtime-park_elsewhere, virtual_runtime-stayed, virtual_runtime-stayed_elsewhere}
 use Rattle.rt_journal.proofs.AgreementNames.{get_or-set_other, length-set, none-some, CoreView, JobOut, runtime_of, tally_of}
 use Rattle.rt_journal.proofs.AgreementNames.{settled_view, Tally, jobs_out-done, jobs_out-yield, line-done, line-yield}
 use Rattle.rt_journal.proofs.AgreementNames.{line-yield_elsewhere, floor-stays, virtual_runtime-done}
 use Rattle.rt_journal.proofs.AgreementNames.{virtual_runtime-done_elsewhere, virtual_runtime-yield}
 use Rattle.rt_journal.proofs.AgreementNames.{virtual_runtime-yield_elsewhere, is_told-alone, jobs_out, shares}
 use Rattle.rt_journal.proofs.AgreementNames.{virtual_runtime, queue_of, Agrees, AreMarked, IsJobOut, IsKept, names_of}
-use Rattle.rt_journal.proofs.AgreementNames.{figures_told, Bool, JobId, Journal, None, Note, Some, Terms, [], ap, arith}
+use Rattle.rt_journal.proofs.AgreementNames.{figures_told, JobId, Journal, None, Note, Some, Terms, [], ap, arith}
 use Rattle.rt_journal.proofs.AgreementNames.{cond, get_or-set_same, length, map-append, refl, subst, sym, true, ℕ, ◌++◌, ◌+◌}
 use Rattle.rt_journal.proofs.AgreementNames.{◌<◌, ◌==◌, ◌∙◌, ◌∷◌, ◌≡◌, ◌≤◌, charge, clamped, ChangesLine, QueuesView}
 use Rattle.rt_journal.proofs.AgreementNames.{mode_of, line, queue_count, shares_of, waiting_of}
 use Rattle.rt_ids.specs.declared.note.Note.TheVariants as writes
 use Rattle.rt_journal.proofs.Places.{everywhere}
-use Rattle.rt_journal.proofs.Figures.{figures-grow, one_poll, told-done, told-yield}
-use Rattle.rt_journal.proofs.Kept.{IsPlain, closing-stays, kept_after, marks_longer, turns-stays}
+use Rattle.rt_journal.proofs.Figures.{figures-grow, one_poll, told-done, told-park, told-stayed, told-yield}
+use Rattle.rt_journal.proofs.Kept.{IsPlain, closing-stays, kept_after, stays-agrees, turns-stays}
+use Rattle.rt_journal.proofs.Marks.{marks-elsewhere, marks_longer}
 
 module _ {J T : Type 0} (terms : Terms) (old : CoreView J) (job : JobOut J) (time : ℕ) (journal : Journal T) (kept : IsKept terms old journal) (at : old.out ≡ Some job) where
-  is_out : (jobs_out journal ≡ job.name ∷ []) × (queue_of job.name journal ≡ Some job.queue)
+  is_out : (jobs_out journal ≡ job.name ∷ []) × (queue_of job.name journal ≡ Some job.queue) × (job.woken ≡ is_wake_kept job.name journal)
   is_out = subst (λ out. IsJobOut out journal) at kept.agrees.out
 
   exists : job.queue < queue_count old.queues
   exists = kept.agrees.out_exists job at
+
+  started : is_told name_started job.name journal ≡ true
+  started = is_told-alone terms job.name journal kept.notes is_out.0
+
+  -- the marks of the job that comes back
+  abbrev its_marks : Marks
+  its_marks = record { started = true; woken = job.woken }
+
+  its_told : its_marks ≡ marks_told job.name journal
+  its_told = λ i. record { started = sym started i; woken = is_out.2 i }
+
+  -- the job that is out waits nowhere
+  nowhere : (queue : ℕ) → among job.name (names_of (waiting_of queue old.queues)) ≡ false
+  nowhere queue =
+      ap (among job.name) (kept.agrees.lines queue)
+      ∙ false_from_ne_true _ ((known_of terms journal kept.notes).not_waiting queue job.name (alone_out job.name journal is_out.0))
 
   -- the core with its poll settled, by which so many jobs are done
   module _ (done : ℕ) (queues : QueuesView J) where
@@ -44,10 +66,10 @@ module _ {J T : Type 0} (terms : Terms) (old : CoreView J) (job : JobOut J) (tim
     agrees_settled : (note : Note T) (plain : IsPlain note journal) →
         ((other : ℕ) → figures_told other (note ∷ journal) ≡ cond (other == job.queue) (one_poll time done (figures_told other journal)) (figures_told other journal)) →
         queue_count queues ≡ queue_count old.queues → ((other : ℕ) → shares_of other queues ≡ shares_of other old.queues) → ((other : ℕ) → mode_of other queues ≡ mode_of other old.queues) →
-        ((other : ℕ) → names_of (waiting_of other queues) ≡ line other (note ∷ journal)) → ((other : ℕ) → AreMarked (note ∷ journal) (waiting_of other queues)) →
+        ((other : ℕ) → names_of (waiting_of other queues) ≡ line other (note ∷ journal)) → ((other : ℕ) → names_parked (parked_of other queues) ≡ parked other (note ∷ journal)) → ((other : ℕ) → AreMarked (note ∷ journal) (waiting_of other queues)) →
         virtual_runtime job.queue (note ∷ journal) ≡ virtual_runtime job.queue journal + charge time (shares job.queue journal) →
         ((other : ℕ) → (other ≡ job.queue → ⊥) → virtual_runtime other (note ∷ journal) ≡ virtual_runtime other journal) → jobs_out (note ∷ journal) ≡ [] → Agrees new (note ∷ journal)
-    agrees_settled note plain told same_count same_shares same_modes lines marks charged elsewhere nobody =
+    agrees_settled note plain told same_count same_shares same_modes lines parks marks charged elsewhere nobody =
         let tallied = length-set old.tallies job.queue settled_tally ∙ (kept.agrees.tallied ∙ sym same_count) in
         let last = same_count ∙ (kept.agrees.last ∙ ap (λ count. count + 1) (sym plain.created)) in
         let weights = λ (other : ℕ) (there : other < queue_count queues).
@@ -62,25 +84,73 @@ module _ {J T : Type 0} (terms : Terms) (old : CoreView J) (job : JobOut J) (tim
         assumption (figures-grow old new job.queue settled_tally within refl journal (note ∷ journal) (one_poll time done) refl kept.agrees.figures told, nobody)
 
   -- the job goes to the end of its line
-  pub kept-yield : (queues : QueuesView J) (back : J) → ChangesLine old.queues queues job.queue (waiting_of job.queue old.queues ++ (job.name, true, back) ∷ []) →
+  pub kept-yield : (queues : QueuesView J) (back : J) → ChangesLine old.queues queues job.queue (waiting_of job.queue old.queues ++ (job.name, record { started = true; woken = job.woken }, back) ∷ []) →
       IsKept terms (settled_view old job time 0 queues) (writes.Yield job.name time ∷ journal)
   kept-yield queues back changes =
       kept_after terms (writes.Yield job.name time) kept
       (agrees_settled 0 queues (writes.Yield job.name time) (assumption) (λ other. told-yield other job.queue journal job.name is_out.1 time)
-      changes.same_count changes.same_shares changes.same_modes lines (marks_longer journal job.name true back (sym (is_told-alone terms job.name journal kept.notes is_out.0)) changes kept.agrees.marks) (virtual_runtime-yield job.queue journal job.name time is_out.1)
-      (λ other away. virtual_runtime-yield_elsewhere other journal job.name time job.queue is_out.1 away) (jobs_out-yield job.name time journal is_out.0)) kept.is_core is_out.0 refl tt refl refl
+      changes.same_count changes.same_shares changes.same_modes lines (λ other. ap names_parked (changes.same_parks other) ∙ kept.agrees.parks other) (marks_longer journal job.name its_marks back its_told changes kept.agrees.marks)
+      (virtual_runtime-yield job.queue journal job.name time is_out.1) (λ other away. virtual_runtime-yield_elsewhere other journal job.name time job.queue is_out.1 away) (jobs_out-yield job.name time journal is_out.0)) kept.is_core is_out.0 refl tt refl refl
     where
       lines : (other : ℕ) → names_of (waiting_of other queues) ≡ line other (writes.Yield job.name time ∷ journal)
       lines other =
-          let longer = map-append (λ (entry : JobId × Bool × J). entry.0) (waiting_of job.queue old.queues) ((job.name, true, back) ∷ []) in
+          let longer = map-append (λ (entry : JobId × Marks × J). entry.0) (waiting_of job.queue old.queues) ((job.name, its_marks, back) ∷ []) in
           let here = line-yield job.queue time job.name journal is_out.1 in
           grind (arith, longer, here, kept.agrees.lines other, changes.others other, line-yield_elsewhere other job.queue time job.name journal is_out.1)
+
+  -- a job that asks to be parked and stays goes there too, and uses up its wake
+  pub kept-stayed : (queues : QueuesView J) (back : J) → stays job old ≡ true → ChangesLine old.queues queues job.queue (waiting_of job.queue old.queues ++ awake (job.name, back) ∷ []) →
+      IsKept terms (settled_view old job time 0 queues) (writes.Stayed job.name time ∷ journal)
+  kept-stayed queues back staying changes =
+      kept_after terms (writes.Stayed job.name time) kept
+      (agrees_settled 0 queues (writes.Stayed job.name time) (assumption) (λ other. told-stayed other job.queue journal job.name is_out.1 time)
+      changes.same_count changes.same_shares changes.same_modes lines (λ other. ap names_parked (changes.same_parks other) ∙ kept.agrees.parks other)
+      (marks_longer (writes.Stayed job.name time ∷ journal) job.name (record { started = true; woken = false }) back stayed_told changes others_marked)
+      (virtual_runtime-stayed job.queue journal job.name time is_out.1) (λ other away. virtual_runtime-stayed_elsewhere other journal job.name time job.queue is_out.1 away)
+      (jobs_out-stayed job.name time journal is_out.0)) kept.is_core (is_out.0, sym (stays-agrees old journal kept.agrees job at) ∙ staying) refl tt refl refl
+    where
+      stayed_told : record { started = true; woken = false } ≡ marks_told job.name (writes.Stayed job.name time ∷ journal)
+      stayed_told = λ i. record { started = sym started i; woken = sym (is_wake_kept-stayed job.name journal time) i }
+
+      elsewhere : (other : JobId) → same_name other job.name ≡ false → marks_told other (writes.Stayed job.name time ∷ journal) ≡ marks_told other journal
+      elsewhere other apart = λ i. record { started = is_told name_started other journal; woken = is_wake_kept-stayed_elsewhere other journal job.name time apart i }
+
+      others_marked : (other : ℕ) → AreMarked (writes.Stayed job.name time ∷ journal) (waiting_of other old.queues)
+      others_marked other = marks-elsewhere (writes.Stayed job.name time) journal job.name elsewhere (waiting_of other old.queues) (nowhere other) (kept.agrees.marks other)
+
+      lines : (other : ℕ) → names_of (waiting_of other queues) ≡ line other (writes.Stayed job.name time ∷ journal)
+      lines other =
+          let longer = map-append (λ (entry : JobId × Marks × J). entry.0) (waiting_of job.queue old.queues) (awake (job.name, back) ∷ []) in
+          let here = line-stayed job.queue time job.name journal is_out.1 in
+          grind (arith, longer, here, kept.agrees.lines other, changes.others other, line-stayed_elsewhere other job.queue time job.name journal is_out.1)
+
+  -- a job that is parked comes behind those that are
+  pub kept-park : (queues : QueuesView J) (back : J) → stays job old ≡ false → ChangesParks old.queues queues job.queue (parked_of job.queue old.queues ++ (job.name, back) ∷ []) →
+      IsKept terms (settled_view old job time 0 queues) (writes.Park job.name time ∷ journal)
+  kept-park queues back asleep changes =
+      kept_after terms (writes.Park job.name time) kept
+      (agrees_settled 0 queues (writes.Park job.name time) (assumption) (λ other. told-park other job.queue journal job.name is_out.1 time)
+      changes.same_count changes.same_shares changes.same_modes (λ other. ap names_of (changes.same_lines other) ∙ kept.agrees.lines other) parks
+      (λ other. subst (AreMarked journal) (sym (changes.same_lines other)) (kept.agrees.marks other))
+      (virtual_runtime-park job.queue journal job.name time is_out.1) (λ other away. virtual_runtime-park_elsewhere other journal job.name time job.queue is_out.1 away)
+      (jobs_out-park job.name time journal is_out.0)) kept.is_core law refl tt refl refl
+    where
+      law : MayFollow terms (writes.Park job.name time) journal
+      law = (is_out.0, sym (stays-agrees old journal kept.agrees job at) ∙ asleep)
+
+      parks : (other : ℕ) → names_parked (parked_of other queues) ≡ parked other (writes.Park job.name time ∷ journal)
+      parks = everywhere (λ at. names_parked (parked_of at queues) ≡ parked at (writes.Park job.name time ∷ journal)) job.queue
+          (ap names_parked changes.changed
+          ∙ (map-append (λ (entry : JobId × J). entry.0) (parked_of job.queue old.queues) ((job.name, back) ∷ [])
+          ∙ (ap (λ names. names ++ job.name ∷ []) (kept.agrees.parks job.queue) ∙ sym (parked-park terms journal kept.notes job.queue time job.name law is_out.1))))
+          (λ other away. ap names_parked (changes.others other away)
+          ∙ (kept.agrees.parks other ∙ sym (parked-park_elsewhere terms journal kept.notes other job.queue time job.name law is_out.1 away)))
 
   -- the job is gone
   pub kept-done : (value : T) → IsKept terms (settled_view old job time 1 old.queues) (writes.Done job.name time value ∷ journal)
   kept-done value =
       kept_after terms (writes.Done job.name time value) kept
       (agrees_settled 1 old.queues (writes.Done job.name time value) (assumption) (λ other. told-done other job.queue journal job.name is_out.1 time value) refl (λ other. refl) (λ other. refl)
-      (λ other. kept.agrees.lines other ∙ sym (line-done terms journal kept.notes other time value job.name is_out.0)) kept.agrees.marks
+      (λ other. kept.agrees.lines other ∙ sym (line-done terms journal kept.notes other time value job.name is_out.0)) kept.agrees.parks kept.agrees.marks
       (virtual_runtime-done job.queue journal job.name time value is_out.1) (λ other away. virtual_runtime-done_elsewhere other journal job.name time value job.queue is_out.1 away)
       (jobs_out-done job.name time value journal is_out.0)) kept.is_core is_out.0 refl tt refl refl

@@ -7,10 +7,14 @@ pub mod Drained
 pub mod EndsKept
 pub mod Figures
 pub mod GivenEnds
+pub mod Inside
 pub mod Kept
+pub mod KeptClosings
 pub mod KeptDeliveries
+pub mod KeptParks
 pub mod KeptPicks
 pub mod KeptPolls
+pub mod Marks
 pub mod Names
 pub mod OneBeginning
 pub mod Opened

@@ -5,6 +5,10 @@ pub use Rattle.std.proofs.lemmas.List.{length-map, length-reverse}
 pub use Rattle.std.proofs.lemmas.Option.{slice_get-map}
 pub use Rattle.std.specs.Option.{option_map}
 pub use Rattle.std.specs.Prelude.{All}
+pub use Rattle.rt_journal.proofs.AgreementNames.{ChangesParks, Line, Marks, Parks, alone_out, awake, held_count, is_parked}
+pub use Rattle.rt_journal.proofs.AgreementNames.{◌&&◌}
+pub use Rattle.rt_journal.proofs.AgreementNames.{is_inside, is_return, job_at, stays_in_line}
+pub use Rattle.rt_journal.proofs.AgreementNames.{is_wake_kept, keeps_wakes, marks_told, names_parked, parked, parked_of}
 pub use Rattle.rt_journal.proofs.AgreementNames.{Agrees, All-append, All-cons, All-head, All-nil, All-tail, Answer}
 pub use Rattle.rt_journal.proofs.AgreementNames.{AreMarked, ChangesLine, CoreView, Creates, HasClosed, InRange, IsAnswer}
 pub use Rattle.rt_journal.proofs.AgreementNames.{IsJobOut, IsKept, IsNextDelivered, IsOpening, JobOut, KeyAtMost, Mode}
@@ -23,7 +27,8 @@ pub use Rattle.rt_core.specs.Closing.{ClosesCore, ShutsGate}
 pub use Rattle.rt_core.specs.Deliveries.{CreatesQueue as CoreCreates, Delivers as CoreDelivers}
 pub use Rattle.rt_core.specs.Deliveries.{Enters}
 pub use Rattle.rt_core.specs.State.{gate_of, inside_count, opened}
-pub use Rattle.rt_core.specs.Turns.{Picks as CorePicks, Settles as CoreSettles}
+pub use Rattle.rt_core.specs.Settling.{Settles as CoreSettles, stays}
+pub use Rattle.rt_core.specs.Turns.{Picks as CorePicks}
 pub use Rattle.rt_core.specs.Turns.{HandsBack, TakesOut}
 pub use Rattle.rt_core.specs.Whole.{IsAhead, TellsAhead, TurnsWhole, goes_out, pick_notes, settle_notes, settled_of}
 pub use Rattle.rt_core.specs.declared.delivery.Delivered.{Delivered}
@@ -31,10 +36,9 @@ pub use Rattle.rt_core.specs.declared.delivery.Delivered.TheVariants.{Took}
 pub use Rattle.rt_core.specs.declared.turn.PickError.{PickError}
 pub use Rattle.rt_core.specs.declared.turn.PickError.TheVariants.{Busy}
 pub use Rattle.rt_core.specs.declared.turn.Settled.{Settled}
-pub use Rattle.rt_core.specs.declared.turn.Settled.TheVariants.{Finished, Yielded}
+pub use Rattle.rt_core.specs.declared.turn.Settled.TheVariants.{Finished, Parked, Stayed, Yielded}
 pub use Rattle.rt_core.specs.declared.turn.Turn.{Turn}
 pub use Rattle.rt_core.specs.declared.turn.Turn.TheVariants.{Idle, Resume, Start}
-pub use Rattle.rt_ids.proofs.JobsOut.{alone_out}
 pub use Rattle.rt_ids.proofs.Known.{IsOld}
 pub use Rattle.rt_ids.proofs.Told.{grows, length-with_last_if}
 pub use Rattle.rt_ids.proofs.WorkOfLines.{no_work, work_of_line}
@@ -47,22 +51,21 @@ pub use Rattle.rt_ids.specs.Terms.{terms_of}
 pub use Rattle.rt_ids.specs.declared.names.TicketError.TheVariants.{Pending}
 pub use Rattle.rt_ids.specs.declared.note.Note.TheVariants.{Done, Pick, Returned, Yield}
 pub use Rattle.rt_ids.specs.declared.order.Envelope.{Envelope}
-pub use Rattle.rt_ids.specs.declared.order.Order.TheVariants.{Close, CloseCore, Create, Job, SetShares}
+pub use Rattle.rt_ids.specs.declared.order.Order.TheVariants.{Close, CloseCore, Create, Job, SetShares, Wake}
 pub use Rattle.rt_jobs.specs.Meanings.{Meaning, IsMeaning}
-pub use Rattle.rt_jobs.specs.Steps.{AfterPoll, IfDone, OnYield, OwesOn}
+pub use Rattle.rt_jobs.specs.Steps.{AfterPoll, IfDone, IfUndone, OwesOn}
 pub use Rattle.rt_jobs.specs.declared.job.Step.{Step}
 pub use Rattle.rt_journal.specs.Deliveries.{IsDelivery, entry_note, outcome_delivered}
 pub use Rattle.rt_journal.specs.Ends.{Gives, GivesMore, IsInOf, IsInOwing, IsSameSeat, IsUngiven, KeepsIn, LeavesOwed}
 pub use Rattle.rt_journal.specs.Ends.{told_under}
 pub use Rattle.rt_journal.specs.Owed.{IsSentUnder, OwesSettled, outcome_settled, owed_back}
-pub use Rattle.rt_journal.specs.Recorded.{HasTask, IsHeld, IsRecorded, IsTaken, OwesAfter, RecordedView}
+pub use Rattle.rt_journal.specs.Recorded.{HasTask, HaveTasks, IsHeld, IsRecorded, IsTaken, OwesAfter, RecordedView}
 pub use Rattle.rt_journal.specs.Recorded.{delivered_count, desk_of, given_count, note_taken, order_taken, sum_upto}
 pub use Rattle.rt_journal.specs.Recorded.{terms_at}
 pub use Rattle.rt_journal.specs.Steps.{ClosesItself, CreatesQueue, Delivers, IsNextIn, Receives, TellsShut}
-pub use Rattle.rt_journal.specs.Steps.{opened_beside, with_notes}
+pub use Rattle.rt_journal.specs.Steps.{opened_beside, out_told, with_notes}
 pub use Rattle.rt_journal.specs.Together.{AreTogether, IsAssemblyOf}
 pub use Rattle.rt_journal.specs.Turns.{IsBack, IsHandBack, IsOut, IsOutUnder, IsPick, IsPolled, Picks, Settles}
-pub use Rattle.rt_journal.specs.Turns.{TellsStep}
 pub use Rattle.rt_journal.specs.Whole.{IsPostingTurn, MayAnswer, StaysPut, TurnsNoted, post_of}
 pub use Rattle.rt_link.specs.Calls.{MayGive, SeesMore, Shuts, Takes, final_of}
 pub use Rattle.rt_link.specs.Ends.{AreNamed, Joined, SoundIn}
@@ -88,6 +91,5 @@ pub use Rattle.rt_journal_desk.proofs.Posting.{made_parts, posted_made, posted_r
 pub use Rattle.rt_journal_desk.specs.Posts.{lends}
 pub use Rattle.rt_journal_desk.specs.Submissions.{desk_with}
 pub use Rattle.rt_journal_desk.specs.Tickets.{AreCollected}
-pub use Rattle.rt_taskqueue.specs.Queues.{held_count}
 pub use Rattle.rt_taskqueue.specs.declared.queues.CreateError.{CreateError}
 pub use Rattle.rt_taskqueue.specs.declared.queues.CreateError.TheVariants.{Memory, TooMany}

@@ -2,7 +2,7 @@
 use Rattle.rt_journal.proofs.Names.{◌≡◌, ℕ, zero, suc, ◌+◌, ◌*◌, ◌<◌, [], refl, sym, ap, subst, arith, None, All}
 use Rattle.rt_journal.proofs.Names.{length-replicate, get_or-replicate, All-nil, Meaning, waiting_of, mode_of, CoreView}
 use Rattle.rt_journal.proofs.Names.{runtime_of, opened, Agrees, AreMarked, no_figures, figures_of, IsRecorded}
-use Rattle.rt_journal.proofs.Names.{HasTask, sum_upto, given_count, opened_beside, none-some, names_of}
+use Rattle.rt_journal.proofs.Names.{HasTask, sum_upto, given_count, opened_beside, none-some, names_of, names_parked, parked_of}
 use Rattle.rt_stats.proofs.Tables.{all_alike}
 
 module _ (J : Type 0) (core cores cap : ℕ) where
@@ -10,10 +10,10 @@ module _ (J : Type 0) (core cores cap : ℕ) where
   new_core = opened core cores ((cores + 1) * cap) 0
 
   -- no queue has a job, a runtime, a mode or a count
-  at_first : (queue : ℕ) → (waiting_of queue new_core.queues ≡ []) × (runtime_of queue new_core ≡ 0) × (mode_of queue new_core.queues ≡ None) × (figures_of queue new_core ≡ no_figures)
-  at_first zero = (refl, refl, refl, refl)
-  at_first (suc zero) = (refl, refl, refl, refl)
-  at_first (suc (suc queue)) = (refl, refl, refl, refl)
+  at_first : (queue : ℕ) → (waiting_of queue new_core.queues ≡ []) × (runtime_of queue new_core ≡ 0) × (mode_of queue new_core.queues ≡ None) × (figures_of queue new_core ≡ no_figures) × (parked_of queue new_core.queues ≡ [])
+  at_first zero = (refl, refl, refl, refl, refl)
+  at_first (suc zero) = (refl, refl, refl, refl, refl)
+  at_first (suc (suc queue)) = (refl, refl, refl, refl, refl)
 
   -- it agrees with a journal without a note
   pub agrees-opened : (T : Type 0) → Agrees {J = J} {T = T} new_core []
@@ -22,6 +22,7 @@ module _ (J : Type 0) (core cores cap : ℕ) where
     senders = length-replicate (cores + 1) 0;
     last = refl;
     lines = λ queue. ap names_of (at_first queue).0;
+    parks = λ queue. ap names_parked (at_first queue).4;
     marks = λ queue. subst (AreMarked {J = J} {T = T} []) (sym (at_first queue).0) (All-nil _);
     runtimes = λ queue. (at_first queue).1;
     weights = λ queue there. grind arith;
@@ -47,6 +48,9 @@ recorded-opened {J} {T} meaning core cores cap room there = record {
   held = record { each = λ sender known. omega arith; inside = omega (arith, no_sum T cores) };
   taken = λ name order at. absurd (none-some order at);
   as_sent = tt;
-  waiting = λ queue. subst (All (λ entry. HasTask meaning [] [] queue entry.0 entry.2)) (sym (at_first J core cores cap queue).0) (All-nil _);
+  tasks = record {
+    waiting = λ queue. subst (All (λ entry. HasTask meaning [] [] queue entry.0 entry.2)) (sym (at_first J core cores cap queue).0) (All-nil _);
+    parked = λ queue. subst (All (λ entry. HasTask meaning [] [] queue entry.0 entry.1)) (sym (at_first J core cores cap queue).4) (All-nil _);
+  };
   out = λ job at. absurd (none-some job at);
 }

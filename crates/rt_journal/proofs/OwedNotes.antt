@@ -97,6 +97,8 @@ module _ {J T : Type 0} (terms : Terms) (seen now : Seen J) (more : SeesNoLess s
     module _ (under later : JobId → Option (Order J)) (keeps : (name : JobId) (order : Order J) → under name ≡ Some order → later name ≡ Some order) where
       note_stays : (note : Note T) (before : Journal T) → PollIsOwed meaning terms seen under note before → PollIsOwed meaning terms now later note before
       note_stays (writes.Yield name time) before owed = record { queue = owed.queue; sent = owed.sent; task = keeps name _ owed.task; poll = poll_stays owed.queue owed.sent name time steps.Yield before owed.poll }
+      note_stays (writes.Park name time) before owed = record { queue = owed.queue; sent = owed.sent; task = keeps name _ owed.task; poll = poll_stays owed.queue owed.sent name time steps.Park before owed.poll }
+      note_stays (writes.Stayed name time) before owed = record { queue = owed.queue; sent = owed.sent; task = keeps name _ owed.task; poll = poll_stays owed.queue owed.sent name time steps.Park before owed.poll }
       note_stays (writes.Done name time out) before owed = record { queue = owed.queue; sent = owed.sent; task = keeps name _ owed.task; poll = poll_stays owed.queue owed.sent name time (steps.Done out) before owed.poll }
       note_stays _ before owed = tt
 
@@ -108,6 +110,8 @@ module _ {J T : Type 0} (terms : Terms) (seen now : Seen J) (more : SeesNoLess s
 module _ {J T : Type 0} (meaning : Meaning J T) (terms : Terms) (seen : Seen J) (under : JobId → Option (Order J)) where
   quiet_owed : (note : Note T) (before : Journal T) → name_settled note ≡ None → PollIsOwed meaning terms seen under note before
   quiet_owed (writes.Yield name time) before none = absurd (none-some name (sym none))
+  quiet_owed (writes.Park name time) before none = absurd (none-some name (sym none))
+  quiet_owed (writes.Stayed name time) before none = absurd (none-some name (sym none))
   quiet_owed (writes.Done name time out) before none = absurd (none-some name (sym none))
   quiet_owed _ before none = tt
 

@@ -24,11 +24,12 @@ module _ (T : Type 0) where
   pick_settles_nothing name false queue runtime = (refl, (refl, tt))
   pick_settles_nothing name true queue runtime = (refl, (refl, tt))
 
-  effect_settles_nothing : (what : Order (Unit {0})) (answer : Answer) (name : JobId) → SettleNothing {T = T} (with_effect (effect_note what answer) (writes.Answered name answer ∷ []))
+  effect_settles_nothing : (what : Order (Unit {0})) (answer : Answer) (name : JobId) → SettleNothing {T = T} (with_effect (effect_note name.to what answer) (writes.Answered name answer ∷ []))
   effect_settles_nothing (order.Create weight) (answers.Created queue) name = (refl, (refl, tt))
   effect_settles_nothing (order.SetShares queue weight) answers.SharesSet name = (refl, (refl, tt))
   effect_settles_nothing (order.Close queue mode) answers.Closed name = (refl, (refl, tt))
   effect_settles_nothing (order.CloseCore mode) answers.Closed name = (refl, (refl, tt))
+  effect_settles_nothing (order.Wake actor number) answers.Woken name = (refl, (refl, tt))
   effect_settles_nothing _ _ name = (refl, tt)
 
   entry_settles_nothing : (name : JobId) (queue : ℕ) (reason : Option Reason) → SettleNothing {T = T} (entry_note name queue reason ∷ [])
@@ -45,6 +46,7 @@ module _ (T : Type 0) where
   delivery_settles_nothing name (order.SetShares queue weight) before notes is = answer_settles_nothing name (order.SetShares queue weight) before notes is
   delivery_settles_nothing name (order.Close queue mode) before notes is = answer_settles_nothing name (order.Close queue mode) before notes is
   delivery_settles_nothing name (order.CloseCore mode) before notes is = answer_settles_nothing name (order.CloseCore mode) before notes is
+  delivery_settles_nothing name (order.Wake actor number) before notes is = answer_settles_nothing name (order.Wake actor number) before notes is
 
 module _ {J T : Type 0} (meaning : Meaning J T) (seen : Seen J) (old new : RecordedView J T) where
   -- where as much is known of the links as before, this step leaves each poll owed

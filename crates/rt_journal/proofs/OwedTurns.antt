@@ -3,6 +3,7 @@ use Rattle.rt_journal.proofs.Names.{◌≡◌, ℕ, ◌+◌, ◌<◌, Bool, true
 use Rattle.rt_journal.proofs.Names.{subst, arith, inl, inr, JobId, Order, Outcome, Journal, terms_of_desk, terms_at, Meaning, Step, Call, Makes}
 use Rattle.rt_journal.proofs.Names.{slice_get, slice_get_within, Outward, PostView, HasPosted, Does, DeskView, SendError, TicketError, Fits}
 use Rattle.rt_journal.proofs.Names.{RecordedView, IsPostingTurn, post_of, Settled, JobOut, same_Some, unwrap_or, IfSome, settle_note, poll_note}
+use Rattle.rt_journal.proofs.Names.{is_wake_kept, settled_of, stays_in_line}
 use Rattle.rt_journal.proofs.Names.{polls_made, RedeemsTicket, DetachesTicket, order_taken, Job}
 use Rattle.std.proofs.Common.{append_assoc, set, get_or, get_or-set_same}
 use Rattle.std.proofs.Math.Seq.{get_or-append_seam}
@@ -184,7 +185,7 @@ module _ {J T E : Type 0} {meaning : Meaning J T} {out : E → Outward J T} {cre
   abbrev at_poll : Journal T
   at_poll = poll_note name started ∷ writes.Pick queue turn.picks.runtime ∷ earlier
 
-  its_out : turn.settles.out ≡ record { name = name; queue = queue; job = turn.ran.before }
+  its_out : turn.settles.out ≡ record { name = name; queue = queue; woken = is_wake_kept name old.journal.notes; job = turn.ran.before }
   its_out = same_Some _ _ (sym turn.settles.was_out ∙ (ap (λ (view : RecordedView J T). view.core.out) turn.rest ∙ turn.picks.out))
 
   same_terms : terms_at turn.picked ≡ terms_at old
@@ -243,18 +244,24 @@ module _ {J T E : Type 0} {meaning : Meaning J T} {out : E → Outward J T} {cre
       left_took : turn.left.took ≡ old.took
       left_took = ap (λ (view : RecordedView J T). view.took) turn.rest ∙ turn.picks.took
 
-  settling : (step : Step T) → IsOwedPoll meaning (terms_at old) (seen_by out later) (order_taken old.took) name (unwrap_or turn.ran.told turn.spent) step turn.left.journal.notes →
-      PollIsOwed meaning (terms_at old) (seen_by out later) (order_taken old.took) (settle_note name (unwrap_or turn.ran.told turn.spent) step) turn.left.journal.notes
-  settling (steps.Done value) owed = owed
-  settling steps.Yield owed = owed
+  settling : (step : Step T) (stays : Bool) → IsOwedPoll meaning (terms_at old) (seen_by out later) (order_taken old.took) name (unwrap_or turn.ran.told turn.spent) step turn.left.journal.notes →
+      PollIsOwed meaning (terms_at old) (seen_by out later) (order_taken old.took) (settle_note name (unwrap_or turn.ran.told turn.spent) (settled_of step stays)) turn.left.journal.notes
+  settling (steps.Done value) stays owed = owed
+  settling steps.Yield stays owed = owed
+  settling steps.Park true owed = owed
+  settling steps.Park false owed = owed
+
+  abbrev its_settled : Settled T
+  its_settled = settled_of turn.ran.step (stays_in_line turn.settles.out.name turn.left.journal.notes)
 
   abbrev Owed : Journal T → Type 0
   Owed notes = PollsAreOwed meaning (terms_at old) (seen_by out later) (order_taken old.took) notes
 
-  settled_notes : new.journal.notes ≡ settle_note name (unwrap_or turn.ran.told turn.spent) turn.ran.step ∷ turn.left.journal.notes
+  settled_notes : new.journal.notes ≡ settle_note name (unwrap_or turn.ran.told turn.spent) its_settled ∷ turn.left.journal.notes
   settled_notes =
       ap (λ journal. journal.notes) turn.settles.journal
-      ∙ ap (λ (job : JobOut J). settle_note job.name (unwrap_or turn.ran.told turn.spent) turn.ran.step ∷ turn.left.journal.notes) its_out
+      ∙ (ap (λ came. settle_note turn.settles.out.name (unwrap_or turn.ran.told turn.spent) came ∷ turn.left.journal.notes) turn.settles.tells
+      ∙ ap (λ (job : JobOut J). settle_note job.name (unwrap_or turn.ran.told turn.spent) its_settled ∷ turn.left.journal.notes) its_out)
 
   owed_before : HasOwedPolls meaning (seen_by out ends) old → Owed (posted_notes turn.owed.calls ++ at_poll)
   owed_before owed =
@@ -268,7 +275,7 @@ module _ {J T E : Type 0} {meaning : Meaning J T} {out : E → Outward J T} {cre
   turn_keeps owed =
       subst (λ terms. PollsAreOwed meaning terms (seen_by out later) (order_taken new.took) new.journal.notes) (sym left_terms)
       (subst (λ took. PollsAreOwed meaning (terms_at old) (seen_by out later) (order_taken took) new.journal.notes) (sym took_is)
-      (subst Owed (sym settled_notes) (settling turn.ran.step owed_poll, subst Owed (sym stands) (owed_before owed))))
+      (subst Owed (sym settled_notes) (settling turn.ran.step (stays_in_line turn.settles.out.name turn.left.journal.notes) owed_poll, subst Owed (sym stands) (owed_before owed))))
     where
       took_is : new.took ≡ old.took
       took_is = turn.settles.took ∙ (ap (λ (view : RecordedView J T). view.took) turn.rest ∙ turn.picks.took)

@@ -54,6 +54,9 @@ ends = poll.Done 1 7 ∷ []
 abbrev yields : List Poll
 yields = poll.Yield 5 ∷ ends
 
+abbrev parks : List Poll
+parks = poll.Park 5 ∷ ends
+
 abbrev submits : List Poll
 submits = poll.Submit 5 1 0 ∷ ends
 
@@ -100,6 +103,9 @@ polls_refused = record {
       let wrong : ◌≡◌ {A = ℕ} 4 2 = submits_once (writes.Detached (sent 2) ∷ writes.Sent (sent 2) (Job 0 tt) ∷ writes.Detached (sent 1) ∷ writes.Sent (sent 1) (Job 0 tt) ∷ []) tt owed.0 in
       absurd (omega arith);
   keeps_its_submission = λ owed. let wrong : ◌≡◌ {A = ℕ} 1 2 = submits_once (writes.Sent (sent 1) (Job 0 tt) ∷ []) tt owed.0 in absurd (omega arith);
+  yields_for_a_park = λ owed. let its = its_poll open_links parks 5 steps.Yield [] false 0 0 first tt owed.0 in absurd (let wrong = its.owed.1 in cc);
+  parks_for_a_yield = λ owed. let its = its_poll open_links yields 5 steps.Park [] false 0 0 first tt owed.0 in absurd (let wrong = its.owed.1 in cc);
+  stays_when_done = λ owed. let its = its_poll open_links ends 1 steps.Park [] false 0 0 first tt owed.0 in absurd (let wrong = its.owed.1 in cc);
   never_begun = λ owed. let its = owed.0.poll in never_begun (posted_notes its.calls) job its.was_started (writes.Pick owed.0.queue its.runtime ∷ its.earlier) (calls_post its.calls) its.stands;
   sends_another_job = λ owed.
       let its = its_poll other_orders submits 5 steps.Yield (writes.Detached (sent 1) ∷ writes.Sent (sent 1) (Job 0 tt) ∷ []) false 0 0 first tt owed.0 in

@@ -6,6 +6,7 @@ use Rattle.rt_journal.proofs.Names.{settle_notes, ahead_picks, Outward, DeskView
 use Rattle.rt_journal.proofs.Names.{RecordedView, IsRecorded, desk_of, LeavesOwed, AreOutsOf, IsPick, StaysPut}
 use Rattle.rt_journal.proofs.Names.{option_map, ◌*◌, ◌≤◌, same_Some, outcome_note, Call, Doing, Makes, IsMeaning}
 use Rattle.rt_journal.proofs.Names.{JobOut, TurnsWhole, settled_of, IsSameSeat, told_under, OwesSettled}
+use Rattle.rt_journal.proofs.Names.{is_wake_kept, stays_in_line}
 use Rattle.rt_journal.proofs.Names.{outcome_settled, PostView, HasPosted, lends, Does, IsPolled, Settles, post_of}
 use Rattle.rt_journal.proofs.Names.{Fits, IsPostingTurn, MayAnswer, TurnsNoted, CorePicks, posted_rest}
 use Rattle.rt_journal.proofs.Ahead.{picked_did}
@@ -48,16 +49,16 @@ module _ {J T : Type 0} {meaning : Meaning J T}
 module _ {J T : Type 0} {meaning : Meaning J T}
     (core : CoreView J) (took : List (Envelope J)) (said : DeskView J T)
     (invariant : IsRecorded meaning (view_of core took said) × (said ≡ desk_of (view_of core took said))) (left : turns said.journal.notes < most_turns)
-    (queue vr : ℕ) (name : JobId) (started : Bool) (ahead : IsAhead core queue vr name started) (slice : List (Note T)) (slice_is : slice ≡ pick_notes queue vr name started) where
+    (queue vr : ℕ) (name : JobId) (started woken : Bool) (ahead : IsAhead core queue vr name started woken) (slice : List (Note T)) (slice_is : slice ≡ pick_notes queue vr name started) where
   pub may_note_pick : {before : RecordedView J T} → view_of core took said ≡ before → length before.journal.notes + 2 ≤ before.journal.room → MayNote said slice
   may_note_pick =
-      let picks = ahead_picks T core queue vr name started ahead in
+      let picks = ahead_picks T core queue vr name started woken ahead in
       quiet_noted core took said invariant slice_is (did core took said invariant left queue vr name started picks.0 picks.1 started (pick_notes queue vr name started) picks.2)
 
   pub outs_note_pick : {E : Type 0} {fits : Order J → Outcome J T → Type 0} {out : E → Outward J T} {credited : E → ℕ} (ends : List E) → AreOutsOf fits out credited (desk_of (view_of core took said)) ends →
       (noted : DeskView J T) → noted ≡ desk_with (reverse slice) said → AreOutsOf fits out credited noted ends
   outs_note_pick {fits = fits} {out = out} {credited = credited} ends outs noted wrote =
-      let picks = ahead_picks T core queue vr name started ahead in
+      let picks = ahead_picks T core queue vr name started woken ahead in
       subst (λ desk. AreOutsOf fits out credited desk ends) (sym (is_picked core took said invariant left queue vr name started picks.0 picks.1 picks.2 slice slice_is noted wrote).1)
       (outs_kept (view_of core took said) (view_of picks.1 took noted) (assumption (has_picked core took said invariant left queue vr name started picks.0 picks.1 picks.2 slice slice_is noted wrote)) ends outs)
 
@@ -66,14 +67,14 @@ module _ {J T : Type 0} (said noted : DeskView J T) (slice : List (Note T)) (wro
   pub noted_pick : (queue vr : ℕ) (name : JobId) (started : Bool) → slice ≡ pick_notes queue vr name started → length noted.journal.notes ≡ length said.journal.notes + 2
   noted_pick queue vr name started slice_is = grind arith
 
-  pub noted_settled : (name : JobId) (time : ℕ) (step : Step T) → slice ≡ settle_notes name time step → length noted.journal.notes ≡ length said.journal.notes + 1
-  noted_settled name time step slice_is = grind arith
+  pub noted_settled : (name : JobId) (time : ℕ) (step : Step T) (woken : Bool) → slice ≡ settle_notes name time step woken → length noted.journal.notes ≡ length said.journal.notes + 1
+  noted_settled name time step woken slice_is = grind arith
 
 module _ {J T E : Type 0} {meaning : Meaning J T} (laws : IsMeaning meaning) {out : E → Outward J T} {untouched : E → List ℕ}
     (core : CoreView J) (took : List (Envelope J)) (said : DeskView J T)
     (invariant : IsRecorded meaning (view_of core took said) × (said ≡ desk_of (view_of core took said))) (few_turns : turns said.journal.notes < most_turns)
-    (queue vr : ℕ) (name : JobId) (started : Bool) (spent : ℕ) (calls : List (Call J T)) (step : Step T) (time : ℕ) (core_now : CoreView J)
-    (whole : TurnsWhole meaning core spent calls name queue started (pick_notes queue vr name started) (settled_of step) (settle_notes name time step) core_now)
+    (queue vr : ℕ) (name : JobId) (started : Bool) (spent : ℕ) (calls : List (Call J T)) (step : Step T) (time : ℕ) (woken : Bool) (core_now : CoreView J)
+    (whole : TurnsWhole meaning core spent calls name queue started (pick_notes queue vr name started) (settled_of step woken) (settle_notes name time step woken) core_now)
     (slice : List (Note T)) (slice_is : slice ≡ pick_notes queue vr name started) (noted : DeskView J T) (wrote : noted ≡ desk_with (reverse slice) said)
     (left : DeskView J T) (ends later : List E)
     (posted : HasPosted out untouched (record { desk = noted; ends = ends }) (record { desk = left; ends = later })) (written : IsWritten (terms_of_desk left) left.journal.notes) where
@@ -87,7 +88,7 @@ module _ {J T E : Type 0} {meaning : Meaning J T} (laws : IsMeaning meaning) {ou
   polled_view = view_of whole.mid took left
 
   abbrev told : List (Note T)
-  told = settle_notes name time step
+  told = settle_notes name time step woken
 
   at_pick : IsRecorded meaning picked × (noted ≡ desk_of picked)
   at_pick = is_picked core took said invariant few_turns queue vr name started whole.ran.before whole.mid whole.picks slice slice_is noted wrote
@@ -108,13 +109,13 @@ module _ {J T E : Type 0} {meaning : Meaning J T} (laws : IsMeaning meaning) {ou
   polled = record { answered = whole.polled.answered; same_task = whole.polled.task; later = whole.polled.later }
 
   abbrev its_out : JobOut J
-  its_out = record { name = name; queue = queue; job = whole.ran.before }
+  its_out = record { name = name; queue = queue; woken = is_wake_kept name said.journal.notes; job = whole.ran.before }
 
   it_is : whole.settles.0 ≡ its_out
   it_is = same_Some _ _ (sym whole.settles.1 ∙ picks_it.does_so.out)
 
-  last_step : HasDone meaning polled_view core_now everyone (given_settled whole.settles.0.name whole.ran.step) 1 (λ old new. Settles meaning old whole.ran spent (settled_of step) new) told
-  last_step = settled_did laws polled_view at_poll.0 whole.settles.0 whole.settles.1 core_now whole.ran (ap (λ job. job.job) it_is) polled spent (settled_of step) told whole.settles.2
+  last_step : HasDone meaning polled_view core_now everyone (given_settled whole.settles.0.name (settled_of step woken)) 1 (λ old new. Settles meaning old whole.ran spent (settled_of step woken) new) told
+  last_step = settled_did laws polled_view at_poll.0 whole.settles.0 whole.settles.1 core_now whole.ran (ap (λ job. job.job) it_is) polled spent (settled_of step woken) told whole.settles.2
 
   -- the desk and its ends are those of the core between pick and settling
   posts_of : (P : PostView J T E → PostView J T E → Type 0) → P (record { desk = noted; ends = ends }) (record { desk = left; ends = later }) → P (post_of picked ends) (post_of polled_view later)
@@ -133,17 +134,17 @@ module _ {J T E : Type 0} {meaning : Meaning J T} (laws : IsMeaning meaning) {ou
       pub turned_invariant : IsRecorded meaning new × (said_now ≡ desk_of new)
       turned_invariant = quiet_invariant whole.mid took left at_poll last_is last_step wrote_it
 
-      has_settled : HasStepped meaning everyone (given_settled whole.settles.0.name whole.ran.step) (λ old new. Settles meaning old whole.ran spent (settled_of step) new) polled_view new
+      has_settled : HasStepped meaning everyone (given_settled whole.settles.0.name (settled_of step woken)) (λ old new. Settles meaning old whole.ran spent (settled_of step woken) new) polled_view new
       has_settled = quiet_now whole.mid took left at_poll last_is last_step wrote_it refl
 
-      settles_it : Settles meaning polled_view whole.ran spent (settled_of step) new
+      settles_it : Settles meaning polled_view whole.ran spent (settled_of step woken) new
       settles_it = has_settled.does_so
 
-      owes_it : OwesSettled polled_view (settled_of step) new
-      owes_it = owes_settled polled_view _ whole.settles.0 whole.settles.1 whole.ran.step (settled_of step) settles_it.tells (λ sender. has_settled.ins sender tt)
+      owes_it : OwesSettled polled_view (settled_of step woken) new
+      owes_it = owes_settled polled_view _ whole.settles.0 whole.settles.1 (settled_of step woken) (λ sender. has_settled.ins sender tt)
 
       turned : {does : Doing (PostView J T E) J T} {tells : ℕ → Type 0} → tells spent → Makes does calls (record { desk = noted; ends = ends }) (record { desk = left; ends = later }) →
-          IsPostingTurn meaning does out untouched tells old ends name queue started (settled_of step) new later
+          IsPostingTurn meaning does out untouched tells old ends name queue started (settled_of step woken) new later
       turned {does} told_it makes = record {
         picked = picked;
         left = polled_view;
@@ -166,12 +167,12 @@ module _ {J T E : Type 0} {meaning : Meaning J T} (laws : IsMeaning meaning) {ou
 
       pub turned_noted : {credited : E → ℕ} {tells : ℕ → Type 0} → tells spent → Makes (Does (Fits meaning) out credited untouched) calls (lends noted ends) (lends left later) →
           AreOutsOf (Fits meaning) out credited left later → length said_now.journal.notes ≤ length said.journal.notes + core.cores * (3 * said.cap) + 3 →
-          TurnsNoted meaning out credited untouched tells old ends name queue started (settled_of step) new later
+          TurnsNoted meaning out credited untouched tells old ends name queue started (settled_of step woken) new later
       turned_noted {credited = credited} {tells = tells} told_it makes outs few =
-          let owes = λ (sender : ℕ). subst (λ name. LeavesOwed sender (told_under name (option_map outcome_note (outcome_settled {J = J} (settled_of step))) sender) old new) (ap (λ job. job.name) it_is)
+          let owes = λ (sender : ℕ). subst (λ name. LeavesOwed sender (told_under name (option_map outcome_note (outcome_settled {J = J} (settled_of step woken))) sender) old new) (ap (λ job. job.name) it_is)
           (record { each = λ inward is. (owes_it whole.settles.0 whole.settles.1 sender).each inward ((said_left.ins sender).each inward ((picks_it.ins sender tt).each inward is)) }) in
-          let may_answer = subst (λ name. MayAnswer meaning took name (settled_of step)) (ap (λ job. job.name) (same_Some settles_it.out its_out (sym settles_it.was_out ∙ picks_it.does_so.out)))
-          (its_answer meaning took settles_it.out.name settles_it.out.queue settles_it.sent settles_it.task whole.ran.step (settled_of step) settles_it.tells settles_it.answered) in
+          let may_answer = subst (λ name. MayAnswer meaning took name (settled_of step woken)) (ap (λ job. job.name) (same_Some settles_it.out its_out (sym settles_it.was_out ∙ picks_it.does_so.out)))
+          (its_answer meaning took settles_it.out.name settles_it.out.queue settles_it.sent settles_it.task whole.ran.step (settled_of step woken) (stays_in_line settles_it.out.name left.journal.notes) settles_it.tells settles_it.answered) in
           let outs_now = outs_kept polled_view new (assumption has_settled) later (subst (λ desk. AreOutsOf (Fits meaning) out credited desk later) at_poll.1 outs) in
           let one = picks_it.seat in
           let other = has_settled.seat in

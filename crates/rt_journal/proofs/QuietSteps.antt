@@ -1,14 +1,14 @@
 -- A core beside its journal makes a step by which nothing is delivered and nothing sent: it stays recorded, and the ends of its links stay beside it, also after its desk wrote the notes.
 use Rattle.rt_journal.proofs.Names.{◌≡◌, ℕ, ◌+◌, ◌≤◌, Bool, true, false, ◌∷◌, length, refl, ap, arith, Option, None}
 use Rattle.rt_journal.proofs.Names.{JobId, Order, final_count, Journal, EachNote, if_from, delivered_names}
-use Rattle.rt_journal.proofs.Names.{given_outcomes, Step, DeliversAs, poll_note, settle_note, RecordedView, IsHeld}
+use Rattle.rt_journal.proofs.Names.{given_outcomes, DeliversAs, poll_note, settle_note, RecordedView, IsHeld}
 use Rattle.rt_journal.proofs.Names.{sum_upto, delivered_count, given_count, IsInOf, LeavesOwed, GivesMore, IsUngiven}
 use Rattle.rt_journal.proofs.Names.{KeepsSent, IsSameSeat, grows, OutcomeNote, Inward, ◌*◌, List, [], ◌++◌, sym, ◌∙◌}
-use Rattle.rt_journal.proofs.Names.{subst, Some, All, Note, Meaning, waiting_of, CoreView, JobOut, inside_count, IsKept}
+use Rattle.rt_journal.proofs.Names.{Settled, subst, Some, HaveTasks, Note, Meaning, CoreView, JobOut, inside_count, IsKept}
 use Rattle.rt_journal.proofs.Names.{IsWritten, terms_at, desk_of, IsRecorded, HasTask, KeepsOuts, with_notes, reverse}
 use Rattle.rt_journal.proofs.Names.{Envelope, DeskView, terms_of_desk, desk_with, keeps_outs}
 use Rattle.rt_ids.specs.declared.note.Note.TheVariants as writes
-use Rattle.rt_jobs.specs.declared.job.Step.TheVariants as steps
+use Rattle.rt_core.specs.declared.turn.Settled.TheVariants as came
 use Rattle.rt_ids.specs.declared.note.OutcomeNote.TheVariants as outcomes
 use Rattle.rt_journal.proofs.EndsKept.{keeps_in}
 use Rattle.rt_journal.proofs.Sums.{sum_upto-same}
@@ -30,9 +30,11 @@ abbrev pub nobody : {T : Type 0} → ℕ → Option (JobId × OutcomeNote T)
 nobody sender = None
 
 -- what is given by the note of a settled poll
-abbrev pub given_settled : {T : Type 0} → JobId → Step T → ℕ → Option (JobId × OutcomeNote T)
-given_settled name steps.Yield sender = None
-given_settled name (steps.Done value) sender = if_from sender name (name, outcomes.Finished value)
+abbrev pub given_settled : {T : Type 0} → JobId → Settled T → ℕ → Option (JobId × OutcomeNote T)
+given_settled name (came.Finished value) sender = if_from sender name (name, outcomes.Finished value)
+given_settled name came.Yielded sender = None
+given_settled name came.Parked sender = None
+given_settled name came.Stayed sender = None
 
 module _ {T : Type 0} (notes : Journal T) where
   -- a pick, and the note of the poll that begins
@@ -41,9 +43,11 @@ module _ {T : Type 0} (notes : Journal T) where
   quiet-picked name queue runtime true = assumption
 
   -- a poll that is settled
-  pub quiet-settled : (name : JobId) (time : ℕ) (step : Step T) → IsQuiet everyone (given_settled name step) notes (settle_note name time step ∷ notes)
-  quiet-settled name time (steps.Done out) = assumption
-  quiet-settled name time steps.Yield = assumption
+  pub quiet-settled : (name : JobId) (time : ℕ) (settled : Settled T) → IsQuiet everyone (given_settled name settled) notes (settle_note name time settled ∷ notes)
+  quiet-settled name time (came.Finished out) = assumption
+  quiet-settled name time came.Yielded = assumption
+  quiet-settled name time came.Parked = assumption
+  quiet-settled name time came.Stayed = assumption
 
 -- where nothing is delivered, places stay, and no more jobs are inside than orders wait
 pub held_on : {T : Type 0} (gives : ℕ → Option (JobId × OutcomeNote T)) (old new : Journal T) → ((sender : ℕ) → delivered_names sender new ≡ delivered_names sender old) → GivesMore gives old new →
@@ -70,7 +74,7 @@ module _ {J T : Type 0} (old : RecordedView J T) (core : CoreView J) (written : 
       pub quiet : IsQuiet keeps gives old.journal.notes longer
       pub ungiven : (sender : ℕ) (inward : Inward J T) → IsInOf sender old inward → IsUngiven (gives sender) inward.given
       pub fewer : inside_count core + sum_upto (given_count longer) old.core.cores ≤ inside_count old.core + sum_upto (given_count old.journal.notes) old.core.cores
-      pub waiting : (queue : ℕ) → All (λ entry. HasTask meaning old.took longer queue entry.0 entry.2) (waiting_of queue core.queues)
+      pub tasks : HaveTasks meaning stepped
       pub out : (job : JobOut J) → core.out ≡ Some job → HasTask meaning old.took longer job.queue job.name job.job
 
 module _ {J T : Type 0} {meaning : Meaning J T}
@@ -90,7 +94,7 @@ module _ {J T : Type 0} {meaning : Meaning J T}
     taken = λ name order at.
         let was = recorded.taken name order at in record { sender = rw step.cores was.sender; old = omega (arith, was.old, ap length (step.quiet.delivered name.from)) };
     as_sent = step.quiet.as_sent _ recorded.as_sent;
-    waiting = step.waiting;
+    tasks = step.tasks;
     out = step.out;
   }
 

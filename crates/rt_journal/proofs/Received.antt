@@ -1,12 +1,12 @@
 -- A core beside its journal stays recorded as an order is delivered to it: the orders by their names, the polls of a new job, and all else.
-use Rattle.rt_journal.proofs.Names.{same_name, cond, or_else, ◌==◌, ne_eqb, ◌≡◌, Bool, true, false, List, [], ◌∷◌}
+use Rattle.rt_journal.proofs.Names.{same_name, cond, or_else, ◌==◌, ne_eqb, ◌≡◌, true, false, List, [], ◌∷◌}
 use Rattle.rt_journal.proofs.Names.{◌++◌, refl, ◌∙◌, ap, ◌⊎◌, Option, Some, None, option_map, JobId, Note, Envelope}
 use Rattle.rt_journal.proofs.Names.{Order, Job, Journal, EachNote, one_name, same_as_itself, without_job, CarriesOut}
 use Rattle.rt_journal.proofs.Names.{DeliversAs, order_taken, note_taken, ◌+◌, sym, subst, arith, true≢false}
-use Rattle.rt_journal.proofs.Names.{false_from_ne_true, Terms, Yield, Done, is_name, delivered_names, name_delivered}
-use Rattle.rt_journal.proofs.Names.{number_if, name_settled, MayFollow, MayStand, grows, alone_out, IsOld, known_of}
-use Rattle.rt_journal.proofs.Names.{polls_made, ℕ, ◌*◌, ◌<◌, ◌≤◌, length, ⊎_elim, zero-add, All, reverse, eq-eqb}
-use Rattle.rt_journal.proofs.Names.{given_outcomes, Meaning, IsMeaning, waiting_of, CoreView, inside_count, Delivered}
+use Rattle.rt_journal.proofs.Names.{false_from_ne_true, Terms, is_name, delivered_names, name_delivered}
+use Rattle.rt_journal.proofs.Names.{number_if, name_settled, MayFollow, MayStand, grows, alone_out, jobs_out, IsOld, known_of}
+use Rattle.rt_journal.proofs.Names.{polls_made, ℕ, ◌*◌, ◌<◌, ◌≤◌, length, ⊎_elim, zero-add, reverse, eq-eqb}
+use Rattle.rt_journal.proofs.Names.{given_outcomes, Meaning, IsMeaning, CoreView, inside_count, Delivered}
 use Rattle.rt_journal.proofs.Names.{IsSpelledOrder, IsKept, RecordedView, terms_at, IsRecorded, IsHeld, IsTaken}
 use Rattle.rt_journal.proofs.Names.{HasTask, OwesAfter, sum_upto, delivered_count, given_count, IsSameSeat, GivesMore}
 use Rattle.rt_journal.proofs.Names.{told_under, outcome_delivered, OutcomeNote, outcome_note, IsNextIn, Receives}
@@ -14,7 +14,7 @@ use Rattle.rt_journal.proofs.Names.{CoreDelivers}
 use Rattle.rt_ids.specs.declared.note.Note.TheVariants as writes
 use Rattle.rt_journal.proofs.Places.{everywhere}
 use Rattle.rt_journal.proofs.Sums.{sum_upto-one_more, sum_upto-room}
-use Rattle.rt_journal.proofs.CarriedOut.{IsCarriedOut, IsOf, carries_out}
+use Rattle.rt_journal.proofs.CarriedOut.{HoldsOfAll, IsCarriedOut, carries_out, same_out-holds}
 
 module _ {J : Type 0} (last : Envelope J) where
   -- under a name stands what stood there, and else the last one, if it has that name
@@ -54,18 +54,23 @@ as_sent-stays {T} old new stays (note ∷ before) each = (by_note note each.0, a
     by_note (writes.SharesSet queue weight) sent = carried (writes.SharesSet queue weight) before sent
     by_note (writes.QueueClosed queue mode) sent = carried (writes.QueueClosed queue mode) before sent
     by_note (writes.CoreClosed mode) sent = carried (writes.CoreClosed mode) before sent
+    by_note (writes.Woken name) sent = carried (writes.Woken name) before sent
     by_note _ sent = tt
 
 module _ {T : Type 0} (terms : Terms) where
+  -- who is out was delivered before
+  out_old : (name other : JobId) (before : Journal T) → EachNote (MayStand terms) before → jobs_out before ≡ other ∷ [] → same_name name other ≡ true → IsOld name before
+  out_old name other before notes alone same =
+      let known = known_of terms before notes in
+      subst (λ one. IsOld one before) (sym (one_name name other same)) (known.entered_old other (known.out_inside other (alone_out other before alone)).entered)
+
   -- whose poll is settled was delivered before
   settled_old : (name : JobId) (note : Note T) (before : Journal T) → MayFollow terms note before → EachNote (MayStand terms) before →
       is_name name (name_settled note) ≡ true → IsOld name before
-  settled_old name (Yield other time) before law notes same =
-      let known = known_of terms before notes in
-      subst (λ one. IsOld one before) (sym (one_name name other same)) (known.entered_old other (known.out_inside other (alone_out other before law)).entered)
-  settled_old name (Done other time value) before law notes same =
-      let known = known_of terms before notes in
-      subst (λ one. IsOld one before) (sym (one_name name other same)) (known.entered_old other (known.out_inside other (alone_out other before law)).entered)
+  settled_old name (writes.Yield other time) before law notes same = out_old name other before notes law same
+  settled_old name (writes.Park other time) before law notes same = out_old name other before notes law.0 same
+  settled_old name (writes.Stayed other time) before law notes same = out_old name other before notes law.0 same
+  settled_old name (writes.Done other time value) before law notes same = out_old name other before notes law same
   settled_old name _ before law notes same = absurd (true≢false (sym same))
 
   pub polls_made-fresh : (name : JobId) (journal : Journal T) → EachNote (MayStand terms) journal → (IsOld name journal → ⊥) → polls_made name journal ≡ 0
@@ -93,8 +98,11 @@ module _ {J T : Type 0} {meaning : Meaning J T} where
 module _ {J T : Type 0} {meaning : Meaning J T} (old : RecordedView J T) (recorded : IsRecorded meaning old)
     (written : List (Note T)) (unpolled : (which : JobId) → polls_made which (written ++ old.journal.notes) ≡ polls_made which old.journal.notes) where
   -- all jobs keep their tasks behind notes by which no poll is settled
-  pub waiting_stays : (queue : ℕ) → All (λ entry. HasTask meaning old.took (written ++ old.journal.notes) queue entry.0 entry.2) (waiting_of queue old.core.queues)
-  waiting_stays queue place default within = task_stays (λ order at. at) (unpolled _) (recorded.waiting queue place default within)
+  pub tasks_stay : HoldsOfAll (λ queue name job. HasTask meaning old.took (written ++ old.journal.notes) queue name job) old.core.queues
+  tasks_stay = record {
+    waiting = λ queue place default within. task_stays (λ order at. at) (unpolled _) (recorded.tasks.waiting queue place default within);
+    parked = λ queue place default within. task_stays (λ order at. at) (unpolled _) (recorded.tasks.parked queue place default within);
+  }
 
 module _ {J T : Type 0} {meaning : Meaning J T} (laws : IsMeaning meaning)
     (old : RecordedView J T) (recorded : IsRecorded meaning old) (envelope : Envelope J) (told : Option (OutcomeNote T)) (core : CoreView J) (written : List (Note T))
@@ -145,21 +153,24 @@ module _ {J T : Type 0} {meaning : Meaning J T} (laws : IsMeaning meaning)
       (λ last. subst (IsTaken core.cores longer) (sym last.0) (record { sender = rw done.cores next.sender; old = omega (arith, counted_here, next.next) }))
       (order_taken-parts envelope old.took which order at)
 
-  abbrev Task : ℕ → JobId × Bool × J → Type 0
-  Task queue entry = HasTask meaning received.took longer queue entry.0 entry.2
+  abbrev Task : ℕ → JobId → J → Type 0
+  Task queue which job = HasTask meaning received.took longer queue which job
 
-  waiting_now : (queue : ℕ) → All (Task queue) (waiting_of queue core.queues)
-  waiting_now = done.entered Task (λ queue place default within. task_stays (stays _) (done.polls _) (recorded.waiting queue place default within)) came
+  tasks_now : HoldsOfAll Task core.queues
+  tasks_now = done.entered Task (record {
+    waiting = λ queue place default within. task_stays (stays _) (done.polls _) (recorded.tasks.waiting queue place default within);
+    parked = λ queue place default within. task_stays (stays _) (done.polls _) (recorded.tasks.parked queue place default within);
+  }) came
     where
-      came : (queue : ℕ) (entry : JobId × Bool × J) → IsOf name envelope.order queue entry → Task queue entry
-      came queue entry is =
+      came : (queue : ℕ) (job : J) → envelope.order ≡ Job queue job → Task queue name job
+      came queue job is =
           let never = done.polls name ∙ polls_made-fresh (terms_at old) name old.journal.notes recorded.kept.notes (λ late. omega (arith, late, next.next)) in
           record {
-            sent = entry.2;
-            task = ap (order_taken received.took) is.0 ∙ (here ∙ ap Some is.1);
-            same_task = laws.same_task.itself entry.2;
-            owes = subst (λ count. OwesAfter meaning entry.2 count entry.2) (sym (ap (λ which. polls_made which longer) is.0 ∙ never))
-                (λ more calls step told owed. subst (λ place. meaning.polls entry.2 (meaning.made entry.2 + place) calls step told) (sym (zero-add more)) owed);
+            sent = job;
+            task = here ∙ ap Some is;
+            same_task = laws.same_task.itself job;
+            owes = subst (λ count. OwesAfter meaning job count job) (sym never)
+                (λ more calls step told owed. subst (λ place. meaning.polls job (meaning.made job + place) calls step told) (sym (zero-add more)) owed);
           }
 
   terms_now : terms_at old ≡ terms_at received
@@ -173,8 +184,8 @@ module _ {J T : Type 0} {meaning : Meaning J T} (laws : IsMeaning meaning)
     taken = taken_now;
     as_sent = done.as_sent (note_taken received.took) (ap (option_map without_job) here)
         (as_sent-stays (note_taken old.took) (note_taken received.took) (λ which. note_taken-stays old.took received.took which (stays which)) old.journal.notes recorded.as_sent);
-    waiting = waiting_now;
-    out = λ job at. task_stays (stays job.name) (done.polls job.name) (recorded.out job (sym done.out ∙ at));
+    tasks = record { waiting = tasks_now.waiting; parked = tasks_now.parked };
+    out = same_out-holds Task old.core.out core.out done.same_out (λ job at. task_stays (stays job.name) (done.polls job.name) (recorded.out job at));
   }
 
 -- a core has room for what is delivered next

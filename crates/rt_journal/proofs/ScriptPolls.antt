@@ -23,6 +23,8 @@ done_last (poll.Yield told ∷ rest) ends zero time value at = absurd (let same 
 done_last (poll.Yield told ∷ rest) ends (suc place) time value at = omega (arith, done_last rest ends place time value at)
 done_last (poll.Submit told core queue ∷ rest) ends zero time value at = absurd (let same : Some (poll.Submit told core queue) ≡ Some (poll.Done time value) = at in cc)
 done_last (poll.Submit told core queue ∷ rest) ends (suc place) time value at = omega (arith, done_last rest ends place time value at)
+done_last (poll.Park told ∷ rest) ends zero time value at = absurd (let same : Some (poll.Park told) ≡ Some (poll.Done time value) = at in cc)
+done_last (poll.Park told ∷ rest) ends (suc place) time value at = omega (arith, done_last rest ends place time value at)
 done_last (poll.Done told other ∷ rest) ends zero time value at = omega (arith, ap length ends)
 done_last (poll.Done told other ∷ rest) ends (suc place) time value at =
     absurd (let none : None ≡ Some (poll.Done time value) = ap (λ rest. slice_get rest place) (sym ends) ∙ at in cc)
@@ -42,6 +44,12 @@ last_done (poll.Submit told core queue ∷ rest) ends zero word at last = absurd
     some_left [] ends none = ends
     some_left (first ∷ rest) ends none = omega (arith, none)
 last_done (poll.Submit told core queue ∷ rest) ends (suc place) word at last = last_done rest ends place word at (omega (arith, last))
+last_done (poll.Park told ∷ rest) ends zero word at last = absurd (some_left rest ends (omega (arith, last)))
+  where
+    some_left : (rest : List Poll) → EndsDone rest → length rest ≡ 0 → ⊥
+    some_left [] ends none = ends
+    some_left (first ∷ rest) ends none = omega (arith, none)
+last_done (poll.Park told ∷ rest) ends (suc place) word at last = last_done rest ends place word at (omega (arith, last))
 last_done (poll.Done told value ∷ rest) ends zero word at last = (told, value, let same : Some (poll.Done told value) ≡ Some word = at in cc)
 last_done (poll.Done told value ∷ rest) ends (suc place) word at last = absurd (omega (arith, ap length ends, last))
 
@@ -52,6 +60,7 @@ told_time told time stated is timed = let same : stated ≡ time = subst (λ tol
 settles_word : (word : Poll) (calls : List (Call Script ℕ)) (step : Step ℕ) (told : Option ℕ) (time : ℕ) → Does (Some word) calls step told → IfSome told (λ stated. stated ≡ time) → SettlesWord word time step
 settles_word (poll.Yield stated) calls step told time does timed = (told_time told time stated does.2 timed, does.1)
 settles_word (poll.Submit stated core queue) calls step told time does timed = (told_time told time stated does.2 timed, does.1)
+settles_word (poll.Park stated) calls step told time does timed = (told_time told time stated does.2 timed, does.1)
 settles_word (poll.Done stated value) calls step told time does timed = (told_time told time stated does.2 timed, does.1)
 
 module _ (terms : Terms) (seen : Seen Script) (queue : ℕ) (sent : Script) (name : JobId) (time : ℕ) (step : Step ℕ) (before : Journal ℕ)
@@ -76,6 +85,7 @@ module _ (terms : Terms) (seen : Seen Script) (queue : ℕ) (sent : Script) (nam
     ends_there : (word : Poll) → SettlesWord word time step → is_done_step step ≡ true → slice_get sent.polls place ≡ Some word → place + 1 ≡ length sent.polls
     ends_there (poll.Yield told) settles done at = absurd (true≢false (sym done ∙ ap is_done_step settles.1))
     ends_there (poll.Submit told core queue) settles done at = absurd (true≢false (sym done ∙ ap is_done_step settles.1))
+    ends_there (poll.Park told) settles done at = absurd (true≢false (sym done ∙ ap is_done_step settles.1))
     ends_there (poll.Done told value) settles done at = done_last sent.polls is.ends place told value at
 
     goes_on : is_done_step step ≡ false → place + 1 ≡ length sent.polls → ⊥

@@ -84,7 +84,10 @@ module _ {J T : Type 0} (old : RecordedView J T) (longer : Journal T) (lanes : L
       taken = λ which order at.
           let was = recorded.taken which order at in record { sender = was.sender; old = omega (arith, was.old, ap length (silent.delivered which.from)) };
       as_sent = silent.as_sent _ recorded.as_sent;
-      waiting = λ queue place default within. task_stays (λ order at. at) (silent.polls _) (recorded.waiting queue place default within);
+      tasks = record {
+        waiting = λ queue place default within. task_stays (λ order at. at) (silent.polls _) (recorded.tasks.waiting queue place default within);
+        parked = λ queue place default within. task_stays (λ order at. at) (silent.polls _) (recorded.tasks.parked queue place default within);
+      };
       out = λ job at. task_stays (λ order at. at) (silent.polls job.name) (recorded.out job at);
     }
 

@@ -11,7 +11,8 @@ use Rattle.rt_ids.specs.Lines.{queue_out}
 use Rattle.rt_ids.specs.Names.{is_number}
 use Rattle.rt_ids.specs.Work.{number_if}
 use Rattle.rt_ids.proofs.Counts.{counts_agree}
-use Rattle.rt_taskqueue.specs.Queues.{QueueView, no_queue, held_count}
+use Rattle.rt_taskqueue.specs.Queues.{QueueView, no_queue, held_count, parked_of}
+use Rattle.rt_ids.specs.Parks.{parked}
 use Rattle.rt_core.specs.State as state
 use Rattle.rt_core.specs.State.{CoreView, JobOut, inside_count}
 use Rattle.rt_journal.specs.Agreement.{IsKept}
@@ -79,8 +80,8 @@ module _ {T : Type 0} (terms : Terms) (journal : Journal T) (notes : EachNote (M
   abbrev is_out : ℕ → ℕ
   is_out queue = number_if (is_number queue (queue_out journal))
 
-  -- who is inside waits or is out
-  below_told : (count : ℕ) → jobs_below count journal ≡ below (λ queue. length (line queue journal)) count + below is_out count
+  -- who is inside waits, is parked, or is out
+  below_told : (count : ℕ) → jobs_below count journal ≡ below (λ queue. length (line queue journal) + length (parked queue journal)) count + below is_out count
   below_told zero = refl
   below_told (suc queue) = omega (arith, below_told queue, counts_agree terms queue journal notes)
 
@@ -88,11 +89,12 @@ pub held_told : {J T : Type 0} (terms : Terms) (core : CoreView J) (journal : Jo
 held_told terms core journal kept =
     omega (arith, waiting, out, below_told terms journal kept.notes (queue_count core.queues), ap (λ count. jobs_below count journal) kept.agrees.last)
   where
-    waiting : below (λ queue. length (line queue journal)) (queue_count core.queues) ≡ held_count core.queues
+    waiting : below (λ queue. length (line queue journal) + length (parked queue journal)) (queue_count core.queues) ≡ held_count core.queues
     waiting =
-        below-alike (λ queue. length (line queue journal)) (λ queue. length (waiting_of queue core.queues))
-        (λ queue. ap length (sym (kept.agrees.lines queue)) ∙ length-map (waiting_of queue core.queues) _) (queue_count core.queues)
-        ∙ below-items (λ (queue : QueueView _). length queue.waiting) no_queue core.queues.queues
+        below-alike (λ queue. length (line queue journal) + length (parked queue journal)) (λ queue. length (waiting_of queue core.queues) + length (parked_of queue core.queues))
+        (λ queue. λ i. (ap length (sym (kept.agrees.lines queue)) ∙ length-map (waiting_of queue core.queues) _) i + (ap length (sym (kept.agrees.parks queue)) ∙ length-map (parked_of queue core.queues) _) i)
+        (queue_count core.queues)
+        ∙ below-items (λ (queue : QueueView _). length queue.waiting + length queue.parked) no_queue core.queues.queues
 
     out : below (λ queue. number_if (is_number queue (queue_out journal))) (queue_count core.queues) ≡ number_if (is_some core.out)
     out =
@@ -129,11 +131,12 @@ module _ {J T : Type 0} {meaning : Meaning J T} (view : RecordedView J T) (recor
     drained = (λ yes. drained_told view recorded (drained.0 yes), λ all. drained.1 (drained_here view recorded all));
   }
 
-  -- who waits in a queue
-  waits : (queue : ℕ) → length (waiting_of queue view.core.queues) ≡ waiting_count queue view.journal.notes
-  waits queue =
-      sym (length-map (waiting_of queue view.core.queues) _)
-      ∙ (ap length (recorded.kept.agrees.lines queue) ∙ sym (waiting_is_line (terms_at view) queue view.journal.notes recorded.kept.notes))
+  -- who waits in a queue, or is parked
+  waits_told : (queue : ℕ) → length (waiting_of queue view.core.queues) + length (parked_of queue view.core.queues) ≡ length (line queue view.journal.notes) + length (parked queue view.journal.notes)
+  waits_told queue = λ i. (sym (length-map (waiting_of queue view.core.queues) _) ∙ ap length (recorded.kept.agrees.lines queue)) i + (sym (length-map (parked_of queue view.core.queues) _) ∙ ap length (recorded.kept.agrees.parks queue)) i
+
+  waits : (queue : ℕ) → length (waiting_of queue view.core.queues) + length (parked_of queue view.core.queues) ≡ waiting_count queue view.journal.notes
+  waits queue = waits_told queue ∙ sym (waiting_is_line (terms_at view) queue view.journal.notes recorded.kept.notes)
 
   -- all numbers of a queue
   sums_of : (queue : ℕ) → queue < queue_count view.core.queues → queue_stats queue view.core ≡ stats_of queue view.journal.notes
@@ -158,7 +161,7 @@ module _ {J T : Type 0} {meaning : Meaning J T} (view : RecordedView J T) (recor
           record {
             sums = sums_of queue within;
             runtime_is = recorded.kept.agrees.runtimes queue;
-            waiting_are = sym (length-map (waiting_of queue view.core.queues) _) ∙ ap length (recorded.kept.agrees.lines queue);
+            waiting_are = waits_told queue;
           },
         );
   }

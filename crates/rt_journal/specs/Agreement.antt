@@ -11,24 +11,32 @@ use Rattle.rt_ids.specs.Closing.{queue_mode, core_mode, final_count}
 use Rattle.rt_ids.specs.Clauses.{queue_just_picked}
 use Rattle.rt_ids.specs.Commands.{created_count, effect_awaited}
 use Rattle.rt_ids.specs.Lawful.{MayStand}
+use Rattle.rt_ids.specs.Parks.{parked, is_wake_kept}
 use Rattle.rt_ids.specs.Picks.{turns}
-use Rattle.rt_taskqueue.specs.Queues.{queue_count, shares_of, mode_of, waiting_of}
+use Rattle.rt_taskqueue.specs.Queues.{Marks, Line, Parks, queue_count, shares_of, mode_of, waiting_of, parked_of}
 use Rattle.rt_core.specs.State.{CoreView, JobOut, runtime_of, delivered_of, gate_of}
 use Rattle.rt_journal.specs.Figures.{figures_of, figures_told}
 
 module _ {J : Type 0} where
-  abbrev pub names_of : List (JobId × Bool × J) → List JobId
+  abbrev pub names_of : Line J → List JobId
   names_of waiting = map (λ entry. entry.0) waiting
 
-module _ {J T : Type 0} where
-  -- each of them is marked as started exactly where the journal says that it started
-  abbrev pub AreMarked : Journal T → List (JobId × Bool × J) → Type 0
-  AreMarked journal waiting = All (λ entry. entry.1 ≡ is_told name_started entry.0 journal) waiting
+  abbrev pub names_parked : Parks J → List JobId
+  names_parked parks = map (λ entry. entry.0) parks
 
-  -- the job that is out is the one of the journal, in its queue
+-- what a journal tells of a job that waits: whether it started, and whether a wake of it is kept
+abbrev pub marks_told : {T : Type 0} → JobId → Journal T → Marks
+marks_told name journal = record { started = is_told name_started name journal; woken = is_wake_kept name journal }
+
+module _ {J T : Type 0} where
+  -- each of them has the marks that the journal tells
+  abbrev pub AreMarked : Journal T → Line J → Type 0
+  AreMarked journal waiting = All (λ entry. entry.1 ≡ marks_told entry.0 journal) waiting
+
+  -- the job that is out is the one of the journal, in its queue, with the wake that the journal keeps of it
   abbrev pub IsJobOut : Option (JobOut J) → Journal T → Type 0
   IsJobOut None journal = jobs_out journal ≡ []
-  IsJobOut (Some job) journal = (jobs_out journal ≡ job.name ∷ []) × (queue_of job.name journal ≡ Some job.queue)
+  IsJobOut (Some job) journal = (jobs_out journal ≡ job.name ∷ []) × (queue_of job.name journal ≡ Some job.queue) × (job.woken ≡ is_wake_kept job.name journal)
 
   -- the modes of the queues and of the core, and the gates, are those of the journal
   pub record AgreesOnClosing (core : CoreView J) (journal : Journal T) : Type 0 where
@@ -42,6 +50,7 @@ module _ {J T : Type 0} where
     pub senders : length core.delivered ≡ core.cores + 1
     pub last : queue_count core.queues ≡ created_count journal + 1
     pub lines : (queue : ℕ) → names_of (waiting_of queue core.queues) ≡ line queue journal
+    pub parks : (queue : ℕ) → names_parked (parked_of queue core.queues) ≡ parked queue journal
     pub marks : (queue : ℕ) → AreMarked journal (waiting_of queue core.queues)
     pub runtimes : (queue : ℕ) → runtime_of queue core ≡ virtual_runtime queue journal
     pub weights : (queue : ℕ) → queue < queue_count core.queues → shares_of queue core.queues ≡ shares queue journal

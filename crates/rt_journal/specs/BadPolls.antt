@@ -2,7 +2,7 @@
 use Rattle.std.specs.Prelude.{◌≡◌, ℕ, Option, Some, List, [], ◌∷◌}
 use Rattle.rt_ids.specs.Terms.{Terms}
 use Rattle.rt_ids.specs.declared.names.JobId.{JobId}
-use Rattle.rt_ids.specs.declared.note.Note.TheVariants.{Took, Pick, Start, Resume, Yield, Done, Sent, Detached}
+use Rattle.rt_ids.specs.declared.note.Note.TheVariants.{Took, Pick, Start, Resume, Yield, Park, Stayed, Done, Sent, Detached}
 use Rattle.rt_ids.specs.declared.order.Order.{Order}
 use Rattle.rt_ids.specs.declared.order.Order.TheVariants.{Job}
 use Rattle.rt_ids.specs.Journal.{Journal}
@@ -61,6 +61,12 @@ pub record PollsAreRefused : Type 0 where
       (Yield job 5 ∷ Detached (sent 2) ∷ Sent (sent 2) (Job 0 tt) ∷ Detached (sent 1) ∷ Sent (sent 1) (Job 0 tt) ∷ begun)
   -- what it submitted isn't detached
   pub keeps_its_submission : IsNotOwed open_links (poll.Submit 5 1 0 ∷ poll.Done 1 7 ∷ []) (Yield job 5 ∷ Sent (sent 1) (Job 0 tt) ∷ begun)
+  -- a job that asks to be parked yields
+  pub yields_for_a_park : IsNotOwed open_links (poll.Park 5 ∷ poll.Done 1 7 ∷ []) (Yield job 5 ∷ begun)
+  -- a job that yields is parked
+  pub parks_for_a_yield : IsNotOwed open_links (poll.Yield 5 ∷ poll.Done 1 7 ∷ []) (Park job 5 ∷ begun)
+  -- a job that is done stays
+  pub stays_when_done : IsNotOwed open_links (poll.Done 1 7 ∷ []) (Stayed job 1 ∷ begun)
   -- a poll that was never begun is settled
   pub never_begun : IsNotOwed open_links (poll.Done 1 7 ∷ []) (Done job 1 7 ∷ Took job 0 ∷ [])
   -- another job was sent than the one that its poll submits

@@ -4,7 +4,7 @@ use Rattle.rt_ids.specs.declared.names.JobId.{JobId}
 use Rattle.rt_ids.specs.declared.note.Note.{Note}
 use Rattle.rt_ids.specs.declared.note.Note.TheVariants as writes
 use Rattle.rt_ids.specs.declared.order.Order.{Order}
-use Rattle.rt_ids.specs.declared.order.Order.TheVariants.{Job, Create, SetShares, Close, CloseCore}
+use Rattle.rt_ids.specs.declared.order.Order.TheVariants.{Job, Create, SetShares, Close, CloseCore, Wake}
 use Rattle.rt_ids.specs.declared.order.Outcome.{Outcome}
 use Rattle.rt_ids.specs.declared.order.Outcome.TheVariants as outcomes
 use Rattle.rt_ids.specs.declared.order.Reason.{Reason}
@@ -28,7 +28,7 @@ module _ {T : Type 0} where
   -- a command is answered, and the note of its effect follows
   abbrev pub IsAnswered : JobId → Order (Unit {0}) → Journal T → List (Note T) → Type 0
   IsAnswered name order before notes =
-      (answer : Answer) × IsAnswer order answer before × (notes ≡ with_effect (effect_note order answer) (writes.Answered name answer ∷ []))
+      (answer : Answer) × IsAnswer name.to order answer before × (notes ≡ with_effect (effect_note name.to order answer) (writes.Answered name answer ∷ []))
 
 module _ {J T : Type 0} where
   -- the outcome of a delivery, if it has one yet
@@ -44,3 +44,4 @@ module _ {J T : Type 0} where
   IsDelivery name (SetShares queue weight) before notes = IsAnswered name (SetShares queue weight) before notes
   IsDelivery name (Close queue mode) before notes = IsAnswered name (Close queue mode) before notes
   IsDelivery name (CloseCore mode) before notes = IsAnswered name (CloseCore mode) before notes
+  IsDelivery name (Wake actor number) before notes = IsAnswered name (Wake actor number) before notes

@@ -1,14 +1,15 @@
 -- What follows for a core that its journal keeps.
-use Rattle.std.specs.Prelude.{◌≡◌, ℕ, Bool}
+use Rattle.std.specs.Prelude.{◌≡◌, ℕ, Bool, Some}
 use Rattle.rt_ids.specs.Terms.{Terms}
 use Rattle.rt_ids.specs.declared.names.JobId.{JobId}
 use Rattle.rt_ids.specs.Journal.{Journal}
 use Rattle.rt_ids.specs.Work.{has_work}
-use Rattle.rt_ids.specs.Commands.{refusal}
+use Rattle.rt_ids.specs.Commands.{refusal, stays_in_line}
 use Rattle.rt_ids.specs.Picks.{IsRightPick}
-use Rattle.rt_core.specs.State.{CoreView, is_working, runtime_of}
+use Rattle.rt_core.specs.State.{CoreView, JobOut, is_working, runtime_of}
 use Rattle.rt_core.specs.Turns.{TakesOut}
 use Rattle.rt_core.specs.Closing as core_says
+use Rattle.rt_core.specs.Settling.{stays}
 use Rattle.rt_journal.specs.Agreement.{IsKept}
 
 module _ (J T : Type 0) where
@@ -19,6 +20,11 @@ module _ (J T : Type 0) where
   -- a job is refused for the reason that the journal gives
   abbrev pub RefusesAsTold : Type 0
   RefusesAsTold = (terms : Terms) (core : CoreView J) (journal : Journal T) → IsKept terms core journal → (queue : ℕ) → core_says.refusal queue core ≡ refusal queue journal
+
+  -- the job that is out stays in its line where the journal says so, if it asks to be parked
+  abbrev pub StaysAsTold : Type 0
+  StaysAsTold =
+      (terms : Terms) (core : CoreView J) (journal : Journal T) (job : JobOut J) → IsKept terms core journal → core.out ≡ Some job → stays job core ≡ stays_in_line job.name journal
 
   -- what is taken out is a right pick
   abbrev pub PicksRight : Type 0

@@ -16,7 +16,7 @@ use Rattle.rt_core.specs.declared.turn.Turn.{Turn}
 use Rattle.rt_core.specs.declared.turn.Turn.TheVariants.{Back}
 use Rattle.rt_core.specs.declared.turn.PickError.{PickError}
 use Rattle.rt_core.specs.declared.turn.Settled.{Settled}
-use Rattle.rt_core.specs.declared.turn.Settled.TheVariants.{Yielded, Finished}
+use Rattle.rt_core.specs.declared.turn.Settled.TheVariants.{Yielded, Parked, Stayed, Finished}
 use Rattle.rt_journal.specs.Recorded.{RecordedView, order_taken}
 use Rattle.rt_journal.specs.Ends.{LeavesOwed, told_under}
 use Rattle.rt_jobs.specs.Meanings.{Meaning}
@@ -40,6 +40,8 @@ module _ {J T : Type 0} where
   -- the outcome of a settled poll
   abbrev pub outcome_settled : Settled T → Option (Outcome J T)
   outcome_settled Yielded = None
+  outcome_settled Parked = None
+  outcome_settled Stayed = None
   outcome_settled (Finished answer) = Some (outcome.Finished answer)
 
   -- the outcome of the poll that was settled, if the job is done, is owed to its sender, and nothing to the others

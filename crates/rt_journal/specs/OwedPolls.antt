@@ -57,6 +57,8 @@ module _ {J T : Type 0} (meaning : Meaning J T) (terms : Terms) (seen : Seen J) 
     -- a note that settles a poll settles one that is owed
     abbrev pub PollIsOwed : Note T → Journal T → Type 0
     PollIsOwed (writes.Yield name time) before = IsOwedPoll name time step.Yield before
+    PollIsOwed (writes.Park name time) before = IsOwedPoll name time step.Park before
+    PollIsOwed (writes.Stayed name time) before = IsOwedPoll name time step.Park before
     PollIsOwed (writes.Done name time out) before = IsOwedPoll name time (step.Done out) before
     PollIsOwed _ before = Unit {0}
 

@@ -7,8 +7,8 @@ use Rattle.rt_ids.specs.Names.{is_name}
 use Rattle.rt_ids.specs.Journal.{Journal}
 use Rattle.rt_ids.specs.Work.{number_if}
 use Rattle.rt_ids.specs.Lines.{name_settled}
-use Rattle.rt_jobs.specs.declared.job.Step.{Step}
-use Rattle.rt_jobs.specs.declared.job.Step.TheVariants as step
+use Rattle.rt_core.specs.declared.turn.Settled.{Settled}
+use Rattle.rt_core.specs.declared.turn.Settled.TheVariants.{Yielded, Parked, Stayed, Finished}
 
 -- how often the job was polled
 abbrev pub polls_made : {T : Type 0} → JobId → Journal T → ℕ
@@ -20,7 +20,9 @@ abbrev pub poll_note : {T : Type 0} → JobId → Bool → Note T
 poll_note name false = writes.Start name
 poll_note name true = writes.Resume name
 
--- a poll ends the job, or the job yields
-abbrev pub settle_note : {T : Type 0} → JobId → ℕ → Step T → Note T
-settle_note name time (step.Done out) = writes.Done name time out
-settle_note name time step.Yield = writes.Yield name time
+-- the note of a settled poll, by what became of its job
+abbrev pub settle_note : {T : Type 0} → JobId → ℕ → Settled T → Note T
+settle_note name time Yielded = writes.Yield name time
+settle_note name time Parked = writes.Park name time
+settle_note name time Stayed = writes.Stayed name time
+settle_note name time (Finished answer) = writes.Done name time answer

@@ -12,7 +12,7 @@ use Rattle.rt_ids.specs.Filters.{delivered_names, given_outcomes}
 use Rattle.rt_jobs.specs.declared.job.Step.{Step}
 use Rattle.rt_jobs.specs.Calls.{Call}
 use Rattle.rt_jobs.specs.Meanings.{Meaning}
-use Rattle.rt_taskqueue.specs.Queues.{waiting_of}
+use Rattle.rt_taskqueue.specs.Queues.{waiting_of, parked_of}
 use Rattle.rt_core.specs.State.{CoreView, JobOut, inside_count}
 use Rattle.rt_journal_notes.specs.Journals.{JournalView}
 use Rattle.rt_desk.specs.Lanes.{Lane}
@@ -84,6 +84,11 @@ module _ {J T : Type 0} (meaning : Meaning J T) where
     pub same_task : meaning.same sent job
     pub owes : OwesAfter sent (polls_made name notes) job
 
+  -- each job that waits, and each that is parked, has the task that was sent
+  pub record HaveTasks (view : RecordedView J T) : Type 0 where
+    pub waiting : (queue : ℕ) → All (λ entry. HasTask view.took view.journal.notes queue entry.0 entry.2) (waiting_of queue view.core.queues)
+    pub parked : (queue : ℕ) → All (λ entry. HasTask view.took view.journal.notes queue entry.0 entry.1) (parked_of queue view.core.queues)
+
   -- the core agrees with its journal; each delivery is as its order calls for; each job inside has the task that was sent, and its place
   pub record IsRecorded (view : RecordedView J T) : Type 0 where
     pub kept : IsKept (terms_at view) view.core view.journal.notes
@@ -91,5 +96,5 @@ module _ {J T : Type 0} (meaning : Meaning J T) where
     pub held : IsHeld view.core.cores view.cap (inside_count view.core) view.journal.notes
     pub taken : (name : JobId) (order : Order J) → order_taken view.took name ≡ Some order → IsTaken view.core.cores view.journal.notes name
     pub as_sent : EachNote (DeliversAs (note_taken view.took)) view.journal.notes
-    pub waiting : (queue : ℕ) → All (λ entry. HasTask view.took view.journal.notes queue entry.0 entry.2) (waiting_of queue view.core.queues)
+    pub tasks : HaveTasks view
     pub out : (job : JobOut J) → view.core.out ≡ Some job → HasTask view.took view.journal.notes job.queue job.name job.job

@@ -18,6 +18,7 @@ use Rattle.rt_jobs.specs.Steps.{is_done_step}
 abbrev pub SettlesWord : Poll → ℕ → Step ℕ → Type 0
 SettlesWord (poll.Yield told) time step = (time ≡ told) × (step ≡ steps.Yield)
 SettlesWord (poll.Submit told core queue) time step = (time ≡ told) × (step ≡ steps.Yield)
+SettlesWord (poll.Park told) time step = (time ≡ told) × (step ≡ steps.Park)
 SettlesWord (poll.Done told value) time step = (time ≡ told) × (step ≡ steps.Done value)
 
 -- the poll is the word of its script that stands behind those of the polls before it

@@ -2,14 +2,14 @@
 use Rattle.std.specs.Prelude.{◌≡◌, ℕ, ◌+◌, Option, Some, None, unwrap_or, List, [], ◌∷◌}
 use Rattle.rt_ids.specs.declared.names.JobId.{JobId}
 use Rattle.rt_ids.specs.declared.order.Order.TheVariants.{Job}
+use Rattle.rt_ids.specs.Commands.{stays_in_line}
 use Rattle.rt_jobs.specs.declared.job.Step.{Step}
 use Rattle.rt_jobs.specs.Calls.{Call}
-use Rattle.rt_jobs.specs.declared.job.Step.TheVariants as step
 use Rattle.rt_jobs.specs.Meanings.{Meaning}
-use Rattle.rt_jobs.specs.Steps.{AfterPoll, IfDone, OnYield, OwesOn}
+use Rattle.rt_jobs.specs.Steps.{AfterPoll, IfDone, IfUndone, OwesOn}
 use Rattle.rt_core.specs.State.{JobOut}
 use Rattle.rt_core.specs.declared.turn.Settled.{Settled}
-use Rattle.rt_core.specs.declared.turn.Settled.TheVariants.{Yielded, Finished}
+use Rattle.rt_core.specs.Whole.{settled_of}
 use Rattle.rt_journal.specs.Polls.{polls_made, settle_note}
 use Rattle.rt_journal.specs.Recorded.{RecordedView, order_taken}
 use Rattle.rt_journal.specs.Steps.{with_notes}
@@ -27,16 +27,11 @@ IsOutUnder (Some out) name = out.name ≡ name
 -- what may answer a poll, and what it leaves of its job
 pub record IsPolled {J T : Type 0} (meaning : Meaning J T) (ran : AfterPoll J T) : Type 0 where
   pub answered : IfDone ran.step (meaning.answers ran.before)
-  pub same_task : OnYield ran.step (meaning.same ran.before ran.job)
-  pub later : OnYield ran.step (OwesOn meaning ran.before ran.job)
-
--- what the caller of a settled poll is told is the poll's step
-abbrev pub TellsStep : {T : Type 0} → Step T → Settled T → Type 0
-TellsStep step.Yield settled = settled ≡ Yielded
-TellsStep (step.Done out) settled = settled ≡ Finished out
+  pub same_task : IfUndone ran.step (meaning.same ran.before ran.job)
+  pub later : IfUndone ran.step (OwesOn meaning ran.before ran.job)
 
 module _ {J T : Type 0} (meaning : Meaning J T) where
-  -- the poll of the job that was out is settled: what it owed with the calls of its post, the job that was sent owes, counted from its own polls
+  -- the poll of the job that was out is settled: what it owed with the calls of its post, the job that was sent owes, counted from its own polls; a job that asks to be parked stays exactly where the journal says so
   pub record Settles (old : RecordedView J T) (ran : AfterPoll J T) (spent : ℕ) (settled : Settled T) (new : RecordedView J T) : Type 0 where
     pub out : JobOut J
     pub was_out : old.core.out ≡ Some out
@@ -44,7 +39,7 @@ module _ {J T : Type 0} (meaning : Meaning J T) where
     pub task : order_taken old.took out.name ≡ Some (Job out.queue sent)
     pub owed : (calls : List (Call J T)) → meaning.polls ran.before (meaning.made ran.before) calls ran.step ran.told → meaning.polls sent (meaning.made sent + polls_made out.name old.journal.notes) calls ran.step ran.told
     pub answered : IfDone ran.step (meaning.answers sent)
-    pub tells : TellsStep ran.step settled
-    pub journal : new.journal ≡ with_notes (settle_note out.name (unwrap_or ran.told spent) ran.step ∷ []) old.journal
+    pub tells : settled ≡ settled_of ran.step (stays_in_line out.name old.journal.notes)
+    pub journal : new.journal ≡ with_notes (settle_note out.name (unwrap_or ran.told spent) settled ∷ []) old.journal
     pub out_now : new.core.out ≡ None
     pub took : new.took ≡ old.took

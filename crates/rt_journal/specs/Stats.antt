@@ -6,6 +6,7 @@ use Rattle.rt_ids.specs.Closing.{IsDrained}
 use Rattle.rt_ids.specs.Commands.{created_count}
 use Rattle.rt_ids.specs.Journal.{Journal}
 use Rattle.rt_ids.specs.Lines.{line}
+use Rattle.rt_ids.specs.Parks.{parked}
 use Rattle.rt_ids.specs.Runtimes.{virtual_runtime}
 use Rattle.rt_stats.specs.Stats.{core_stats, stats_of}
 
@@ -15,11 +16,11 @@ module _ {T : Type 0} where
     pub sums : told ≡ core_stats told.drained journal
     pub drained : IsTrue told.drained ↔ IsDrained cores journal
 
-  -- of a queue: all its statistics; its virtual runtime is never cut, and the jobs that wait are those of its line
+  -- of a queue: all its statistics; its virtual runtime is never cut, and the jobs that wait are those of its line and the parked ones
   pub record TellsQueue (queue : ℕ) (journal : Journal T) (told : QueueStats) : Type 0 where
     pub sums : told ≡ stats_of queue journal
     pub runtime_is : told.virtual_runtime ≡ virtual_runtime queue journal
-    pub waiting_are : told.waiting ≡ length (line queue journal)
+    pub waiting_are : told.waiting ≡ length (line queue journal) + length (parked queue journal)
 
   -- of each queue that there is, by its number
   pub record TellsQueues (journal : Journal T) (count : ℕ) (told : List QueueStats) : Type 0 where

@@ -9,10 +9,12 @@ use Rattle.rt_ids.specs.Work.{number_if}
 use Rattle.rt_ids.specs.Closing.{IsCounted, closes, core_mode, final_count}
 use Rattle.rt_ids.specs.declared.order.Mode.{Mode}
 use Rattle.rt_ids.specs.Commands.{created_count}
+use Rattle.rt_ids.specs.Journal.{Journal}
 use Rattle.rt_ids.specs.Limits.{most_queues}
+use Rattle.rt_ids.specs.Parks.{is_wake_kept}
 use Rattle.rt_taskqueue.specs.declared.queues.CreateError.{CreateError}
 use Rattle.rt_taskqueue.specs.declared.queues.CreateError.TheVariants.{TooMany, Memory}
-use Rattle.rt_core.specs.State.{opened}
+use Rattle.rt_core.specs.State.{JobOut, opened}
 use Rattle.rt_link.specs.declared.ends.Inward.{Inward}
 use Rattle.rt_link.specs.Calls.{Takes}
 use Rattle.rt_journal_notes.specs.Journals.{JournalView}
@@ -46,13 +48,18 @@ module _ {J T : Type 0} where
     pub gate : IsCounted (final_count name.from view.journal.notes) name.number
     pub place : delivered_count view.journal.notes name.from < given_count view.journal.notes name.from + view.cap
 
+  -- the job that is out, with the wake that this journal keeps of it
+  abbrev pub out_told : Journal T → Option (JobOut J) → Option (JobOut J)
+  out_told journal None = None
+  out_told journal (Some out) = Some (record out { woken = is_wake_kept out.name journal })
+
   -- a delivery: the notes that the rules give, and the order stands under its name
   pub record Receives (old : RecordedView J T) (envelope : Envelope J) (new : RecordedView J T) : Type 0 where
     pub notes : List (Note T)
     pub delivery : IsDelivery envelope.name envelope.order old.journal.notes notes
     pub journal : new.journal ≡ with_notes notes old.journal
     pub took : new.took ≡ old.took ++ envelope ∷ []
-    pub out : new.core.out ≡ old.core.out
+    pub out : new.core.out ≡ out_told new.journal.notes old.core.out
     pub lists : KeepsLists old.journal.notes new.journal.notes
     pub delivered : (sender : ℕ) →
         delivered_count new.journal.notes sender ≡ delivered_count old.journal.notes sender + number_if (envelope.name.from == sender)

@@ -9,6 +9,7 @@ use Rattle.rt_ids.specs.Journal.{is_told}
 use Rattle.rt_ids.specs.Filters.{name_started}
 use Rattle.rt_ids.specs.Work.{has_work}
 use Rattle.rt_ids.specs.Lines.{line}
+use Rattle.rt_ids.specs.Parks.{is_wake_kept}
 use Rattle.rt_ids.specs.Picks.{IsRightPick, turns}
 use Rattle.rt_ids.specs.Commands.{return_reason}
 use Rattle.rt_core.specs.declared.turn.Turn.{Turn}
@@ -18,7 +19,7 @@ use Rattle.rt_core.specs.declared.turn.PickError.TheVariants.{Busy, Spent}
 use Rattle.rt_journal.specs.Polls.{poll_note}
 use Rattle.rt_journal.specs.Recorded.{RecordedView, order_taken}
 use Rattle.rt_journal.specs.Steps.{with_notes}
-pub use Rattle.rt_journal.specs.Settling.{IsOut, IsOutUnder, IsPolled, TellsStep, Settles}
+pub use Rattle.rt_journal.specs.Settling.{IsOut, IsOutUnder, IsPolled, Settles}
 use Rattle.rt_jobs.specs.Meanings.{Meaning}
 
 module _ {J T : Type 0} where
@@ -33,7 +34,7 @@ module _ {J T : Type 0} where
     pub kept : return_reason queue old.journal.notes ≡ None
     pub started : was_started ≡ is_told name_started name old.journal.notes
     pub journal : new.journal ≡ with_notes (poll_note name was_started ∷ writes.Pick queue runtime ∷ []) old.journal
-    pub out : new.core.out ≡ Some (record { name = name; queue = queue; job = job })
+    pub out : new.core.out ≡ Some (record { name = name; queue = queue; woken = is_wake_kept name old.journal.notes; job = job })
     pub took : new.took ≡ old.took
 
   module _ (meaning : Meaning J T) where

@@ -8,7 +8,7 @@ use Rattle.rt_jobs.specs.Calls.{Doing}
 use Rattle.rt_jobs.specs.Meanings.{Meaning}
 use Rattle.rt_jobs.specs.Steps.{AfterPoll, OwesAt}
 use Rattle.rt_core.specs.declared.turn.Settled.{Settled}
-use Rattle.rt_core.specs.declared.turn.Settled.TheVariants.{Yielded, Finished}
+use Rattle.rt_core.specs.declared.turn.Settled.TheVariants.{Yielded, Parked, Stayed, Finished}
 use Rattle.rt_link.specs.declared.ends.Outward.{Outward}
 use Rattle.rt_ids.specs.declared.order.Envelope.{Envelope}
 use Rattle.rt_journal.specs.Recorded.{RecordedView, IsRecorded, desk_of, order_taken}
@@ -55,6 +55,8 @@ module _ {J T : Type 0} (meaning : Meaning J T) where
   -- the answer of a job that is done is one that the job sent under its name may have
   abbrev pub MayAnswer : List (Envelope J) → JobId → Settled T → Type 0
   MayAnswer took name Yielded = Unit {0}
+  MayAnswer took name Parked = Unit {0}
+  MayAnswer took name Stayed = Unit {0}
   MayAnswer took name (Finished answer) = (queue : ℕ) × (sent : J) × (order_taken took name ≡ Some (Job queue sent)) × meaning.answers sent answer
 
 module _ {J T E : Type 0} (meaning : Meaning J T) (out : E → Outward J T) (credited : E → ℕ) (untouched : E → List ℕ) (tells : ℕ → Type 0) where

@@ -28,7 +28,7 @@ pub(crate) fn outcome_done<J: Task<Out = u64>>(settled: &Settled<u64>) -> Option
     ensures { result ≡ outcome_settled settled.now }
 {
     match settled {
-        Settled::Yielded => None,
+        Settled::Yielded | Settled::Parked | Settled::Stayed => None,
         Settled::Finished(answer) => Some(Outcome::Finished(*answer)),
     }
 }

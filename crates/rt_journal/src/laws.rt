@@ -3,7 +3,7 @@
 ghost use Rattle.std.specs.Prelude.{ℕ};
 ghost use Rattle.rt_journal.specs.BadPolls.{OneIsOwed, PollsAreRefused};
 ghost use Rattle.rt_journal.specs.BadRefusals.{RefusalsAreCounted};
-ghost use Rattle.rt_journal.specs.Laws.{PicksRight, RefusesAsTold, WorksAsTold};
+ghost use Rattle.rt_journal.specs.Laws.{PicksRight, RefusesAsTold, StaysAsTold, WorksAsTold};
 ghost use Rattle.rt_journal.specs.OwedLaws.{CollectionsSeeNoLess, OthersKeepOwed, TurnsKeepOwed};
 ghost use Rattle.rt_journal.specs.ScriptPolls.{ScriptPollsAreWords};
 ghost use Rattle.rt_journal.specs.Together.{TogetherAreJoined};
@@ -25,6 +25,11 @@ pub fn works_as_told<J, T>()
 /// A core refuses a job for the reason that the journal gives, and takes it if there is none.
 pub fn refuses_as_told<J, T>()
     ensures { RefusesAsTold J T }
+{}
+
+/// A job that is out and asks to be parked stays in its line exactly if the journal says so.
+pub fn stays_as_told<J, T>()
+    ensures { StaysAsTold J T }
 {}
 
 /// The head of the line that a core takes out is a right pick in the journal.

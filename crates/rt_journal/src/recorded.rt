@@ -246,7 +246,7 @@ impl<J: Task<Out = u64>, A: Allocator + Clone> Recorded<J, A> {
         self.core.gate(from)
     }
 
-    /// Whether every gate is shut, all behind it was delivered, and no queue has work.
+    /// Whether every gate is shut, all behind it was delivered, no queue has work, and no job is parked.
     pub fn is_drained(&self) -> bool
         ensures { IsTrue result ↔ IsDrained self.now.core.cores self.now.journal.notes }
     {

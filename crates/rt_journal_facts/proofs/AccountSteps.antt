@@ -1,39 +1,26 @@
 -- What an account says after one more note.
-use Rattle.std.proofs.Common.{◌≡◌, ℕ, ◌+◌, ◌<◌, ◌≤◌, min, max, Bool, true, false, ◌∷◌, [], length, refl, sym, ◌∙◌, ap, cond, subst, arith, zero, suc, get_or, set, replicate, ◌⊎◌, inl, inr, get_or-set_other, get_or-set_same}
-use Rattle.std.specs.Prelude.{Option, Some, None, unwrap_or, ◌==◌, ◌&&◌, not}
-use Rattle.std.proofs.lemmas.Bool.{eq-eqb, ne_eqb, cases_eq}
-use Rattle.std.proofs.lemmas.List.{get_or_default}
+use Rattle.std.proofs.Common.{◌≡◌, ℕ, ◌+◌, ◌-◌, ◌<◌, ◌≤◌, min, max, Bool, true, false, ◌∷◌, [], length, refl, sym, ◌∙◌, ap, cond, arith}
+use Rattle.std.specs.Prelude.{Some, None, unwrap_or, nat_lt, ◌==◌, ◌&&◌, not}
+use Rattle.std.proofs.lemmas.List.{length-append}
 use Rattle.rt_shares.specs.Charge.{charge}
 use Rattle.rt_ids.specs.declared.names.JobId.{JobId}
 use Rattle.rt_ids.specs.declared.note.Note.{Note}
-use Rattle.rt_ids.specs.declared.note.Note.TheVariants.{Took, Created, SharesSet, Yield, Done, Returned}
-use Rattle.rt_ids.specs.Journal.{Journal}
-use Rattle.rt_ids.specs.Names.{is_number}
-use Rattle.rt_ids.specs.Runtimes.{shares, virtual_runtime, floor, runtime_picked, charge_noted, place_noted, shares_told}
+use Rattle.rt_ids.specs.declared.note.Note.TheVariants.{Took, Created, SharesSet, QueueClosed, CoreClosed, Woken, Pick, Start, Resume, Yield, Park, Stayed, Done, Returned}
+use Rattle.rt_ids.specs.declared.order.Mode.{Mode}
+use Rattle.rt_ids.specs.declared.order.Reason.{Reason}
+use Rattle.rt_ids.specs.declared.order.Mode.TheVariants.{Finish, Return}
+use Rattle.rt_ids.specs.Journal.{Journal, with_last}
+use Rattle.rt_ids.specs.Names.{is_number, names_but}
+use Rattle.rt_ids.specs.Parks.{is_return, parked, still_parked, unparked}
+use Rattle.rt_ids.specs.Runtimes.{shares, virtual_runtime, floor, charge_noted, shares_told}
 use Rattle.rt_ids.specs.Work.{queue_of, queue_joined, queue_left, entered_count, left_count, has_work, number_if}
+use Rattle.rt_ids.proofs.Parks.{length-parks}
 use Rattle.rt_journal_facts.specs.declared.accounts.Account.{Account}
-use Rattle.rt_journal_facts.specs.declared.accounts.Accounts.{Accounts}
-use Rattle.rt_journal_facts.specs.AllAccounts.{KnowsAccounts}
-use Rattle.rt_journal_facts.specs.Accounts.{KnowsAccount, account_after, queue_touched, greatest_runtime, greatest_count, has_jobs, fresh_account}
-
-number_if-within : (test : Bool) → number_if test ≤ 1
-number_if-within true = omega arith
-number_if-within false = omega arith
-
--- a number is itself
-itself : (queue : ℕ) → (queue == queue) ≡ true
-itself queue = eq-eqb queue queue refl
-
--- the number that is there is this one
-is_this : (queue : ℕ) (there : Option ℕ) → there ≡ Some queue → is_number queue there ≡ true
-is_this queue there is = rw is (itself queue)
-
-no_more : (count : ℕ) (test : Bool) → test ≡ false → count ≡ count + number_if test
-no_more count true is = cc
-no_more count false is = omega arith
-
-nothing_more : (runtime place cost : ℕ) → place ≡ 0 → cost ≡ 0 → runtime ≡ max runtime place + cost
-nothing_more runtime place cost unplaced uncharged = omega arith
+use Rattle.rt_journal_facts.specs.Accounts.{KnowsAccount, account_after, entering, charged, leaving, parking, waking, greatest_runtime, greatest_count, has_jobs}
+use Rattle.rt_journal_facts.specs.Parks.{park_of}
+use Rattle.rt_journal_facts.specs.Spots.{queue_noted, park_noted}
+use Rattle.rt_journal_facts.proofs.Counts.{entered-within, left-within, parked-within}
+use Rattle.rt_journal_facts.proofs.ParkTimes.{times-but, park_times}
 
 kept_min : (runtime limit : ℕ) → min runtime limit ≡ min (max runtime 0 + 0) limit
 kept_min runtime limit = omega arith
@@ -47,63 +34,87 @@ charged_min runtime cost limit = omega arith
 one_more_min : (count notes limit : ℕ) → count ≤ notes → notes < limit → min (count + 1) limit ≡ count + 1
 one_more_min count notes limit within short = omega arith
 
-module _ {T : Type 0} where
-  -- no more jobs enter or leave than there are notes
-  pub entered-within : (queue : ℕ) (journal : Journal T) → entered_count queue journal ≤ length journal
-  entered-within queue [] = omega arith
-  entered-within queue (note ∷ before) =
-      omega (arith, entered-within queue before, number_if-within (is_number queue (queue_joined note)))
+no_more : (count : ℕ) (test : Bool) → test ≡ false → count ≡ count + number_if test
+no_more count true is = cc
+no_more count false is = omega arith
 
-  pub left-within : (queue : ℕ) (journal : Journal T) → left_count queue journal ≤ length journal
-  left-within queue [] = omega arith
-  left-within queue (note ∷ before) =
-      omega (arith, left-within queue before, number_if-within (is_number queue (queue_left note before)))
+-- an account has jobs where its queue has work
+pub works : {T : Type 0} (queue : ℕ) (account : Account) (before : Journal T) → KnowsAccount queue account before → has_jobs account ≡ has_work queue before
+works queue account before knows = rw (knows.left, knows.parked, knows.entered) refl
 
-  -- a note that says nothing of a queue
-  same_account : (queue : ℕ) (account : Account) (note : Note T) (before : Journal T) → shares_told queue note ≡ None → place_noted queue note before ≡ 0 →
-      charge_noted queue note before ≡ 0 → is_number queue (queue_joined note) ≡ false → is_number queue (queue_left note before) ≡ false →
-      KnowsAccount queue account before → KnowsAccount queue account (note ∷ before)
-  same_account queue account note before unshared unplaced uncharged unjoined unleft knows = record {
-    shares = knows.shares ∙ sym (ap (λ told. unwrap_or told (shares queue before)) unshared);
-    runtime =
-        knows.runtime ∙
-        ap (λ runtime. min runtime greatest_runtime)
-        (nothing_more (virtual_runtime queue before) (place_noted queue note before) (charge_noted queue note before) unplaced uncharged);
-    entered = knows.entered ∙ no_more (entered_count queue before) (is_number queue (queue_joined note)) unjoined;
-    left = knows.left ∙ no_more (left_count queue before) (is_number queue (queue_left note before)) unleft;
-  }
+-- a note of which a queue has no shares, cost, entry or end, and which parks nobody
+record IsQuiet {T : Type 0} (queue : ℕ) (note : Note T) (before : Journal T) : Type 0 where
+  unshared : shares_told queue note ≡ None
+  uncharged : charge_noted queue note before ≡ 0
+  unjoined : is_number queue (queue_joined note) ≡ false
+  unleft : is_number queue (queue_left note before) ≡ false
+  parks : parked queue (note ∷ before) ≡ still_parked queue note (parked queue before)
 
-  -- another queue's note changes nothing
-  pub knows_other : (queue : ℕ) (account : Account) (note : Note T) (before : Journal T) → is_number queue (queue_touched note before) ≡ false →
-      KnowsAccount queue account before → KnowsAccount queue account (note ∷ before)
-  knows_other queue account (Took name other) before apart knows =
-      same_account queue account (Took name other) before refl (ap (λ test. cond (test && not (has_work queue before)) (floor before) 0) apart) refl apart refl
-      knows
-  knows_other queue account (Created other weight) before apart knows =
-      same_account queue account (Created other weight) before (ap (λ test. cond test (Some weight) None) apart) refl refl refl refl knows
-  knows_other queue account (SharesSet other weight) before apart knows =
-      same_account queue account (SharesSet other weight) before (ap (λ test. cond test (Some weight) None) apart) refl refl refl refl knows
-  knows_other queue account (Yield name time) before apart knows =
-      same_account queue account (Yield name time) before refl refl (ap (λ test. cond test (charge time (shares queue before)) 0) apart) refl refl knows
-  knows_other queue account (Done name time value) before apart knows =
-      same_account queue account (Done name time value) before refl refl (ap (λ test. cond test (charge time (shares queue before)) 0) apart) refl apart knows
-  knows_other queue account (Returned name reason) before apart knows =
-      same_account queue account (Returned name reason) before refl refl refl refl apart knows
-  knows_other queue account note before apart knows = same_account queue account note before refl refl refl refl refl knows
+module _ {T : Type 0} (queue : ℕ) (account : Account) (before : Journal T) (floor_fits : floor before ≤ greatest_runtime)
+    (knows : KnowsAccount queue account before) where
+  module _ (note : Note T) (quiet : IsQuiet queue note before) where
+    still : length (parked queue (note ∷ before)) + length (unparked queue note (parked queue before)) ≡ length (parked queue before)
+    still = rw quiet.parks (length-parks queue note (parked queue before))
 
-  module _ (queue : ℕ) (account : Account) (before : Journal T) (short : length before < greatest_count) (floor_fits : floor before ≤ greatest_runtime)
-      (knows : KnowsAccount queue account before) where
-    works : has_jobs account ≡ has_work queue before
-    works = rw (knows.left, knows.entered) refl
+    -- so many parks end
+    waken : (count : ℕ) → count ≡ length (unparked queue note (parked queue before)) → KnowsAccount queue (waking count (floor before) account) (note ∷ before)
+    waken count is = record {
+      shares = knows.shares ∙ sym (ap (λ told. unwrap_or told (shares queue before)) quiet.unshared);
+      runtime = rw (quiet.uncharged, quiet.unjoined, is, works queue account before knows, knows.runtime) (by_test (nat_lt 0 (length (unparked queue note (parked queue before))) && not (has_work queue before)));
+      entered = knows.entered ∙ no_more (entered_count queue before) (is_number queue (queue_joined note)) quiet.unjoined;
+      left = knows.left ∙ no_more (left_count queue before) (is_number queue (queue_left note before)) quiet.unleft;
+      parked = omega (arith, knows.parked, is, still);
+    }
+      where
+        by_test : (test : Bool) →
+            cond test (max (min (virtual_runtime queue before) greatest_runtime) (floor before)) (min (virtual_runtime queue before) greatest_runtime) ≡
+            min (max (virtual_runtime queue before) (cond test (floor before) 0) + 0) greatest_runtime
+        by_test true = placed_min (virtual_runtime queue before) (floor before) greatest_runtime floor_fits
+        by_test false = kept_min (virtual_runtime queue before) greatest_runtime
 
-    placed_right : (test : Bool) → has_jobs account ≡ test → has_work queue before ≡ test → (here : Bool) → here ≡ true →
-        cond (has_jobs account) account.virtual_runtime (max account.virtual_runtime (floor before)) ≡
-        min (max (virtual_runtime queue before) (cond (here && not (has_work queue before)) (floor before) 0) + 0) greatest_runtime
-    placed_right true jobs work here is =
-        rw (jobs, work, is, knows.runtime) (kept_min (virtual_runtime queue before) greatest_runtime)
-    placed_right false jobs work here is =
-        rw (jobs, work, is, knows.runtime) (placed_min (virtual_runtime queue before) (floor before) greatest_runtime floor_fits)
+    -- no park ends
+    stays : length (unparked queue note (parked queue before)) ≡ 0 → KnowsAccount queue account (note ∷ before)
+    stays none = record {
+      shares = knows.shares ∙ sym (ap (λ told. unwrap_or told (shares queue before)) quiet.unshared);
+      runtime = rw (quiet.uncharged, quiet.unjoined, none, knows.runtime) (kept_min (virtual_runtime queue before) greatest_runtime);
+      entered = knows.entered ∙ no_more (entered_count queue before) (is_number queue (queue_joined note)) quiet.unjoined;
+      left = knows.left ∙ no_more (left_count queue before) (is_number queue (queue_left note before)) quiet.unleft;
+      parked = omega (arith, knows.parked, none, still);
+    }
 
+  -- the same, whether the note speaks of the queue or not
+  stays_either : (note : Note T) (own : Bool) → IsQuiet queue note before → length (unparked queue note (parked queue before)) ≡ 0 →
+      KnowsAccount queue (cond own account account) (note ∷ before)
+  stays_either note true quiet none = stays note quiet none
+  stays_either note false quiet none = stays note quiet none
+
+  -- a queue, or a core, is closed
+  queue_closed : (other : ℕ) (mode : Mode) (own : Bool) → (queue == other) ≡ own →
+      KnowsAccount queue (cond own (cond (is_return mode) (waking account.parked (floor before) account) account) account) (QueueClosed other mode ∷ before)
+  queue_closed other Return true own =
+      waken (QueueClosed other Return) (record { unshared = refl; uncharged = refl; unjoined = refl; unleft = refl; parks = refl }) account.parked
+      (rw own knows.parked)
+  queue_closed other Finish true own =
+      stays (QueueClosed other Finish) (record { unshared = refl; uncharged = refl; unjoined = refl; unleft = refl; parks = refl }) (rw own refl)
+  queue_closed other mode false own =
+      stays (QueueClosed other mode) (record { unshared = refl; uncharged = refl; unjoined = refl; unleft = refl; parks = refl }) (rw own refl)
+
+  core_closed : (mode : Mode) → KnowsAccount queue (cond (is_return mode) (waking account.parked (floor before) account) account) (CoreClosed mode ∷ before)
+  core_closed Return =
+      waken (CoreClosed Return) (record { unshared = refl; uncharged = refl; unjoined = refl; unleft = refl; parks = refl }) account.parked knows.parked
+  core_closed Finish = stays (CoreClosed Finish) (record { unshared = refl; uncharged = refl; unjoined = refl; unleft = refl; parks = refl }) refl
+
+  -- a job is woken
+  woken : (name : JobId) (here : Bool) → is_number queue (park_of name before) ≡ here →
+      KnowsAccount queue (cond here (waking 1 (floor before) account) account) (Woken name ∷ before)
+  woken name true here =
+      waken (Woken name) (record { unshared = refl; uncharged = refl; unjoined = refl; unleft = refl; parks = refl }) 1
+      (sym (park_times queue name before ∙ ap number_if here))
+  woken name false here =
+      stays (Woken name) (record { unshared = refl; uncharged = refl; unjoined = refl; unleft = refl; parks = refl })
+      (park_times queue name before ∙ ap number_if here)
+
+  module _ (short : length before < greatest_count) where
     counted : (stored count : ℕ) (test : Bool) → stored ≡ count → count ≤ length before → test ≡ true → min (stored + 1) greatest_count ≡ count + number_if test
     counted stored count true is within here = rw is (one_more_min count (length before) greatest_count within short)
     counted stored count false is within here = cc
@@ -115,122 +126,192 @@ module _ {T : Type 0} where
         rw (knows.runtime, knows.shares) (charged_min (virtual_runtime queue before) (charge time (shares queue before)) greatest_runtime)
     charged_right time false here = cc
 
-    took : (name : JobId) → KnowsAccount queue (account_after {T = T} (floor before) (Took name queue) account) (Took name queue ∷ before)
-    took name = record {
+    uncharged_by : (time : ℕ) (test : Bool) → test ≡ false → cond test (charge time (shares queue before)) 0 ≡ 0
+    uncharged_by time true apart = cc
+    uncharged_by time false apart = refl
+
+    took : (name : JobId) (other : ℕ) (own : Bool) → (queue == other) ≡ own →
+        KnowsAccount queue (cond own (entering (floor before) account) account) (Took name other ∷ before)
+    took name other true own = record {
       shares = knows.shares;
-      runtime = placed_right (has_jobs account) refl (sym works) (queue == queue) (itself queue);
-      entered = counted account.entered (entered_count queue before) (queue == queue) knows.entered (entered-within queue before) (itself queue);
+      runtime = rw (own, works queue account before knows, knows.runtime) (by_work (has_work queue before));
+      entered = counted account.entered (entered_count queue before) (queue == other) knows.entered (entered-within queue before) own;
       left = knows.left ∙ no_more (left_count queue before) false refl;
+      parked = knows.parked;
     }
+      where
+        by_work : (test : Bool) →
+            cond test (min (virtual_runtime queue before) greatest_runtime) (max (min (virtual_runtime queue before) greatest_runtime) (floor before)) ≡
+            min (max (virtual_runtime queue before) (cond (not test) (floor before) 0) + 0) greatest_runtime
+        by_work true = kept_min (virtual_runtime queue before) greatest_runtime
+        by_work false = placed_min (virtual_runtime queue before) (floor before) greatest_runtime floor_fits
+    took name other false own =
+        stays (Took name other) (record { unshared = refl; uncharged = refl; unjoined = own; unleft = refl; parks = refl }) refl
 
-    shared : (note : Note T) (weight : ℕ) → shares_told queue note ≡ Some weight → place_noted queue note before ≡ 0 → charge_noted queue note before ≡ 0 →
-        is_number queue (queue_joined note) ≡ false → is_number queue (queue_left note before) ≡ false →
-        KnowsAccount queue (record account { shares = weight }) (note ∷ before)
-    shared note weight told unplaced uncharged unjoined unleft = record {
-      shares = sym (ap (λ told. unwrap_or told (shares queue before)) told);
-      runtime =
-          knows.runtime ∙
-          ap (λ runtime. min runtime greatest_runtime)
-          (nothing_more (virtual_runtime queue before) (place_noted queue note before) (charge_noted queue note before) unplaced uncharged);
-      entered = knows.entered ∙ no_more (entered_count queue before) (is_number queue (queue_joined note)) unjoined;
-      left = knows.left ∙ no_more (left_count queue before) (is_number queue (queue_left note before)) unleft;
-    }
-
-    -- a note of its queue changes the account so
-    pub knows_touched : (note : Note T) → queue_touched note before ≡ Some queue → KnowsAccount queue (account_after {T = T} (floor before) note account) (note ∷ before)
-    knows_touched (Took name other) touched =
-        let same : queue ≡ other = cc in
-        subst (λ (at : ℕ). KnowsAccount queue (account_after {T = T} (floor before) (Took name at) account) (Took name at ∷ before)) same (took name)
-    knows_touched (Created other weight) touched =
-        let same : other ≡ queue = cc in
-        shared (Created other weight) weight (ap (λ test. cond test (Some weight) None) (eq-eqb queue other (sym same))) refl refl refl refl
-    knows_touched (SharesSet other weight) touched =
-        let same : other ≡ queue = cc in
-        shared (SharesSet other weight) weight (ap (λ test. cond test (Some weight) None) (eq-eqb queue other (sym same))) refl refl refl refl
-    knows_touched (Yield name time) touched = record {
-      shares = knows.shares;
-      runtime = charged_right time (is_number queue (queue_of name before)) (is_this queue (queue_of name before) touched);
+    created : (other weight : ℕ) (own : Bool) → (queue == other) ≡ own →
+        KnowsAccount queue (cond own (record account { shares = weight }) account) (Created other weight ∷ before)
+    created other weight true own = record {
+      shares = rw own refl;
+      runtime = rw knows.runtime (kept_min (virtual_runtime queue before) greatest_runtime);
       entered = knows.entered ∙ no_more (entered_count queue before) false refl;
       left = knows.left ∙ no_more (left_count queue before) false refl;
+      parked = knows.parked;
     }
-    knows_touched (Done name time value) touched = record {
-      shares = knows.shares;
-      runtime = charged_right time (is_number queue (queue_of name before)) (is_this queue (queue_of name before) touched);
+    created other weight false own =
+        stays (Created other weight) (record { unshared = rw own refl; uncharged = refl; unjoined = refl; unleft = refl; parks = refl }) refl
+
+    shares_set : (other weight : ℕ) (own : Bool) → (queue == other) ≡ own →
+        KnowsAccount queue (cond own (record account { shares = weight }) account) (SharesSet other weight ∷ before)
+    shares_set other weight true own = record {
+      shares = rw own refl;
+      runtime = rw knows.runtime (kept_min (virtual_runtime queue before) greatest_runtime);
       entered = knows.entered ∙ no_more (entered_count queue before) false refl;
-      left =
-          counted account.left (left_count queue before) (is_number queue (queue_of name before)) knows.left (left-within queue before)
-          (is_this queue (queue_of name before) touched);
+      left = knows.left ∙ no_more (left_count queue before) false refl;
+      parked = knows.parked;
     }
-    knows_touched (Returned name reason) touched = record {
+    shares_set other weight false own =
+        stays (SharesSet other weight) (record { unshared = rw own refl; uncharged = refl; unjoined = refl; unleft = refl; parks = refl }) refl
+
+    yielded : (name : JobId) (time : ℕ) (own : Bool) → is_number queue (queue_of name before) ≡ own →
+        KnowsAccount queue (cond own (charged time account) account) (Yield name time ∷ before)
+    yielded name time true own = record {
       shares = knows.shares;
-      runtime =
-          knows.runtime ∙
-          ap (λ runtime. min runtime greatest_runtime) (nothing_more (virtual_runtime queue before) 0 0 refl refl);
+      runtime = charged_right time (is_number queue (queue_of name before)) own;
       entered = knows.entered ∙ no_more (entered_count queue before) false refl;
-      left =
-          counted account.left (left_count queue before) (is_number queue (queue_of name before)) knows.left (left-within queue before)
-          (is_this queue (queue_of name before) touched);
+      left = knows.left ∙ no_more (left_count queue before) false refl;
+      parked = knows.parked;
     }
-    knows_touched _ touched = cc
+    yielded name time false own =
+        stays (Yield name time) (record { unshared = refl; uncharged = uncharged_by time (is_number queue (queue_of name before)) own; unjoined = refl; unleft = refl; parks = refl }) refl
 
--- a fresh account says nothing
-fresh_knows : {T : Type 0} (queue : ℕ) → KnowsAccount {T = T} queue fresh_account []
-fresh_knows queue = record { shares = refl; runtime = refl; entered = refl; left = refl }
+    stayed : (name : JobId) (time : ℕ) (own : Bool) → is_number queue (queue_of name before) ≡ own →
+        KnowsAccount queue (cond own (charged time account) account) (Stayed name time ∷ before)
+    stayed name time true own = record {
+      shares = knows.shares;
+      runtime = charged_right time (is_number queue (queue_of name before)) own;
+      entered = knows.entered ∙ no_more (entered_count queue before) false refl;
+      left = knows.left ∙ no_more (left_count queue before) false refl;
+      parked = knows.parked;
+    }
+    stayed name time false own =
+        stays (Stayed name time) (record { unshared = refl; uncharged = uncharged_by time (is_number queue (queue_of name before)) own; unjoined = refl; unleft = refl; parks = refl }) refl
 
--- accounts that are all fresh say nothing
-pub all_fresh : {T : Type 0} (count queue : ℕ) (account : Account) → account ≡ fresh_account →
-    KnowsAccount {T = T} queue (get_or (replicate count account) queue fresh_account) []
-all_fresh {T} count queue account is =
-    subst (λ (one : Account). KnowsAccount {T = T} queue one []) (sym (is_fresh count queue))
-    (fresh_knows {T = T} queue)
-  where
-    is_fresh : (count queue : ℕ) → get_or (replicate count account) queue fresh_account ≡ fresh_account
-    is_fresh zero queue = refl
-    is_fresh (suc count) zero = is
-    is_fresh (suc count) (suc queue) = is_fresh count queue
+    done : (name : JobId) (time : ℕ) (value : T) (own : Bool) → is_number queue (queue_of name before) ≡ own →
+        KnowsAccount queue (cond own (leaving (charged time account)) account) (Done name time value ∷ before)
+    done name time value true own = record {
+      shares = knows.shares;
+      runtime = charged_right time (is_number queue (queue_of name before)) own;
+      entered = knows.entered ∙ no_more (entered_count queue before) false refl;
+      left = counted account.left (left_count queue before) (is_number queue (queue_of name before)) knows.left (left-within queue before) own;
+      parked = knows.parked;
+    }
+    done name time value false own =
+        stays (Done name time value)
+        (record { unshared = refl; uncharged = uncharged_by time (is_number queue (queue_of name before)) own; unjoined = refl; unleft = own; parks = refl }) refl
 
-module _ {T : Type 0} (accounts : Accounts) (note : Note T) (before : Journal T) (knows : KnowsAccounts accounts before) where
-  next_floor : max accounts.floor (runtime_picked note) ≡ floor (note ∷ before)
-  next_floor = ap (λ old. max old (runtime_picked note)) knows.floor
+    returned : (name : JobId) (reason : Reason) (own : Bool) → is_number queue (queue_of name before) ≡ own →
+        KnowsAccount queue (cond own (leaving account) account) (Returned name reason ∷ before)
+    returned name reason true own = record {
+      shares = knows.shares;
+      runtime = rw knows.runtime (kept_min (virtual_runtime queue before) greatest_runtime);
+      entered = knows.entered ∙ no_more (entered_count queue before) false refl;
+      left = counted account.left (left_count queue before) (is_number queue (queue_of name before)) knows.left (left-within queue before) own;
+      parked = knows.parked;
+    }
+    returned name reason false own =
+        stays (Returned name reason) (record { unshared = refl; uncharged = refl; unjoined = refl; unleft = own; parks = refl }) refl
 
-  -- all accounts after a note of no queue
-  pub all_after_none : queue_touched note before ≡ None →
-      KnowsAccounts (record { queues = accounts.queues; floor = max accounts.floor (runtime_picked note) }) (note ∷ before)
-  all_after_none touched = record {
-    each = λ queue. knows_other queue (get_or accounts.queues queue fresh_account) note before (ap (is_number queue) touched) (knows.each queue);
-    floor = next_floor;
-  }
+    -- a job is parked, perhaps anew
+    abbrev released : (here : Bool) → Account
+    released here = cond here (record account { parked = account.parked - 1 }) account
 
-  -- all accounts after a note of one queue
-  pub all_after_one : (index : ℕ) (account new : Account) → queue_touched note before ≡ Some index → index < length accounts.queues →
-      length before < greatest_count → accounts.floor ≤ greatest_runtime → account ≡ get_or accounts.queues index account →
-      new ≡ account_after {T = T} accounts.floor note account →
-      KnowsAccounts (record { queues = set accounts.queues index new; floor = max accounts.floor (runtime_picked note) }) (note ∷ before)
-  all_after_one index account new touched within short fits read is = record {
-    each = λ queue. by_queue queue (cases_eq queue index);
-    floor = next_floor;
-  }
-    where
-      same_account_read : account ≡ get_or accounts.queues index fresh_account
-      same_account_read = read ∙ get_or_default accounts.queues index account fresh_account within
+    others_parked : (name : JobId) (here : Bool) → is_number queue (park_of name before) ≡ here →
+        (released here).parked ≡ length (names_but name (parked queue before))
+    others_parked name true here =
+        omega (arith, knows.parked, times-but name (parked queue before), park_times queue name before ∙ ap number_if here)
+    others_parked name false here =
+        omega (arith, knows.parked, times-but name (parked queue before), park_times queue name before ∙ ap number_if here)
 
-      new_is : new ≡ account_after {T = T} (floor before) note (get_or accounts.queues index fresh_account)
-      new_is = is ∙ (ap (λ old. account_after {T = T} old note account) knows.floor ∙ ap (account_after {T = T} (floor before) note) same_account_read)
+    parked_more : (name : JobId) (own : Bool) → is_number queue (queue_of name before) ≡ own →
+        length (with_last (names_but name (parked queue before)) (cond (is_number queue (queue_of name before)) (Some name) None)) ≡
+        length (names_but name (parked queue before)) + number_if own
+    parked_more name true own = rw own (length-append (names_but name (parked queue before)) (name ∷ []))
+    parked_more name false own = rw own (omega arith)
 
-      by_queue : (queue : ℕ) → (queue ≡ index) ⊎ (queue ≡ index → ⊥) →
-          KnowsAccount queue (get_or (set accounts.queues index new) queue fresh_account) (note ∷ before)
-      by_queue queue (inl same) =
-          subst (λ (at : ℕ). KnowsAccount at (get_or (set accounts.queues index new) at fresh_account) (note ∷ before)) (sym same)
-          (
-          subst (λ (one : Account). KnowsAccount index one (note ∷ before)) (sym (get_or-set_same accounts.queues index new fresh_account within ∙ new_is))
-          (
-          knows_touched index (get_or accounts.queues index fresh_account) before short (subst (λ (old : ℕ). old ≤ greatest_runtime) knows.floor fits)
-          (knows.each index) note touched
-          )
-          )
-      by_queue queue (inr apart) =
-          subst (λ (one : Account). KnowsAccount queue one (note ∷ before)) (sym (get_or-set_other accounts.queues index queue new fresh_account apart))
-          (
-          knows_other queue (get_or accounts.queues queue fresh_account) note before (ap (is_number queue) touched ∙ ne_eqb queue index apart)
-          (knows.each queue)
-          )
+    parks : (name : JobId) (time : ℕ) (own here : Bool) → is_number queue (queue_of name before) ≡ own → is_number queue (park_of name before) ≡ here →
+        KnowsAccount queue (cond own (parking (charged time (released here))) (released here)) (Park name time ∷ before)
+    parks name time true here own there = record {
+      shares = shared here;
+      runtime = charges here;
+      entered = enters here;
+      left = leaves here;
+      parked =
+          omega (arith, others_parked name here there, parked_more name true own, times-but name (parked queue before), parked-within queue before, short);
+    }
+      where
+        shared : (here : Bool) → (released here).shares ≡ shares queue before
+        shared true = knows.shares
+        shared false = knows.shares
+
+        charges : (here : Bool) → min ((released here).virtual_runtime + charge time (released here).shares) greatest_runtime ≡
+            min (max (virtual_runtime queue before) 0 + cond (is_number queue (queue_of name before)) (charge time (shares queue before)) 0) greatest_runtime
+        charges true = charged_right time (is_number queue (queue_of name before)) own
+        charges false = charged_right time (is_number queue (queue_of name before)) own
+
+        enters : (here : Bool) → (released here).entered ≡ entered_count queue before + 0
+        enters true = knows.entered ∙ no_more (entered_count queue before) false refl
+        enters false = knows.entered ∙ no_more (entered_count queue before) false refl
+
+        leaves : (here : Bool) → (released here).left ≡ left_count queue before + 0
+        leaves true = knows.left ∙ no_more (left_count queue before) false refl
+        leaves false = knows.left ∙ no_more (left_count queue before) false refl
+    parks name time false here own there = record {
+      shares = shared here;
+      runtime = ran here;
+      entered = enters here;
+      left = leaves here;
+      parked = omega (arith, others_parked name here there, parked_more name false own);
+    }
+      where
+        shared : (here : Bool) → (released here).shares ≡ shares queue before
+        shared true = knows.shares
+        shared false = knows.shares
+
+        ran : (here : Bool) → (released here).virtual_runtime ≡
+            min (max (virtual_runtime queue before) 0 + cond (is_number queue (queue_of name before)) (charge time (shares queue before)) 0) greatest_runtime
+        ran true = rw (own, knows.runtime) (kept_min (virtual_runtime queue before) greatest_runtime)
+        ran false = rw (own, knows.runtime) (kept_min (virtual_runtime queue before) greatest_runtime)
+
+        enters : (here : Bool) → (released here).entered ≡ entered_count queue before + 0
+        enters true = knows.entered ∙ no_more (entered_count queue before) false refl
+        enters false = knows.entered ∙ no_more (entered_count queue before) false refl
+
+        leaves : (here : Bool) → (released here).left ≡ left_count queue before + 0
+        leaves true = knows.left ∙ no_more (left_count queue before) false refl
+        leaves false = knows.left ∙ no_more (left_count queue before) false refl
+
+    -- each note changes an account so
+    pub account_known : (note : Note T) →
+        KnowsAccount queue (account_after {T = T} (floor before) note (is_number queue (queue_noted note before)) (is_number queue (park_noted note before)) account)
+        (note ∷ before)
+    account_known (Took name other) = took name other (queue == other) refl
+    account_known (Created other weight) = created other weight (queue == other) refl
+    account_known (SharesSet other weight) = shares_set other weight (queue == other) refl
+    account_known (QueueClosed other mode) = queue_closed other mode (queue == other) refl
+    account_known (CoreClosed mode) = core_closed mode
+    account_known (Woken name) = woken name (is_number queue (park_of name before)) refl
+    account_known (Pick other runtime) =
+        stays_either (Pick other runtime) (queue == other) (record { unshared = refl; uncharged = refl; unjoined = refl; unleft = refl; parks = refl }) refl
+    account_known (Start name) =
+        stays_either (Start name) (is_number queue (queue_of name before))
+        (record { unshared = refl; uncharged = refl; unjoined = refl; unleft = refl; parks = refl }) refl
+    account_known (Resume name) =
+        stays_either (Resume name) (is_number queue (queue_of name before))
+        (record { unshared = refl; uncharged = refl; unjoined = refl; unleft = refl; parks = refl }) refl
+    account_known (Yield name time) = yielded name time (is_number queue (queue_of name before)) refl
+    account_known (Park name time) =
+        parks name time (is_number queue (queue_of name before)) (is_number queue (park_of name before)) refl refl
+    account_known (Stayed name time) = stayed name time (is_number queue (queue_of name before)) refl
+    account_known (Done name time value) = done name time value (is_number queue (queue_of name before)) refl
+    account_known (Returned name reason) = returned name reason (is_number queue (queue_of name before)) refl
+    account_known note = stays note (record { unshared = refl; uncharged = refl; unjoined = refl; unleft = refl; parks = refl }) refl

@@ -1,7 +1,13 @@
 pub mod AccountSteps
+pub mod AllAccounts
+pub mod Counts
 pub mod FactSteps
 pub mod FirstFaults
 pub mod FirstUnder
 pub mod NameLookups
+pub mod Naps
+pub mod ParkTimes
 pub mod ReadJobs
+pub mod Recents
+pub mod Repeats
 pub mod Walks

@@ -2,7 +2,7 @@
 use Rattle.std.proofs.Common.{◌≡◌, ℕ, zero, suc, ◌+◌, ◌-◌, ◌<◌, ◌≤◌, ◌⊎◌, inl, inr, List, [], ◌∷◌, ◌++◌, length, drop, refl, sym, ap, ◌∙◌, subst, arith, get_or}
 use Rattle.std.specs.Prelude.{Some, None, reverse, slice_get}
 use Rattle.std.proofs.Math.Seq.{drop-length}
-use Rattle.std.proofs.lemmas.List.{length-reverse, reverse-append}
+use Rattle.std.proofs.lemmas.List.{length-drop, length-reverse, reverse-append}
 use Rattle.std.proofs.lemmas.Option.{slice_get_cases}
 use Rattle.rt_ids.specs.declared.note.Note.{Note}
 use Rattle.rt_ids.specs.Journal.{Journal, at_place}
@@ -71,3 +71,7 @@ module _ {T : Type 0} where
   -- what holds at the last place holds of the journal
   pub whole_walk : (P : Journal T → Type 0) (journal : Journal T) (place : ℕ) → place ≡ length journal → P (at_place place journal) → P journal
   whole_walk P journal place last holds = subst P (ap (λ count. at_place count journal) last ∙ at_end journal) holds
+
+  -- no more was read than there are places
+  pub length-at_place : (place : ℕ) (journal : Journal T) → length (at_place place journal) ≤ place
+  length-at_place place journal = simp length-drop (omega arith)

@@ -1,27 +1,23 @@
 -- What is known of a queue, and how a note changes it.
-use Rattle.std.specs.Prelude.{◌≡◌, ℕ, ◌+◌, ◌-◌, ◌^◌, min, Bool, nat_lt, if◌then◌else◌, Option, Some, None}
+use Rattle.std.specs.Prelude.{◌≡◌, ℕ, ◌+◌, ◌-◌, min, Bool, not, ◌&&◌, nat_lt, if◌then◌else◌, length}
 use Rattle.rt_shares.specs.Charge.{charge, placed}
 use Rattle.rt_ids.specs.declared.note.Note.{Note}
-use Rattle.rt_ids.specs.declared.note.Note.TheVariants.{Took, Created, SharesSet, Yield, Done, Returned}
+use Rattle.rt_ids.specs.declared.note.Note.TheVariants.{Took, Created, SharesSet, QueueClosed, Woken, Yield, Park, Stayed, Done, Returned}
 use Rattle.rt_ids.specs.Journal.{Journal}
+use Rattle.rt_ids.specs.Parks.{is_return, parked}
 use Rattle.rt_ids.specs.Runtimes.{shares, virtual_runtime}
-use Rattle.rt_ids.specs.Work.{queue_of, entered_count, left_count}
+use Rattle.rt_ids.specs.Work.{entered_count, left_count}
+use Rattle.rt_journal_facts.specs.Endings.{core_ended}
+pub use Rattle.rt_journal_facts.specs.Limits.{greatest_runtime, greatest_count}
 use Rattle.rt_journal_facts.specs.declared.accounts.Account.{Account}
-
--- the greatest numbers of their types
-abbrev pub greatest_runtime : ℕ
-greatest_runtime = 2 ^ 128 - 1
-
-abbrev pub greatest_count : ℕ
-greatest_count = 2 ^ 64 - 1
 
 -- before the first note
 abbrev pub fresh_account : Account
-fresh_account = record { shares = 1000; virtual_runtime = 0; entered = 0; left = 0 }
+fresh_account = record { shares = 1000; virtual_runtime = 0; entered = 0; left = 0; parked = 0 }
 
--- more jobs entered than left
+-- more jobs entered than left and are parked
 abbrev pub has_jobs : Account → Bool
-has_jobs account = nat_lt account.left account.entered
+has_jobs account = nat_lt (account.left + account.parked) account.entered
 
 -- a job enters, and places a queue without work at the floor
 abbrev pub entering : ℕ → Account → Account
@@ -39,25 +35,46 @@ charged time account = record account { virtual_runtime = min (account.virtual_r
 abbrev pub leaving : Account → Account
 leaving account = record account { left = min (account.left + 1) greatest_count }
 
--- the account after a note that is of its queue
-abbrev pub account_after : {T : Type 0} → ℕ → Note T → Account → Account
-account_after floor (Took name queue) account = entering floor account
-account_after floor (Created queue weight) account = record account { shares = weight }
-account_after floor (SharesSet queue weight) account = record account { shares = weight }
-account_after floor (Yield name time) account = charged time account
-account_after floor (Done name time value) account = leaving (charged time account)
-account_after floor (Returned name reason) account = leaving account
-account_after floor _ account = account
+-- a job is parked
+abbrev pub parking : Account → Account
+parking account = record account { parked = min (account.parked + 1) greatest_count }
 
--- the queue whose account a note changes
-abbrev pub queue_touched : {T : Type 0} → Note T → Journal T → Option ℕ
-queue_touched (Took name queue) before = Some queue
-queue_touched (Created queue weight) before = Some queue
-queue_touched (SharesSet queue weight) before = Some queue
-queue_touched (Yield name time) before = queue_of name before
-queue_touched (Done name time value) before = queue_of name before
-queue_touched (Returned name reason) before = queue_of name before
-queue_touched _ before = None
+-- so many parks end, and place a queue without work at the floor
+abbrev pub waking : ℕ → ℕ → Account → Account
+waking count floor account =
+    record account {
+      virtual_runtime = if nat_lt 0 count && not (has_jobs account) then placed account.virtual_runtime floor else account.virtual_runtime;
+      parked = account.parked - count;
+    }
+
+-- the account of a queue in which the job of a note is parked: a wake ends the park, a further park takes its place
+abbrev pub released_after : {T : Type 0} → ℕ → Note T → Account → Account
+released_after floor (Woken name) account = waking 1 floor account
+released_after floor (Park name time) account = record account { parked = account.parked - 1 }
+released_after floor _ account = account
+
+-- the account of the queue of which a note speaks
+abbrev pub own_after : {T : Type 0} → ℕ → Note T → Account → Account
+own_after floor (Took name queue) account = entering floor account
+own_after floor (Created queue weight) account = record account { shares = weight }
+own_after floor (SharesSet queue weight) account = record account { shares = weight }
+own_after floor (QueueClosed queue mode) account = if is_return mode then waking account.parked floor account else account
+own_after floor (Yield name time) account = charged time account
+own_after floor (Park name time) account = parking (charged time account)
+own_after floor (Stayed name time) account = charged time account
+own_after floor (Done name time value) account = leaving (charged time account)
+own_after floor (Returned name reason) account = leaving account
+own_after floor _ account = account
+
+-- the account of each queue where a note closes the core
+abbrev pub closed_after : {T : Type 0} → ℕ → Note T → Account → Account
+closed_after floor note account = if core_ended note then waking account.parked floor account else account
+
+-- an account after a note that speaks of its queue, or doesn't, and whose job is parked there, or isn't
+abbrev pub account_after : {T : Type 0} → ℕ → Note T → Bool → Bool → Account → Account
+account_after floor note own parked account =
+    let released = if parked then released_after floor note account else account in
+    closed_after floor note (if own then own_after floor note released else released)
 
 -- the account says of its queue what these notes say
 pub record KnowsAccount {T : Type 0} (queue : ℕ) (account : Account) (journal : Journal T) : Type 0 where
@@ -65,3 +82,4 @@ pub record KnowsAccount {T : Type 0} (queue : ℕ) (account : Account) (journal 
   pub runtime : account.virtual_runtime ≡ min (virtual_runtime queue journal) greatest_runtime
   pub entered : account.entered ≡ entered_count queue journal
   pub left : account.left ≡ left_count queue journal
+  pub parked : account.parked ≡ length (parked queue journal)

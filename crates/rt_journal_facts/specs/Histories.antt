@@ -2,28 +2,33 @@
 use Rattle.std.specs.Prelude.{◌≡◌, ◌↔◌, ℕ, ◌+◌, ◌<◌, Option, Some, None, true, false, List, ◌∷◌, length, get_or}
 use Rattle.rt_ids.specs.declared.names.JobId.{JobId}
 use Rattle.rt_ids.specs.declared.note.Note.{Note}
-use Rattle.rt_ids.specs.declared.note.Note.TheVariants.{Back, Answered, Start, Resume, Yield, Done, Returned, Redeemed}
+use Rattle.rt_ids.specs.declared.note.Note.TheVariants.{Back, Answered, Woken, Start, Resume, Yield, Park, Stayed, Done, Returned, Redeemed}
 use Rattle.rt_ids.specs.Assembly.{first_under}
 use Rattle.rt_ids.specs.Clauses.{name_answered}
+use Rattle.rt_ids.specs.Commands.{stays_in_line}
 use Rattle.rt_ids.specs.Filters.{collected_outcomes, name_started, name_ended}
 use Rattle.rt_ids.specs.Journal.{Journal, is_told, at_place}
 use Rattle.rt_ids.specs.Outstanding.{name_redeemed}
 use Rattle.rt_ids.specs.Work.{queue_of}
 use Rattle.rt_journal_facts.specs.declared.histories.Fact.{Fact}
 use Rattle.rt_journal_facts.specs.declared.histories.History.{History}
+use Rattle.rt_journal_facts.specs.Parks.{park_of}
 use Rattle.rt_journal_facts.specs.Past.{KnowsPast}
 
 -- nothing was told
 abbrev pub no_fact : Fact
-no_fact = record { queue = None; started = false; ended = false; answered = false; redeemed = false; collected = false }
+no_fact = record { queue = None; parked = None; stays = false; started = false; ended = false; answered = false; redeemed = false; collected = false }
 
 -- the name of which a note asks what was told before it
 abbrev pub name_asked : {T : Type 0} → Note T → Option JobId
 name_asked (Back name reason) = Some name
 name_asked (Answered name answer) = Some name
+name_asked (Woken name) = Some name
 name_asked (Start name) = Some name
 name_asked (Resume name) = Some name
 name_asked (Yield name time) = Some name
+name_asked (Park name time) = Some name
+name_asked (Stayed name time) = Some name
 name_asked (Done name time value) = Some name
 name_asked (Returned name reason) = Some name
 name_asked (Redeemed name outcome) = Some name
@@ -32,6 +37,8 @@ name_asked _ = None
 -- a fact is what these notes tell under a name
 pub record TellsOf (fact : Fact) (name : JobId) (before : Journal ℕ) : Type 0 where
   pub queue : fact.queue ≡ queue_of name before
+  pub parked : fact.parked ≡ park_of name before
+  pub stays : fact.stays ≡ stays_in_line name before
   pub started : fact.started ≡ is_told name_started name before
   pub ended : fact.ended ≡ is_told name_ended name before
   pub answered : fact.answered ≡ is_told name_answered name before

@@ -1,8 +1,14 @@
 pub mod Accounts
 pub mod AllAccounts
+pub mod Endings
 pub mod Faults
 pub mod Histories
 pub mod Jobs
+pub mod Limits
 pub mod Names
+pub mod Parks
 pub mod Past
+pub mod Recent
+pub mod Spots
+pub mod Stays
 pub mod Told

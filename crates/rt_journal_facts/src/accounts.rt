@@ -1,18 +1,21 @@
 //! What is known of the queues of one journal.
 
-ghost use Rattle.std.specs.Prelude.{◌≡◌, ◌↔◌, ◌<◌, ◌∷◌, ℕ, IsTrue, [], get_or, length};
+ghost use Rattle.std.specs.Prelude.{◌≡◌, ◌↔◌, ◌<◌, ◌≤◌, ◌⊎◌, ◌∷◌, ℕ, IsTrue, Some, [], if◌then◌else◌, get_or, length};
 ghost use Rattle.rt_ids.specs.Journal.{Journal};
+ghost use Rattle.rt_ids.specs.Names.{is_number};
 ghost use Rattle.rt_ids.specs.Runtimes.{runtime_picked};
-ghost use Rattle.rt_journal_facts.specs.Accounts as spec;
-ghost use Rattle.rt_journal_facts.specs.Accounts.{fresh_account, has_jobs, entering, charged, leaving, account_after, greatest_count};
-ghost use Rattle.rt_journal_facts.specs.AllAccounts.{KnowsAccounts};
-ghost use Rattle.rt_journal_facts.specs.Histories.{FitsPlace};
+ghost use Rattle.rt_journal_facts.specs.Accounts.{fresh_account, has_jobs, entering, charged, leaving, parking, waking, own_after, released_after, greatest_count};
+ghost use Rattle.rt_journal_facts.specs.AllAccounts.{KnowsAccounts, IsApart, IsEmpty, account_of};
+ghost use Rattle.rt_journal_facts.specs.Recent.{Holds};
+ghost use Rattle.rt_journal_facts.specs.Spots.{FitsSpot, queue_parking};
 
-use crate::Fact;
-use rt_ids::{Note, QueueNo};
+use crate::endings::core_ended;
+use crate::recent::Recent;
+use crate::spots::Spot;
+use rt_ids::{Mode, Note, QueueNo};
 use rt_shares::Shares;
 
-/// Of the notes that were read: the shares and the virtual runtime of one queue, and how many jobs entered it and left it.
+/// Of the notes that were read: the shares and the virtual runtime of one queue, how many jobs entered it and left it, and how many are parked.
 #[derive(Clone, Copy)]
 pub struct Account {
     pub shares: Shares,
@@ -20,6 +23,7 @@ pub struct Account {
     pub virtual_runtime: u128,
     pub entered: u64,
     pub left: u64,
+    pub parked: u64,
 }
 
 impl Account {
@@ -32,6 +36,7 @@ impl Account {
             virtual_runtime: 0,
             entered: 0,
             left: 0,
+            parked: 0,
         }
     }
 
@@ -39,7 +44,7 @@ impl Account {
     pub fn has_jobs(&self) -> bool
         ensures { result ≡ has_jobs self.now }
     {
-        self.left < self.entered
+        self.left.saturating_add(self.parked) < self.entered
     }
 
     /// A job enters.
@@ -67,15 +72,56 @@ impl Account {
         self.left = self.left.saturating_add(1);
     }
 
-    /// Reads a note that is of this queue.
-    pub fn add(&mut self, note: &Note<u64>, floor: u128)
-        ensures { self.new ≡ account_after floor note.now self.old }
+    /// A job is parked.
+    fn park(&mut self)
+        ensures { self.new ≡ parking self.old }
+    {
+        self.parked = self.parked.saturating_add(1);
+    }
+
+    /// So many parks end.
+    fn wake(&mut self, count: u64, floor: u128)
+        ensures { self.new ≡ waking count floor self.old }
+    {
+        if count > 0 && !self.has_jobs() {
+            self.virtual_runtime = rt_shares::placed(self.virtual_runtime, floor);
+        }
+        self.parked = self.parked.saturating_sub(count);
+    }
+
+    /// All parks end.
+    fn wake_all(&mut self, floor: u128)
+        ensures { self.new ≡ waking self.old.parked floor self.old }
+    {
+        self.wake(self.parked, floor);
+    }
+
+    /// Reads a note whose job is parked in this queue.
+    fn release(&mut self, note: &Note<u64>, floor: u128)
+        ensures { self.new ≡ released_after floor note.now self.old }
+    {
+        match *note {
+            Note::Woken(_) => self.wake(1, floor),
+            Note::Park(_, _) => self.parked = self.parked.saturating_sub(1),
+            _ => {}
+        }
+    }
+
+    /// Reads a note that speaks of this queue.
+    fn add(&mut self, note: &Note<u64>, floor: u128)
+        ensures { self.new ≡ own_after floor note.now self.old }
     {
         match *note {
             Note::Took(_, _) => self.enter(floor),
             Note::Created(_, shares) => self.shares = shares,
             Note::SharesSet(_, shares) => self.shares = shares,
+            Note::QueueClosed(_, Mode::Return) => self.wake_all(floor),
             Note::Yield(_, time) => self.charge(time),
+            Note::Park(_, time) => {
+                self.charge(time);
+                self.park();
+            }
+            Note::Stayed(_, time) => self.charge(time),
             Note::Done(_, time, _) => {
                 self.charge(time);
                 self.leave();
@@ -83,21 +129,6 @@ impl Account {
             Note::Returned(_, _) => self.leave(),
             _ => {}
         }
-    }
-}
-
-/// The queue whose account a note changes, by what the notes before it told.
-pub fn queue_touched(note: &Note<u64>, fact: &Fact) -> Option<QueueNo>
-    ensures { (before : Journal ℕ) → FitsPlace fact.now note.now before → result ≡ spec.queue_touched note.now before }
-{
-    match *note {
-        Note::Took(_, queue) => Some(queue),
-        Note::Created(queue, _) => Some(queue),
-        Note::SharesSet(queue, _) => Some(queue),
-        Note::Yield(_, _) => fact.queue,
-        Note::Done(_, _, _) => fact.queue,
-        Note::Returned(_, _) => fact.queue,
-        _ => None,
     }
 }
 
@@ -111,12 +142,22 @@ fn runtime_picked(note: &Note<u64>) -> u128
     }
 }
 
-/// Whether none of these queues has work.
-fn have_no_jobs(accounts: &[Account; 256]) -> bool
-    ensures { IsTrue result ↔ ((queue : ℕ) → IsTrue (has_jobs (get_or accounts.now queue fresh_account)) → ⊥) }
+/// The queue in which a note parks a job. The note speaks of this queue.
+fn queue_parking(note: &Note<u64>, queue: Option<QueueNo>) -> Option<QueueNo>
+    ensures { result ≡ queue_parking note.now queue }
+{
+    match *note {
+        Note::Park(_, _) => queue,
+        _ => None,
+    }
+}
+
+/// Whether none of these queues has work, and no job is parked.
+fn all_empty(accounts: &[Account; 256]) -> bool
+    ensures { IsTrue result ↔ ((queue : ℕ) → IsEmpty (get_or accounts.now queue fresh_account)) }
 {
     for queue in 0..accounts.len() {
-        if accounts[queue].has_jobs() {
+        if accounts[queue].has_jobs() || accounts[queue].parked > 0 {
             return false;
         }
     }
@@ -128,6 +169,8 @@ fn have_no_jobs(accounts: &[Account; 256]) -> bool
 pub struct Accounts {
     pub queues: [Account; 256],
     pub floor: u128,
+    /// The queues in which jobs were parked since the core was last closed in mode `Return`.
+    pub recent: Recent,
 }
 
 impl Accounts {
@@ -138,33 +181,101 @@ impl Accounts {
         Accounts {
             queues: [Account::new(); 256],
             floor: 0,
+            recent: Recent::new(),
         }
     }
 
     /// The account of a queue.
     pub fn of(&self, queue: QueueNo) -> Account
-        ensures { result ≡ get_or self.now.queues queue fresh_account }
+        ensures { result ≡ account_of self.now queue }
     {
         self.queues[queue.0 as usize]
     }
 
-    /// Whether no queue has work.
-    pub fn are_idle(&self) -> bool
-        ensures { IsTrue result ↔ ((queue : ℕ) → IsTrue (has_jobs (get_or self.now.queues queue fresh_account)) → ⊥) }
+    /// Whether no queue has work, and no job is parked.
+    pub fn are_empty(&self) -> bool
+        ensures { IsTrue result ↔ ((queue : ℕ) → IsEmpty (account_of self.now queue)) }
     {
-        have_no_jobs(&self.queues)
+        all_empty(&self.queues)
     }
 
-    /// Reads the next note, which changes the account of this queue, if there is one.
-    pub fn add(&mut self, note: &Note<u64>, queue: Option<QueueNo>)
-        ensures { (before : Journal ℕ) → queue ≡ spec.queue_touched note.now before → length before < greatest_count → KnowsAccounts self.old before → KnowsAccounts self.new (note.now ∷ before) }
+    /// Whether there are no more accounts than queues. There never are more.
+    pub fn has_few(&self) -> bool
+        ensures few { length self.now.queues ≤ 256 }
+        ensures always { IsTrue result }
     {
-        if let Some(queue) = queue {
-            let index = queue.0 as usize;
-            let mut account = self.queues[index];
-            account.add(note, self.floor);
-            self.queues[index] = account;
+        let queues: &[Account] = &self.queues;
+        queues.len() <= 256
+    }
+
+    /// Reads a note whose job is parked in this queue, if in any.
+    fn release(&mut self, note: &Note<u64>, queue: Option<QueueNo>)
+        ensures each { (other : ℕ) → account_of self.new other ≡ (if is_number other queue then released_after self.old.floor note.now (account_of self.old other) else account_of self.old other) }
+        ensures floor { self.new.floor ≡ self.old.floor }
+        ensures recent { self.new.recent ≡ self.old.recent }
+    {
+        let Some(queue) = queue else {
+            return;
+        };
+        let mut account = self.of(queue);
+        account.release(note, self.floor);
+        self.queues[queue.0 as usize] = account;
+    }
+
+    /// Reads a note that speaks of this queue, if of any.
+    fn change(&mut self, note: &Note<u64>, queue: Option<QueueNo>)
+        ensures each { (other : ℕ) → account_of self.new other ≡ (if is_number other queue then own_after self.old.floor note.now (account_of self.old other) else account_of self.old other) }
+        ensures floor { self.new.floor ≡ self.old.floor }
+        ensures recent { self.new.recent ≡ self.old.recent }
+    {
+        let Some(queue) = queue else {
+            return;
+        };
+        let mut account = self.of(queue);
+        account.add(note, self.floor);
+        self.queues[queue.0 as usize] = account;
+    }
+
+    /// All parks end.
+    fn wake_all(&mut self)
+        ensures woken { (queue : ℕ) → Holds self.old.recent queue → account_of self.new queue ≡ waking (account_of self.old queue).parked self.old.floor (account_of self.old queue) }
+        ensures others { (queue : ℕ) → (account_of self.old queue).parked ≡ 0 → account_of self.new queue ≡ account_of self.old queue }
+        ensures floor { self.new.floor ≡ self.old.floor }
+        ensures recent { (queue : ℕ) → Holds self.new.recent queue → ⊥ }
+    {
+        for place in 0..self.recent.size() {
+            let queue = self.recent.queue_at(place);
+            let mut account = self.of(queue);
+            account.wake_all(self.floor);
+            self.queues[queue.0 as usize] = account;
+        }
+        self.recent.clear();
+    }
+
+    /// The queue in which a note parks a job, if it parks one, is told. The note speaks of this queue.
+    fn remember(&mut self, note: &Note<u64>, queue: Option<QueueNo>)
+        ensures recent { (other : ℕ) → other < 256 → Holds self.old.recent other ⊎ (queue_parking note.now queue ≡ Some other) → Holds self.new.recent other }
+        ensures queues { self.new.queues ≡ self.old.queues }
+        ensures floor { self.new.floor ≡ self.old.floor }
+    {
+        if let Some(queue) = queue_parking(note, queue) {
+            self.recent.add(queue);
+        }
+    }
+
+    /// Reads the next note, which speaks of the queues of this spot.
+    pub fn add(&mut self, note: &Note<u64>, spot: &Spot)
+        ensures known { (before : Journal ℕ) → FitsSpot spot.now note.now before → length before < greatest_count → KnowsAccounts self.old before → KnowsAccounts self.new (note.now ∷ before) }
+        ensures others { (before : Journal ℕ) → KnowsAccounts self.old before → (queue : ℕ) → IsApart note.now spot.now queue (account_of self.old queue) → account_of self.new queue ≡ account_of self.old queue }
+    {
+        self.release(note, spot.parked);
+        self.change(note, spot.queue);
+        if core_ended(note) {
+            self.wake_all();
+        } else {
+            self.remember(note, spot.queue);
         }
         self.floor = self.floor.max(runtime_picked(note));
+        let _few = self.has_few();
     }
 }

@@ -7,18 +7,24 @@ ghost use Rattle.rt_ids.specs.Filters.{name_ended};
 ghost use Rattle.rt_ids.specs.Journal.{Journal as Notes, at_place, is_told};
 ghost use Rattle.rt_journal_facts.specs.Histories.{no_fact, name_asked, TellsOf, FitsPlace, IsAsCollected, IsHistory};
 ghost use Rattle.rt_journal_facts.specs.Past.{KnowsPast};
+ghost use Rattle.rt_journal_facts.specs.Spots.{FitsSpot, park_noted, queue_noted};
 
 use crate::past::Past;
 use crate::places::note_at;
+use crate::spots::Spot;
 use rt_ids::{JobId, Note, QueueNo};
 use rt_journal_notes::Journal;
 use std::alloc::{AllocError, Global};
 
-/// What the notes before a note told under its name. It takes 8 bytes at most.
+/// What the notes before a note told under its name. It takes 12 bytes at most.
 #[derive(Clone, Copy)]
 pub struct Fact {
     /// The queue that the job entered.
     pub queue: Option<QueueNo>,
+    /// The queue in which the job is parked.
+    pub parked: Option<QueueNo>,
+    /// Whether the job stays in its line if it asks to be parked.
+    pub stays: bool,
     /// Whether the job was polled.
     pub started: bool,
     /// Whether the job was done or handed back.
@@ -38,6 +44,8 @@ impl Fact {
     {
         Fact {
             queue: None,
+            parked: None,
+            stays: false,
             started: false,
             ended: false,
             answered: false,
@@ -52,12 +60,54 @@ impl Fact {
         ensures collected { result.collected ≡ collected }
     {
         Fact {
-            queue: past.jobs.queue_of(name),
+            queue: past.jobs.parks.queue_of(name),
+            parked: past.jobs.parks.park_of(name),
+            stays: past.jobs.stays_in_line(name),
             started: past.jobs.has_started(name),
             ended: past.jobs.has_ended(name),
             answered: past.answered.has(name),
             redeemed: past.redeemed.has(name),
             collected,
+        }
+    }
+
+    /// The queues of which the note speaks.
+    pub fn spot(&self, note: &Note<u64>) -> Spot
+        ensures { (before : Notes ℕ) → FitsPlace self.now note.now before → FitsSpot result note.now before }
+    {
+        Spot {
+            queue: self.queue_noted(note),
+            parked: self.park_noted(note),
+        }
+    }
+
+    fn queue_noted(&self, note: &Note<u64>) -> Option<QueueNo>
+        ensures { (before : Notes ℕ) → FitsPlace self.now note.now before → result ≡ queue_noted note.now before }
+    {
+        match *note {
+            Note::Took(_, queue) => Some(queue),
+            Note::Created(queue, _) => Some(queue),
+            Note::SharesSet(queue, _) => Some(queue),
+            Note::QueueClosed(queue, _) => Some(queue),
+            Note::Pick(queue, _) => Some(queue),
+            Note::Start(_) => self.queue,
+            Note::Resume(_) => self.queue,
+            Note::Yield(_, _) => self.queue,
+            Note::Park(_, _) => self.queue,
+            Note::Stayed(_, _) => self.queue,
+            Note::Done(_, _, _) => self.queue,
+            Note::Returned(_, _) => self.queue,
+            _ => None,
+        }
+    }
+
+    fn park_noted(&self, note: &Note<u64>) -> Option<QueueNo>
+        ensures { (before : Notes ℕ) → FitsPlace self.now note.now before → result ≡ park_noted note.now before }
+    {
+        match *note {
+            Note::Park(_, _) => self.parked,
+            Note::Woken(_) => self.parked,
+            _ => None,
         }
     }
 
@@ -79,7 +129,8 @@ fn name_asked(note: &Note<u64>) -> Option<JobId>
     match *note {
         Note::Back(name, _) | Note::Returned(name, _) | Note::Answered(name, _) => Some(name),
         Note::Start(name) | Note::Resume(name) => Some(name),
-        Note::Yield(name, _) | Note::Done(name, _, _) | Note::Redeemed(name, _) => Some(name),
+        Note::Yield(name, _) | Note::Park(name, _) | Note::Stayed(name, _) => Some(name),
+        Note::Woken(name) | Note::Done(name, _, _) | Note::Redeemed(name, _) => Some(name),
         _ => None,
     }
 }

@@ -1,31 +1,43 @@
 //! What is known of the jobs of one journal.
 
-ghost use Rattle.std.specs.Prelude.{◌≡◌, ℕ, ◌∷◌, OnOk, [], IsTrue};
+ghost use Rattle.std.specs.Prelude.{◌≡◌, ℕ, ◌<◌, ◌≤◌, ◌∷◌, OnOk, Some, [], length};
+ghost use Rattle.rt_ids.specs.declared.names.JobId.{JobId as Name};
+ghost use Rattle.rt_ids.specs.Commands.{stays_in_line};
 ghost use Rattle.rt_ids.specs.Journal.{Journal};
+ghost use Rattle.rt_ids.specs.Parks.{is_parked, name_woken};
 ghost use Rattle.rt_journal_facts.specs.Jobs.{KnowsJobs};
-ghost use Rattle.rt_journal_facts.specs.Names.{known, has_name};
+ghost use Rattle.rt_journal_facts.specs.Limits.{greatest_count};
+ghost use Rattle.rt_journal_facts.specs.Names.{has_name};
+ghost use Rattle.rt_journal_facts.specs.Parks.{is_same_queue};
 
-use crate::names::NameTable;
+use crate::parks::Parks;
 use crate::sets::NameSet;
-use crate::told::{name_ended, name_started, queue_told};
+use crate::stays::Stays;
+use crate::told::{name_ended, name_started};
 use rt_ids::{JobId, Note, QueueNo};
 use std::alloc::{AllocError, Global};
-use std::marker::Model;
 
-/// Of the notes that were read: the queue of each job, which jobs were polled, and which ended.
+/// Of the notes that were read: the queue of each job and where it is parked, which jobs stay in their lines, which were polled, and which
+/// ended.
 #[derive(Drop)]
 pub struct Jobs {
-    queues: NameTable<QueueNo>,
+    pub parks: Parks,
+    stays: Stays,
     started: NameSet,
     ended: NameSet,
 }
 
-impl Model for Jobs {
-    ghost use Rattle.rt_journal_facts.specs.Jobs.{JobsView};
-
-    ghost Value = { JobsView };
-
-    ghost view = { λ jobs. record { queues = jobs.queues; started = jobs.started; ended = jobs.ended } };
+/// Whether it is the same queue, if there are two.
+fn is_same_queue(one: Option<QueueNo>, other: Option<QueueNo>) -> bool
+    ensures { result ≡ is_same_queue one other }
+{
+    match one {
+        Some(queue) => match other {
+            Some(second) => queue.0 == second.0,
+            None => false,
+        },
+        None => false,
+    }
 }
 
 impl Jobs {
@@ -34,7 +46,8 @@ impl Jobs {
         ensures { KnowsJobs {T = ℕ} result [] }
     {
         Jobs {
-            queues: NameTable::new(alloc),
+            parks: Parks::new(alloc),
+            stays: Stays::new(alloc),
             started: NameSet::new(alloc),
             ended: NameSet::new(alloc),
         }
@@ -42,19 +55,33 @@ impl Jobs {
 
     /// Reads the next note.
     pub fn add(&mut self, note: &Note<u64>) -> Result<(), AllocError>
-        ensures { OnOk result ((before : Journal ℕ) → KnowsJobs self.old before → KnowsJobs self.new (note.now ∷ before)) }
+        ensures { OnOk result ((before : Journal ℕ) → length before < greatest_count → KnowsJobs self.old before → KnowsJobs self.new (note.now ∷ before)) }
     {
-        self.queues.set_told(queue_told(note))?;
+        let parked = self.wakes_parked(note);
+        self.parks.add(note)?;
+        self.stays.add(note, parked)?;
         self.started.add(name_started(note))?;
         self.ended.add(name_ended(note))?;
         Ok(())
     }
 
-    /// The queue that the job entered.
-    pub fn queue_of(&self, name: &JobId) -> Option<QueueNo>
-        ensures { result ≡ known self.now.queues name.now }
+    /// Whether the note wakes a job that is parked.
+    fn wakes_parked(&self, note: &Note<u64>) -> bool
+        ensures { (before : Journal ℕ) → KnowsJobs self.now before → (name : Name) → name_woken note.now ≡ Some name → result ≡ is_parked name before }
     {
-        self.queues.get(name)
+        match *note {
+            Note::Woken(name) => {
+                is_same_queue(self.parks.queue_of(&name), self.parks.park_of(&name))
+            }
+            _ => false,
+        }
+    }
+
+    /// Whether the job stays in its line if it asks to be parked: a wake of it is kept, or what is inside is handed back.
+    pub fn stays_in_line(&self, name: &JobId) -> bool
+        ensures { (before : Journal ℕ) → KnowsJobs self.now before → result ≡ stays_in_line name.now before }
+    {
+        self.stays.of(name, self.parks.queue_of(name))
     }
 
     /// Whether the job was polled.

@@ -2,19 +2,28 @@
 #![tactic(auto)]
 
 pub mod accounts;
+pub mod endings;
 pub mod histories;
 pub mod jobs;
 pub mod names;
+pub mod parks;
 pub mod past;
 pub mod places;
+pub mod recent;
 pub mod same;
 pub mod sets;
+pub mod spots;
+pub mod stays;
 pub mod told;
 
-pub use accounts::{Account, Accounts, queue_touched};
+pub use accounts::{Account, Accounts};
+pub use endings::core_ended;
 pub use histories::{Fact, History};
 pub use jobs::Jobs;
 pub use names::NameTable;
+pub use parks::Parks;
 pub use past::Past;
 pub use places::note_at;
+pub use recent::Recent;
 pub use sets::NameSet;
+pub use spots::Spot;

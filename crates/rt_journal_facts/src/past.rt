@@ -1,9 +1,10 @@
 //! What is known of the notes of one journal that were read.
 
-ghost use Rattle.std.specs.Prelude.{◌∷◌, ◌≡◌, ℕ, OnOk, Some, IsTrue, []};
+ghost use Rattle.std.specs.Prelude.{◌∷◌, ◌≡◌, ◌<◌, ℕ, OnOk, Some, IsTrue, [], length};
 ghost use Rattle.rt_ids.specs.Assembly.{first_under};
 ghost use Rattle.rt_ids.specs.Filters.{collected_outcomes};
 ghost use Rattle.rt_ids.specs.Journal.{Journal};
+ghost use Rattle.rt_journal_facts.specs.Limits.{greatest_count};
 ghost use Rattle.rt_journal_facts.specs.Past.{KnowsPast};
 
 use crate::jobs::Jobs;
@@ -38,7 +39,7 @@ impl Past {
 
     /// Reads the next note.
     pub fn add(&mut self, note: &Note<u64>) -> Result<(), AllocError>
-        ensures { OnOk result ((before : Journal ℕ) → KnowsPast self.old before → KnowsPast self.new (note.now ∷ before)) }
+        ensures { OnOk result ((before : Journal ℕ) → length before < greatest_count → KnowsPast self.old before → KnowsPast self.new (note.now ∷ before)) }
     {
         self.jobs.add(note)?;
         self.answered.add(name_answered(note))?;

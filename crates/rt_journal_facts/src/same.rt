@@ -20,6 +20,8 @@ fn same_answer(one: &Answer, other: &Answer) -> bool
         Answer::NoQueue => matches!(*other, Answer::NoQueue),
         Answer::Closed => matches!(*other, Answer::Closed),
         Answer::AlreadyClosed => matches!(*other, Answer::AlreadyClosed),
+        Answer::Woken => matches!(*other, Answer::Woken),
+        Answer::NoJob => matches!(*other, Answer::NoJob),
     }
 }
 

@@ -4,6 +4,7 @@ ghost use Rattle.std.specs.Prelude.{◌≡◌};
 ghost use Rattle.rt_ids.specs.Clauses as clauses;
 ghost use Rattle.rt_ids.specs.Filters as filters;
 ghost use Rattle.rt_ids.specs.Outstanding as outstanding;
+ghost use Rattle.rt_ids.specs.Polls as polls;
 ghost use Rattle.rt_journal_facts.specs.Told as told;
 
 use rt_ids::{JobId, Note, Order, OutcomeNote, QueueNo};
@@ -44,6 +45,19 @@ pub fn name_redeemed(note: &Note<u64>) -> Option<JobId>
 {
     match *note {
         Note::Redeemed(name, _) => Some(name),
+        _ => None,
+    }
+}
+
+/// The poll that is settled: its job and its time.
+pub fn poll_settled(note: &Note<u64>) -> Option<(JobId, u64)>
+    ensures { result ≡ polls.poll_settled note.now }
+{
+    match *note {
+        Note::Yield(name, time) => Some((name, time)),
+        Note::Park(name, time) => Some((name, time)),
+        Note::Stayed(name, time) => Some((name, time)),
+        Note::Done(name, time, _) => Some((name, time)),
         _ => None,
     }
 }

@@ -10,7 +10,7 @@ use Rattle.rt_ids.specs.declared.order.Reason.TheVariants.{NoQueue, QueueClosed,
 use Rattle.rt_ids.specs.Limits.{most_cores, last_number}
 use Rattle.rt_ids.specs.Spelled.{IsName, IsBackReason, IsReturnReason}
 use Rattle.rt_text.specs.Notes.{name_text, mode_text, reason_text}
-use Rattle.rt_journal_lines.specs.Fields.{◌>>=◌, first_of_two, number_in, queue_of, name_of, mode_of, back_reason_of, return_reason_of, reason_of, is_arrow, is_hash}
+use Rattle.rt_journal_lines.specs.Fields.{◌>>=◌, first_of_two, number_in, count_of, queue_of, name_of, target_of, mode_of, back_reason_of, return_reason_of, reason_of, is_arrow, is_hash}
 use Rattle.rt_journal_lines.proofs.Cuts.{before_sign, after_sign, cut_back}
 use Rattle.rt_journal_lines.proofs.Decimals.{number_in_read, number_in_text, no_sign, digits_some}
 use Rattle.rt_journal_lines.proofs.Options.{bind_some, told}
@@ -92,6 +92,40 @@ name_text_read cores name few is =
 pub name_of-none : (cores : ℕ) → name_of cores [] ≡ None
 unfolding name_of number_in
 name_of-none cores = refl
+
+-- an actor and a number, parted by a sign
+abbrev pub target_word : ℕ → ℕ → List ℕ
+target_word actor number = decimal actor ++ 35 ∷ decimal number
+
+abbrev target_in : List ℕ → List ℕ → Option (ℕ × ℕ)
+target_in one two = number_in 0 255 one >>= λ actor. count_of two >>= λ number. Some (actor, number)
+
+pub target_read : (word : List ℕ) (target : ℕ × ℕ) → target_of word ≡ Some target → word ≡ target_word target.0 target.1
+unfolding target_of
+target_read word target is =
+    let one = bind_some (number_in 0 255 (before_first is_hash word)) (λ actor. count_of (after_first is_hash word) >>= λ number. Some (actor, number)) target is in
+    let two = bind_some (count_of (after_first is_hash word)) (λ number. Some (one.0, number)) target one.2 in
+    let actor = number_in_read 0 255 (before_first is_hash word) one.0 (omega arith) one.1 in
+    let number = number_in_read 0 18446744073709551615 (after_first is_hash word) two.0 (omega arith) two.1 in
+    let digits = digits_some two.0 (omega (arith, number.1)) in
+    let same : ◌≡◌ {A = ℕ × ℕ} (one.0, two.0) target = cc in
+    cut_back 35 word (omega (arith, ap length number.2))
+    ∙ ap (λ front. front ++ 35 ∷ after_first is_hash word) actor.2
+    ∙ ap (λ behind. decimal one.0 ++ 35 ∷ behind) number.2
+    ∙ ap (λ (t : ℕ × ℕ). target_word t.0 t.1) same
+
+pub target_text_read : (actor number : ℕ) → actor ≤ 255 → number ≤ 18446744073709551615 → target_of (target_word actor number) ≡ Some (actor, number)
+unfolding target_of
+target_text_read actor number small range =
+    let no_hash = no_sign 35 actor (omega arith) (inl (omega arith)) in
+    ap (λ (w : List ℕ). target_in w (after_first is_hash (target_word actor number))) (before_sign 35 (decimal actor) (decimal number) no_hash)
+    ∙ ap (λ (w : List ℕ). target_in (decimal actor) w) (after_sign 35 (decimal actor) (decimal number) no_hash)
+    ∙ ap (λ (o : Option ℕ). o >>= λ a. count_of (decimal number) >>= λ n. Some (a, n)) (number_in_text 0 255 actor (omega arith) small (omega arith))
+    ∙ ap (λ (o : Option ℕ). o >>= λ n. Some (actor, n)) (number_in_text 0 18446744073709551615 number (omega arith) range (omega arith))
+
+pub target_of-none : target_of [] ≡ None
+unfolding target_of number_in
+target_of-none = refl
 
 pub mode_read : (word : List ℕ) (mode : Mode) → mode_of word ≡ Some mode → word ≡ mode_text mode
 unfolding mode_of

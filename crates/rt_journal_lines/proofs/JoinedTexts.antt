@@ -26,6 +26,7 @@ order_joined (order.Create weight) = refl
 order_joined (order.SetShares queue weight) = ap (λ text. codes "shares q" ++ text) (spaced (decimal queue) (decimal weight))
 order_joined (order.Close queue closed) = ap (λ text. codes "close q" ++ text) (spaced (decimal queue) (mode_text closed))
 order_joined (order.CloseCore closed) = refl
+order_joined (order.Wake actor number) = ap (λ text. codes "wake " ++ text) (append_assoc (decimal actor) (codes "#") (decimal number))
 
 answer_joined : (a : Answer) → answer_text a ≡ joined (answer_words a)
 answer_joined (answer.Created queue) = refl
@@ -36,6 +37,8 @@ answer_joined answer.SharesSet = refl
 answer_joined answer.NoQueue = refl
 answer_joined answer.Closed = refl
 answer_joined answer.AlreadyClosed = refl
+answer_joined answer.Woken = refl
+answer_joined answer.NoJob = refl
 
 answered_joined : (a : Answer) → codes "answered " ++ answer_text a ≡ joined (codes "answered" ∷ answer_words a)
 answered_joined (answer.Created queue) = refl
@@ -46,6 +49,8 @@ answered_joined answer.SharesSet = refl
 answered_joined answer.NoQueue = refl
 answered_joined answer.Closed = refl
 answered_joined answer.AlreadyClosed = refl
+answered_joined answer.Woken = refl
+answered_joined answer.NoJob = refl
 
 outcome_joined : (o : OutcomeNote ℕ) → outcome_text o ≡ joined (outcome_words o)
 outcome_joined (outcome.Finished out) = refl
@@ -67,6 +72,7 @@ order_some (order.Create weight) = tt
 order_some (order.SetShares queue weight) = tt
 order_some (order.Close queue closed) = tt
 order_some (order.CloseCore closed) = tt
+order_some (order.Wake actor number) = tt
 
 answer_some : (a : Answer) → Some_words (answer_words a)
 answer_some (answer.Created queue) = tt
@@ -77,6 +83,8 @@ answer_some answer.SharesSet = tt
 answer_some answer.NoQueue = tt
 answer_some answer.Closed = tt
 answer_some answer.AlreadyClosed = tt
+answer_some answer.Woken = tt
+answer_some answer.NoJob = tt
 
 outcome_some : (o : OutcomeNote ℕ) → Some_words (outcome_words o)
 outcome_some (outcome.Finished out) = tt
@@ -92,10 +100,13 @@ note_joined (note.Created queue weight) = ap (λ text. codes "queue q" ++ text) 
 note_joined (note.SharesSet queue weight) = ap (λ text. codes "shares q" ++ text) (spaced (decimal queue) (decimal weight))
 note_joined (note.QueueClosed queue mode) = ap (λ text. codes "closed q" ++ text) (spaced (decimal queue) (mode_text mode))
 note_joined (note.CoreClosed mode) = refl
+note_joined (note.Woken name) = refl
 note_joined (note.Pick queue runtime) = ap (λ text. codes "pick q" ++ text) (append_assoc (decimal queue) (codes " at ") (decimal runtime))
 note_joined (note.Start name) = refl
 note_joined (note.Resume name) = refl
 note_joined (note.Yield name time) = ap (λ text. codes "yield " ++ text) (spaced (name_text name) (decimal time))
+note_joined (note.Park name time) = ap (λ text. codes "park " ++ text) (spaced (name_text name) (decimal time))
+note_joined (note.Stayed name time) = ap (λ text. codes "stayed " ++ text) (spaced (name_text name) (decimal time))
 note_joined (note.Done name time value) = ap (λ text. codes "done " ++ text)
     (append_assoc ((name_text name ++ codes " ") ++ decimal time) (codes " = ") (decimal value)
     ∙ append_assoc (name_text name ++ codes " ") (decimal time) (codes " = " ++ decimal value)
@@ -115,10 +126,13 @@ note_some (note.Created queue weight) = tt
 note_some (note.SharesSet queue weight) = tt
 note_some (note.QueueClosed queue mode) = tt
 note_some (note.CoreClosed mode) = tt
+note_some (note.Woken name) = tt
 note_some (note.Pick queue runtime) = tt
 note_some (note.Start name) = tt
 note_some (note.Resume name) = tt
 note_some (note.Yield name time) = tt
+note_some (note.Park name time) = tt
+note_some (note.Stayed name time) = tt
 note_some (note.Done name time value) = tt
 note_some (note.Returned name why) = tt
 note_some (note.Shut sender count) = tt

@@ -22,7 +22,7 @@ use Rattle.rt_ids.specs.Orders.{IsSpelledOrder}
 use Rattle.rt_ids.specs.Spelled.{IsName, IsSpelledNote, IsSpelledAnswer, IsSpelledOutcome}
 use Rattle.rt_ids.specs.Terms.{Terms}
 use Rattle.rt_text.specs.Notes.{name_text, reason_text, mode_text, note_line}
-use Rattle.rt_journal_lines.specs.Laws.{IsActor, HoldsTimes, HoldsOut}
+use Rattle.rt_journal_lines.specs.Laws.{IsActor, HoldsTimes, HoldsOrder, HoldsOut}
 use Rattle.rt_journal_lines.proofs.FieldTexts.{queue_word, name_joined}
 use Rattle.rt_journal_lines.proofs.JoinedTexts.{joined, line_joined}
 use Rattle.rt_journal_lines.proofs.NoteTexts.{note_words}
@@ -81,12 +81,14 @@ reason_short reason.CoreClosing = omega arith
 reason_short reason.QueueReturned = omega arith
 reason_short reason.CoreReturned = omega arith
 
-order_short : (sent : Order (Unit {0})) → IsSpelledOrder sent → width (order_words sent) ≤ 18
-order_short (order.Job queue task) spelled = omega (arith, queue_short queue spelled)
-order_short (order.Create weight) spelled = omega (arith, weight_short weight spelled)
-order_short (order.SetShares queue weight) spelled = omega (arith, queue_short queue spelled.0, weight_short weight spelled.1)
-order_short (order.Close queue closed) spelled = omega (arith, queue_short queue spelled, mode_short closed)
-order_short (order.CloseCore closed) spelled = omega (arith, mode_short closed)
+order_short : (sent : Order (Unit {0})) → IsSpelledOrder sent → HoldsOrder sent → width (order_words sent) ≤ 30
+order_short (order.Job queue task) spelled holds = omega (arith, queue_short queue spelled)
+order_short (order.Create weight) spelled holds = omega (arith, weight_short weight spelled)
+order_short (order.SetShares queue weight) spelled holds = omega (arith, queue_short queue spelled.0, weight_short weight spelled.1)
+order_short (order.Close queue closed) spelled holds = omega (arith, queue_short queue spelled, mode_short closed)
+order_short (order.CloseCore closed) spelled holds = omega (arith, mode_short closed)
+order_short (order.Wake actor number) spelled holds =
+    omega (arith, length-append (decimal actor) (35 ∷ decimal number), length-decimal-le_wide 3 actor (omega (arith, holds.0)) (omega arith) (omega arith), count_short number holds.1)
 
 answer_short : (a : Answer) → IsSpelledAnswer a → width (answer_words a) ≤ 14
 answer_short (answer.Created queue) spelled = omega (arith, queue_short queue spelled)
@@ -97,6 +99,8 @@ answer_short answer.SharesSet spelled = omega arith
 answer_short answer.NoQueue spelled = omega arith
 answer_short answer.Closed spelled = omega arith
 answer_short answer.AlreadyClosed spelled = omega arith
+answer_short answer.Woken spelled = omega arith
+answer_short answer.NoJob spelled = omega arith
 
 outcome_short : (o : OutcomeNote ℕ) → IsSpelledOutcome o → HoldsOut o → width (outcome_words o) ≤ 30
 outcome_short (outcome.Finished out) spelled fits = omega (arith, count_short out fits)
@@ -104,7 +108,7 @@ outcome_short (outcome.Returned why) spelled fits = omega (arith, reason_short w
 outcome_short (outcome.Answered told) spelled fits = omega (arith, answer_short told spelled)
 
 note_short : (terms : Terms) (written : Note ℕ) → terms.cores ≤ most_cores → IsSpelledNote terms written → HoldsTimes written → width (note_words written) ≤ 80
-note_short terms (note.Sent name sent) few spelled times = omega (arith, name_short terms.cores name few (spelled.0).0, order_short sent spelled.1)
+note_short terms (note.Sent name sent) few spelled times = omega (arith, name_short terms.cores name few (spelled.0).0, order_short sent spelled.1 times)
 note_short terms (note.Took name queue) few spelled times = omega (arith, name_short terms.cores name few (spelled.0).0, queue_short queue spelled.1)
 note_short terms (note.Back name why) few spelled times = omega (arith, name_short terms.cores name few (spelled.0).0, reason_short why)
 note_short terms (note.Answered name told) few spelled times = omega (arith, name_short terms.cores name few (spelled.0).0, answer_short told spelled.1)
@@ -112,10 +116,13 @@ note_short terms (note.Created queue weight) few spelled times = omega (arith, q
 note_short terms (note.SharesSet queue weight) few spelled times = omega (arith, queue_short queue spelled.1, weight_short weight spelled.2)
 note_short terms (note.QueueClosed queue m) few spelled times = omega (arith, queue_short queue spelled.1, mode_short m)
 note_short terms (note.CoreClosed m) few spelled times = omega (arith, mode_short m)
+note_short terms (note.Woken name) few spelled times = omega (arith, name_short terms.cores name few spelled.0)
 note_short terms (note.Pick queue runtime) few spelled times = let most = spelled.2 in omega (arith, queue_short queue spelled.1, length-decimal-le_wide 39 runtime (omega arith) (omega arith) (omega arith))
 note_short terms (note.Start name) few spelled times = omega (arith, name_short terms.cores name few spelled.0)
 note_short terms (note.Resume name) few spelled times = omega (arith, name_short terms.cores name few spelled.0)
 note_short terms (note.Yield name time) few spelled times = omega (arith, name_short terms.cores name few spelled.0, count_short time times)
+note_short terms (note.Park name time) few spelled times = omega (arith, name_short terms.cores name few spelled.0, count_short time times)
+note_short terms (note.Stayed name time) few spelled times = omega (arith, name_short terms.cores name few spelled.0, count_short time times)
 note_short terms (note.Done name time value) few spelled times = omega (arith, name_short terms.cores name few spelled.0, count_short time times.0, count_short value times.1)
 note_short terms (note.Returned name why) few spelled times = omega (arith, name_short terms.cores name few (spelled.0).0, reason_short why)
 note_short terms (note.Shut sender count) few spelled times =

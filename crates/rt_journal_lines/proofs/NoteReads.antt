@@ -38,11 +38,14 @@ received_kind_read word kind is =
     told C (codes "took") word received.Took _ kind is (λ e. e)
     (λ m. told C (codes "back") word received.Back _ kind m (λ e. e)
     (λ m. told C (codes "answered") word received.Answered _ kind m (λ e. e)
+    (λ m. told C (codes "woken") word received.Woken _ kind m (λ e. e)
     (λ m. told C (codes "start") word received.Start _ kind m (λ e. e)
     (λ m. told C (codes "resume") word received.Resume _ kind m (λ e. e)
     (λ m. told C (codes "yield") word received.Yield _ kind m (λ e. e)
+    (λ m. told C (codes "park") word received.Park _ kind m (λ e. e)
+    (λ m. told C (codes "stayed") word received.Stayed _ kind m (λ e. e)
     (λ m. told C (codes "done") word received.Done _ kind m (λ e. e)
-    (λ m. told C (codes "returned") word received.Returned _ kind m (λ e. e) (λ none. cc))))))))
+    (λ m. told C (codes "returned") word received.Returned _ kind m (λ e. e) (λ none. cc)))))))))))
 
 core_kind_read : (word : List ℕ) (kind : CoreKind) → core_kind_of word ≡ Some kind → word ≡ inner_word kind
 unfolding core_kind_of

@@ -65,7 +65,7 @@ count_text n small = number_in_text 0 18446744073709551615 n (omega arith) small
 
 pub note_tells : (terms : Terms) (written : Note ℕ) → terms.cores ≤ most_cores → IsSpelledNote terms written → HoldsTimes written → note_of terms.actor terms.cores (note_words written) ≡ Some written
 unfolding own_kind_of received_kind_of core_kind_of own_rest received_rest core_rest done_phrase pick_phrase shut_phrase
-note_tells terms (note.Sent name sent) few spelled times = by_own terms (codes "sent") own.Sent name _ _ few spelled.0 refl (ap (option_map (note.Sent name)) (order_text_read sent spelled.1))
+note_tells terms (note.Sent name sent) few spelled times = by_own terms (codes "sent") own.Sent name _ _ few spelled.0 refl (ap (option_map (note.Sent name)) (order_text_read sent spelled.1 times))
 note_tells terms (note.Took name queue) few spelled times = by_received terms (codes "took") received.Took name _ _ few spelled.0 refl refl (ap (option_map (note.Took name)) (queue_text_read queue (omega (arith, spelled.1))))
 note_tells terms (note.Back name why) few spelled times = by_received terms (codes "back") received.Back name _ _ few spelled.0 refl refl (ap (option_map (note.Back name)) (back_reason_text_read why spelled.1))
 note_tells terms (note.Answered name told) few spelled times = by_received terms (codes "answered") received.Answered name _ _ few spelled.0 refl refl (ap (option_map (note.Answered name)) (answer_text_read told spelled.1))
@@ -73,12 +73,15 @@ note_tells terms (note.Created queue weight) few spelled times = by_core terms (
 note_tells terms (note.SharesSet queue weight) few spelled times = by_core terms (codes "shares") inner.SharesSet _ _ spelled.0 refl refl refl (ap (option_map (λ (p : ℕ × ℕ). note.SharesSet p.0 p.1)) (shares_text_read queue weight (omega (arith, spelled.1)) spelled.2))
 note_tells terms (note.QueueClosed queue mode) few spelled times = by_core terms (codes "closed") inner.QueueClosed _ _ spelled.0 refl refl refl (ap (option_map (λ (p : ℕ × Mode). note.QueueClosed p.0 p.1)) (queue_mode_read queue mode (omega (arith, spelled.1))))
 note_tells terms (note.CoreClosed mode) few spelled times = by_core terms (codes "coreclosed") inner.CoreClosed _ _ spelled refl refl refl (ap (option_map note.CoreClosed) (mode_text_read mode))
+note_tells terms (note.Woken name) few spelled times = by_received terms (codes "woken") received.Woken name _ _ few spelled refl refl refl
 note_tells terms (note.Pick queue runtime) few spelled times = by_core terms (codes "pick") inner.Pick _ _ spelled.0 refl refl refl
     (ap (λ (o : Option ℕ). o >>= λ q. number_in 0 340282366920938463463374607431768211455 (decimal runtime) >>= λ r. Some (note.Pick q r)) (queue_text_read queue (omega (arith, spelled.1)))
     ∙ ap (λ (o : Option ℕ). o >>= λ r. Some (note.Pick queue r)) (number_in_text 0 340282366920938463463374607431768211455 runtime (omega arith) (omega (arith, spelled.2)) (omega arith)))
 note_tells terms (note.Start name) few spelled times = by_received terms (codes "start") received.Start name _ _ few spelled refl refl refl
 note_tells terms (note.Resume name) few spelled times = by_received terms (codes "resume") received.Resume name _ _ few spelled refl refl refl
 note_tells terms (note.Yield name time) few spelled times = by_received terms (codes "yield") received.Yield name _ _ few spelled refl refl (ap (option_map (note.Yield name)) (count_text time (omega (arith, times))))
+note_tells terms (note.Park name time) few spelled times = by_received terms (codes "park") received.Park name _ _ few spelled refl refl (ap (option_map (note.Park name)) (count_text time (omega (arith, times))))
+note_tells terms (note.Stayed name time) few spelled times = by_received terms (codes "stayed") received.Stayed name _ _ few spelled refl refl (ap (option_map (note.Stayed name)) (count_text time (omega (arith, times))))
 note_tells terms (note.Done name time value) few spelled times = by_received terms (codes "done") received.Done name _ _ few spelled refl refl
     (ap (λ (o : Option ℕ). o >>= λ t. count_of (decimal value) >>= λ v. Some (note.Done name t v)) (count_text time (omega (arith, times.0))) ∙ ap (λ (o : Option ℕ). o >>= λ v. Some (note.Done name time v)) (count_text value (omega (arith, times.1))))
 note_tells terms (note.Returned name why) few spelled times = by_received terms (codes "returned") received.Returned name _ _ few spelled.0 refl refl (ap (option_map (note.Returned name)) (return_reason_text_read why spelled.1))

@@ -33,10 +33,13 @@ note_words (note.Created queue weight) = codes "queue" ∷ queue_word queue ∷ 
 note_words (note.SharesSet queue weight) = codes "shares" ∷ queue_word queue ∷ decimal weight ∷ []
 note_words (note.QueueClosed queue mode) = codes "closed" ∷ queue_word queue ∷ mode_text mode ∷ []
 note_words (note.CoreClosed mode) = codes "coreclosed" ∷ mode_text mode ∷ []
+note_words (note.Woken name) = codes "woken" ∷ name_text name ∷ []
 note_words (note.Pick queue runtime) = codes "pick" ∷ queue_word queue ∷ codes "at" ∷ decimal runtime ∷ []
 note_words (note.Start name) = codes "start" ∷ name_text name ∷ []
 note_words (note.Resume name) = codes "resume" ∷ name_text name ∷ []
 note_words (note.Yield name time) = codes "yield" ∷ name_text name ∷ decimal time ∷ []
+note_words (note.Park name time) = codes "park" ∷ name_text name ∷ decimal time ∷ []
+note_words (note.Stayed name time) = codes "stayed" ∷ name_text name ∷ decimal time ∷ []
 note_words (note.Done name time value) = codes "done" ∷ name_text name ∷ decimal time ∷ codes "=" ∷ decimal value ∷ []
 note_words (note.Returned name why) = codes "returned" ∷ name_text name ∷ reason_text why ∷ []
 note_words (note.Shut sender count) = codes "shut" ∷ decimal sender ∷ decimal count ∷ []
@@ -54,9 +57,12 @@ abbrev pub received_word : ReceivedKind → List ℕ
 received_word received.Took = codes "took"
 received_word received.Back = codes "back"
 received_word received.Answered = codes "answered"
+received_word received.Woken = codes "woken"
 received_word received.Start = codes "start"
 received_word received.Resume = codes "resume"
 received_word received.Yield = codes "yield"
+received_word received.Park = codes "park"
+received_word received.Stayed = codes "stayed"
 received_word received.Done = codes "done"
 received_word received.Returned = codes "returned"
 
@@ -115,6 +121,13 @@ done_read terms name ws written mine is =
     second_there [] e = absurd (omega (arith, ap length e))
     second_there (w ∷ rest) e = ap (λ word. word ∷ rest) e
 
+-- the only word is a time
+time_read : (ws : List (List ℕ)) (time : ℕ) → last (count_of (first ws)) (others ws) ≡ Some time → ws ≡ decimal time ∷ []
+time_read ws time is =
+    let end = alone count_of ws time (number_in-none 0 18446744073709551615) is in
+    let read = number_in_read 0 18446744073709551615 (first ws) time (omega arith) end.0 in
+    end.1 ∙ ap (λ word. word ∷ []) read.2
+
 pub received_rest_read : (terms : Terms) (kind : ReceivedKind) (name : JobId) (ws : List (List ℕ)) (written : Note ℕ) → IsReceived terms name → received_rest kind name ws ≡ Some written → WordsOf terms (received_word kind ∷ name_text name ∷ ws) written
 unfolding received_rest
 received_rest_read terms received.Took name ws written mine is =
@@ -131,6 +144,10 @@ received_rest_read terms received.Answered name ws written mine is =
     let one = map_some (note.Answered name) (answer_of ws) written is in
     let read = answer_read ws one.0 one.1 in
     subst (WordsOf terms (codes "answered" ∷ name_text name ∷ ws)) one.2 (ap (λ r. codes "answered" ∷ name_text name ∷ r) read.0, (mine, read.1))
+received_rest_read terms received.Woken name ws written mine is =
+    let one = last_some (Some (note.Woken name)) ws written is in
+    let same : note.Woken name ≡ written = cc in
+    subst (WordsOf terms (codes "woken" ∷ name_text name ∷ ws)) same (ap (λ r. codes "woken" ∷ name_text name ∷ r) one.1, mine)
 received_rest_read terms received.Start name ws written mine is =
     let one = last_some (Some (note.Start name)) ws written is in
     let same : note.Start name ≡ written = cc in
@@ -141,9 +158,13 @@ received_rest_read terms received.Resume name ws written mine is =
     subst (WordsOf terms (codes "resume" ∷ name_text name ∷ ws)) same (ap (λ r. codes "resume" ∷ name_text name ∷ r) one.1, mine)
 received_rest_read terms received.Yield name ws written mine is =
     let one = map_some (note.Yield name) (last (count_of (first ws)) (others ws)) written is in
-    let end = alone count_of ws one.0 (number_in-none 0 18446744073709551615) one.1 in
-    let read = number_in_read 0 18446744073709551615 (first ws) one.0 (omega arith) end.0 in
-    subst (WordsOf terms (codes "yield" ∷ name_text name ∷ ws)) one.2 (ap (λ r. codes "yield" ∷ name_text name ∷ r) (end.1 ∙ ap (λ word. word ∷ []) read.2), mine)
+    subst (WordsOf terms (codes "yield" ∷ name_text name ∷ ws)) one.2 (ap (λ r. codes "yield" ∷ name_text name ∷ r) (time_read ws one.0 one.1), mine)
+received_rest_read terms received.Park name ws written mine is =
+    let one = map_some (note.Park name) (last (count_of (first ws)) (others ws)) written is in
+    subst (WordsOf terms (codes "park" ∷ name_text name ∷ ws)) one.2 (ap (λ r. codes "park" ∷ name_text name ∷ r) (time_read ws one.0 one.1), mine)
+received_rest_read terms received.Stayed name ws written mine is =
+    let one = map_some (note.Stayed name) (last (count_of (first ws)) (others ws)) written is in
+    subst (WordsOf terms (codes "stayed" ∷ name_text name ∷ ws)) one.2 (ap (λ r. codes "stayed" ∷ name_text name ∷ r) (time_read ws one.0 one.1), mine)
 received_rest_read terms received.Done name ws written mine is = done_read terms name ws written mine is
 received_rest_read terms received.Returned name ws written mine is =
     let one = map_some (note.Returned name) (last (return_reason_of (first ws)) (others ws)) written is in

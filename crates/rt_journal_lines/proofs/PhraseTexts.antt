@@ -14,11 +14,11 @@ use Rattle.rt_ids.specs.Orders.{IsSpelledOrder}
 use Rattle.rt_ids.specs.Spelled.{IsSpelledAnswer, IsSpelledOutcome}
 use Rattle.rt_text.specs.Notes.{mode_text, reason_text}
 use Rattle.rt_words.specs.Words.{first, others, second}
-use Rattle.rt_journal_lines.specs.Fields.{◌>>=◌, queue_of, weight_of, count_of, mode_of, reason_of, back_reason_of, return_reason_of}
+use Rattle.rt_journal_lines.specs.Fields.{◌>>=◌, queue_of, weight_of, count_of, mode_of, reason_of, back_reason_of, return_reason_of, target_of}
 use Rattle.rt_journal_lines.specs.Phrases.{last, shares_phrase, mode_phrase, closing_of, order_of, plain_answer_of, answer_of, outcome_of}
-use Rattle.rt_journal_lines.specs.Laws.{HoldsOut}
+use Rattle.rt_journal_lines.specs.Laws.{HoldsOrder, HoldsOut}
 use Rattle.rt_journal_lines.proofs.Decimals.{number_in_read, number_in_text, number_in-none}
-use Rattle.rt_journal_lines.proofs.FieldTexts.{queue_word, queue_read, queue_text_read, queue_of-none, mode_read, mode_text_read, mode_of-none, reason_read, reason_text_read}
+use Rattle.rt_journal_lines.proofs.FieldTexts.{queue_word, queue_read, queue_text_read, queue_of-none, mode_read, mode_text_read, mode_of-none, reason_read, reason_text_read, target_word, target_read, target_text_read, target_of-none}
 use Rattle.rt_journal_lines.proofs.Options.{either, bind_some, map_some, chosen, told, led, alone, keyed}
 
 -- `qQ w`
@@ -75,6 +75,7 @@ order_words (order.Create weight) = codes "create" ∷ decimal weight ∷ []
 order_words (order.SetShares queue weight) = codes "shares" ∷ queue_word queue ∷ decimal weight ∷ []
 order_words (order.Close queue mode) = codes "close" ∷ queue_word queue ∷ mode_text mode ∷ []
 order_words (order.CloseCore mode) = codes "closecore" ∷ mode_text mode ∷ []
+order_words (order.Wake actor number) = codes "wake" ∷ target_word actor number ∷ []
 
 abbrev OrderIs : List (List ℕ) → Order (Unit {0}) → Type 0
 OrderIs ws sent = (ws ≡ order_words sent) × IsSpelledOrder sent
@@ -102,6 +103,13 @@ set_read ws sent key is =
     subst (OrderIs ws) one.2
     (keyed (codes "shares") ws (omega arith) key ∙ ap (λ words. codes "shares" ∷ words) read.0, (omega (arith, read.1), read.2))
 
+wake_read : (ws : List (List ℕ)) (sent : Order (Unit {0})) → bytes_eq (first ws) (codes "wake") ≡ true → option_map (λ p. order.Wake p.0 p.1) (last (target_of (second ws)) (others (others ws))) ≡ Some sent → OrderIs ws sent
+wake_read ws sent key is =
+    let one = map_some (λ (p : ℕ × ℕ). order.Wake p.0 p.1) (last (target_of (second ws)) (others (others ws))) sent is in
+    let rest = alone target_of (others ws) one.0 target_of-none one.1 in
+    subst (OrderIs ws) one.2
+    (keyed (codes "wake") ws (omega arith) key ∙ ap (λ words. codes "wake" ∷ words) (rest.1 ∙ ap (λ word. word ∷ []) (target_read (second ws) one.0 rest.0)), tt)
+
 close_read : (ws : List (List ℕ)) (sent : Order (Unit {0})) → bytes_eq (first ws) (codes "close") ≡ true → option_map (λ p. order.Close p.0 p.1) (mode_phrase (others ws)) ≡ Some sent → OrderIs ws sent
 close_read ws sent key is =
     let one = map_some (λ (p : ℕ × Mode). order.Close p.0 p.1) (mode_phrase (others ws)) sent is in
@@ -127,15 +135,17 @@ unfolding order_of
 order_read ws sent is =
     either (chosen (bytes_eq (first ws) (codes "job")) _ _ sent is) (λ h. job_read ws sent h.0 h.1)
     (λ more. either (chosen (bytes_eq (first ws) (codes "create")) _ _ sent more.1) (λ h. create_read ws sent h.0 h.1)
-    (λ last. either (chosen (bytes_eq (first ws) (codes "shares")) _ _ sent last.1) (λ h. set_read ws sent h.0 h.1) (λ rest. closing_read ws sent rest.1)))
+    (λ more. either (chosen (bytes_eq (first ws) (codes "shares")) _ _ sent more.1) (λ h. set_read ws sent h.0 h.1)
+    (λ last. either (chosen (bytes_eq (first ws) (codes "wake")) _ _ sent last.1) (λ h. wake_read ws sent h.0 h.1) (λ rest. closing_read ws sent rest.1))))
 
-pub order_text_read : (sent : Order (Unit {0})) → IsSpelledOrder sent → order_of (order_words sent) ≡ Some sent
+pub order_text_read : (sent : Order (Unit {0})) → IsSpelledOrder sent → HoldsOrder sent → order_of (order_words sent) ≡ Some sent
 unfolding order_of closing_of
-order_text_read (order.Job queue task) spelled = ap (option_map (λ q. order.Job q tt)) (queue_text_read queue (omega arith))
-order_text_read (order.Create weight) spelled = ap (option_map order.Create) (number_in_text 1 10000 weight spelled.positive spelled.bounded (omega arith))
-order_text_read (order.SetShares queue weight) spelled = ap (option_map (λ (p : ℕ × ℕ). order.SetShares p.0 p.1)) (shares_text_read queue weight (omega (arith, spelled.0)) spelled.1)
-order_text_read (order.Close queue mode) spelled = ap (option_map (λ (p : ℕ × Mode). order.Close p.0 p.1)) (queue_mode_read queue mode (omega arith))
-order_text_read (order.CloseCore mode) spelled = ap (option_map order.CloseCore) (mode_text_read mode)
+order_text_read (order.Job queue task) spelled holds = ap (option_map (λ q. order.Job q tt)) (queue_text_read queue (omega arith))
+order_text_read (order.Create weight) spelled holds = ap (option_map order.Create) (number_in_text 1 10000 weight spelled.positive spelled.bounded (omega arith))
+order_text_read (order.SetShares queue weight) spelled holds = ap (option_map (λ (p : ℕ × ℕ). order.SetShares p.0 p.1)) (shares_text_read queue weight (omega (arith, spelled.0)) spelled.1)
+order_text_read (order.Close queue mode) spelled holds = ap (option_map (λ (p : ℕ × Mode). order.Close p.0 p.1)) (queue_mode_read queue mode (omega arith))
+order_text_read (order.CloseCore mode) spelled holds = ap (option_map order.CloseCore) (mode_text_read mode)
+order_text_read (order.Wake actor number) spelled holds = ap (option_map (λ (p : ℕ × ℕ). order.Wake p.0 p.1)) (target_text_read actor number (omega (arith, holds.0)) (omega (arith, holds.1)))
 
 abbrev pub answer_words : Answer → List (List ℕ)
 answer_words (answer.Created queue) = codes "created" ∷ queue_word queue ∷ []
@@ -146,6 +156,8 @@ answer_words answer.SharesSet = codes "sharesset" ∷ []
 answer_words answer.NoQueue = codes "noqueue" ∷ []
 answer_words answer.Closed = codes "closed" ∷ []
 answer_words answer.AlreadyClosed = codes "alreadyclosed" ∷ []
+answer_words answer.Woken = codes "woken" ∷ []
+answer_words answer.NoJob = codes "nojob" ∷ []
 
 abbrev AnswerIs : List (List ℕ) → Answer → Type 0
 AnswerIs ws told = (ws ≡ answer_words told) × IsSpelledAnswer told
@@ -161,7 +173,9 @@ plain_read word a is =
     (λ m. told C (codes "sharesset") word answer.SharesSet _ a m (λ e. (one _ e, tt))
     (λ m. told C (codes "noqueue") word answer.NoQueue _ a m (λ e. (one _ e, tt))
     (λ m. told C (codes "closed") word answer.Closed _ a m (λ e. (one _ e, tt))
-    (λ m. told C (codes "alreadyclosed") word answer.AlreadyClosed _ a m (λ e. (one _ e, tt)) (λ none. cc)))))))
+    (λ m. told C (codes "alreadyclosed") word answer.AlreadyClosed _ a m (λ e. (one _ e, tt))
+    (λ m. told C (codes "woken") word answer.Woken _ a m (λ e. (one _ e, tt))
+    (λ m. told C (codes "nojob") word answer.NoJob _ a m (λ e. (one _ e, tt)) (λ none. cc)))))))))
 
 plain_answer_of-none : plain_answer_of [] ≡ None
 unfolding plain_answer_of
@@ -194,6 +208,8 @@ answer_text_read answer.SharesSet spelled = refl
 answer_text_read answer.NoQueue spelled = refl
 answer_text_read answer.Closed spelled = refl
 answer_text_read answer.AlreadyClosed spelled = refl
+answer_text_read answer.Woken spelled = refl
+answer_text_read answer.NoJob spelled = refl
 
 abbrev pub outcome_words : OutcomeNote ℕ → List (List ℕ)
 outcome_words (outcome.Finished out) = codes "finished" ∷ decimal out ∷ []

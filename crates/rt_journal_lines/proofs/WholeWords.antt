@@ -22,9 +22,9 @@ use Rattle.rt_ids.specs.Spelled.{IsName, IsSpelledNote, IsSpelledAnswer, IsSpell
 use Rattle.rt_text.specs.Notes.{name_text, reason_text, mode_text}
 use Rattle.rt_ids.specs.Limits.{most_cores}
 use Rattle.rt_ids.specs.Terms.{Terms}
-use Rattle.rt_journal_lines.specs.Laws.{HoldsTimes, HoldsOut}
+use Rattle.rt_journal_lines.specs.Laws.{HoldsTimes, HoldsOrder, HoldsOut}
 use Rattle.rt_journal_lines.proofs.Decimals.{no_sign}
-use Rattle.rt_journal_lines.proofs.FieldTexts.{queue_word, name_joined}
+use Rattle.rt_journal_lines.proofs.FieldTexts.{queue_word, target_word, name_joined}
 use Rattle.rt_journal_lines.proofs.NoteTexts.{note_words}
 use Rattle.rt_journal_lines.proofs.PhraseTexts.{order_words, answer_words, outcome_words}
 
@@ -90,12 +90,19 @@ module _ (sign : ℕ) (low : sign ≤ 32) where
   weight_whole : (weight : ℕ) → InRange weight → HasNo sign (decimal weight)
   weight_whole weight range = let most = range.bounded in number_word weight (omega arith)
 
-  order_whole : (sent : Order (Unit {0})) → IsSpelledOrder sent → HaveNo sign (order_words sent)
-  order_whole (order.Job queue task) spelled = (whole_word (codes "job") refl, (queue_whole queue spelled, tt))
-  order_whole (order.Create weight) spelled = (whole_word (codes "create") refl, (weight_whole weight spelled, tt))
-  order_whole (order.SetShares queue weight) spelled = (whole_word (codes "shares") refl, (queue_whole queue spelled.0, (weight_whole weight spelled.1, tt)))
-  order_whole (order.Close queue closed) spelled = (whole_word (codes "close") refl, (queue_whole queue spelled, (mode_whole closed, tt)))
-  order_whole (order.CloseCore closed) spelled = (whole_word (codes "closecore") refl, (mode_whole closed, tt))
+  target_whole : (actor number : ℕ) → actor < 2 ^ 8 → number < 2 ^ 64 → HasNo sign (target_word actor number)
+  target_whole actor number small range =
+      let P = λ (byte : ℕ). (byte == sign) ≡ false in
+      All-append P (decimal actor) (35 ∷ decimal number) (number_word actor (omega arith))
+      (All-cons P 35 (decimal number) (apart 35 (omega arith)) (number_word number (omega arith)))
+
+  order_whole : (sent : Order (Unit {0})) → IsSpelledOrder sent → HoldsOrder sent → HaveNo sign (order_words sent)
+  order_whole (order.Job queue task) spelled holds = (whole_word (codes "job") refl, (queue_whole queue spelled, tt))
+  order_whole (order.Create weight) spelled holds = (whole_word (codes "create") refl, (weight_whole weight spelled, tt))
+  order_whole (order.SetShares queue weight) spelled holds = (whole_word (codes "shares") refl, (queue_whole queue spelled.0, (weight_whole weight spelled.1, tt)))
+  order_whole (order.Close queue closed) spelled holds = (whole_word (codes "close") refl, (queue_whole queue spelled, (mode_whole closed, tt)))
+  order_whole (order.CloseCore closed) spelled holds = (whole_word (codes "closecore") refl, (mode_whole closed, tt))
+  order_whole (order.Wake actor number) spelled holds = (whole_word (codes "wake") refl, (target_whole actor number holds.0 holds.1, tt))
 
   answer_whole : (a : Answer) → IsSpelledAnswer a → HaveNo sign (answer_words a)
   answer_whole (answer.Created queue) spelled = (whole_word (codes "created") refl, (queue_whole queue spelled, tt))
@@ -106,6 +113,8 @@ module _ (sign : ℕ) (low : sign ≤ 32) where
   answer_whole answer.NoQueue spelled = (whole_word (codes "noqueue") refl, tt)
   answer_whole answer.Closed spelled = (whole_word (codes "closed") refl, tt)
   answer_whole answer.AlreadyClosed spelled = (whole_word (codes "alreadyclosed") refl, tt)
+  answer_whole answer.Woken spelled = (whole_word (codes "woken") refl, tt)
+  answer_whole answer.NoJob spelled = (whole_word (codes "nojob") refl, tt)
 
   outcome_whole : (o : OutcomeNote ℕ) → IsSpelledOutcome o → HoldsOut o → HaveNo sign (outcome_words o)
   outcome_whole (outcome.Finished out) spelled fits = (whole_word (codes "finished") refl, (number_word out (omega arith), tt))
@@ -113,7 +122,7 @@ module _ (sign : ℕ) (low : sign ≤ 32) where
   outcome_whole (outcome.Answered told) spelled fits = (whole_word (codes "answered") refl, answer_whole told spelled)
 
   pub note_whole : (terms : Terms) (written : Note ℕ) → terms.cores ≤ most_cores → IsSpelledNote terms written → HoldsTimes written → HaveNo sign (note_words written)
-  note_whole terms (note.Sent name sent) few spelled times = (whole_word (codes "sent") refl, (name_whole terms.cores name few (spelled.0).0, order_whole sent spelled.1))
+  note_whole terms (note.Sent name sent) few spelled times = (whole_word (codes "sent") refl, (name_whole terms.cores name few (spelled.0).0, order_whole sent spelled.1 times))
   note_whole terms (note.Took name queue) few spelled times = (whole_word (codes "took") refl, (name_whole terms.cores name few (spelled.0).0, (queue_whole queue spelled.1, tt)))
   note_whole terms (note.Back name why) few spelled times = (whole_word (codes "back") refl, (name_whole terms.cores name few (spelled.0).0, (reason_whole why, tt)))
   note_whole terms (note.Answered name told) few spelled times = (whole_word (codes "answered") refl, (name_whole terms.cores name few (spelled.0).0, answer_whole told spelled.1))
@@ -121,10 +130,13 @@ module _ (sign : ℕ) (low : sign ≤ 32) where
   note_whole terms (note.SharesSet queue weight) few spelled times = (whole_word (codes "shares") refl, (queue_whole queue spelled.1, (weight_whole weight spelled.2, tt)))
   note_whole terms (note.QueueClosed queue m) few spelled times = (whole_word (codes "closed") refl, (queue_whole queue spelled.1, (mode_whole m, tt)))
   note_whole terms (note.CoreClosed m) few spelled times = (whole_word (codes "coreclosed") refl, (mode_whole m, tt))
+  note_whole terms (note.Woken name) few spelled times = (whole_word (codes "woken") refl, (name_whole terms.cores name few spelled.0, tt))
   note_whole terms (note.Pick queue runtime) few spelled times = let most = spelled.2 in (whole_word (codes "pick") refl, (queue_whole queue spelled.1, (whole_word (codes "at") refl, (number_word runtime (omega arith), tt))))
   note_whole terms (note.Start name) few spelled times = (whole_word (codes "start") refl, (name_whole terms.cores name few spelled.0, tt))
   note_whole terms (note.Resume name) few spelled times = (whole_word (codes "resume") refl, (name_whole terms.cores name few spelled.0, tt))
   note_whole terms (note.Yield name time) few spelled times = (whole_word (codes "yield") refl, (name_whole terms.cores name few spelled.0, (number_word time (omega arith), tt)))
+  note_whole terms (note.Park name time) few spelled times = (whole_word (codes "park") refl, (name_whole terms.cores name few spelled.0, (number_word time (omega arith), tt)))
+  note_whole terms (note.Stayed name time) few spelled times = (whole_word (codes "stayed") refl, (name_whole terms.cores name few spelled.0, (number_word time (omega arith), tt)))
   note_whole terms (note.Done name time value) few spelled times =
       let one = times.0 in
       let two = times.1 in

@@ -50,6 +50,13 @@ name_of cores word = do
   number ← number_in 1 last_number (after_first is_hash (after_first is_arrow word))
   Some (record { from = from; to = to; number = number })
 
+-- `A#N`: an actor and a number, as a wake names its job; whether there is such a job is not asked
+unfoldable pub target_of : List ℕ → Option (ℕ × ℕ)
+target_of word = do
+  actor ← number_in 0 255 (before_first is_hash word)
+  number ← count_of (after_first is_hash word)
+  Some (actor, number)
+
 -- a word that stands there as it is
 abbrev pub fixed : {A : Type 0} → List ℕ → List ℕ → Option A → Option A
 fixed text word value = if bytes_eq word text then value else None

@@ -22,11 +22,14 @@ received_kind_of word =
     or_else (codes "took") word received.Took
     (or_else (codes "back") word received.Back
     (or_else (codes "answered") word received.Answered
+    (or_else (codes "woken") word received.Woken
     (or_else (codes "start") word received.Start
     (or_else (codes "resume") word received.Resume
     (or_else (codes "yield") word received.Yield
+    (or_else (codes "park") word received.Park
+    (or_else (codes "stayed") word received.Stayed
     (or_else (codes "done") word received.Done
-    (or_else (codes "returned") word received.Returned None)))))))
+    (or_else (codes "returned") word received.Returned None))))))))))
 
 -- a note of a core that names no submission
 unfoldable pub core_kind_of : List ℕ → Option CoreKind

@@ -1,9 +1,11 @@
 -- A line and the note that it tells are one.
 use Rattle.std.specs.Prelude.{◌≡◌, ℕ, ◌^◌, ◌<◌, ◌≤◌, List, ◌∷◌, Some, decimal}
 use Rattle.rt_ids.specs.declared.note.Note.{Note}
-use Rattle.rt_ids.specs.declared.note.Note.TheVariants.{Yield, Done, Collected, Redeemed}
+use Rattle.rt_ids.specs.declared.note.Note.TheVariants.{Sent, Yield, Park, Stayed, Done, Collected, Redeemed}
 use Rattle.rt_ids.specs.declared.note.OutcomeNote.{OutcomeNote}
 use Rattle.rt_ids.specs.declared.note.OutcomeNote.TheVariants.{Finished}
+use Rattle.rt_ids.specs.declared.order.Order.{Order}
+use Rattle.rt_ids.specs.declared.order.Order.TheVariants.{Wake}
 use Rattle.rt_ids.specs.Limits.{most_cores}
 use Rattle.rt_ids.specs.Spelled.{IsSpelledNote}
 use Rattle.rt_ids.specs.Terms.{Terms}
@@ -15,9 +17,17 @@ abbrev pub HoldsOut : OutcomeNote ℕ → Type 0
 HoldsOut (Finished out) = out < 2 ^ 64
 HoldsOut _ = Unit {0}
 
--- its times and answers are what their types hold
+-- a wake names an actor and a number that their types hold
+abbrev pub HoldsOrder : Order (Unit {0}) → Type 0
+HoldsOrder (Wake actor number) = (actor < 2 ^ 8) × (number < 2 ^ 64)
+HoldsOrder _ = Unit {0}
+
+-- its times and answers, and what a wake names, are what their types hold
 abbrev pub HoldsTimes : Note ℕ → Type 0
+HoldsTimes (Sent name order) = HoldsOrder order
 HoldsTimes (Yield name time) = time < 2 ^ 64
+HoldsTimes (Park name time) = time < 2 ^ 64
+HoldsTimes (Stayed name time) = time < 2 ^ 64
 HoldsTimes (Done name time value) = (time < 2 ^ 64) × (value < 2 ^ 64)
 HoldsTimes (Collected name told) = HoldsOut told
 HoldsTimes (Redeemed name told) = HoldsOut told

@@ -35,9 +35,12 @@ unfoldable pub received_rest : ReceivedKind → JobId → List (List ℕ) → Op
 received_rest received.Took name ws = option_map (note.Took name) (last (queue_of (first ws)) (others ws))
 received_rest received.Back name ws = option_map (note.Back name) (last (back_reason_of (first ws)) (others ws))
 received_rest received.Answered name ws = option_map (note.Answered name) (answer_of ws)
+received_rest received.Woken name ws = last (Some (note.Woken name)) ws
 received_rest received.Start name ws = last (Some (note.Start name)) ws
 received_rest received.Resume name ws = last (Some (note.Resume name)) ws
 received_rest received.Yield name ws = option_map (note.Yield name) (last (count_of (first ws)) (others ws))
+received_rest received.Park name ws = option_map (note.Park name) (last (count_of (first ws)) (others ws))
+received_rest received.Stayed name ws = option_map (note.Stayed name) (last (count_of (first ws)) (others ws))
 received_rest received.Done name ws = done_phrase name ws
 received_rest received.Returned name ws = option_map (note.Returned name) (last (return_reason_of (first ws)) (others ws))
 

@@ -10,7 +10,7 @@ use Rattle.rt_ids.specs.declared.order.Mode.{Mode}
 use Rattle.rt_ids.specs.declared.order.Order.{Order}
 use Rattle.rt_ids.specs.declared.order.Order.TheVariants as order
 use Rattle.rt_words.specs.Words.{first, others, second}
-use Rattle.rt_journal_lines.specs.Fields.{or_else, queue_of, weight_of, count_of, mode_of, reason_of, ◌>>=◌}
+use Rattle.rt_journal_lines.specs.Fields.{or_else, queue_of, weight_of, count_of, mode_of, reason_of, target_of, ◌>>=◌}
 
 -- what was read, if no word is left
 abbrev pub last : {A : Type 0} → Option A → List (List ℕ) → Option A
@@ -44,7 +44,8 @@ order_of ws =
     if bytes_eq (first ws) (codes "job") then option_map (λ queue. order.Job queue tt) (last (queue_of (second ws)) (others (others ws)))
     else (if bytes_eq (first ws) (codes "create") then option_map order.Create (last (weight_of (second ws)) (others (others ws)))
     else (if bytes_eq (first ws) (codes "shares") then option_map (λ p. order.SetShares p.0 p.1) (shares_phrase (others ws))
-    else closing_of (first ws) (others ws)))
+    else (if bytes_eq (first ws) (codes "wake") then option_map (λ p. order.Wake p.0 p.1) (last (target_of (second ws)) (others (others ws)))
+    else closing_of (first ws) (others ws))))
 
 -- an answer that names no queue
 unfoldable pub plain_answer_of : List ℕ → Option Answer
@@ -55,7 +56,9 @@ plain_answer_of word =
     (or_else (codes "sharesset") word answer.SharesSet
     (or_else (codes "noqueue") word answer.NoQueue
     (or_else (codes "closed") word answer.Closed
-    (or_else (codes "alreadyclosed") word answer.AlreadyClosed None))))))
+    (or_else (codes "alreadyclosed") word answer.AlreadyClosed
+    (or_else (codes "woken") word answer.Woken
+    (or_else (codes "nojob") word answer.NoJob None))))))))
 
 -- ANSWER
 unfoldable pub answer_of : List (List ℕ) → Option Answer

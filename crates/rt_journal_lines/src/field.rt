@@ -88,6 +88,17 @@ pub(crate) fn name_of(word: &[u8], cores: u8) -> Option<JobId>
     })
 }
 
+/// `A#N`: an actor and a number, as a wake names its job. Whether there is such a job is not asked.
+#[tactic(auto, unfolding(crate::specs::Fields::target_of))]
+pub(crate) fn target_of(word: &[u8]) -> Option<(ActorNo, u64)>
+    ensures { result ≡ spec.target_of word.now }
+{
+    let (actor, number) = cut_at(word, b'#');
+    let actor = number_in(actor, 0, 255)?;
+    let number = count_of(number)?;
+    Some((ActorNo(actor as u8), number))
+}
+
 #[tactic(auto, unfolding(crate::specs::Fields::mode_of))]
 pub(crate) fn mode_of(word: &[u8]) -> Option<Mode>
     ensures { result ≡ spec.mode_of word.now }

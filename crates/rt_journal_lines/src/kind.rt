@@ -20,9 +20,12 @@ pub enum ReceivedKind {
     Took,
     Back,
     Answered,
+    Woken,
     Start,
     Resume,
     Yield,
+    Park,
+    Stayed,
     Done,
     Returned,
 }
@@ -70,6 +73,9 @@ pub(crate) fn received_kind_of(word: &[u8]) -> Option<ReceivedKind>
     if is_word(word, "answered") {
         return Some(ReceivedKind::Answered);
     }
+    if is_word(word, "woken") {
+        return Some(ReceivedKind::Woken);
+    }
     if is_word(word, "start") {
         return Some(ReceivedKind::Start);
     }
@@ -78,6 +84,12 @@ pub(crate) fn received_kind_of(word: &[u8]) -> Option<ReceivedKind>
     }
     if is_word(word, "yield") {
         return Some(ReceivedKind::Yield);
+    }
+    if is_word(word, "park") {
+        return Some(ReceivedKind::Park);
+    }
+    if is_word(word, "stayed") {
+        return Some(ReceivedKind::Stayed);
     }
     if is_word(word, "done") {
         return Some(ReceivedKind::Done);

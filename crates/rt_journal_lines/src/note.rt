@@ -85,11 +85,20 @@ fn received_rest(kind: ReceivedKind, name: JobId, fields: &mut Words<'_>) -> Opt
             Some(Note::Back(name, last(reason, fields)?))
         }
         ReceivedKind::Answered => Some(Note::Answered(name, answer_of(fields)?)),
+        ReceivedKind::Woken => last(Some(Note::Woken(name)), fields),
         ReceivedKind::Start => last(Some(Note::Start(name)), fields),
         ReceivedKind::Resume => last(Some(Note::Resume(name)), fields),
         ReceivedKind::Yield => {
             let time = count_of(fields.next_word());
             Some(Note::Yield(name, last(time, fields)?))
+        }
+        ReceivedKind::Park => {
+            let time = count_of(fields.next_word());
+            Some(Note::Park(name, last(time, fields)?))
+        }
+        ReceivedKind::Stayed => {
+            let time = count_of(fields.next_word());
+            Some(Note::Stayed(name, last(time, fields)?))
         }
         ReceivedKind::Done => done_phrase(name, fields),
         ReceivedKind::Returned => {

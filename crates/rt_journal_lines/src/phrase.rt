@@ -3,7 +3,7 @@
 ghost use Rattle.std.specs.Prelude.{◌≡◌};
 ghost use Rattle.rt_journal_lines.specs.Phrases as spec;
 
-use crate::field::{count_of, mode_of, queue_of, reason_of, weight_of};
+use crate::field::{count_of, mode_of, queue_of, reason_of, target_of, weight_of};
 use rt_ids::{Answer, Mode, Order, OutcomeNote, QueueNo};
 use rt_shares::Shares;
 use rt_words::Words;
@@ -56,6 +56,11 @@ pub(crate) fn order_of(fields: &mut Words<'_>) -> Option<Order<()>>
         let (queue, weight) = shares_phrase(fields)?;
         return Some(Order::SetShares(queue, weight));
     }
+    if is_word(word, "wake") {
+        let target = target_of(fields.next_word());
+        let (actor, number) = last(target, fields)?;
+        return Some(Order::Wake(actor, number));
+    }
     closing_of(word, fields)
 }
 
@@ -100,6 +105,12 @@ fn plain_answer_of(word: &[u8]) -> Option<Answer>
     }
     if is_word(word, "alreadyclosed") {
         return Some(Answer::AlreadyClosed);
+    }
+    if is_word(word, "woken") {
+        return Some(Answer::Woken);
+    }
+    if is_word(word, "nojob") {
+        return Some(Answer::NoJob);
     }
     None
 }

@@ -76,10 +76,13 @@ pub fn is_spelled_note(writer: Writer, note: Note<u64>) -> bool
         Note::SharesSet(queue, shares) => is_core(writer) && is_queue(queue) && is_weight(shares),
         Note::QueueClosed(queue, _) => is_core(writer) && is_queue(queue),
         Note::CoreClosed(_) => is_core(writer),
+        Note::Woken(name) => is_received(writer, name),
         Note::Pick(queue, _) => is_core(writer) && is_queue(queue),
         Note::Start(name) => is_received(writer, name),
         Note::Resume(name) => is_received(writer, name),
         Note::Yield(name, _) => is_received(writer, name),
+        Note::Park(name, _) => is_received(writer, name),
+        Note::Stayed(name, _) => is_received(writer, name),
         Note::Done(name, _, _) => is_received(writer, name),
         Note::Returned(name, reason) => is_received(writer, name) && is_return_reason(reason),
         Note::Shut(sender, count) => {
@@ -147,6 +150,7 @@ fn is_order(order: Order<()>) -> bool
         Order::SetShares(queue, shares) => is_queue(queue) && is_weight(shares),
         Order::Close(queue, _) => is_queue(queue),
         Order::CloseCore(_) => true,
+        Order::Wake(_, _) => true,
     }
 }
 

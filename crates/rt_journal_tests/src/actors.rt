@@ -69,8 +69,10 @@ pub enum Act {
     Deliver,
     /// No order comes from it.
     Nothing,
-    /// A job is polled for the first time, or handed back.
+    /// A job is polled, or handed back.
     Turn,
+    /// No queue has work.
+    Idle,
     /// The gate of this sender is shut.
     Shut(ActorNo),
 }
@@ -100,7 +102,7 @@ impl<I: InEnd<ScriptJob> + Drop> Receiver<I> {
         requires own { I.inward own ≡ inward_of (fresh 0 0 cap 0) }
         requires outside { I.inward outside ≡ record (inward_of (fresh 1 0 cap 0)) { seen = (I.inward outside).seen } }
     {
-        let core = Recorded::open(alloc, alloc, CORE, 1, cap, 10)?;
+        let core = Recorded::open(alloc, alloc, CORE, 1, cap, 12)?;
         Ok(Receiver { core, own, outside })
     }
 
@@ -129,9 +131,13 @@ impl<I: InEnd<ScriptJob> + Drop> Receiver<I> {
                 }
                 true
             }
-            Ok(Turn::Resume(_, _, job)) => {
-                drop(job);
-                false
+            Ok(Turn::Resume(name, _, job)) => {
+                if name.from != OUTSIDE {
+                    return false;
+                }
+                let ran = Ran::poll(job, &mut NoPost);
+                drop(self.core.settle(&mut self.outside, name, ran, 5));
+                true
             }
             Ok(Turn::Idle) => false,
             Err(_) => false,
@@ -158,6 +164,7 @@ impl<I: InEnd<ScriptJob> + Drop> Receiver<I> {
                 Act::Deliver => self.deliver(),
                 Act::Nothing => !self.deliver(),
                 Act::Turn => self.turn(),
+                Act::Idle => !self.turn(),
                 Act::Shut(from) => self.shut(*from),
             };
             if !done {

@@ -1,12 +1,12 @@
 -- When an outcome fits the order that it is given for.
 use Rattle.std.specs.Prelude.{◌≡◌}
 use Rattle.rt_ids.specs.declared.order.Order.{Order}
-use Rattle.rt_ids.specs.declared.order.Order.TheVariants.{Job, Create, SetShares, Close, CloseCore}
+use Rattle.rt_ids.specs.declared.order.Order.TheVariants.{Job, Create, SetShares, Close, CloseCore, Wake}
 use Rattle.rt_ids.specs.declared.order.Outcome.{Outcome}
 use Rattle.rt_ids.specs.declared.order.Outcome.TheVariants.{Finished, Returned, Answered}
 use Rattle.rt_ids.specs.declared.order.Answer.{Answer}
 use Rattle.rt_ids.specs.declared.order.Answer.TheVariants as answer
-use Rattle.rt_ids.specs.Outcomes.{AnswersClosing, AnswersCoreClosing}
+use Rattle.rt_ids.specs.Outcomes.{AnswersClosing, AnswersCoreClosing, AnswersWaking}
 use Rattle.rt_jobs.specs.Meanings.{Meaning}
 
 -- a creation is answered by the new queue, or by one of its three refusals
@@ -37,4 +37,5 @@ module _ {J T : Type 0} (meaning : Meaning J T) where
   Fits (SetShares queue shares) (Answered answer) = AnswersShares answer
   Fits (Close queue mode) (Answered answer) = AnswersClosing answer
   Fits (CloseCore mode) (Answered answer) = AnswersCoreClosing answer
+  Fits (Wake actor number) (Answered answer) = AnswersWaking answer
   Fits _ _ = ⊥

@@ -3,15 +3,16 @@ use Rattle.std.proofs.Common.{◌≡◌, ℕ, zero, suc, ◌<◌, List, [], ◌�
 use Rattle.std.specs.Prelude.{slice_get}
 use Rattle.atomic_table.specs.Table.{rest, turned}
 use Rattle.rt_ids.specs.declared.order.Order.{Order}
-use Rattle.rt_ids.specs.declared.order.Order.TheVariants.{Job, Create, SetShares, Close, CloseCore}
+use Rattle.rt_ids.specs.declared.order.Order.TheVariants.{Job, Create, SetShares, Close, CloseCore, Wake}
 use Rattle.rt_ids.specs.declared.order.Outcome.{Outcome}
 use Rattle.rt_ids.specs.declared.order.Outcome.TheVariants.{Finished, Returned, Answered}
 use Rattle.rt_ring.specs.declared.board.Label.{Label}
 use Rattle.rt_ring.specs.declared.board.Label.TheVariants as label
 use Rattle.rt_ring.specs.declared.board.Notice.TheVariants as notice
 use Rattle.rt_ring.specs.declared.board.Slot.{Slot}
-use Rattle.rt_ids.specs.Orders.{without_job}
-use Rattle.rt_ring.specs.Slots.{job_of, Sent, Back}
+use Rattle.rt_ring.specs.declared.board.Bare.{Bare}
+use Rattle.rt_ring.specs.declared.board.Bare.TheVariants as bare
+use Rattle.rt_ring.specs.Slots.{job_of, without_word, word_of, Sent, Back}
 
 pub slice_get-there : {A : Type 0} (xs : List A) (i : ℕ) → i < length xs → (x : A) × (slice_get xs i ≡ Some x)
 slice_get-there [] i h = absurd (omega arith)
@@ -51,31 +52,33 @@ module _ {X V : Type 0} (i j : ℕ) (a b : X) (l : List (ℕ × X)) (view : V) (
   kept_slots z wrote last wrote_is last_is =
       last_is ∙ (ap (λ (q : V × List (ℕ × X)). (q.0, turned q.1)) wrote_is ∙ ap (λ (q : V × List (ℕ × X)). (q.0, rest q.1 ++ (k, z) ∷ [])) after_turn)
 
--- an order is what it is without its job, and its job
+-- an order is what it is without its job and without the number of a wake, with both
 module _ {J : Type 0} where
-  abbrev whole_or : Order J → Order (Unit {0}) → Option J → Order J
-  whole_or other (Job queue task) (Some job) = Job queue job
-  whole_or other (Job queue task) None = other
-  whole_or other (Create shares) job = Create shares
-  whole_or other (SetShares queue shares) job = SetShares queue shares
-  whole_or other (Close queue mode) job = Close queue mode
-  whole_or other (CloseCore mode) job = CloseCore mode
+  abbrev whole_or : Order J → ℕ → Bare → Option J → Order J
+  whole_or other word (bare.Job queue) (Some job) = Job queue job
+  whole_or other word (bare.Job queue) None = other
+  whole_or other word (bare.Create shares) job = Create shares
+  whole_or other word (bare.SetShares queue shares) job = SetShares queue shares
+  whole_or other word (bare.Close queue mode) job = Close queue mode
+  whole_or other word (bare.CloseCore mode) job = CloseCore mode
+  whole_or other word (bare.Wake actor) job = Wake actor word
 
-  whole_or-without_job : (other order : Order J) → whole_or other (without_job order) (job_of order) ≡ order
-  whole_or-without_job other (Job queue job) = refl
-  whole_or-without_job other (Create shares) = refl
-  whole_or-without_job other (SetShares queue shares) = refl
-  whole_or-without_job other (Close queue mode) = refl
-  whole_or-without_job other (CloseCore mode) = refl
+  whole_or-parts : (other order : Order J) → whole_or other (word_of order) (without_word order) (job_of order) ≡ order
+  whole_or-parts other (Job queue job) = refl
+  whole_or-parts other (Create shares) = refl
+  whole_or-parts other (SetShares queue shares) = refl
+  whole_or-parts other (Close queue mode) = refl
+  whole_or-parts other (CloseCore mode) = refl
+  whole_or-parts other (Wake actor number) = refl
 
 -- what a slot holds is one thing
 module _ {J T : Type 0} where
   abbrev order_in : Order J → Label T → Option J → Order J
-  order_in other (label.Sent number order) job = whole_or other order job
+  order_in other (label.Sent word order) job = whole_or other word order job
   order_in other _ job = other
 
   Sent-injective : (a b : Order J) → Sent {T = T} a ≡ Sent b → a ≡ b
-  Sent-injective a b e = sym (whole_or-without_job a a) ∙ (ap (λ (x : Slot J T). order_in a x.label x.job) e ∙ whole_or-without_job a b)
+  Sent-injective a b e = sym (whole_or-parts a a) ∙ (ap (λ (x : Slot J T). order_in a x.label x.job) e ∙ whole_or-parts a b)
 
   pub same_order : (a b : Order J) (x : Slot J T) → x ≡ Sent a → x ≡ Sent b → a ≡ b
   same_order a b x p q = Sent-injective a b (sym p ∙ q)
@@ -85,11 +88,12 @@ module _ {J T : Type 0} where
 
   abbrev outcome_in : ℕ × Outcome J T → Label T → Option J → ℕ × Outcome J T
   outcome_in other (label.Finished number out) job = (number, Finished out)
-  outcome_in other (label.Notice number (notice.Returned reason (Job queue task))) (Some job) = (number, Returned reason (Job queue job))
-  outcome_in other (label.Notice number (notice.Returned reason (Create shares))) job = (number, Returned reason (Create shares))
-  outcome_in other (label.Notice number (notice.Returned reason (SetShares queue shares))) job = (number, Returned reason (SetShares queue shares))
-  outcome_in other (label.Notice number (notice.Returned reason (Close queue mode))) job = (number, Returned reason (Close queue mode))
-  outcome_in other (label.Notice number (notice.Returned reason (CloseCore mode))) job = (number, Returned reason (CloseCore mode))
+  outcome_in other (label.Notice number (notice.Returned reason (bare.Job queue))) (Some job) = (number, Returned reason (Job queue job))
+  outcome_in other (label.Notice number (notice.Returned reason (bare.Create shares))) job = (number, Returned reason (Create shares))
+  outcome_in other (label.Notice number (notice.Returned reason (bare.SetShares queue shares))) job = (number, Returned reason (SetShares queue shares))
+  outcome_in other (label.Notice number (notice.Returned reason (bare.Close queue mode))) job = (number, Returned reason (Close queue mode))
+  outcome_in other (label.Notice number (notice.Returned reason (bare.CloseCore mode))) job = (number, Returned reason (CloseCore mode))
+  outcome_in other (label.Unwoken reason (bare.Wake actor) number word) job = (number, Returned reason (Wake actor word))
   outcome_in other (label.Notice number (notice.Answered answer)) job = (number, Answered answer)
   outcome_in other _ _ = other
 
@@ -100,6 +104,7 @@ module _ {J T : Type 0} where
   outcome_in-Back other number (Returned reason (SetShares queue shares)) = refl
   outcome_in-Back other number (Returned reason (Close queue mode)) = refl
   outcome_in-Back other number (Returned reason (CloseCore mode)) = refl
+  outcome_in-Back other number (Returned reason (Wake actor wakes)) = refl
   outcome_in-Back other number (Answered answer) = refl
 
   Back-injective : (a b : ℕ × Outcome J T) → Back a.0 a.1 ≡ Back b.0 b.1 → a ≡ b

@@ -3,12 +3,14 @@ use Rattle.std.specs.Prelude.{◌≡◌, ℕ, ◌+◌, ◌*◌, ◌%◌, ◌<◌
 use mathlib.Core.Option as maybe
 use lib.ListN.{get_elem?}
 use Rattle.rt_ids.specs.declared.order.Order.{Order}
-use Rattle.rt_ids.specs.declared.order.Order.TheVariants.{Job, Create, SetShares, Close, CloseCore}
+use Rattle.rt_ids.specs.declared.order.Order.TheVariants.{Job, Create, SetShares, Close, CloseCore, Wake}
 use Rattle.rt_ids.specs.declared.order.Outcome.{Outcome}
 use Rattle.rt_ids.specs.declared.order.Outcome.TheVariants.{Finished, Returned, Answered}
-use Rattle.rt_ids.specs.Orders.{without_job}
+use Rattle.rt_ids.specs.declared.order.Reason.{Reason}
 use Rattle.rt_link.specs.declared.plain.Whole.{Whole}
 use Rattle.rt_ring.specs.declared.board.Slot.{Slot}
+use Rattle.rt_ring.specs.declared.board.Bare.{Bare}
+use Rattle.rt_ring.specs.declared.board.Bare.TheVariants as bare
 use Rattle.rt_ring.specs.declared.board.Label.{Label}
 use Rattle.rt_ring.specs.declared.board.Label.TheVariants as label
 use Rattle.rt_ring.specs.declared.board.Notice.TheVariants as notice
@@ -37,12 +39,36 @@ module _ {J : Type 0} where
   job_of (SetShares queue shares) = None
   job_of (Close queue mode) = None
   job_of (CloseCore mode) = None
+  job_of (Wake actor number) = None
+
+  -- an order without its job, and a wake without the number that it names
+  abbrev pub without_word : Order J → Bare
+  without_word (Job queue job) = bare.Job queue
+  without_word (Create shares) = bare.Create shares
+  without_word (SetShares queue shares) = bare.SetShares queue shares
+  without_word (Close queue mode) = bare.Close queue mode
+  without_word (CloseCore mode) = bare.CloseCore mode
+  without_word (Wake actor number) = bare.Wake actor
+
+  -- the number that a wake names; of every other order it is 0
+  abbrev pub word_of : Order J → ℕ
+  word_of (Wake actor number) = number
+  word_of _ = 0
 
 module _ {J T : Type 0} where
+  -- an order that is handed back for a reason, without its job, with its number: a wake has a label of its own
+  abbrev pub label_back : ℕ → Reason → Order J → Label T
+  label_back number reason (Wake actor word) = label.Unwoken reason (bare.Wake actor) number word
+  label_back number reason (Job queue job) = label.Notice number (notice.Returned reason (bare.Job queue))
+  label_back number reason (Create shares) = label.Notice number (notice.Returned reason (bare.Create shares))
+  label_back number reason (SetShares queue shares) = label.Notice number (notice.Returned reason (bare.SetShares queue shares))
+  label_back number reason (Close queue mode) = label.Notice number (notice.Returned reason (bare.Close queue mode))
+  label_back number reason (CloseCore mode) = label.Notice number (notice.Returned reason (bare.CloseCore mode))
+
   -- an outcome without a job, with its order's number
   abbrev pub label_of : ℕ → Outcome J T → Label T
   label_of number (Finished out) = label.Finished number out
-  label_of number (Returned reason order) = label.Notice number (notice.Returned reason (without_job order))
+  label_of number (Returned reason order) = label_back number reason order
   label_of number (Answered answer) = label.Notice number (notice.Answered answer)
 
   -- the job that an outcome hands back, if it does
@@ -56,7 +82,7 @@ module _ {J T : Type 0} where
   Empty = record { claim = tt; label = label.Empty; job = None }
 
   abbrev pub Sent : Order J → Slot J T
-  Sent order = record { claim = tt; label = label.Sent 0 (without_job order); job = job_of order }
+  Sent order = record { claim = tt; label = label.Sent (word_of order) (without_word order); job = job_of order }
 
   abbrev pub Back : ℕ → Outcome J T → Slot J T
   Back number outcome = record { claim = tt; label = label_of number outcome; job = job_back outcome }

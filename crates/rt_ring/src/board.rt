@@ -15,9 +15,10 @@
 //! them by more than the capacity and what was not got yet. A slot is out with both ends.
 
 use atomic_table::{Seat, Table, TableRule};
-use rt_ids::{ActorNo, Answer, CoreNo, Order, Reason};
+use rt_ids::{ActorNo, Answer, CoreNo, Mode, QueueNo, Reason};
 use rt_jobs::Task;
 use rt_link::{Inward, Outward};
+use rt_shares::Shares;
 use std::alloc::Global;
 use std::marker::PhantomData;
 use std::sync::atomic::AtomicU64;
@@ -36,24 +37,41 @@ pub(crate) const WORDS: usize = 32;
 /// The top bit of the accept word.
 pub(crate) const GATE: u64 = 1 << 63;
 
+/// An order without its job, and a wake without the number that it names.
+///
+/// Its 4 bytes share a word with what stands beside them in a label. An order without its job would take 16.
+#[derive(Drop)]
+pub enum Bare {
+    Job(QueueNo),
+    Create(Shares),
+    SetShares(QueueNo, Shares),
+    Close(QueueNo, Mode),
+    CloseCore(Mode),
+    Wake(ActorNo),
+}
+
 /// What a slot holds, without a job. An outcome stands with its order's number.
 ///
-/// An order has 0 in that place, so that in each variant the first field is as large as a word: then no field lies in the tag's
-/// word, and a label is written by whole words.
+/// A wake has the number that it names in that place, and each other order has 0: so in each of these variants the first field
+/// is as large as a word, no field lies in the tag's word, and a label is written by whole words.
+///
+/// A wake that is handed back has two numbers, and its other fields lie in the tag's word. No core hands one back.
 #[derive(Drop)]
 pub enum Label<T> {
     Empty,
-    Sent(u64, Order<()>),
+    Sent(u64, Bare),
     Finished(u64, T),
     Notice(u64, Notice),
+    Unwoken(Reason, Bare, u64, u64),
 }
 
 /// What a slot holds, without a job, of an outcome that is no finished job's.
 ///
-/// These are one variant of a label, so that a label is told by two comparisons: of five variants it was told by a table of jumps.
+/// These are one variant of a label, so that a label in use is told by two comparisons: with a variant for each it was told by a
+/// table of jumps.
 #[derive(Drop)]
 pub enum Notice {
-    Returned(Reason, Order<()>),
+    Returned(Reason, Bare),
     Answered(Answer),
 }
 

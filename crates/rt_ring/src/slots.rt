@@ -2,11 +2,10 @@
 
 ghost use Rattle.std.specs.Prelude.{◌≡◌, ℕ, ◌∷◌, None};
 ghost use Rattle.atomic_table.specs.Table.{rest};
-ghost use Rattle.rt_ids.specs.Orders.{without_job};
-ghost use Rattle.rt_ring.specs.Slots.{job_of, Empty, Sent, Back};
+ghost use Rattle.rt_ring.specs.Slots.{job_of, label_back, without_word, word_of, Empty, Sent, Back};
 
-use crate::board::{Board, Label, Notice, Place, Slot};
-use rt_ids::{Order, Outcome};
+use crate::board::{Bare, Board, Label, Notice, Place, Slot};
+use rt_ids::{Order, Outcome, Reason};
 use rt_jobs::Task;
 use std::mem::{forget, replace};
 use std::sync::atomic::Ordering::SeqCst;
@@ -29,23 +28,26 @@ impl<J: Drop, T: Drop> Slot<J, T> {
     {
         match order {
             Order::Job(queue, job) => {
-                overwrite(&mut self.label, Label::Sent(0, Order::Job(queue, ())));
+                overwrite(&mut self.label, Label::Sent(0, Bare::Job(queue)));
                 overwrite(&mut self.job, Some(job));
             }
             Order::Create(shares) => {
-                overwrite(&mut self.label, Label::Sent(0, Order::Create(shares)));
+                overwrite(&mut self.label, Label::Sent(0, Bare::Create(shares)));
             }
             Order::SetShares(queue, shares) => {
                 overwrite(
                     &mut self.label,
-                    Label::Sent(0, Order::SetShares(queue, shares)),
+                    Label::Sent(0, Bare::SetShares(queue, shares)),
                 );
             }
             Order::Close(queue, mode) => {
-                overwrite(&mut self.label, Label::Sent(0, Order::Close(queue, mode)));
+                overwrite(&mut self.label, Label::Sent(0, Bare::Close(queue, mode)));
             }
             Order::CloseCore(mode) => {
-                overwrite(&mut self.label, Label::Sent(0, Order::CloseCore(mode)));
+                overwrite(&mut self.label, Label::Sent(0, Bare::CloseCore(mode)));
+            }
+            Order::Wake(actor, number) => {
+                overwrite(&mut self.label, Label::Sent(number, Bare::Wake(actor)));
             }
         }
     }
@@ -68,31 +70,33 @@ impl<J: Drop, T: Drop> Slot<J, T> {
         ensures value { self.old ≡ Sent result }
         ensures empty { self.new ≡ Empty }
     {
-        let Label::Sent(_, order) = replace(&mut self.label, Label::Empty) else {
+        let Label::Sent(word, bare) = replace(&mut self.label, Label::Empty) else {
             unreachable!()
         };
-        self.with_job(order)
+        self.with_job(word, bare)
     }
 
     /// An order with the job that lies here.
     #[inline]
-    fn with_job(&mut self, order: Order<()>) -> Order<J>
-        requires { (whole : Order J) × (order ≡ without_job whole) × (self.old.job ≡ job_of whole) }
-        ensures label { order ≡ without_job result }
+    fn with_job(&mut self, word: u64, bare: Bare) -> Order<J>
+        requires { (whole : Order J) × (word ≡ word_of whole) × (bare ≡ without_word whole) × (self.old.job ≡ job_of whole) }
+        ensures word { word ≡ word_of result }
+        ensures label { bare ≡ without_word result }
         ensures job { self.old.job ≡ job_of result }
         ensures rest { self.new ≡ record self.old { job = None } }
     {
-        match order {
-            Order::Job(queue, ()) => {
+        match bare {
+            Bare::Job(queue) => {
                 let Some(job) = replace(&mut self.job, None) else {
                     unreachable!()
                 };
                 Order::Job(queue, job)
             }
-            Order::Create(shares) => Order::Create(shares),
-            Order::SetShares(queue, shares) => Order::SetShares(queue, shares),
-            Order::Close(queue, mode) => Order::Close(queue, mode),
-            Order::CloseCore(mode) => Order::CloseCore(mode),
+            Bare::Create(shares) => Order::Create(shares),
+            Bare::SetShares(queue, shares) => Order::SetShares(queue, shares),
+            Bare::Close(queue, mode) => Order::Close(queue, mode),
+            Bare::CloseCore(mode) => Order::CloseCore(mode),
+            Bare::Wake(actor) => Order::Wake(actor, word),
         }
     }
 
@@ -106,11 +110,8 @@ impl<J: Drop, T: Drop> Slot<J, T> {
                 overwrite(&mut self.label, Label::Finished(number, out));
             }
             Outcome::Returned(reason, order) => {
-                let (order, job) = parted(order);
-                overwrite(
-                    &mut self.label,
-                    Label::Notice(number, Notice::Returned(reason, order)),
-                );
+                let (label, job) = parted(number, reason, order);
+                overwrite(&mut self.label, label);
                 overwrite(&mut self.job, job);
             }
             Outcome::Answered(answer) => {
@@ -130,28 +131,36 @@ impl<J: Drop, T: Drop> Slot<J, T> {
     {
         match replace(&mut self.label, Label::Empty) {
             Label::Finished(number, out) => (number, Outcome::Finished(out)),
-            Label::Notice(number, Notice::Returned(reason, order)) => {
-                (number, Outcome::Returned(reason, self.with_job(order)))
+            Label::Notice(number, Notice::Returned(reason, bare)) => {
+                (number, Outcome::Returned(reason, self.with_job(0, bare)))
             }
             Label::Notice(number, Notice::Answered(answer)) => (number, Outcome::Answered(answer)),
+            Label::Unwoken(reason, bare, number, word) => {
+                (number, Outcome::Returned(reason, self.with_job(word, bare)))
+            }
             _ => unreachable!(),
         }
     }
 }
 
-/// An order without its job, and its job.
+/// The label of an order that is handed back, with its number, and its job.
 #[inline]
-fn parted<J>(order: Order<J>) -> (Order<()>, Option<J>)
-    ensures label { result.0 ≡ without_job order }
+fn parted<J, T>(number: u64, reason: Reason, order: Order<J>) -> (Label<T>, Option<J>)
+    ensures label { result.0 ≡ label_back number reason order }
     ensures job { result.1 ≡ job_of order }
 {
-    match order {
-        Order::Job(queue, job) => (Order::Job(queue, ()), Some(job)),
-        Order::Create(shares) => (Order::Create(shares), None),
-        Order::SetShares(queue, shares) => (Order::SetShares(queue, shares), None),
-        Order::Close(queue, mode) => (Order::Close(queue, mode), None),
-        Order::CloseCore(mode) => (Order::CloseCore(mode), None),
-    }
+    let (bare, job) = match order {
+        Order::Job(queue, job) => (Bare::Job(queue), Some(job)),
+        Order::Create(shares) => (Bare::Create(shares), None),
+        Order::SetShares(queue, shares) => (Bare::SetShares(queue, shares), None),
+        Order::Close(queue, mode) => (Bare::Close(queue, mode), None),
+        Order::CloseCore(mode) => (Bare::CloseCore(mode), None),
+        Order::Wake(actor, word) => {
+            let bare = Bare::Wake(actor);
+            return (Label::Unwoken(reason, bare, number, word), None);
+        }
+    };
+    (Label::Notice(number, Notice::Returned(reason, bare)), job)
 }
 
 /// Moves an order into the slot that the seat took last, in which there is nothing.

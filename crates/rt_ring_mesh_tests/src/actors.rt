@@ -19,6 +19,7 @@ fn refuse<J: Task>(order: Order<J>) -> Outcome<J, J::Out>
         Order::Create(_) => Outcome::Answered(Answer::CoreClosing),
         Order::SetShares(_, _) | Order::Close(_, _) => Outcome::Answered(Answer::NoQueue),
         Order::CloseCore(_) => Outcome::Answered(Answer::AlreadyClosed),
+        Order::Wake(_, _) => Outcome::Answered(Answer::NoJob),
     }
 }
 

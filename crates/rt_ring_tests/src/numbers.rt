@@ -173,6 +173,7 @@ fn answer(order: Order<Number>) -> Outcome<Number, u64>
         Order::Create(_) => Outcome::Answered(Answer::TooMany),
         Order::SetShares(_, _) => Outcome::Answered(Answer::SharesSet),
         Order::Close(_, _) | Order::CloseCore(_) => Outcome::Answered(Answer::Closed),
+        Order::Wake(_, _) => Outcome::Answered(Answer::NoJob),
     }
 }
 

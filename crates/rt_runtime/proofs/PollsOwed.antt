@@ -12,7 +12,8 @@ use Rattle.rt_ids.specs.Lines.{name_settled}
 use Rattle.rt_ids.specs.Terms.{Terms}
 use Rattle.rt_jobs.specs.Meanings.{Meaning}
 use Rattle.rt_jobs.specs.declared.job.Step.{Step}
-use Rattle.rt_jobs.specs.declared.job.Step.TheVariants.{Done, Yield}
+use Rattle.rt_jobs.specs.declared.job.Step.TheVariants.{Done, Park, Yield}
+use Rattle.rt_core.specs.Whole.{settled_of}
 use Rattle.rt_journal.specs.OwedPolls.{IsOwedPoll, IsPollOf, PollIsOwed}
 use Rattle.rt_journal.specs.Polls.{poll_note, polls_made, settle_note}
 use Rattle.rt_journal.specs.RightAnswers.{Seen, posted_notes}
@@ -28,18 +29,20 @@ each_at P [] note before each = each.0
 each_at P (last ∷ later) note before each = each_at P later note before each.1
 
 module _ {J : Type 0} (meaning : Meaning J ℕ) where
-  settled_is : (terms : Terms) (seen : Seen J) (orders : Orders J) (name : JobId) (time : ℕ) (step : Step ℕ) (before : Journal ℕ) →
-      PollIsOwed meaning terms seen orders (settle_note name time step) before → IsOwedPoll meaning terms seen orders name time step before
-  settled_is terms seen orders name time (Done out) before owed = owed
-  settled_is terms seen orders name time Yield before owed = owed
+  settled_is : (terms : Terms) (seen : Seen J) (orders : Orders J) (name : JobId) (time : ℕ) (step : Step ℕ) (stays : Bool) (before : Journal ℕ) →
+      PollIsOwed meaning terms seen orders (settle_note name time (settled_of step stays)) before → IsOwedPoll meaning terms seen orders name time step before
+  settled_is terms seen orders name time (Done out) stays before owed = owed
+  settled_is terms seen orders name time Yield stays before owed = owed
+  settled_is terms seen orders name time Park true before owed = owed
+  settled_is terms seen orders name time Park false before owed = owed
 
   pub told_polls_owed : ToldPollsAreOwed meaning
   told_polls_owed view assembly name job step tells finished =
       let terms : Terms = record { actor = name.to; cores = view.desk.cores; cap = view.desk.cap } in
       let seen = seen_at_end assembly finished.orders name.to in
       let each = subst (EachNote (PollIsOwed meaning terms seen finished.orders)) tells.told (finished.polls name.to tells.there) in
-      let owed = settled_is terms seen finished.orders name tells.time step tells.before
-      (each_at (PollIsOwed meaning terms seen finished.orders) tells.later (settle_note name tells.time step) tells.before each) in
+      let owed = settled_is terms seen finished.orders name tells.time step tells.stays tells.before
+      (each_at (PollIsOwed meaning terms seen finished.orders) tells.later (settle_note name tells.time (settled_of step tells.stays)) tells.before each) in
       let is : Job owed.queue owed.sent ≡ Job tells.queue job =
       the_callers view assembly finished.orders finished.orders_are name tells.caller tells.there (Job owed.queue owed.sent) (Job tells.queue job) owed.task tells.submitted in
       let same_queue : owed.queue ≡ tells.queue = cc in

@@ -5,7 +5,7 @@ use Rattle.rt_ids.specs.declared.names.JobId.{JobId}
 use Rattle.rt_ids.specs.Assembly.{Assembly}
 use Rattle.rt_jobs.specs.Calls.{Call}
 use Rattle.rt_jobs.specs.Meanings.{Meaning}
-use Rattle.rt_jobs.specs.Steps.{AnswersAtOnce, OnYield}
+use Rattle.rt_jobs.specs.Steps.{AnswersAtOnce, IfUndone}
 use Rattle.rt_jobs.specs.declared.job.Step.{Step}
 use Rattle.rt_jobs.specs.declared.job.Step.TheVariants.{Yield}
 use Rattle.rt_journal.specs.Polls.{polls_made}
@@ -22,7 +22,7 @@ yielding = record {
   can_poll = λ job. Unit {0};
   made = λ job. 0;
   says = λ job. None;
-  polls = λ job made calls step told. OnYield step (made < job);
+  polls = λ job made calls step told. IfUndone step (made < job);
   answers = λ job out. Unit {0};
 }
 

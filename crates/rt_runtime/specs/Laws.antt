@@ -1,5 +1,5 @@
 -- Laws over the definitions alone.
-use Rattle.std.specs.Prelude.{◌≡◌, ℕ, ◌+◌, ◌<◌, true, List, ◌∷◌, ◌++◌, Option, Some, Result, Ok, Err}
+use Rattle.std.specs.Prelude.{◌≡◌, ℕ, ◌+◌, ◌<◌, Bool, true, List, ◌∷◌, ◌++◌, Option, Some, Result, Ok, Err}
 use Rattle.rt_ids.specs.declared.names.JobId.{JobId}
 use Rattle.rt_ids.specs.declared.note.OutcomeNote.TheVariants.{Finished}
 use Rattle.rt_ids.specs.declared.order.Order.{Order}
@@ -14,6 +14,7 @@ use Rattle.rt_jobs.specs.Calls.{Call}
 use Rattle.rt_link.specs.Fits.{Fits}
 use Rattle.rt_jobs.specs.Meanings.{Meaning}
 use Rattle.rt_jobs.specs.declared.job.Step.{Step}
+use Rattle.rt_core.specs.Whole.{settled_of}
 use Rattle.rt_journal.specs.OwedPolls.{IsPollOf}
 use Rattle.rt_journal.specs.Polls.{polls_made, settle_note}
 use Rattle.rt_runtime.specs.Calls.{HasFinished}
@@ -32,16 +33,17 @@ module _ {J : Type 0} where
     pub submitted : submitted_under name view ≡ Some (Job queue job)
     pub told : outcome_of name assembly ≡ Some (Finished answer)
 
-  -- the caller submitted this job under this name, and the journal of its core tells, behind these notes, that a poll of it came to this step
+  -- the caller submitted this job under this name, and the journal of its core tells, behind these notes, that a poll of it came to this step; a job that asked to be parked may have stayed in its line
   pub record TellsPoll (view : RuntimeView J ℕ) (assembly : Assembly ℕ) (name : JobId) (job : J) (step : Step ℕ) : Type 0 where
     pub queue : ℕ
     pub caller : name.from ≡ view.desk.cores
     pub there : name.to < view.desk.cores
     pub submitted : submitted_under name view ≡ Some (Job queue job)
     pub time : ℕ
+    pub stays : Bool
     pub before : Journal ℕ
     pub later : Journal ℕ
-    pub told : journal_of name.to assembly ≡ later ++ settle_note name time step ∷ before
+    pub told : journal_of name.to assembly ≡ later ++ settle_note name time (settled_of step stays) ∷ before
 
   -- each poll that a finish tells of a submitted job is one that this job owes
   abbrev pub ToldPollsAreOwed : Meaning J ℕ → Type 0

@@ -14,6 +14,8 @@ mod house;
 #[cfg(test)]
 mod meeting;
 #[cfg(test)]
+mod parks;
+#[cfg(test)]
 mod waits;
 #[cfg(test)]
 mod waking;

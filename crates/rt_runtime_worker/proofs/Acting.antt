@@ -6,8 +6,8 @@ use Rattle.rt_ids.specs.declared.names.JobId.{JobId}
 use Rattle.rt_ids.specs.declared.note.Note.TheVariants as writes
 use Rattle.rt_ids.specs.Journal.{Journal, EachNote}
 use Rattle.rt_ids.specs.Lines.{jobs_out, names_but}
-use Rattle.rt_jobs.specs.declared.job.Step.{Step}
-use Rattle.rt_jobs.specs.declared.job.Step.TheVariants as step
+use Rattle.rt_core.specs.declared.turn.Settled.{Settled}
+use Rattle.rt_core.specs.declared.turn.Settled.TheVariants as settled
 use Rattle.rt_journal.specs.Polls.{poll_note, settle_note}
 use Rattle.rt_journal_desk.specs.Posts.{ArePosts}
 use Rattle.rt_journal_desk.specs.Tickets.{AreCollected}
@@ -46,10 +46,12 @@ module _ {T : Type 0} where
   posts_act least room (writes.Detached name ∷ notes) before posts polls each = (still_polls notes before posts polls, posts_act least room notes before posts polls each)
   posts_act least room (_ ∷ notes) before posts polls each = absurd posts
 
-  pub settles_act : (least room : ℕ) (name : JobId) (time : ℕ) (did : Step T) (before : Journal T) → EachNote (MayAct least room) before →
+  pub settles_act : (least room : ℕ) (name : JobId) (time : ℕ) (did : Settled T) (before : Journal T) → EachNote (MayAct least room) before →
       EachNote (MayAct least room) (settle_note name time did ∷ before)
-  settles_act least room name time step.Yield before each = (tt, each)
-  settles_act least room name time (step.Done out) before each = (tt, each)
+  settles_act least room name time settled.Yielded before each = (tt, each)
+  settles_act least room name time settled.Parked before each = (tt, each)
+  settles_act least room name time settled.Stayed before each = (tt, each)
+  settles_act least room name time (settled.Finished answer) before each = (tt, each)
 
   -- and those of outcomes that were collected
   pub collects_act : (least room core : ℕ) (notes before : Journal T) → AreCollected core notes → EachNote (MayAct least room) before → EachNote (MayAct least room) (notes ++ before)

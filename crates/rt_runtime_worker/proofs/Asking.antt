@@ -8,13 +8,13 @@ use Rattle.rt_ids.specs.declared.note.Note.TheVariants as writes
 use Rattle.rt_ids.specs.declared.order.Answer.{Answer}
 use Rattle.rt_ids.specs.declared.order.Answer.TheVariants as answers
 use Rattle.rt_ids.specs.declared.order.Order.{Order}
-use Rattle.rt_ids.specs.declared.order.Order.TheVariants.{Job, Create, SetShares, Close, CloseCore}
+use Rattle.rt_ids.specs.declared.order.Order.TheVariants.{Job, Create, SetShares, Close, CloseCore, Wake}
 use Rattle.rt_ids.specs.declared.order.Reason.{Reason}
 use Rattle.rt_ids.specs.Commands.{effect_note, refusal}
 use Rattle.rt_ids.specs.Journal.{Journal}
-use Rattle.rt_jobs.specs.declared.job.Step.{Step}
-use Rattle.rt_jobs.specs.declared.job.Step.TheVariants as step
 use Rattle.rt_jobs.specs.Meanings.{Meaning}
+use Rattle.rt_core.specs.declared.turn.Settled.{Settled}
+use Rattle.rt_core.specs.declared.turn.Settled.TheVariants as settled
 use Rattle.rt_journal.specs.Deliveries.{IsDelivery, entry_note, with_effect}
 use Rattle.rt_journal.specs.Polls.{poll_note, settle_note}
 use Rattle.rt_journal_desk.specs.Posts.{ArePosts}
@@ -40,19 +40,22 @@ module _ {T : Type 0} where
   collected_note_none core (writes.Collected name outcome ∷ notes) before are = collected_note_none core notes before are.1
   collected_note_none core (_ ∷ notes) before are = absurd are
 
-  settles_note_none : (name : JobId) (time : ℕ) (did : Step T) (before : Journal T) → NotesNoPoll before (settle_note name time did ∷ before)
-  settles_note_none name time step.Yield before = refl
-  settles_note_none name time (step.Done out) before = refl
+  settles_note_none : (name : JobId) (time : ℕ) (did : Settled T) (before : Journal T) → NotesNoPoll before (settle_note name time did ∷ before)
+  settles_note_none name time settled.Yielded before = refl
+  settles_note_none name time settled.Parked before = refl
+  settles_note_none name time settled.Stayed before = refl
+  settles_note_none name time (settled.Finished answer) before = refl
 
   poll_noted : (name : JobId) (was_started : Bool) (before : Journal T) → polls_of (poll_note name was_started ∷ before) ≡ name ∷ polls_of before
   poll_noted name false before = refl
   poll_noted name true before = refl
 
-  effects_note_none : (name : JobId) (before : Journal T) (order : Order (Unit {0})) (answer : Answer) → NotesNoPoll before (with_effect (effect_note order answer) (writes.Answered name answer ∷ []) ++ before)
+  effects_note_none : (name : JobId) (before : Journal T) (order : Order (Unit {0})) (answer : Answer) → NotesNoPoll before (with_effect (effect_note name.to order answer) (writes.Answered name answer ∷ []) ++ before)
   effects_note_none name before (Create weight) (answers.Created queue) = refl
   effects_note_none name before (SetShares queue weight) answers.SharesSet = refl
   effects_note_none name before (Close queue mode) answers.Closed = refl
   effects_note_none name before (CloseCore mode) answers.Closed = refl
+  effects_note_none name before (Wake actor number) answers.Woken = refl
   effects_note_none name before _ _ = refl
 
   delivery_notes_none : {J : Type 0} (name : JobId) (before : Journal T) (order : Order J) (notes : List (Note T)) → IsDelivery name order before notes → NotesNoPoll before (notes ++ before)
@@ -65,6 +68,7 @@ module _ {T : Type 0} where
   delivery_notes_none name before (SetShares queue weight) notes is = ap (λ notes. polls_of (notes ++ before)) is.2 ∙ effects_note_none name before (SetShares queue weight) is.0
   delivery_notes_none name before (Close queue mode) notes is = ap (λ notes. polls_of (notes ++ before)) is.2 ∙ effects_note_none name before (Close queue mode) is.0
   delivery_notes_none name before (CloseCore mode) notes is = ap (λ notes. polls_of (notes ++ before)) is.2 ∙ effects_note_none name before (CloseCore mode) is.0
+  delivery_notes_none name before (Wake actor number) notes is = ap (λ notes. polls_of (notes ++ before)) is.2 ∙ effects_note_none name before (Wake actor number) is.0
 
   pub shut_notes_none : (sender : ℕ) (old new : JournalView T) → WritesShut sender old new → NotesNoPoll old.notes new.notes
   shut_notes_none sender old new (inl same) = ap (λ journal. polls_of journal.notes) same
@@ -89,7 +93,7 @@ module _ {J T : Type 0} where
     polled_told : (name : JobId) → PollsOne meaning tells name old new → polls_of new.recorded.journal.notes ≡ name ∷ polls_of old.recorded.journal.notes
     polled_told name did =
         ap (λ journal. polls_of journal.notes) did.settles.journal
-        ∙ (settles_note_none did.settles.out.name (unwrap_or did.ran.told did.spent) did.ran.step did.left.journal.notes
+        ∙ (settles_note_none did.settles.out.name (unwrap_or did.ran.told did.spent) did.settled did.left.journal.notes
         ∙ (ap (λ desk. polls_of desk.journal.notes) did.posted.desk
         ∙ (posts_note_none did.posted.notes did.picked.journal.notes did.posted.posts
         ∙ (ap (λ journal. polls_of journal.notes) did.picks.journal ∙ poll_noted name did.was_started (writes.Pick did.queue did.picks.runtime ∷ old.recorded.journal.notes)))))

@@ -2,10 +2,10 @@
 use Rattle.std.proofs.Common.{◌≡◌, ℕ, cond, List, [], ◌∷◌, refl}
 use Rattle.std.specs.Prelude.{◌==◌, ◌||◌, Bool, true, false, Some, None, is_some}
 use Rattle.rt_ids.specs.declared.names.JobId.{JobId}
-use Rattle.rt_ids.specs.declared.note.Note.TheVariants.{Sent, Back, Answered, Done, Returned, Redeemed}
+use Rattle.rt_ids.specs.declared.note.Note.TheVariants.{Sent, Back, Answered, Done, Returned, Redeemed, Park, Stayed, Woken}
 use Rattle.rt_ids.specs.declared.note.OutcomeNote.TheVariants.{Finished}
 use Rattle.rt_ids.specs.declared.order.Mode.TheVariants.{Return}
-use Rattle.rt_ids.specs.declared.order.Order.TheVariants.{CloseCore}
+use Rattle.rt_ids.specs.declared.order.Order.TheVariants.{CloseCore, Wake}
 use Rattle.rt_runtime_worker.specs.Bells.{told_by, HasRung, NotesAreForLinks}
 
 sent_if : {A : Type 0} (item : A) (test : Bool) → test ≡ (is_some (cond test (Some item) None) || false)
@@ -31,6 +31,14 @@ job = record { from = 0; to = 1; number = 1 }
 -- an order is for its receiver
 order_for_receiver : told_by {T = ℕ} (Sent job (CloseCore Return)) ≡ Some 1
 order_for_receiver = refl
+
+-- so is a wake, whoever sent the job that it wakes
+wake_for_receiver : told_by {T = ℕ} (Sent job (Wake 2 1)) ≡ Some 1
+wake_for_receiver = refl
+
+-- a park and its end are for nobody
+parks_for_nobody : (told_by {T = ℕ} (Park job 5) ≡ None) × (told_by {T = ℕ} (Stayed job 5) ≡ None) × (told_by {T = ℕ} (Woken job) ≡ None)
+parks_for_nobody = (refl, refl, refl)
 
 -- an outcome is for the sender of its order
 outcome_for_sender : told_by {T = ℕ} (Done job 5 7) ≡ Some 0

@@ -11,7 +11,7 @@ use Rattle.rt_journal.specs.Ends.{IsInOf, IsSameSeat, KeepsIn}
 use Rattle.rt_journal_desk.specs.Ends.{KeepsOuts}
 use Rattle.rt_journal.specs.OwedPolls.{seen_by}
 use Rattle.rt_journal.proofs.OwedSteps.{delivers_keep, shuts_keep}
-use Rattle.rt_journal.specs.Steps.{Delivers, TellsShut}
+use Rattle.rt_journal.specs.Steps.{Delivers, TellsShut, out_told}
 use Rattle.rt_ring_mesh.specs.Ends.{EndsView, in_at}
 use Rattle.rt_runtime_worker.specs.Linked.{Grows, IsLinked, PollsAsOwed, StaysLinked}
 use Rattle.rt_runtime_worker.specs.Steps.{ShutsGate, DeliversFrom}
@@ -61,7 +61,7 @@ module _ {J T : Type 0} {meaning : Meaning J T} where
       stays_here = record { seat = step.seat; ends = same_ends sender recorded now ends at inside after opens step; sees = put_sees sender recorded now ends at inside after opens step; opening = step.opening; grows = step.grows }
 
     at_rest_after : (found : Bool) → Delivers recorded before.inward now after.inward found → now.core.out ≡ None
-    at_rest_after true does = does.2.out ∙ linked.at_rest
+    at_rest_after true does = does.2.out ∙ ap (out_told now.journal.notes) linked.at_rest
     at_rest_after false does = ap (λ view. view.core.out) does.1 ∙ linked.at_rest
 
     module _ (found : Bool) (does : Delivers recorded before.inward now after.inward found) (its_own : IsInOf before.inward.from now after.inward)

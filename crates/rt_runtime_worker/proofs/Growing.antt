@@ -39,7 +39,7 @@ module _ {J T : Type 0} where
     posted_grows = (did.posted.notes, ap (λ desk. desk.journal.notes) did.posted.desk)
 
     settled_grows : Grows did.left.journal.notes new.recorded.journal.notes
-    settled_grows = (settle_note did.settles.out.name (unwrap_or did.ran.told did.spent) did.ran.step ∷ [], ap (λ journal. journal.notes) did.settles.journal)
+    settled_grows = (settle_note did.settles.out.name (unwrap_or did.ran.told did.spent) did.settled ∷ [], ap (λ journal. journal.notes) did.settles.journal)
 
     -- a poll writes its pick and its start, what it posted, and its settling
     pub grows_polled : Grows old.recorded.journal.notes new.recorded.journal.notes

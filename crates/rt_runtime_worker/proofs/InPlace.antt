@@ -14,6 +14,7 @@ use Rattle.rt_ids.specs.Commands.{reason_if_returning}
 use Rattle.rt_ids.specs.Journal.{or_else}
 use Rattle.rt_ids.proofs.Returning.{has_reason}
 use Rattle.rt_jobs.specs.Meanings.{Meaning}
+use Rattle.rt_taskqueue.specs.View.{Marks}
 use Rattle.rt_core.specs.declared.turn.Settled.{Settled}
 use Rattle.rt_core.specs.Whole.{IsAhead}
 use Rattle.rt_ring.specs.declared.ring_out.Sending.{Sending}
@@ -29,14 +30,15 @@ use Rattle.rt_runtime_worker.specs.Steps.{PollsOne}
 use Rattle.rt_link.specs.Fits.{Fits}
 
 module _ {J T : Type 0} {meaning : Meaning J T} (old : RecordedView J T) (recorded : IsRecorded meaning old)
-    (queue vr : ℕ) (name : JobId) (started : Bool) (is : IsAhead old.core queue vr name started) where
+    (queue vr : ℕ) (name : JobId) (started woken : Bool) (is : IsAhead old.core queue vr name started woken) where
   -- its sender is there
   pub ahead_known : name.from ≤ old.core.cores
   ahead_known =
       let front = is.front in
-      let all : All (λ (entry : JobId × Bool × J). HasTask meaning old.took old.journal.notes queue entry.0 entry.2) ((name, started, front.0) ∷ front.1) =
-      subst (λ (line : List (JobId × Bool × J)). All (λ entry. HasTask meaning old.took old.journal.notes queue entry.0 entry.2) line) front.2 (recorded.waiting queue) in
-      let task = All-head (λ (entry : JobId × Bool × J). HasTask meaning old.took old.journal.notes queue entry.0 entry.2) (name, started, front.0) front.1 all in
+      let marks : Marks = record { started = started; woken = woken } in
+      let all : All (λ (entry : JobId × Marks × J). HasTask meaning old.took old.journal.notes queue entry.0 entry.2) ((name, marks, front.0) ∷ front.1) =
+      subst (λ (line : List (JobId × Marks × J)). All (λ entry. HasTask meaning old.took old.journal.notes queue entry.0 entry.2) line) front.2 (recorded.tasks.waiting queue) in
+      let task = All-head (λ (entry : JobId × Marks × J). HasTask meaning old.took old.journal.notes queue entry.0 entry.2) (name, marks, front.0) front.1 all in
       (recorded.taken name _ task.task).sender
 
   -- the core doesn't hand back

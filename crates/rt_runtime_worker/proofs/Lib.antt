@@ -7,6 +7,7 @@ mod QueuesRefused
 mod ActsRefused
 mod BellsRefused
 mod RestsRefused
+mod ParksRest
 mod WatchesRefused
 pub mod Stepping
 pub mod Delivered

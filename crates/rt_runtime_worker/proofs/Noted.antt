@@ -6,7 +6,7 @@ use Rattle.rt_ids.specs.declared.names.JobId.{JobId}
 use Rattle.rt_ids.specs.declared.note.Note.{Note}
 use Rattle.rt_ids.specs.declared.note.Note.TheVariants as writes
 use Rattle.rt_ids.specs.declared.order.Order.{Order}
-use Rattle.rt_ids.specs.declared.order.Order.TheVariants.{Job, Create, SetShares, Close, CloseCore}
+use Rattle.rt_ids.specs.declared.order.Order.TheVariants.{Job, Create, SetShares, Close, CloseCore, Wake}
 use Rattle.rt_ids.specs.declared.order.Reason.{Reason}
 use Rattle.rt_ids.specs.declared.order.Mode.TheVariants.{Return}
 use Rattle.rt_ids.specs.declared.order.Answer.{Answer}
@@ -32,8 +32,8 @@ more_from {A} items sender name item = by_test (name.from == sender)
 
 module _ {T : Type 0} (name : JobId) (before : Journal T) where
   -- one or two notes
-  effects_short : (order : Order (Unit {0})) (answer : Answer) → length (with_effect {T = T} (effect_note order answer) (writes.Answered name answer ∷ [])) ≤ 2
-  effects_short order answer = by_effect (effect_note order answer)
+  effects_short : (order : Order (Unit {0})) (answer : Answer) → length (with_effect {T = T} (effect_note name.to order answer) (writes.Answered name answer ∷ [])) ≤ 2
+  effects_short order answer = by_effect (effect_note name.to order answer)
     where
       by_effect : (effect : Option (Note T)) → length (with_effect effect (writes.Answered name answer ∷ [])) ≤ 2
       by_effect None = omega arith
@@ -41,20 +41,22 @@ module _ {T : Type 0} (name : JobId) (before : Journal T) where
 
   -- a command's effect follows its answer
   effects_act : (least room : ℕ) (order : Order (Unit {0})) (answer : Answer) → EachNote (MayAct least room) before →
-      EachNote (MayAct least room) (with_effect (effect_note order answer) (writes.Answered name answer ∷ []) ++ before)
+      EachNote (MayAct least room) (with_effect (effect_note name.to order answer) (writes.Answered name answer ∷ []) ++ before)
   effects_act least room (Create weight) (answers.Created queue) each = (tt, (tt, each))
   effects_act least room (SetShares queue weight) answers.SharesSet each = (tt, (tt, each))
   effects_act least room (Close queue mode) answers.Closed each = (tt, (tt, each))
   effects_act least room (CloseCore mode) answers.Closed each = (inl refl, (tt, each))
+  effects_act least room (Wake actor number) answers.Woken each = (tt, (tt, each))
   effects_act least room _ _ each = (tt, each)
 
   -- an answer gives one outcome, and its effect none
   effects_give : (order : Order (Unit {0})) (answer : Answer) (sender : ℕ) →
-      given_count (with_effect (effect_note order answer) (writes.Answered name answer ∷ []) ++ before) sender ≡ given_count before sender + number_if (name.from == sender)
+      given_count (with_effect (effect_note name.to order answer) (writes.Answered name answer ∷ []) ++ before) sender ≡ given_count before sender + number_if (name.from == sender)
   effects_give (Create weight) (answers.Created queue) sender = more_from (given_outcomes sender before) sender name _
   effects_give (SetShares queue weight) answers.SharesSet sender = more_from (given_outcomes sender before) sender name _
   effects_give (Close queue mode) answers.Closed sender = more_from (given_outcomes sender before) sender name _
   effects_give (CloseCore mode) answers.Closed sender = more_from (given_outcomes sender before) sender name _
+  effects_give (Wake actor number) answers.Woken sender = more_from (given_outcomes sender before) sender name _
   effects_give _ _ sender = more_from (given_outcomes sender before) sender name _
 
   module _ {J : Type 0} where
@@ -65,6 +67,7 @@ module _ {T : Type 0} (name : JobId) (before : Journal T) where
     delivery_short (SetShares queue weight) notes is = rw is.2 (effects_short (SetShares queue weight) is.0)
     delivery_short (Close queue mode) notes is = rw is.2 (effects_short (Close queue mode) is.0)
     delivery_short (CloseCore mode) notes is = rw is.2 (effects_short (CloseCore mode) is.0)
+    delivery_short (Wake actor number) notes is = rw is.2 (effects_short (Wake actor number) is.0)
 
     -- no core closes by itself by a delivery
     pub delivery_acts : (least room : ℕ) (order : Order J) (notes : List (Note T)) → IsDelivery name order before notes → EachNote (MayAct least room) before →
@@ -79,6 +82,7 @@ module _ {T : Type 0} (name : JobId) (before : Journal T) where
         subst (λ notes. EachNote (MayAct least room) (notes ++ before)) (sym is.2) (effects_act least room (SetShares queue weight) is.0 each)
     delivery_acts least room (Close queue mode) notes is each = subst (λ notes. EachNote (MayAct least room) (notes ++ before)) (sym is.2) (effects_act least room (Close queue mode) is.0 each)
     delivery_acts least room (CloseCore mode) notes is each = subst (λ notes. EachNote (MayAct least room) (notes ++ before)) (sym is.2) (effects_act least room (CloseCore mode) is.0 each)
+    delivery_acts least room (Wake actor number) notes is each = subst (λ notes. EachNote (MayAct least room) (notes ++ before)) (sym is.2) (effects_act least room (Wake actor number) is.0 each)
 
     -- in a core that hands back each delivery gives one outcome
     pub delivery_gives : (order : Order J) (notes : List (Note T)) → IsDelivery name order before notes → core_mode before ≡ Some Return → (sender : ℕ) →
@@ -98,3 +102,5 @@ module _ {T : Type 0} (name : JobId) (before : Journal T) where
         subst (λ notes. given_count (notes ++ before) sender ≡ given_count before sender + number_if (name.from == sender)) (sym is.2) (effects_give (Close queue mode) is.0 sender)
     delivery_gives (CloseCore mode) notes is returning sender =
         subst (λ notes. given_count (notes ++ before) sender ≡ given_count before sender + number_if (name.from == sender)) (sym is.2) (effects_give (CloseCore mode) is.0 sender)
+    delivery_gives (Wake actor number) notes is returning sender =
+        subst (λ notes. given_count (notes ++ before) sender ≡ given_count before sender + number_if (name.from == sender)) (sym is.2) (effects_give (Wake actor number) is.0 sender)

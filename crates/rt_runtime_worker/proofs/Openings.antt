@@ -5,17 +5,16 @@ use Rattle.rt_ids.specs.declared.names.JobId.{JobId}
 use Rattle.rt_ids.specs.declared.note.Note.{Note}
 use Rattle.rt_ids.specs.declared.note.Note.TheVariants as writes
 use Rattle.rt_ids.specs.declared.order.Order.{Order}
-use Rattle.rt_ids.specs.declared.order.Order.TheVariants.{Job, Create, SetShares, Close, CloseCore}
+use Rattle.rt_ids.specs.declared.order.Order.TheVariants.{Job, Create, SetShares, Close, CloseCore, Wake}
 use Rattle.rt_ids.specs.declared.order.Reason.{Reason}
 use Rattle.rt_ids.specs.declared.order.Answer.{Answer}
 use Rattle.rt_ids.specs.declared.order.Answer.TheVariants as answers
 use Rattle.rt_ids.specs.Journal.{Journal}
 use Rattle.rt_ids.specs.Commands.{created_count, refusal, effect_note}
-use Rattle.rt_jobs.specs.declared.job.Step.{Step}
-use Rattle.rt_jobs.specs.declared.job.Step.TheVariants as step
 use Rattle.rt_jobs.specs.Meanings.{Meaning}
 use Rattle.rt_jobs.specs.Steps.{AfterPoll}
 use Rattle.rt_core.specs.declared.turn.Settled.{Settled}
+use Rattle.rt_core.specs.declared.turn.Settled.TheVariants as came
 use Rattle.rt_link.specs.declared.ends.Inward.{Inward}
 use Rattle.rt_journal_notes.specs.Journals.{JournalView}
 use Rattle.rt_ring.specs.declared.ring_out.Sending.{Sending}
@@ -69,11 +68,12 @@ module _ {T : Type 0} where
   opening_collected core (_ ∷ notes) before are = absurd are
 
 module _ {T : Type 0} (name : JobId) (before : Journal T) where
-  effects_open : (order : Order (Unit {0})) (answer : Answer) → opening_of (with_effect (effect_note order answer) (writes.Answered name answer ∷ []) ++ before) ≡ opening_of before
+  effects_open : (order : Order (Unit {0})) (answer : Answer) → opening_of (with_effect (effect_note name.to order answer) (writes.Answered name answer ∷ []) ++ before) ≡ opening_of before
   effects_open (Create weight) (answers.Created queue) = refl
   effects_open (SetShares queue weight) answers.SharesSet = refl
   effects_open (Close queue mode) answers.Closed = refl
   effects_open (CloseCore mode) answers.Closed = refl
+  effects_open (Wake actor number) answers.Woken = refl
   effects_open _ _ = refl
 
   module _ {J : Type 0} where
@@ -87,6 +87,7 @@ module _ {T : Type 0} (name : JobId) (before : Journal T) where
     opening_delivery (SetShares queue weight) notes is = subst (λ notes. opening_of (notes ++ before) ≡ opening_of before) (sym is.2) (effects_open (SetShares queue weight) is.0)
     opening_delivery (Close queue mode) notes is = subst (λ notes. opening_of (notes ++ before) ≡ opening_of before) (sym is.2) (effects_open (Close queue mode) is.0)
     opening_delivery (CloseCore mode) notes is = subst (λ notes. opening_of (notes ++ before) ≡ opening_of before) (sym is.2) (effects_open (CloseCore mode) is.0)
+    opening_delivery (Wake actor number) notes is = subst (λ notes. opening_of (notes ++ before) ≡ opening_of before) (sym is.2) (effects_open (Wake actor number) is.0)
 
 module _ {J T : Type 0} where
   -- a delivery
@@ -120,11 +121,13 @@ module _ {J T : Type 0} where
     -- a poll that is settled
     pub opening_settled : (old new : RecordedView J T) (ran : AfterPoll J T) (spent : ℕ) (settled : Settled T) → Settles meaning old ran spent settled new →
         opening_of new.journal.notes ≡ opening_of old.journal.notes
-    opening_settled old new ran spent settled did = ap (λ (journal : JournalView T). opening_of journal.notes) did.journal ∙ by_step ran.step
+    opening_settled old new ran spent settled did = ap (λ (journal : JournalView T). opening_of journal.notes) did.journal ∙ by_settled settled
       where
-        by_step : (came : Step T) → opening_of (settle_note did.out.name (unwrap_or ran.told spent) came ∷ old.journal.notes) ≡ opening_of old.journal.notes
-        by_step step.Yield = refl
-        by_step (step.Done out) = refl
+        by_settled : (one : Settled T) → opening_of (settle_note did.out.name (unwrap_or ran.told spent) one ∷ old.journal.notes) ≡ opening_of old.journal.notes
+        by_settled came.Yielded = refl
+        by_settled came.Parked = refl
+        by_settled came.Stayed = refl
+        by_settled (came.Finished answer) = refl
 
     pub opening_polled : {tells : ℕ → Type 0} {name : JobId} (old new : LinkedView J T) → PollsOne meaning tells name old new →
         opening_of new.recorded.journal.notes ≡ opening_of old.recorded.journal.notes

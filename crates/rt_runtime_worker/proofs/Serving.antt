@@ -165,14 +165,14 @@ module _ {J T : Type 0} where
         posted_notes : did.left.journal.notes ≡ did.posted.notes ++ did.picked.journal.notes
         posted_notes = ap (λ desk. desk.journal.notes) did.posted.desk
 
-        settled_notes : new.recorded.journal.notes ≡ settle_note did.settles.out.name (unwrap_or did.ran.told did.spent) did.ran.step ∷ did.left.journal.notes
+        settled_notes : new.recorded.journal.notes ≡ settle_note did.settles.out.name (unwrap_or did.ran.told did.spent) did.settled ∷ did.left.journal.notes
         settled_notes = ap (λ journal. journal.notes) did.settles.journal
 
         polled_acts : EachNote (MayAct (least_free old.recorded.core.cores old.recorded.cap) old.recorded.journal.room) old.recorded.journal.notes →
             EachNote (MayAct (least_free old.recorded.core.cores old.recorded.cap) old.recorded.journal.room) new.recorded.journal.notes
         polled_acts acts =
             subst (EachNote (MayAct (least_free old.recorded.core.cores old.recorded.cap) old.recorded.journal.room)) (sym settled_notes)
-            (settles_act _ _ _ _ did.ran.step did.left.journal.notes
+            (settles_act _ _ _ _ did.settled did.left.journal.notes
             (subst (EachNote (MayAct (least_free old.recorded.core.cores old.recorded.cap) old.recorded.journal.room)) (sym posted_notes)
             (posts_act _ _ did.posted.notes did.picked.journal.notes did.posted.posts (subst IsPolling (sym picked_notes) (begins_poll name did.was_started (writes.Pick did.queue did.picks.runtime ∷ old.recorded.journal.notes)))
             (subst (EachNote (MayAct (least_free old.recorded.core.cores old.recorded.cap) old.recorded.journal.room)) (sym picked_notes)

@@ -8,7 +8,7 @@ use Rattle.rt_ids.specs.declared.note.Note.{Note}
 use Rattle.rt_ids.specs.declared.note.Note.TheVariants as writes
 use Rattle.rt_ids.specs.declared.order.Answer.{Answer}
 use Rattle.rt_ids.specs.declared.order.Order.{Order}
-use Rattle.rt_ids.specs.declared.order.Order.TheVariants.{Job, Create, SetShares, Close, CloseCore}
+use Rattle.rt_ids.specs.declared.order.Order.TheVariants.{Job, Create, SetShares, Close, CloseCore, Wake}
 use Rattle.rt_ids.specs.Commands.{effect_note}
 use Rattle.rt_ids.specs.Journal.{Journal}
 use Rattle.rt_jobs.specs.Meanings.{Meaning}
@@ -23,8 +23,8 @@ use Rattle.rt_runtime_worker.specs.Rounds.{TellsNotes, LooksAtRoom, StepsServed,
 use Rattle.rt_runtime_worker.proofs.Along.{stays_along, stays_same}
 use Rattle.rt_runtime_worker.proofs.Growing.{no_shorter}
 
-effects_some : (T : Type 0) (name : JobId) (order : Order (Unit {0})) (answer : Answer) → 0 < length (with_effect {T = T} (effect_note order answer) (writes.Answered name answer ∷ []))
-effects_some T name order answer = by_effect (effect_note order answer)
+effects_some : (T : Type 0) (name : JobId) (order : Order (Unit {0})) (answer : Answer) → 0 < length (with_effect {T = T} (effect_note name.to order answer) (writes.Answered name answer ∷ []))
+effects_some T name order answer = by_effect (effect_note name.to order answer)
   where
     by_effect : (effect : Option (Note T)) → 0 < length (with_effect effect (writes.Answered name answer ∷ []))
     by_effect None = omega arith
@@ -55,6 +55,7 @@ module _ {T : Type 0} where
   delivery_some name before (SetShares queue weight) notes is = rw is.2 (effects_some T name (SetShares queue weight) is.0)
   delivery_some name before (Close queue mode) notes is = rw is.2 (effects_some T name (Close queue mode) is.0)
   delivery_some name before (CloseCore mode) notes is = rw is.2 (effects_some T name (CloseCore mode) is.0)
+  delivery_some name before (Wake actor number) notes is = rw is.2 (effects_some T name (Wake actor number) is.0)
 
   no_notes : (notes : List (Note T)) → length notes ≡ 0 → notes ≡ []
   no_notes [] none = refl

@@ -82,7 +82,7 @@ impl<J: Task<Out = u64>> Linked<J> {
         self.recorded.gate(sender).is_some()
     }
 
-    /// Whether every gate is shut, all behind it was delivered, and no queue has work.
+    /// Whether every gate is shut, all behind it was delivered, no queue has work, and no job is parked.
     pub fn is_drained(&self) -> bool
         ensures { IsTrue result ↔ IsDrained self.now.recorded.core.cores self.now.recorded.journal.notes }
     {

@@ -34,7 +34,7 @@ fn post_turn<J: Job + Task<Out = u64>, M: Meter>(
 ) -> Settled<u64>
     requires core { leave.core ≡ recorded.old.core.core }
     requires name { leave.name ≡ next.now.name }
-    requires ahead { IsAhead recorded.old.core next.now.queue next.now.vr next.now.name next.now.started }
+    requires ahead { IsAhead recorded.old.core next.now.queue next.now.vr next.now.name next.now.started next.now.woken }
     requires known { next.now.name.from ≤ recorded.old.core.cores }
     requires beside { AreBeside (Fits J.meaning) recorded.old ends.old }
     requires room { HasPollRoom recorded.old }
@@ -84,7 +84,7 @@ pub(crate) fn turn_on<J: Job + Task<Out = u64>, M: Meter>(
 )
     requires core { leave.core ≡ recorded.old.core.core }
     requires name { leave.name ≡ next.now.name }
-    requires ahead { IsAhead recorded.old.core next.now.queue next.now.vr next.now.name next.now.started }
+    requires ahead { IsAhead recorded.old.core next.now.queue next.now.vr next.now.name next.now.started next.now.woken }
     requires known { next.now.name.from ≤ recorded.old.core.cores }
     requires beside { AreBeside (Fits J.meaning) recorded.old ends.old }
     requires owed { PollsAsOwed J.meaning recorded.old ends.old }

@@ -91,7 +91,7 @@ impl<J: Task<Out = u64>, C: Drop, G: Drop> Rounds<J, C, G> {
         self.served.prefault();
     }
 
-    /// Whether every gate is shut, all behind it was delivered, and no queue has work.
+    /// Whether every gate is shut, all behind it was delivered, no queue has work, and no job is parked.
     pub(crate) fn is_drained(&self) -> bool
         ensures { IsTrue result ↔ IsDrained self.now.served.linked.recorded.core.cores self.now.served.linked.recorded.journal.notes }
     {

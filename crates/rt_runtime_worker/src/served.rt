@@ -66,7 +66,7 @@ impl<J: Task<Out = u64>> Served<J> {
         }
     }
 
-    /// Whether every gate is shut, all behind it was delivered, and no queue has work.
+    /// Whether every gate is shut, all behind it was delivered, no queue has work, and no job is parked.
     pub(crate) fn is_drained(&self) -> bool
         ensures { IsTrue result ↔ IsDrained self.now.linked.recorded.core.cores self.now.linked.recorded.journal.notes }
     {

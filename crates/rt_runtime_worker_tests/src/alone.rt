@@ -123,6 +123,13 @@ fn long_job(rt: &impl Abort) -> ScriptJob {
     job.unwrap_or(ScriptJob::done(10, 1))
 }
 
+/// A job that asks to be parked at its first poll, and is done at its next.
+fn parking_job(rt: &impl Abort) -> ScriptJob {
+    let job = ScriptJob::try_new(&[Poll::Park(10), Poll::Done(5, 7)]);
+    assert!(rt; job.is_some());
+    job.unwrap_or(ScriptJob::done(10, 1))
+}
+
 /// The ends of the core.
 fn own_of(all: &mut Vec<Ends<ScriptJob>>) -> Ends<ScriptJob>
     requires grid { IsGrid 1 all.old.items }
@@ -278,5 +285,54 @@ fn a_job_submits_until_the_journal_is_short(rt: HostRuntime) -> Result<(), Fail>
     // The clock is read twice a poll, and the gate is asked once.
     let polls = count_polls(&journal);
     assert!(rt; shared.counts() == (2 * polls, polls, 0));
+    Ok(())
+}
+
+#[test]
+fn a_kept_wake_keeps_a_job_in_its_line(rt: HostRuntime) -> Result<(), Fail> {
+    let shared = Shared::new(rt.alloc())?;
+    let (own, mut outside) = ends(rt.alloc())?;
+    let job = order(&rt, parking_job(&rt));
+    let sent = send(&mut outside, job)
+        && send(&mut outside, Order::Wake(OUTSIDE, 1))
+        && send(&mut outside, Order::Wake(OWN, 1))
+        && send(&mut outside, Order::CloseCore(Mode::Finish));
+    let journal = serve(&rt, rt.alloc(), own, &shared)?;
+    let parks = name(OUTSIDE, 1);
+    let notes = [
+        Note::Took(parks, QUEUE),
+        Note::Answered(name(OUTSIDE, 2), Answer::Woken),
+        Note::Woken(parks),
+        Note::Answered(name(OUTSIDE, 3), Answer::NoJob),
+        Note::Answered(name(OUTSIDE, 4), Answer::Closed),
+        Note::CoreClosed(Mode::Finish),
+        Note::Pick(QUEUE, 0),
+        Note::Start(parks),
+        Note::Stayed(parks, 10),
+        Note::Shut(OWN, 0),
+        Note::Shut(OUTSIDE, 4),
+        Note::Pick(QUEUE, 10),
+        Note::Resume(parks),
+        Note::Done(parks, 5, 7),
+    ];
+    assert!(rt; sent && journal.len() == notes.len() && begins(&journal, &notes));
+    // The clock is read twice for each of two polls, and the gate is asked once.
+    assert!(rt; shared.counts() == (4, 2, 0));
+    Ok(())
+}
+
+#[test]
+fn a_parked_job_goes_back_when_the_journal_is_short(rt: HostRuntime) -> Result<(), Fail> {
+    let shared = Shared::new(rt.alloc())?;
+    let (own, mut outside) = ends(rt.alloc())?;
+    let job = order(&rt, parking_job(&rt));
+    let other = order(&rt, long_job(&rt));
+    let sent = send(&mut outside, job) && send(&mut outside, other);
+    let journal = serve(&rt, rt.alloc(), own, &shared)?;
+    let parks = name(OUTSIDE, 1);
+    let parked = says(&journal, Note::Park(parks, 10)) && !says(&journal, Note::Resume(parks));
+    let closed = says(&journal, Note::CoreClosed(Mode::Return));
+    let returned = says(&journal, Note::Returned(parks, Reason::CoreReturned));
+    assert!(rt; sent && parked && closed && returned);
     Ok(())
 }

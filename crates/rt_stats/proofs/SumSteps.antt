@@ -1,30 +1,22 @@
 -- What the sums say of the journal that was read.
-use Rattle.std.proofs.Common.{◌≡◌, ℕ, ◌+◌, ◌≤◌, min, Bool, ◌∷◌, sym, ◌∙◌, ap, arith, get_or}
-use Rattle.std.specs.Prelude.{Some, nat_lt, IsTrue}
-use Rattle.rt_ids.specs.declared.note.Note.{Note}
+use Rattle.std.proofs.Common.{◌≡◌, ℕ, ◌+◌, ◌≤◌, min, Bool, sym, ◌∙◌, ap, arith, get_or}
+use Rattle.std.specs.Prelude.{Some}
+use Rattle.std.proofs.lemmas.Bool.{false_from_ne_true, true≢false}
 use Rattle.rt_ids.specs.Closing.{IsDrained}
 use Rattle.rt_ids.specs.Commands.{created_count}
 use Rattle.rt_ids.specs.HandBacks.{jobs_held}
-use Rattle.rt_ids.specs.Journal.{Journal, or_else}
-use Rattle.rt_ids.specs.Work.{queue_entered, has_work}
-use Rattle.rt_journal_facts.specs.Names.{Entries, known, SetsEntry}
-use Rattle.rt_journal_facts.specs.Told.{queue_told}
-use Rattle.rt_journal_facts.proofs.ReadJobs.{queue_entered-told}
-use Rattle.rt_journal_facts.specs.Accounts.{fresh_account, has_jobs, greatest_count}
+use Rattle.rt_ids.specs.Journal.{Journal}
+use Rattle.rt_ids.specs.Work.{has_work}
+use Rattle.rt_journal_facts.specs.Accounts.{greatest_count}
+use Rattle.rt_journal_facts.specs.AllAccounts.{HasNobody, IsEmpty, account_of}
+use Rattle.rt_journal_facts.proofs.AllAccounts.{has_nobody, is_empty}
 use Rattle.rt_stats.specs.declared.gates.Gate.{Gate}
 use Rattle.rt_stats.specs.Gates.{open_gate}
 use Rattle.rt_stats.specs.Stats.{core_stats}
-use Rattle.rt_stats.specs.Walks.{KnowsQueues, SumsView, KnowsSums, inside_below}
+use Rattle.rt_stats.specs.Walks.{SumsView, KnowsSums, inside_below}
 use Rattle.rt_stats.proofs.HeldSteps.{inside_known, held-within}
 
 module _ {T : Type 0} where
-  -- the queues of jobs after a note
-  pub queues_next : (old new : Entries ℕ) (note : Note T) (before : Journal T) → SetsEntry old new (queue_told note) → KnowsQueues old before →
-      KnowsQueues new (note ∷ before)
-  queues_next old new note before set knows =
-      λ name.
-      set name ∙ (ap (λ entry. or_else entry (known old name)) (queue_entered-told name note) ∙ ap (or_else (queue_entered name note)) (knows name))
-
   module _ (sums : SumsView) (journal : Journal T) (knows : KnowsSums sums journal) where
     -- all jobs inside
     held : min (inside_below (sums.gates.created + 1) sums.accounts.queues) greatest_count ≡ jobs_held journal
@@ -44,19 +36,20 @@ module _ {T : Type 0} where
       drained = drained;
     }
 
-    works : (queue : ℕ) → has_jobs (get_or sums.accounts.queues queue fresh_account) ≡ has_work queue journal
-    works queue = λ i. nat_lt ((knows.accounts.each queue).left i) ((knows.accounts.each queue).entered i)
+    nobody : (queue : ℕ) → IsEmpty (account_of sums.accounts queue) → HasNobody queue journal
+    nobody queue = has_nobody queue (account_of sums.accounts queue) journal (knows.accounts.each queue)
 
     -- the gates and the accounts tell whether the core is drained
     pub drained_known : (cores : ℕ) →
         ((sender : ℕ) → sender ≤ cores → (get_or sums.gates.senders sender open_gate).count ≡ Some (get_or sums.gates.senders sender open_gate).delivered) →
-        ((queue : ℕ) → IsTrue (has_jobs (get_or sums.accounts.queues queue fresh_account)) → ⊥) → IsDrained cores journal
-    drained_known cores delivered idle = record {
+        ((queue : ℕ) → IsEmpty (account_of sums.accounts queue)) → IsDrained cores journal
+    drained_known cores delivered empty = record {
       delivered_all =
           λ sender within.
           sym (ap (λ (gate : Gate). gate.count) (knows.gates.each sender)) ∙
           (delivered sender within ∙ ap (λ (gate : Gate). Some gate.delivered) (knows.gates.each sender));
-      idle = λ queue work. idle queue (works queue ∙ work);
+      idle = λ queue work. true≢false (sym work ∙ (nobody queue (empty queue)).idle);
+      nobody_parked = λ queue. (nobody queue (empty queue)).nobody_parked;
     }
 
     pub delivered_known : (cores : ℕ) → IsDrained cores journal → (sender : ℕ) → sender ≤ cores →
@@ -65,5 +58,7 @@ module _ {T : Type 0} where
         ap (λ (gate : Gate). gate.count) (knows.gates.each sender) ∙
         (drained.delivered_all sender within ∙ sym (ap (λ (gate : Gate). Some gate.delivered) (knows.gates.each sender)))
 
-    pub idle_known : (cores : ℕ) → IsDrained cores journal → (queue : ℕ) → IsTrue (has_jobs (get_or sums.accounts.queues queue fresh_account)) → ⊥
-    idle_known cores drained queue jobs = drained.idle queue (sym (works queue) ∙ jobs)
+    pub empty_known : (cores : ℕ) → IsDrained cores journal → (queue : ℕ) → IsEmpty (account_of sums.accounts queue)
+    empty_known cores drained queue =
+        is_empty queue (account_of sums.accounts queue) journal (knows.accounts.each queue)
+        (record { idle = false_from_ne_true (has_work queue journal) (drained.idle queue); nobody_parked = drained.nobody_parked queue })

@@ -5,16 +5,17 @@ use Rattle.std.proofs.lemmas.Bool.{eq-eqb, ne_eqb}
 use Rattle.rt_shares.specs.Charge.{charge, clamped}
 use Rattle.rt_ids.specs.declared.names.JobId.{JobId}
 use Rattle.rt_ids.specs.declared.note.Note.{Note}
-use Rattle.rt_ids.specs.declared.note.Note.TheVariants.{Pick, Start, Resume, Yield, Done, Returned}
+use Rattle.rt_ids.specs.declared.note.Note.TheVariants.{Pick, Start, Resume, Yield, Park, Stayed, Done, Returned}
 use Rattle.rt_ids.specs.HandBacks.{picks_of, queue_picked}
 use Rattle.rt_ids.specs.Journal.{Journal}
 use Rattle.rt_ids.specs.Lag.{greatest_charge}
 use Rattle.rt_ids.specs.Names.{is_number}
+use Rattle.rt_ids.specs.Polls.{poll_settled}
 use Rattle.rt_ids.specs.Runtimes.{shares}
 use Rattle.rt_ids.specs.Work.{queue_of, number_if}
 use Rattle.rt_journal_facts.specs.Accounts.{greatest_runtime, greatest_count}
 use Rattle.rt_stats.specs.declared.tally.Tally.{Tally}
-use Rattle.rt_stats.specs.Sums.{count_of, queue_of_told, run_time, time_noted, charges, begun_count, settled_count, finished_count, returned_count}
+use Rattle.rt_stats.specs.Sums.{count_of, queue_of_told, run_time, time_noted, time_of, charges, begun_count, settled_count, finished_count, returned_count}
 use Rattle.rt_stats.proofs.Tables.{each_next}
 use Rattle.rt_stats.specs.Tallies.{tally_after, tally_of, queue_noted, cost_told, KnowsTally, no_tally}
 
@@ -54,17 +55,15 @@ module _ {T : Type 0} where
       omega (arith, count_of-within says queue before, number_if-within (is_number queue (queue_of_told (says note) before)))
 
   time_noted-below : (queue : ℕ) (note : Note T) (before : Journal T) → time_noted queue note before < 2 ^ 50
-  time_noted-below queue (Yield name time) before = by_test (is_number queue (queue_of name before))
+  time_noted-below queue note before = by_poll (poll_settled note)
     where
-      by_test : (test : Bool) → cond test (clamped time) 0 < 2 ^ 50
-      by_test true = clamped_below time
-      by_test false = omega arith
-  time_noted-below queue (Done name time value) before = by_test (is_number queue (queue_of name before))
-    where
-      by_test : (test : Bool) → cond test (clamped time) 0 < 2 ^ 50
-      by_test true = clamped_below time
-      by_test false = omega arith
-  time_noted-below queue _ before = omega arith
+      by_test : (time : ℕ) (test : Bool) → cond test (clamped time) 0 < 2 ^ 50
+      by_test time true = clamped_below time
+      by_test time false = omega arith
+
+      by_poll : (poll : Option (JobId × ℕ)) → time_of queue poll before < 2 ^ 50
+      by_poll None = omega arith
+      by_poll (Some poll) = by_test poll.1 (is_number queue (queue_of poll.0 before))
 
   pub run_time-within : (queue : ℕ) (journal : Journal T) → run_time queue journal ≤ length journal * 2 ^ 50
   run_time-within queue [] = omega arith
@@ -106,6 +105,20 @@ module _ {T : Type 0} where
       (still (settled_count queue before)) (still (finished_count queue before)) (still (returned_count queue before))
   tally_other queue (Yield name time) before apart =
       tally_is queue (Yield name time) before (tally_of queue before) (still (picks_of queue before))
+      (still (run_time queue before) ∙ ap (λ test. run_time queue before + cond test (clamped time) 0) (sym apart))
+      (still (charges queue before) ∙ ap (λ test. charges queue before + cond test (charge time (shares queue before)) 0) (sym apart))
+      (keeps (greatest_charge queue before) ∙ ap (λ test. max (greatest_charge queue before) (cond test (charge time (shares queue before)) 0)) (sym apart))
+      (still (begun_count queue before)) (still (settled_count queue before) ∙ ap (λ test. settled_count queue before + number_if test) (sym apart))
+      (still (finished_count queue before)) (still (returned_count queue before))
+  tally_other queue (Park name time) before apart =
+      tally_is queue (Park name time) before (tally_of queue before) (still (picks_of queue before))
+      (still (run_time queue before) ∙ ap (λ test. run_time queue before + cond test (clamped time) 0) (sym apart))
+      (still (charges queue before) ∙ ap (λ test. charges queue before + cond test (charge time (shares queue before)) 0) (sym apart))
+      (keeps (greatest_charge queue before) ∙ ap (λ test. max (greatest_charge queue before) (cond test (charge time (shares queue before)) 0)) (sym apart))
+      (still (begun_count queue before)) (still (settled_count queue before) ∙ ap (λ test. settled_count queue before + number_if test) (sym apart))
+      (still (finished_count queue before)) (still (returned_count queue before))
+  tally_other queue (Stayed name time) before apart =
+      tally_is queue (Stayed name time) before (tally_of queue before) (still (picks_of queue before))
       (still (run_time queue before) ∙ ap (λ test. run_time queue before + cond test (clamped time) 0) (sym apart))
       (still (charges queue before) ∙ ap (λ test. charges queue before + cond test (charge time (shares queue before)) 0) (sym apart))
       (keeps (greatest_charge queue before) ∙ ap (λ test. max (greatest_charge queue before) (cond test (charge time (shares queue before)) 0)) (sym apart))
@@ -171,6 +184,20 @@ module _ {T : Type 0} where
         (highest (charge time (shares queue before)) (is_number queue (queue_of name before)) here is) (still (begun_count queue before))
         (counted (settled_count queue before) (is_number queue (queue_of name before)) (count_of-within _ queue before) here)
         (still (finished_count queue before)) (still (returned_count queue before))
+    tally_own (Park name time) noted is =
+        let here : is_number queue (queue_of name before) ≡ true = is_this queue (queue_of name before) noted in
+        tally_is queue (Park name time) before (tally_after {T = T} cost (Park name time) (tally_of queue before)) (still (picks_of queue before))
+        (timed time (is_number queue (queue_of name before)) here) (charged (charge time (shares queue before)) (is_number queue (queue_of name before)) here is)
+        (highest (charge time (shares queue before)) (is_number queue (queue_of name before)) here is) (still (begun_count queue before))
+        (counted (settled_count queue before) (is_number queue (queue_of name before)) (count_of-within _ queue before) here)
+        (still (finished_count queue before)) (still (returned_count queue before))
+    tally_own (Stayed name time) noted is =
+        let here : is_number queue (queue_of name before) ≡ true = is_this queue (queue_of name before) noted in
+        tally_is queue (Stayed name time) before (tally_after {T = T} cost (Stayed name time) (tally_of queue before)) (still (picks_of queue before))
+        (timed time (is_number queue (queue_of name before)) here) (charged (charge time (shares queue before)) (is_number queue (queue_of name before)) here is)
+        (highest (charge time (shares queue before)) (is_number queue (queue_of name before)) here is) (still (begun_count queue before))
+        (counted (settled_count queue before) (is_number queue (queue_of name before)) (count_of-within _ queue before) here)
+        (still (finished_count queue before)) (still (returned_count queue before))
     tally_own (Done name time value) noted is =
         let here : is_number queue (queue_of name before) ≡ true = is_this queue (queue_of name before) noted in
         tally_is queue (Done name time value) before (tally_after {T = T} cost (Done name time value) (tally_of queue before)) (still (picks_of queue before))
@@ -192,6 +219,8 @@ module _ {T : Type 0} where
 -- a note adds no more than its cost
 charged-within : {T : Type 0} (cost : ℕ) (note : Note T) (tally : Tally) → (tally_after {T = T} cost note tally).charged ≤ tally.charged + cost
 charged-within cost (Yield name time) tally = omega arith
+charged-within cost (Park name time) tally = omega arith
+charged-within cost (Stayed name time) tally = omega arith
 charged-within cost (Done name time value) tally = omega arith
 charged-within cost _ tally = omega arith
 

@@ -1,12 +1,13 @@
--- In a lawful journal the jobs that wait are those of the queue's line.
+-- In a lawful journal the jobs that wait are those of the queue's line and the parked ones.
 use Rattle.std.proofs.Common.{◌≡◌, ℕ, ◌+◌, [], ◌∷◌, length, refl, ap, arith}
 use Rattle.rt_ids.specs.declared.names.JobId.{JobId}
 use Rattle.rt_ids.specs.declared.note.Note.{Note}
-use Rattle.rt_ids.specs.declared.note.Note.TheVariants.{Start, Resume, Yield, Done}
+use Rattle.rt_ids.specs.declared.note.Note.TheVariants.{Start, Resume, Yield, Park, Stayed, Done}
 use Rattle.rt_ids.specs.Journal.{Journal, EachNote}
 use Rattle.rt_ids.specs.Lawful.{MayFollow, MayStand, IsTurnOf}
 use Rattle.rt_ids.specs.Lines.{line, jobs_out, queue_of_first, queue_out}
 use Rattle.rt_ids.specs.Names.{is_number}
+use Rattle.rt_ids.specs.Parks.{parked}
 use Rattle.rt_ids.specs.Terms.{Terms}
 use Rattle.rt_ids.specs.Work.{queue_of, number_if}
 use Rattle.rt_ids.proofs.Counts.{queue_out-alone, queue_out-stays, counts_agree}
@@ -39,10 +40,16 @@ module _ {T : Type 0} (terms : Terms) (queue : ℕ) where
       by_note (Yield name time) law agrees =
           let were : queue_out before ≡ queue_of name before = queue_out-alone name before law in
           rw (names_but-alone name before law) (omega (arith, agrees, ap (λ its. number_if (is_number queue its)) were))
+      by_note (Park name time) law agrees =
+          let were : queue_out before ≡ queue_of name before = queue_out-alone name before law.0 in
+          rw (names_but-alone name before law.0) (omega (arith, agrees, ap (λ its. number_if (is_number queue its)) were))
+      by_note (Stayed name time) law agrees =
+          let were : queue_out before ≡ queue_of name before = queue_out-alone name before law.0 in
+          rw (names_but-alone name before law.0) (omega (arith, agrees, ap (λ its. number_if (is_number queue its)) were))
       by_note (Done name time value) law agrees =
           let were : queue_out before ≡ queue_of name before = queue_out-alone name before law in
           rw (names_but-alone name before law) (omega (arith, agrees, ap (λ its. number_if (is_number queue its)) were))
       by_note note law agrees = rw (stays note law) (omega (arith, agrees))
 
-  pub waiting_is_line : (journal : Journal T) → EachNote (MayStand terms) journal → waiting_count queue journal ≡ length (line queue journal)
+  pub waiting_is_line : (journal : Journal T) → EachNote (MayStand terms) journal → waiting_count queue journal ≡ length (line queue journal) + length (parked queue journal)
   waiting_is_line journal notes = omega (arith, polls_agree journal notes, counts_agree terms queue journal notes)

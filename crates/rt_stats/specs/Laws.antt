@@ -1,12 +1,13 @@
 -- Laws of the statistics of lawful journals.
-use Rattle.std.specs.Prelude.{◌≡◌, ℕ, length}
+use Rattle.std.specs.Prelude.{◌≡◌, ℕ, ◌+◌, length}
 use Rattle.rt_ids.specs.Journal.{Journal, EachNote}
 use Rattle.rt_ids.specs.Lawful.{MayStand}
 use Rattle.rt_ids.specs.Lines.{line}
+use Rattle.rt_ids.specs.Parks.{parked}
 use Rattle.rt_ids.specs.Terms.{Terms}
 use Rattle.rt_stats.specs.Sums.{waiting_count}
 
--- in a lawful journal the jobs that wait are those of the queue's line
+-- in a lawful journal the jobs that wait are those of the queue's line and the parked ones
 abbrev pub WaitingIsLine : Type 0
 WaitingIsLine =
-    (terms : Terms) (queue : ℕ) (journal : Journal ℕ) → EachNote (MayStand terms) journal → waiting_count queue journal ≡ length (line queue journal)
+    (terms : Terms) (queue : ℕ) (journal : Journal ℕ) → EachNote (MayStand terms) journal → waiting_count queue journal ≡ length (line queue journal) + length (parked queue journal)

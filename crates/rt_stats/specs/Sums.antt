@@ -3,12 +3,13 @@ use Rattle.std.specs.Prelude.{ℕ, ◌+◌, ◌-◌, if◌then◌else◌, Option
 use Rattle.rt_shares.specs.Charge.{clamped}
 use Rattle.rt_ids.specs.declared.names.JobId.{JobId}
 use Rattle.rt_ids.specs.declared.note.Note.{Note}
-use Rattle.rt_ids.specs.declared.note.Note.TheVariants.{Yield, Done, Returned}
+use Rattle.rt_ids.specs.declared.note.Note.TheVariants.{Returned}
 use Rattle.rt_ids.specs.Filters.{name_finished}
 use Rattle.rt_ids.specs.HandBacks.{jobs_inside}
 use Rattle.rt_ids.specs.Journal.{Journal}
 use Rattle.rt_ids.specs.Lines.{name_polled, name_settled}
 use Rattle.rt_ids.specs.Names.{is_number}
+use Rattle.rt_ids.specs.Polls.{poll_settled}
 use Rattle.rt_ids.specs.Runtimes.{charge_noted}
 use Rattle.rt_ids.specs.Work.{queue_of, number_if}
 
@@ -42,10 +43,13 @@ abbrev pub returned_count : {T : Type 0} → ℕ → Journal T → ℕ
 returned_count = count_of name_returned
 
 -- the time of a settled poll of a job of the queue, as it counts for its charge
+abbrev pub time_of : {T : Type 0} → ℕ → Option (JobId × ℕ) → Journal T → ℕ
+time_of queue None before = 0
+time_of queue (Some poll) before = if is_number queue (queue_of poll.0 before) then clamped poll.1 else 0
+
+-- the same of the poll that a note settles
 abbrev pub time_noted : {T : Type 0} → ℕ → Note T → Journal T → ℕ
-time_noted queue (Yield name time) before = if is_number queue (queue_of name before) then clamped time else 0
-time_noted queue (Done name time value) before = if is_number queue (queue_of name before) then clamped time else 0
-time_noted queue _ before = 0
+time_noted queue note before = time_of queue (poll_settled note) before
 
 -- the time of all polls of the queue
 abbrev pub run_time : {T : Type 0} → ℕ → Journal T → ℕ
@@ -57,6 +61,6 @@ abbrev pub charges : {T : Type 0} → ℕ → Journal T → ℕ
 charges queue [] = 0
 charges queue (note ∷ before) = charges queue before + charge_noted queue note before
 
--- the jobs inside a queue that aren't being polled
+-- the jobs inside a queue that aren't being polled, parked ones counted too
 abbrev pub waiting_count : {T : Type 0} → ℕ → Journal T → ℕ
 waiting_count queue journal = jobs_inside queue journal - (begun_count queue journal - settled_count queue journal)

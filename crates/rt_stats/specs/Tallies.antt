@@ -1,13 +1,15 @@
 -- What is counted of a queue, and how a note changes it.
 use Rattle.std.specs.Prelude.{◌≡◌, ℕ, ◌+◌, ◌*◌, ◌^◌, ◌≤◌, min, max, Option, Some, None, length}
 use Rattle.rt_shares.specs.Charge.{charge, clamped}
+use Rattle.rt_ids.specs.declared.names.JobId.{JobId}
 use Rattle.rt_ids.specs.declared.note.Note.{Note}
-use Rattle.rt_ids.specs.declared.note.Note.TheVariants.{Took, Created, SharesSet, Pick, Start, Resume, Yield, Done, Returned}
+use Rattle.rt_ids.specs.declared.note.Note.TheVariants.{Pick, Start, Resume, Yield, Park, Stayed, Done, Returned}
 use Rattle.rt_ids.specs.HandBacks.{picks_of}
 use Rattle.rt_ids.specs.Journal.{Journal}
 use Rattle.rt_ids.specs.Lag.{greatest_charge}
-use Rattle.rt_ids.specs.Work.{queue_of}
+use Rattle.rt_ids.specs.Polls.{poll_settled}
 use Rattle.rt_journal_facts.specs.Accounts.{greatest_runtime, greatest_count}
+pub use Rattle.rt_journal_facts.specs.Spots.{queue_noted}
 use Rattle.rt_stats.specs.declared.tally.Tally.{Tally}
 use Rattle.rt_stats.specs.Sums.{run_time, charges, begun_count, settled_count, finished_count, returned_count}
 
@@ -15,24 +17,14 @@ use Rattle.rt_stats.specs.Sums.{run_time, charges, begun_count, settled_count, f
 abbrev pub no_tally : Tally
 no_tally = record { selected = 0; time = 0; charged = 0; greatest = 0; begun = 0; settled = 0; finished = 0; returned = 0 }
 
--- the queue that a note speaks of, by its number or by a job of it
-abbrev pub queue_noted : {T : Type 0} → Note T → Journal T → Option ℕ
-queue_noted (Took name queue) before = Some queue
-queue_noted (Created queue weight) before = Some queue
-queue_noted (SharesSet queue weight) before = Some queue
-queue_noted (Pick queue runtime) before = Some queue
-queue_noted (Start name) before = queue_of name before
-queue_noted (Resume name) before = queue_of name before
-queue_noted (Yield name time) before = queue_of name before
-queue_noted (Done name time value) before = queue_of name before
-queue_noted (Returned name reason) before = queue_of name before
-queue_noted _ before = None
+-- what a poll costs a queue of these shares
+abbrev pub cost_of : ℕ → Option (JobId × ℕ) → ℕ
+cost_of weight None = 0
+cost_of weight (Some poll) = charge poll.1 weight
 
--- what a note costs a queue of these shares
+-- what a note costs it
 abbrev pub cost_told : {T : Type 0} → ℕ → Note T → ℕ
-cost_told weight (Yield name time) = charge time weight
-cost_told weight (Done name time value) = charge time weight
-cost_told weight _ = 0
+cost_told weight note = cost_of weight (poll_settled note)
 
 -- one more, within the type
 abbrev pub one_more : ℕ → ℕ
@@ -54,6 +46,8 @@ tally_after cost (Pick queue runtime) tally = record tally { selected = one_more
 tally_after cost (Start name) tally = record tally { begun = one_more tally.begun }
 tally_after cost (Resume name) tally = record tally { begun = one_more tally.begun }
 tally_after cost (Yield name time) tally = settling cost time tally
+tally_after cost (Park name time) tally = settling cost time tally
+tally_after cost (Stayed name time) tally = settling cost time tally
 tally_after cost (Done name time value) tally = record (settling cost time tally) { finished = one_more tally.finished }
 tally_after cost (Returned name reason) tally = record tally { returned = one_more tally.returned }
 tally_after cost _ tally = tally

@@ -1,23 +1,18 @@
 -- What a walk over a journal knows of the notes that it has read.
 use Rattle.std.specs.Prelude.{◌≡◌, ℕ, zero, suc, ◌+◌, ◌-◌, ◌≤◌, List, get_or, length}
-use Rattle.rt_ids.specs.declared.names.JobId.{JobId}
 use Rattle.rt_ids.specs.Commands.{created_count}
 use Rattle.rt_ids.specs.Journal.{Journal}
 use Rattle.rt_ids.specs.Picks.{turns}
-use Rattle.rt_ids.specs.Work.{queue_of}
-use Rattle.rt_journal_facts.specs.Names.{Entries, known}
 use Rattle.rt_journal_facts.specs.declared.accounts.Account.{Account}
 use Rattle.rt_journal_facts.specs.declared.accounts.Accounts.{Accounts}
 use Rattle.rt_journal_facts.specs.Accounts.{greatest_count, fresh_account}
+use Rattle.rt_journal_facts.specs.declared.parks.Parks.{Parks}
 use Rattle.rt_journal_facts.specs.AllAccounts.{KnowsAccounts}
+use Rattle.rt_journal_facts.specs.Parks.{KnowsParks}
 use Rattle.rt_stats.specs.declared.gates.Gates.{Gates}
 use Rattle.rt_stats.specs.declared.tally.Tallies.{Tallies}
 use Rattle.rt_stats.specs.Tallies.{KnowsTally, no_tally}
 use Rattle.rt_stats.specs.Gates.{gate_of, open_gate}
-
--- the queue of each job is known
-abbrev pub KnowsQueues : {T : Type 0} → Entries ℕ → Journal T → Type 0
-KnowsQueues queues journal = (name : JobId) → known queues name ≡ queue_of name journal
 
 -- each tally says of its queue what these notes say
 abbrev pub KnowsTallies : {T : Type 0} → Tallies → Journal T → Type 0
@@ -31,7 +26,7 @@ pub record KnowsGates {T : Type 0} (gates : Gates) (journal : Journal T) : Type 
   pub picked_fit : turns journal ≤ length journal
   pub made_fit : created_count journal ≤ length journal
 
--- the jobs inside a queue, by its account
+-- the jobs inside a queue, parked ones counted too, by its account
 abbrev pub inside : Account → ℕ
 inside account = account.entered - account.left
 
@@ -40,16 +35,16 @@ abbrev pub inside_below : ℕ → List Account → ℕ
 inside_below zero accounts = 0
 inside_below (suc queue) accounts = inside_below queue accounts + inside (get_or accounts queue fresh_account)
 
--- the queues of jobs, the accounts and tallies of queues, and the gates
+-- the queues of jobs and where they are parked, the accounts and tallies of queues, and the gates
 pub record SumsView : Type 0 where
-  pub queues : Entries ℕ
+  pub parks : Parks
   pub accounts : Accounts
   pub tallies : Tallies
   pub gates : Gates
 
 -- all is known as these notes tell it
 pub record KnowsSums {T : Type 0} (sums : SumsView) (journal : Journal T) : Type 0 where
-  pub queues : KnowsQueues sums.queues journal
+  pub parks : KnowsParks sums.parks journal
   pub accounts : KnowsAccounts sums.accounts journal
   pub tallies : KnowsTallies sums.tallies journal
   pub gates : KnowsGates sums.gates journal

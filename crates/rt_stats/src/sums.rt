@@ -10,10 +10,9 @@ ghost use Rattle.rt_stats.specs.Sums.{charges};
 ghost use Rattle.rt_stats.specs.Walks.{KnowsSums, inside_below};
 
 use crate::gates::{Gates, all_done};
-use crate::tally::{Tallies, queue_noted, queue_touched};
+use crate::tally::Tallies;
 use rt_ids::{CoreStats, Note, QueueNo, QueueStats};
-use rt_journal_facts::told::queue_told;
-use rt_journal_facts::{Account, Accounts, NameTable, note_at};
+use rt_journal_facts::{Account, Accounts, Parks, note_at};
 use rt_journal_notes::Journal;
 use std::alloc::{AllocError, Global};
 use std::marker::Model;
@@ -23,7 +22,7 @@ use std::marker::Model;
 /// A contract sees the four tables of it. `KnowsSums` says that they are what some notes tell.
 #[derive(Drop)]
 pub struct Sums {
-    queues: NameTable<QueueNo>,
+    parks: Parks,
     accounts: Accounts,
     tallies: Tallies,
     gates: Gates,
@@ -34,7 +33,7 @@ impl Model for Sums {
 
     ghost Value = { SumsView };
 
-    ghost view = { λ sums. record { queues = sums.queues; accounts = sums.accounts; tallies = sums.tallies; gates = sums.gates } };
+    ghost view = { λ sums. record { parks = sums.parks; accounts = sums.accounts; tallies = sums.tallies; gates = sums.gates } };
 }
 
 /// The jobs inside all queues, of which so many were created behind queue 0.
@@ -55,7 +54,7 @@ impl Sums {
         ensures { KnowsSums {T = ℕ} result [] }
     {
         Sums {
-            queues: NameTable::new(alloc),
+            parks: Parks::new(alloc),
             accounts: Accounts::new(),
             tallies: Tallies::new(),
             gates: Gates::new(),
@@ -66,13 +65,11 @@ impl Sums {
     fn add(&mut self, note: &Note<u64>) -> Result<(), AllocError>
         ensures { OnOk result ((before : Notes ℕ) → length before < greatest_count → KnowsSums self.old before → KnowsSums self.new (note.now ∷ before)) }
     {
-        let queue = queue_noted(note, &self.queues);
-        let touched = queue_touched(note, &queue);
-        self.tallies.add(note, &queue, &self.accounts);
-        self.accounts.add(note, touched);
+        let spot = self.parks.spot(note);
+        self.tallies.add(note, &spot.queue, &self.accounts);
+        self.accounts.add(note, &spot);
         self.gates.add(note);
-        self.queues.set_told(queue_told(note))?;
-        Ok(())
+        self.parks.add(note)
     }
 
     /// Reads the notes from one place to another, after those before the first place.
@@ -142,7 +139,7 @@ impl Sums {
             turns: self.gates.turns,
             floor: self.accounts.floor,
             held: held(&self.accounts.queues, self.gates.created),
-            drained: all_done(&self.gates.senders, cores) && self.accounts.are_idle(),
+            drained: all_done(&self.gates.senders, cores) && self.accounts.are_empty(),
         }
     }
 

@@ -6,11 +6,11 @@ ghost use Rattle.rt_journal_facts.specs.Accounts.{greatest_count, fresh_account}
 ghost use Rattle.rt_journal_facts.specs.AllAccounts.{KnowsAccounts};
 ghost use Rattle.rt_stats.specs.Tallies.{no_tally, one_more, settling, tally_after, cost_told};
 ghost use Rattle.rt_stats.specs.Tallies as spec;
-ghost use Rattle.rt_stats.specs.Walks.{KnowsTallies, KnowsQueues};
-ghost use Rattle.rt_journal_facts.specs.Accounts as accounts;
+ghost use Rattle.rt_stats.specs.Walks.{KnowsTallies};
 
 use rt_ids::{Note, QueueNo};
-use rt_journal_facts::{Account, Accounts, NameTable};
+use rt_journal_facts::told::poll_settled;
+use rt_journal_facts::{Account, Accounts};
 use rt_shares::Shares;
 
 /// Of the notes that were read: what is counted of one queue. Times are nanoseconds.
@@ -70,6 +70,8 @@ impl Tally {
             Note::Start(_) => self.begun = self.begun.saturating_add(1),
             Note::Resume(_) => self.begun = self.begun.saturating_add(1),
             Note::Yield(_, time) => self.settle(cost, time),
+            Note::Park(_, time) => self.settle(cost, time),
+            Note::Stayed(_, time) => self.settle(cost, time),
             Note::Done(_, time, _) => {
                 self.settle(cost, time);
                 self.finished = self.finished.saturating_add(1);
@@ -80,45 +82,14 @@ impl Tally {
     }
 }
 
-/// The queue that a note speaks of, by its number or by a job of it.
-pub fn queue_noted(note: &Note<u64>, queues: &NameTable<QueueNo>) -> Option<QueueNo>
-    ensures { (before : Notes ℕ) → KnowsQueues queues.now before → result ≡ spec.queue_noted note.now before }
-{
-    match *note {
-        Note::Took(_, queue) => Some(queue),
-        Note::Created(queue, _) => Some(queue),
-        Note::SharesSet(queue, _) => Some(queue),
-        Note::Pick(queue, _) => Some(queue),
-        Note::Start(name) => queues.get(&name),
-        Note::Resume(name) => queues.get(&name),
-        Note::Yield(name, _) => queues.get(&name),
-        Note::Done(name, _, _) => queues.get(&name),
-        Note::Returned(name, _) => queues.get(&name),
-        _ => None,
-    }
-}
-
-/// The queue whose account a note changes, of the queue that it speaks of.
-pub fn queue_touched(note: &Note<u64>, queue: &Option<QueueNo>) -> Option<QueueNo>
-    ensures { (before : Notes ℕ) → queue.now ≡ spec.queue_noted note.now before → result ≡ accounts.queue_touched note.now before }
-{
-    match *note {
-        Note::Pick(_, _) => None,
-        Note::Start(_) => None,
-        Note::Resume(_) => None,
-        _ => *queue,
-    }
-}
-
 /// What a note costs a queue of these shares.
 fn cost_told(note: &Note<u64>, shares: &Shares) -> u64
     ensures value { result ≡ cost_told shares.now note.now }
     ensures bounded { result < 2 ^ 50 }
 {
-    match *note {
-        Note::Yield(_, time) => rt_shares::charge(time, shares),
-        Note::Done(_, time, _) => rt_shares::charge(time, shares),
-        _ => 0,
+    match poll_settled(note) {
+        Some((_, time)) => rt_shares::charge(time, shares),
+        None => 0,
     }
 }
 

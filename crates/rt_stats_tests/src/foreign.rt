@@ -1,7 +1,7 @@
 //! Journals that no core wrote.
 
 use crate::journals::{FIRST, journal_of};
-use rt_ids::{ActorNo, CoreNo, JobId, Note, QueueNo, QueueStats};
+use rt_ids::{ActorNo, CoreNo, JobId, Mode, Note, QueueNo, QueueStats};
 use rt_journal_notes::Journal;
 use rt_stats::{Sums, core_stats, gained, queue_stats};
 use std::alloc::Global;
@@ -42,6 +42,15 @@ const IN_ORDER: [Note<u64>; 7] = [
     Note::Pick(Q0, 5),
     Note::Resume(FIRST),
     Note::Done(FIRST, 7, 1),
+];
+
+/// A job is parked, and a queue is picked behind that.
+const PARKED: [Note<u64>; 5] = [
+    Note::Took(FIRST, Q0),
+    Note::Pick(Q0, 0),
+    Note::Start(FIRST),
+    Note::Park(FIRST, 10),
+    Note::Pick(QueueNo(7), 100),
 ];
 
 /// What queue 0 is told to be.
@@ -120,4 +129,42 @@ fn read_in_parts(alloc: Global) -> Option<bool> {
 #[test]
 fn notes_are_read_place_by_place(rt: HostRuntime) {
     assert!(rt; read_in_parts(rt.alloc()) == Some(true));
+}
+
+fn is_parked(stats: &QueueStats) -> bool {
+    (stats.runtime, stats.virtual_runtime, stats.waiting) == (10, 10, 1)
+}
+
+fn parked(alloc: Global) -> Option<bool> {
+    let journal = journal_of(alloc, &PARKED).ok()?;
+    let held = core_stats(alloc, &journal, 1).ok()?.held;
+    match told(alloc, &journal) {
+        Some(stats) => Some(is_parked(&stats) && held == 1),
+        None => None,
+    }
+}
+
+#[test]
+fn a_parked_job_waits(rt: HostRuntime) {
+    assert!(rt; parked(rt.alloc()) == Some(true));
+}
+
+/// The virtual runtime of queue 0 where this note follows those of the parked job.
+fn placed_by(alloc: Global, note: Note<u64>) -> Option<u128> {
+    let mut journal = journal_of(alloc, &PARKED).ok()?;
+    if journal.free() > 0 {
+        journal.push(note);
+    }
+    match told(alloc, &journal) {
+        Some(stats) => Some(stats.virtual_runtime),
+        None => None,
+    }
+}
+
+#[test]
+fn a_queue_is_placed_where_a_park_ends(rt: HostRuntime) {
+    assert!(rt; placed_by(rt.alloc(), Note::Woken(FIRST)) == Some(100));
+    assert!(rt; placed_by(rt.alloc(), Note::QueueClosed(Q0, Mode::Return)) == Some(100));
+    assert!(rt; placed_by(rt.alloc(), Note::CoreClosed(Mode::Return)) == Some(100));
+    assert!(rt; placed_by(rt.alloc(), Note::CoreClosed(Mode::Finish)) == Some(10));
 }

@@ -1,12 +1,16 @@
 -- A chain of entries: what stays as entries change, and what its head and its tail show.
-use Rattle.std.proofs.Common.{◌≡◌, ℕ, zero, suc, ◌<◌, List, [], ◌∷◌, ◌++◌, length, Option, Some, None, refl, sym, ap, ◌∙◌, append_assoc, arith}
-use Rattle.std.specs.Prelude.{IsSome, Bool}
+use Rattle.std.proofs.Common.{◌≡◌, ℕ, zero, suc, ◌+◌, ◌<◌, [], ◌∷◌, ◌++◌, length, Option, Some, None, refl, sym, ap, ◌∙◌, append_assoc, arith}
+use Rattle.std.specs.Prelude.{IsSome}
 use Rattle.std.proofs.lemmas.List.{length-append}
-use Rattle.rt_ids.specs.declared.names.JobId.{JobId}
 use Rattle.rt_taskqueue.specs.declared.waiting.Waiting.{Waiting}
+use Rattle.rt_taskqueue.specs.View.{Line}
 use Rattle.rt_taskqueue.specs.Linked.{next_of, shown, key_at, chain}
 
 module _ {J : Type 0} where
+  append_nil_right : (line : Line J) → line ++ [] ≡ line
+  append_nil_right [] = refl
+  append_nil_right (job ∷ line) = ap (λ rest. job ∷ rest) (append_nil_right line)
+
   -- a chain goes on from its second key as it did
   pub key_at-second : (entry : ℕ → Option (Waiting J)) (head place : ℕ) → key_at entry (next_of (entry head)) place ≡ key_at entry head (suc place)
   key_at-second entry head zero = refl
@@ -33,16 +37,35 @@ module _ {J : Type 0} where
 
   -- the head of a chain, and the rest
   pub chain-head : (entry : ℕ → Option (Waiting J)) (head count : ℕ) → chain entry head (suc count) ≡ shown (entry head) ++ chain entry (next_of (entry head)) count
-  chain-head entry head zero = sym (append-nil-right (shown (entry head)))
-    where
-      append-nil-right : (line : List (JobId × Bool × J)) → line ++ [] ≡ line
-      append-nil-right [] = refl
-      append-nil-right (job ∷ line) = ap (λ rest. job ∷ rest) (append-nil-right line)
+  chain-head entry head zero = sym (append_nil_right (shown (entry head)))
   chain-head entry head (suc count) =
       let next = next_of (entry head) in
       ap (λ line. line ++ shown (entry (key_at entry head (suc count)))) (chain-head entry head count)
       ∙ append_assoc (shown (entry head)) (chain entry next count) (shown (entry (key_at entry head (suc count))))
       ∙ ap (λ key. shown (entry head) ++ (chain entry next count ++ shown (entry key))) (sym (key_at-second entry head count))
+
+  -- a chain goes on from any place as it did
+  pub key_at-add : (entry : ℕ → Option (Waiting J)) (head first place : ℕ) → key_at entry (key_at entry head first) place ≡ key_at entry head (first + place)
+  key_at-add entry head first zero = ap (key_at entry head) (omega arith)
+  key_at-add entry head first (suc place) =
+      let next : suc (first + place) ≡ first + suc place = omega arith in
+      ap (λ key. next_of (entry key)) (key_at-add entry head first place) ∙ ap (key_at entry head) next
+
+  -- a chain is what stands before a place, and what goes on from there
+  pub chain-add : (entry : ℕ → Option (Waiting J)) (head first count : ℕ) → chain entry head (first + count) ≡ chain entry head first ++ chain entry (key_at entry head first) count
+  chain-add entry head first zero =
+      let all : first + 0 ≡ first = omega arith in
+      ap (chain entry head) all ∙ sym (append_nil_right (chain entry head first))
+  chain-add entry head first (suc count) =
+      let next : first + suc count ≡ suc (first + count) = omega arith in
+      ap (chain entry head) next ∙ ap (λ line. line ++ shown (entry (key_at entry head (first + count)))) (chain-add entry head first count)
+      ∙ append_assoc (chain entry head first) (chain entry (key_at entry head first) count) (shown (entry (key_at entry head (first + count))))
+      ∙ ap (λ key. chain entry head first ++ (chain entry (key_at entry head first) count ++ shown (entry key))) (sym (key_at-add entry head first count))
+
+  -- what stands before a place, what stands there, and what goes on behind it
+  pub chain-at : (entry : ℕ → Option (Waiting J)) (head first count : ℕ) → chain entry head (first + suc count) ≡ chain entry head first ++ (shown (entry (key_at entry head first)) ++ chain entry (key_at entry head (suc first)) count)
+  chain-at entry head first count =
+      chain-add entry head first (suc count) ∙ ap (λ line. chain entry head first ++ line) (chain-head entry (key_at entry head first) count)
 
   -- an entry that has a job shows one
   pub length-shown : (entry : Option (Waiting J)) → IsSome entry → length (shown entry) ≡ 1

@@ -1,17 +1,17 @@
 -- The job at the head of a line leaves.
-use Rattle.std.proofs.Common.{◌≡◌, ℕ, ◌+◌, ◌-◌, ◌<◌, List, ◌∷◌, drop, length, set, Some, None, sym, ap, ◌∙◌, arith}
-use Rattle.std.specs.Prelude.{Bool}
-use Rattle.std.proofs.lemmas.List.{length-set}
+use Rattle.std.proofs.Common.{◌≡◌, ℕ, ◌+◌, ◌-◌, ◌<◌, List, ◌++◌, length, Some, None, refl, sym, ap, ◌∙◌, subst, arith}
 use Rattle.slab.specs.Slab.{Slab, get, slab_len, Updates}
-use Rattle.rt_ids.specs.declared.names.JobId.{JobId}
 use Rattle.rt_taskqueue.specs.declared.waiting.Waiting.{Waiting}
 use Rattle.rt_taskqueue.specs.declared.line.Line.{Line}
-use Rattle.rt_taskqueue.specs.Queues.{waiting_of, ChangesLine, held_count}
-use Rattle.rt_taskqueue.specs.Linked.{line_at, next_of, chain, IsKept}
+use Rattle.rt_taskqueue.specs.declared.line.Queue.{Queue}
+use Rattle.rt_taskqueue.specs.View.{waiting_of, held_count}
+use Rattle.rt_taskqueue.specs.Queues.{ChangesLine}
+use Rattle.rt_taskqueue.specs.Linked.{Spot, line_at, next_of, shown, chain, IsKept}
+use Rattle.rt_taskqueue.proofs.Spots.{waits, placed, ChangesOne-placed, job_count-placed, length-placed, shares-placed, mode-placed}
 use Rattle.rt_taskqueue.proofs.Links.{KeepsLines, IsLinked-kept, chain-kept}
 use Rattle.rt_taskqueue.proofs.Ends.{Shrinks, IsLinked-shrunk, KeepsLines-take, chain-shrunk}
-use Rattle.rt_taskqueue.proofs.Changes.{ChangesOne-set, job_count-set, ChangesLine-set}
-use Rattle.rt_taskqueue.proofs.Views.{alone, waiting_of-view, held_count-view}
+use Rattle.rt_taskqueue.proofs.Changes.{Writes, ChangesLine-of}
+use Rattle.rt_taskqueue.proofs.Views.{line_says, alone, waiting_of-view, held_count-view}
 
 -- the head of a line goes out of the slab, and the line goes on from its next
 pub record Leaves {J : Type 0} (old : Slab (Waiting J)) (line : Line) (front : Waiting J) (new : Slab (Waiting J)) (rest : Line) : Type 0 where
@@ -23,8 +23,6 @@ pub record Leaves {J : Type 0} (old : Slab (Waiting J)) (line : Line) (front : W
   pub head : rest.head ≡ front.next
   pub tail : rest.tail ≡ line.tail
   pub count : rest.count ≡ line.count - 1
-  pub shares : rest.shares ≡ line.shares
-  pub mode : rest.mode ≡ line.mode
 
 shrinks : {J : Type 0} (old new : Slab (Waiting J)) (line : Line) (front : Waiting J) (rest : Line) → Leaves old line front new rest → Shrinks (get old) line rest
 shrinks old new line front rest leaves = record {
@@ -33,18 +31,18 @@ shrinks old new line front rest leaves = record {
   tail = leaves.tail;
 }
 
-module _ {J : Type 0} {room line_places : ℕ} {old new : Slab (Waiting J)} {lines : List Line} where
-  keeps : (queue : ℕ) (front : Waiting J) (rest : Line) → IsKept room line_places old lines → Leaves old (line_at lines queue) front new rest → queue < length lines → KeepsLines (get old) (get new) (line_at (set lines queue rest))
-  keeps queue front rest kept leaves within =
-      KeepsLines-take (get old) (line_at lines) (line_at (set lines queue rest)) queue rest (get new) (ChangesOne-set lines queue rest within) (shrinks old new (line_at lines queue) front rest leaves) kept.linked leaves.updates.others
+module _ {J : Type 0} {room line_places : ℕ} {old new : Slab (Waiting J)} {queues : List Queue} where
+  keeps : (spot : Spot) (front : Waiting J) (rest : Line) → IsKept room line_places old queues → Leaves old (line_at queues spot) front new rest → spot.queue < length queues → KeepsLines (get old) (get new) (line_at (placed queues spot rest))
+  keeps spot front rest kept leaves within =
+      KeepsLines-take (get old) (line_at queues) (line_at (placed queues spot rest)) spot rest (get new) (ChangesOne-placed queues spot rest within) (shrinks old new (line_at queues spot) front rest leaves) kept.linked leaves.updates.others
 
-  pub IsKept-left : (queue : ℕ) (front : Waiting J) (rest : Line) → IsKept room line_places old lines → Leaves old (line_at lines queue) front new rest → queue < length lines → IsKept room line_places new (set lines queue rest)
-  IsKept-left queue front rest kept leaves within =
-      let same = length-set lines queue rest in
+  pub IsKept-left : (spot : Spot) (front : Waiting J) (rest : Line) → IsKept room line_places old queues → Leaves old (line_at queues spot) front new rest → spot.queue < length queues → IsKept room line_places new (placed queues spot rest)
+  IsKept-left spot front rest kept leaves within =
+      let same = length-placed queues spot rest in
       record {
-        linked = IsLinked-kept (get old) (get new) (line_at (set lines queue rest)) (keeps queue front rest kept leaves within)
-            (IsLinked-shrunk (get old) (line_at lines) (line_at (set lines queue rest)) queue rest (ChangesOne-set lines queue rest within) (shrinks old new (line_at lines queue) front rest leaves) kept.linked);
-        counted = omega (arith, kept.counted, job_count-set lines queue rest within, leaves.len, leaves.count, leaves.some);
+        linked = IsLinked-kept (get old) (get new) (line_at (placed queues spot rest)) (keeps spot front rest kept leaves within)
+            (IsLinked-shrunk (get old) (line_at queues) (line_at (placed queues spot rest)) spot rest (ChangesOne-placed queues spot rest within) (shrinks old new (line_at queues spot) front rest leaves) kept.linked);
+        counted = omega (arith, kept.counted, job_count-placed queues spot rest within, leaves.len, leaves.count, leaves.some);
         within_room = omega (arith, kept.within_room, leaves.len);
         reserved = omega (arith, kept.reserved, leaves.capacity);
         some_queue = omega (arith, kept.some_queue);
@@ -52,44 +50,47 @@ module _ {J : Type 0} {room line_places : ℕ} {old new : Slab (Waiting J)} {lin
         queues_reserved = kept.queues_reserved;
       }
 
-  -- the line that is left shows what the old slab shows of it
-  left_shows : (queue : ℕ) (front : Waiting J) (rest : Line) → IsKept room line_places old lines → Leaves old (line_at lines queue) front new rest → queue < length lines → chain (get new) rest.head rest.count ≡ chain (get old) rest.head rest.count
-  left_shows queue front rest kept leaves within =
-      let now = (ChangesOne-set lines queue rest within).changed in
-      let same = chain-kept (get old) (get new) (line_at (set lines queue rest)) queue (keeps queue front rest kept leaves within) in
-      ap (λ (l : Line). chain (get new) l.head l.count) (sym now) ∙ same ∙ ap (λ (l : Line). chain (get old) l.head l.count) now
+  -- each line that is left shows what the old slab shows of it
+  left_shows : (spot : Spot) (front : Waiting J) (rest : Line) → IsKept room line_places old queues → Leaves old (line_at queues spot) front new rest → spot.queue < length queues → (other : Spot)
+      → line_says new (placed queues spot rest) other ≡ line_says old (placed queues spot rest) other
+  left_shows spot front rest kept leaves within other = chain-kept (get old) (get new) (line_at (placed queues spot rest)) other (keeps spot front rest kept leaves within)
 
   -- the line was the head and what is left
-  waited : (queue : ℕ) (front : Waiting J) (rest : Line) → IsKept room line_places old lines → Leaves old (line_at lines queue) front new rest → queue < length lines
-      → waiting_of queue (alone room old lines) ≡ (front.name, front.started, front.job) ∷ chain (get new) rest.head rest.count
-  waited queue front rest kept leaves within =
-      let one : JobId × Bool × J = (front.name, front.started, front.job) in
-      waiting_of-view room old lines queue ∙ chain-shrunk (get old) (line_at lines) (line_at (set lines queue rest)) queue rest front (shrinks old new (line_at lines queue) front rest leaves) leaves.first
-      ∙ ap (λ line. one ∷ line) (sym (left_shows queue front rest kept leaves within))
+  pub says-left : (spot : Spot) (front : Waiting J) (rest : Line) → IsKept room line_places old queues → Leaves old (line_at queues spot) front new rest → spot.queue < length queues
+      → line_says old queues spot ≡ shown (Some front) ++ line_says new (placed queues spot rest) spot
+  says-left spot front rest kept leaves within =
+      let now = (ChangesOne-placed queues spot rest within).changed in
+      chain-shrunk (get old) (line_at queues) (line_at (placed queues spot rest)) spot rest front (shrinks old new (line_at queues spot) front rest leaves) leaves.first
+      ∙ ap (λ line. shown (Some front) ++ line) (ap (λ (l : Line). chain (get old) l.head l.count) (sym now) ∙ sym (left_shows spot front rest kept leaves within spot))
 
-  pub waiting_of-left : (queue : ℕ) (front : Waiting J) (rest : Line) → IsKept room line_places old lines → Leaves old (line_at lines queue) front new rest → queue < length lines
-      → waiting_of queue (alone room old lines) ≡ (front.name, front.started, front.job) ∷ waiting_of queue (alone room new (set lines queue rest))
+  pub Writes-left : (spot : Spot) (front : Waiting J) (rest : Line) → IsKept room line_places old queues → Leaves old (line_at queues spot) front new rest → spot.queue < length queues
+      → Writes old new queues (placed queues spot rest) spot (line_says new (placed queues spot rest) spot)
+  Writes-left spot front rest kept leaves within =
+      let now = ChangesOne-placed queues spot rest within in
+      record {
+        shown = refl;
+        others = λ other differs. left_shows spot front rest kept leaves within other ∙ ap (λ (l : Line). chain (get old) l.head l.count) (now.others other differs);
+        shares = shares-placed queues spot rest within;
+        modes = mode-placed queues spot rest within;
+        count = length-placed queues spot rest;
+        len = omega (arith, leaves.len, ap length (says-left spot front rest kept leaves within));
+      }
+
+  -- a caller sees that the head of a line leaves
+  pub waiting_of-left : (queue : ℕ) (front : Waiting J) (rest : Line) → IsKept room line_places old queues → Leaves old (line_at queues (waits queue)) front new rest → queue < length queues
+      → waiting_of queue (alone room old queues) ≡ shown (Some front) ++ waiting_of queue (alone room new (placed queues (waits queue) rest))
   waiting_of-left queue front rest kept leaves within =
-      let one : JobId × Bool × J = (front.name, front.started, front.job) in
-      let now = (ChangesOne-set lines queue rest within).changed in
-      waited queue front rest kept leaves within
-      ∙ ap (λ line. one ∷ line) (sym (waiting_of-view room new (set lines queue rest) queue ∙ ap (λ (l : Line). chain (get new) l.head l.count) now))
+      waiting_of-view room old queues queue ∙ says-left (waits queue) front rest kept leaves within
+      ∙ ap (λ line. shown (Some front) ++ line) (sym (waiting_of-view room new (placed queues (waits queue) rest) queue))
 
-  pub ChangesLine-left : (queue : ℕ) (front : Waiting J) (rest : Line) → IsKept room line_places old lines → Leaves old (line_at lines queue) front new rest → queue < length lines
-      → ChangesLine (alone room old lines) (alone room new (set lines queue rest)) queue (drop 1 (waiting_of queue (alone room old lines)))
+  pub ChangesLine-left : (queue : ℕ) (front : Waiting J) (rest : Line) → IsKept room line_places old queues → Leaves old (line_at queues (waits queue)) front new rest → queue < length queues
+      → ChangesLine (alone room old queues) (alone room new (placed queues (waits queue) rest)) queue (waiting_of queue (alone room new (placed queues (waits queue) rest)))
   ChangesLine-left queue front rest kept leaves within =
-      let was = waited queue front rest kept leaves within in
-      let drops : drop 1 (waiting_of queue (alone room old lines)) ≡ chain (get new) rest.head rest.count = ap (drop 1) was in
-      let others = (ChangesOne-set lines queue rest within).others in
-      let kept_lines = keeps queue front rest kept leaves within in
-      ChangesLine-set queue rest (drop 1 (waiting_of queue (alone room old lines))) kept (IsKept-left queue front rest kept leaves within) within leaves.shares leaves.mode (sym drops)
-      (λ other differs.
-      ap (λ (l : Line). chain (get new) l.head l.count) (sym (others other differs))
-      ∙ chain-kept (get old) (get new) (line_at (set lines queue rest)) other kept_lines
-      ∙ ap (λ (l : Line). chain (get old) l.head l.count) (others other differs))
-      (omega (arith, leaves.len, ap length was, ap length drops, ap length (waiting_of-view room old lines queue)))
+      let after = alone room new (placed queues (waits queue) rest) in
+      subst (ChangesLine (alone room old queues) after queue) (sym (waiting_of-view room new (placed queues (waits queue) rest) queue))
+      (ChangesLine-of queue _ kept (IsKept-left (waits queue) front rest kept leaves within) (Writes-left (waits queue) front rest kept leaves within))
 
-  pub held_count-left : (queue : ℕ) (front : Waiting J) (rest : Line) → IsKept room line_places old lines → Leaves old (line_at lines queue) front new rest → queue < length lines
-      → held_count (alone room new (set lines queue rest)) + 1 ≡ held_count (alone room old lines)
-  held_count-left queue front rest kept leaves within =
-      omega (arith, held_count-view (IsKept-left queue front rest kept leaves within), held_count-view kept, leaves.len)
+  pub held_count-left : (spot : Spot) (front : Waiting J) (rest : Line) → IsKept room line_places old queues → Leaves old (line_at queues spot) front new rest → spot.queue < length queues
+      → held_count (alone room new (placed queues spot rest)) + 1 ≡ held_count (alone room old queues)
+  held_count-left spot front rest kept leaves within =
+      omega (arith, held_count-view (IsKept-left spot front rest kept leaves within), held_count-view kept, leaves.len)

@@ -1,4 +1,5 @@
 pub mod Chains
+pub mod Spots
 pub mod Links
 pub mod QueuesLemmas
 pub mod Ends
@@ -7,4 +8,14 @@ pub mod Views
 pub mod Changes
 pub mod Joins
 pub mod Leaves
+pub mod Renewals
 pub mod Fronts
+pub mod Rests
+pub mod Turns
+pub mod Places
+pub mod Middle
+pub mod Unparks
+pub mod Takes
+pub mod Named
+pub mod Marked
+pub mod Wakes

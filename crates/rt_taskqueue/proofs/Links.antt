@@ -4,72 +4,76 @@ use Rattle.std.specs.Prelude.{IsSome}
 use Rattle.std.proofs.lemmas.Bool.{cases_eq}
 use Rattle.rt_taskqueue.specs.declared.waiting.Waiting.{Waiting}
 use Rattle.rt_taskqueue.specs.declared.line.Line.{Line}
-use Rattle.rt_taskqueue.specs.Linked.{next_of, shown, key_at, chain, IsLinked}
+use Rattle.rt_taskqueue.specs.Linked.{Spot, next_of, shown, key_at, chain, IsLinked}
 use Rattle.rt_taskqueue.proofs.Chains.{key_at-same, chain-same, IsSome-shown}
-
--- one line changes, and the others stay
-pub record ChangesOne (old new : ℕ → Line) (queue : ℕ) (line : Line) : Type 0 where
-  pub changed : new queue ≡ line
-  pub others : (other : ℕ) → (other ≡ queue → ⊥) → new other ≡ old other
 
 module _ {J : Type 0} where
   -- the keys of each line stay, and what they show
-  pub record KeepsLines (old new : ℕ → Option (Waiting J)) (line : ℕ → Line) : Type 0 where
-    pub keys : (queue place : ℕ) → place < (line queue).count → key_at new (line queue).head place ≡ key_at old (line queue).head place
-    pub shows : (queue place : ℕ) → place < (line queue).count → shown (new (key_at old (line queue).head place)) ≡ shown (old (key_at old (line queue).head place))
+  pub record KeepsLines (old new : ℕ → Option (Waiting J)) (line : Spot → Line) : Type 0 where
+    pub keys : (spot : Spot) (place : ℕ) → place < (line spot).count → key_at new (line spot).head place ≡ key_at old (line spot).head place
+    pub shows : (spot : Spot) (place : ℕ) → place < (line spot).count → shown (new (key_at old (line spot).head place)) ≡ shown (old (key_at old (line spot).head place))
 
-  pub chain-kept : (old new : ℕ → Option (Waiting J)) (line : ℕ → Line) (queue : ℕ) → KeepsLines old new line → chain new (line queue).head (line queue).count ≡ chain old (line queue).head (line queue).count
-  chain-kept old new line queue keeps = chain-same old new (line queue).head (line queue).count (keeps.keys queue) (keeps.shows queue)
+  pub chain-kept : (old new : ℕ → Option (Waiting J)) (line : Spot → Line) (spot : Spot) → KeepsLines old new line → chain new (line spot).head (line spot).count ≡ chain old (line spot).head (line spot).count
+  chain-kept old new line spot keeps = chain-same old new (line spot).head (line spot).count (keeps.keys spot) (keeps.shows spot)
 
-  pub IsLinked-kept : (old new : ℕ → Option (Waiting J)) (line : ℕ → Line) → KeepsLines old new line → IsLinked old line → IsLinked new line
+  pub IsLinked-kept : (old new : ℕ → Option (Waiting J)) (line : Spot → Line) → KeepsLines old new line → IsLinked old line → IsLinked new line
   IsLinked-kept old new line keeps linked = record {
-    filled = λ queue place h.
-        let here = keeps.keys queue place h in
-        subst (λ key. IsSome (new key)) (sym here) (IsSome-shown _ _ (linked.filled queue place h) (keeps.shows queue place h));
+    filled = λ spot place h.
+        let here = keeps.keys spot place h in
+        subst (λ key. IsSome (new key)) (sym here) (IsSome-shown _ _ (linked.filled spot place h) (keeps.shows spot place h));
     apart = λ one here other there h k same. linked.apart one here other there h k (sym (keeps.keys one here h) ∙ same ∙ keeps.keys other there k);
-    tails = λ queue last is. linked.tails queue last is ∙ sym (keeps.keys queue last (omega arith));
+    tails = λ spot last is. linked.tails spot last is ∙ sym (keeps.keys spot last (omega arith));
   }
 
   -- lines whose entries all stay
-  pub KeepsLines-entries : (old new : ℕ → Option (Waiting J)) (line : ℕ → Line)
-      → ((queue place : ℕ) → place < (line queue).count → new (key_at old (line queue).head place) ≡ old (key_at old (line queue).head place)) → KeepsLines old new line
+  pub KeepsLines-entries : (old new : ℕ → Option (Waiting J)) (line : Spot → Line)
+      → ((spot : Spot) (place : ℕ) → place < (line spot).count → new (key_at old (line spot).head place) ≡ old (key_at old (line spot).head place)) → KeepsLines old new line
   KeepsLines-entries old new line same = record {
-    keys = λ queue place h. key_at-same old new (line queue).head place (λ before b. ap next_of (same queue before (omega arith)));
-    shows = λ queue place h. ap shown (same queue place h);
+    keys = λ spot place h. key_at-same old new (line spot).head place (λ before b. ap next_of (same spot before (omega arith)));
+    shows = λ spot place h. ap shown (same spot place h);
   }
 
   -- a key without a job stands in no line
-  pub not_in_line : (entry : ℕ → Option (Waiting J)) (line : ℕ → Line) (key : ℕ) → IsLinked entry line → entry key ≡ None → (queue place : ℕ) → place < (line queue).count → key_at entry (line queue).head place ≡ key → ⊥
-  not_in_line entry line key linked none queue place h same =
-      let empty : IsSome {T = Waiting J} None = subst (λ (found : Option (Waiting J)). IsSome found) (ap entry same ∙ none) (linked.filled queue place h) in
+  pub not_in_line : (entry : ℕ → Option (Waiting J)) (line : Spot → Line) (key : ℕ) → IsLinked entry line → entry key ≡ None → (spot : Spot) (place : ℕ) → place < (line spot).count → key_at entry (line spot).head place ≡ key → ⊥
+  not_in_line entry line key linked none spot place h same =
+      let empty : IsSome {T = Waiting J} None = subst (λ (found : Option (Waiting J)). IsSome found) (ap entry same ∙ none) (linked.filled spot place h) in
       cc
 
   -- an entry that was vacant may get a job
-  pub KeepsLines-insert : (old new : ℕ → Option (Waiting J)) (line : ℕ → Line) (key : ℕ) → IsLinked old line → old key ≡ None
+  pub KeepsLines-insert : (old new : ℕ → Option (Waiting J)) (line : Spot → Line) (key : ℕ) → IsLinked old line → old key ≡ None
       → ((other : ℕ) → (other ≡ key → ⊥) → new other ≡ old other) → KeepsLines old new line
   KeepsLines-insert old new line key linked none others =
-      KeepsLines-entries old new line (λ queue place h. others (key_at old (line queue).head place) (not_in_line old line key linked none queue place h))
+      KeepsLines-entries old new line (λ spot place h. others (key_at old (line spot).head place) (not_in_line old line key linked none spot place h))
 
   -- the entry at a tail may get another next key
-  pub KeepsLines-relink : (old new : ℕ → Option (Waiting J)) (line : ℕ → Line) (queue last next : ℕ) (was : Waiting J) → IsLinked old line → (line queue).count ≡ suc last
-      → old (line queue).tail ≡ Some was → new (line queue).tail ≡ Some (record was { next = next }) → ((other : ℕ) → (other ≡ (line queue).tail → ⊥) → new other ≡ old other) → KeepsLines old new line
-  KeepsLines-relink old new line queue last next was linked counted before after others =
-      let tail = (line queue).tail in
-      let at = linked.tails queue last counted in
+  pub KeepsLines-relink : (old new : ℕ → Option (Waiting J)) (line : Spot → Line) (spot : Spot) (last next : ℕ) (was : Waiting J) → IsLinked old line → (line spot).count ≡ suc last
+      → old (line spot).tail ≡ Some was → new (line spot).tail ≡ Some (record was { next = next }) → ((other : ℕ) → (other ≡ (line spot).tail → ⊥) → new other ≡ old other) → KeepsLines old new line
+  KeepsLines-relink old new line spot last next was linked counted before after others =
+      let tail = (line spot).tail in
+      let at = linked.tails spot last counted in
       record {
         keys = λ other place h. key_at-same old new (line other).head place (λ earlier e.
             ap next_of (others (key_at old (line other).head earlier) (λ same.
-            let both = linked.apart other earlier queue last (omega arith) (omega arith) (same ∙ at) in
-            let longer : (line other).count ≡ (line queue).count = ap (λ n. (line n).count) both.0 in
+            let both = linked.apart other earlier spot last (omega arith) (omega arith) (same ∙ at) in
+            let longer : (line other).count ≡ (line spot).count = ap (λ n. (line n).count) both.0 in
             omega (arith, both.1))));
         shows = λ other place h. shows_at (key_at old (line other).head place) (cases_eq (key_at old (line other).head place) tail);
       }
     where
-      shows_at : (key : ℕ) → (key ≡ (line queue).tail) ⊎ (key ≡ (line queue).tail → ⊥) → shown (new key) ≡ shown (old key)
+      shows_at : (key : ℕ) → (key ≡ (line spot).tail) ⊎ (key ≡ (line spot).tail → ⊥) → shown (new key) ≡ shown (old key)
       shows_at key (inl here) =
-          let same : shown (new (line queue).tail) ≡ shown (old (line queue).tail) = ap shown after ∙ sym (ap shown before) in
+          let same : shown (new (line spot).tail) ≡ shown (old (line spot).tail) = ap shown after ∙ sym (ap shown before) in
           ap (λ k. shown (new k)) here ∙ same ∙ ap (λ k. shown (old k)) (sym here)
       shows_at key (inr there) = ap shown (others key there)
+
+  pub KeepsLines-twice : (old between new : ℕ → Option (Waiting J)) (line : Spot → Line) → KeepsLines old between line → KeepsLines between new line → KeepsLines old new line
+  KeepsLines-twice old between new line first second = record {
+    keys = λ spot place h. second.keys spot place h ∙ first.keys spot place h;
+    shows = λ spot place h.
+        let later = second.shows spot place h in
+        let moved : shown (new (key_at old (line spot).head place)) ≡ shown (between (key_at old (line spot).head place)) = subst (λ key. shown (new key) ≡ shown (between key)) (first.keys spot place h) later in
+        moved ∙ first.shows spot place h;
+  }
 
   -- a line that grows at its tail by this key, which stood in no line
   pub record Grows (entry : ℕ → Option (Waiting J)) (old : Line) (key : ℕ) (new : Line) : Type 0 where

@@ -5,7 +5,7 @@ use Rattle.std.proofs.lemmas.Bool.{cases_eq, cases_lt}
 use Rattle.std.proofs.lemmas.List.{length_push, length-set, get_or_push, get_or_append_left, get_or_past, get_or_read, get_or-map, map-set, get_or-set_same, get_or-set_other}
 use Rattle.slab.specs.Slab.{Slab}
 use Rattle.rt_taskqueue.specs.declared.waiting.Waiting.{Waiting}
-use Rattle.rt_taskqueue.specs.declared.line.Line.{Line}
+use Rattle.rt_taskqueue.specs.declared.line.Queue.{Queue}
 use Rattle.rt_taskqueue.specs.Linked.{linked_view, HasOwnSlips}
 
 -- the slip of the first queue
@@ -71,7 +71,7 @@ own-at count places slips place queue (Some slip) has within here same =
     has.own place slip (sym (get_or_read slips place (Some slip) within here None)) ∙ same
 
 -- a caller sees that a slip goes or comes back
-pub linked_view-set : {J : Type 0} (room : ℕ) (jobs : Slab (Waiting J)) (lines : List Line) (slips : List (Option ℕ)) (place queue : ℕ) (entry : Option ℕ) → place ≡ queue →
+pub linked_view-set : {J : Type 0} (room : ℕ) (jobs : Slab (Waiting J)) (lines : List Queue) (slips : List (Option ℕ)) (place queue : ℕ) (entry : Option ℕ) → place ≡ queue →
     linked_view room jobs lines (set slips place entry) ≡ record (linked_view room jobs lines slips) { slips = set (map is_some slips) queue (is_some entry) }
 linked_view-set room jobs lines slips place queue entry same =
     ap (λ (there : List Bool). record (linked_view room jobs lines slips) { slips = there }) (map-set is_some slips place entry ∙ ap (λ n. set (map is_some slips) n (is_some entry)) same)

@@ -1,5 +1,10 @@
+pub mod View
 pub mod Queues
+pub mod Parks
 pub mod Slips
 pub mod Linked
+pub mod Rests
 pub mod Entries
+pub mod Found
 pub mod Fronts
+pub mod Waking

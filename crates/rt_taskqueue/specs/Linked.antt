@@ -1,24 +1,44 @@
 -- The representation: all jobs of a core in one slab, each with the key of the next in its line.
-use Rattle.std.specs.Prelude.{◌≡◌, ℕ, zero, suc, ◌≤◌, ◌<◌, Bool, List, [], ◌∷◌, ◌++◌, length, map, sum_by, Option, Some, None, is_some, IsSome, slice_index_or}
+use Rattle.std.specs.Prelude.{◌≡◌, ℕ, zero, suc, ◌+◌, ◌≤◌, ◌<◌, Bool, true, false, List, [], ◌∷◌, ◌++◌, length, map, sum_by, Option, Some, None, is_some, IsSome, slice_index_or}
 use Rattle.slab.specs.Slab.{Slab, get, slab_len}
 use Rattle.rt_ids.specs.declared.names.JobId.{JobId}
 use Rattle.rt_ids.specs.Limits.{most_queues}
 use Rattle.rt_taskqueue.specs.declared.waiting.Waiting.{Waiting}
 use Rattle.rt_taskqueue.specs.declared.line.Line.{Line}
-use Rattle.rt_taskqueue.specs.Queues.{QueueView}
+use Rattle.rt_taskqueue.specs.declared.line.Queue.{Queue}
+use Rattle.rt_taskqueue.specs.View.{Marks, QueueView}
+use Rattle.rt_taskqueue.specs.View.{Line as Says}
 use Rattle.rt_taskqueue.specs.Slips.{SlippedView}
 
--- an open queue without shares in which no job waits
+-- a line in which no job stands
 abbrev pub no_line : Line
-no_line = record { head = 0; tail = 0; count = 0; shares = 0; mode = None }
+no_line = record { head = 0; tail = 0; count = 0 }
+
+-- an open queue without shares in which no job waits, and none is parked
+abbrev pub no_queue : Queue
+no_queue = record { waiting = no_line; parked = no_line; shares = 0; mode = None }
+
+-- one of the two lines of a queue: of those that wait, or of those that are parked
+pub record Spot : Type 0 where
+  pub queue : ℕ
+  pub is_parked : Bool
+
+-- the line of a queue of those that wait, or that of those that are parked
+abbrev pub side : Bool → Queue → Line
+side false queue = queue.waiting
+side true queue = queue.parked
 
 -- the queue of a number, or the empty one
-abbrev pub line_at : List Line → ℕ → Line
-line_at lines queue = slice_index_or lines queue no_line
+abbrev pub queue_at : List Queue → ℕ → Queue
+queue_at queues queue = slice_index_or queues queue no_queue
 
--- how many jobs wait in all queues
-abbrev pub job_count : List Line → ℕ
-job_count lines = sum_by (λ line. line.count) lines
+-- the line at a spot, or the empty one
+abbrev pub line_at : List Queue → Spot → Line
+line_at queues spot = side spot.is_parked (queue_at queues spot.queue)
+
+-- how many jobs wait or are parked in all queues
+abbrev pub job_count : List Queue → ℕ
+job_count queues = sum_by (λ queue. queue.waiting.count + queue.parked.count) queues
 
 module _ {J : Type 0} where
   -- the key of the next entry
@@ -27,9 +47,13 @@ module _ {J : Type 0} where
   next_of (Some waiting) = waiting.next
 
   -- what a line shows of an entry
-  abbrev pub shown : Option (Waiting J) → List (JobId × Bool × J)
+  abbrev pub shown : Option (Waiting J) → Says J
   shown None = []
-  shown (Some waiting) = (waiting.name, waiting.started, waiting.job) ∷ []
+  shown (Some waiting) = (waiting.name, record { started = waiting.started; woken = waiting.woken }, waiting.job) ∷ []
+
+  -- what the parked jobs show of one
+  abbrev pub shown_parked : JobId × Marks × J → JobId × J
+  shown_parked entry = (entry.0, entry.2)
 
   -- a chain: the key at its first place is this one, and each further key is the next of the entry before it
   abbrev pub key_at : (ℕ → Option (Waiting J)) → ℕ → ℕ → ℕ
@@ -37,33 +61,38 @@ module _ {J : Type 0} where
   key_at entry head (suc place) = next_of (entry (key_at entry head place))
 
   -- what the entries of a chain of this length show
-  abbrev pub chain : (ℕ → Option (Waiting J)) → ℕ → ℕ → List (JobId × Bool × J)
+  abbrev pub chain : (ℕ → Option (Waiting J)) → ℕ → ℕ → Says J
   chain entry head zero = []
   chain entry head (suc count) = chain entry head count ++ shown (entry (key_at entry head count))
 
   -- a queue, as a caller sees it
-  abbrev pub queue_of : (ℕ → Option (Waiting J)) → Line → QueueView J
-  queue_of entry line = record { shares = line.shares; mode = line.mode; waiting = chain entry line.head line.count }
+  abbrev pub queue_of : (ℕ → Option (Waiting J)) → Queue → QueueView J
+  queue_of entry queue = record {
+    shares = queue.shares;
+    mode = queue.mode;
+    waiting = chain entry queue.waiting.head queue.waiting.count;
+    parked = map shown_parked (chain entry queue.parked.head queue.parked.count);
+  }
 
   -- the queues that these entries, lines and slips are
-  abbrev pub linked_view : ℕ → Slab (Waiting J) → List Line → List (Option ℕ) → SlippedView J
-  linked_view room jobs lines slips = record { queues = map (queue_of (get jobs)) lines; room = room; slips = map is_some slips }
+  abbrev pub linked_view : ℕ → Slab (Waiting J) → List Queue → List (Option ℕ) → SlippedView J
+  linked_view room jobs queues slips = record { queues = map (queue_of (get jobs)) queues; room = room; slips = map is_some slips }
 
   -- each line is a chain of entries that have a job, and no key stands at two places, of one line or of two
-  pub record IsLinked (entry : ℕ → Option (Waiting J)) (line : ℕ → Line) : Type 0 where
-    pub filled : (queue place : ℕ) → place < (line queue).count → IsSome (entry (key_at entry (line queue).head place))
-    pub apart : (one here other there : ℕ) → here < (line one).count → there < (line other).count
+  pub record IsLinked (entry : ℕ → Option (Waiting J)) (line : Spot → Line) : Type 0 where
+    pub filled : (spot : Spot) (place : ℕ) → place < (line spot).count → IsSome (entry (key_at entry (line spot).head place))
+    pub apart : (one : Spot) (here : ℕ) (other : Spot) (there : ℕ) → here < (line one).count → there < (line other).count
         → key_at entry (line one).head here ≡ key_at entry (line other).head there → (one ≡ other) × (here ≡ there)
-    pub tails : (queue last : ℕ) → (line queue).count ≡ suc last → (line queue).tail ≡ key_at entry (line queue).head last
+    pub tails : (spot : Spot) (last : ℕ) → (line spot).count ≡ suc last → (line spot).tail ≡ key_at entry (line spot).head last
 
   -- the lines hold all jobs, and no call except the opening needs memory
-  pub record IsKept (room line_places : ℕ) (jobs : Slab (Waiting J)) (lines : List Line) : Type 0 where
-    pub linked : IsLinked (get jobs) (line_at lines)
-    pub counted : job_count lines ≡ slab_len jobs
+  pub record IsKept (room line_places : ℕ) (jobs : Slab (Waiting J)) (queues : List Queue) : Type 0 where
+    pub linked : IsLinked (get jobs) (line_at queues)
+    pub counted : job_count queues ≡ slab_len jobs
     pub within_room : slab_len jobs ≤ room
     pub reserved : room ≤ jobs.capacity
-    pub some_queue : 1 ≤ length lines
-    pub few_queues : length lines ≤ most_queues
+    pub some_queue : 1 ≤ length queues
+    pub few_queues : length queues ≤ most_queues
     pub queues_reserved : most_queues ≤ line_places
 
 -- there is a place for the slip of each queue, and a slip stands at the place of its own queue

@@ -6,6 +6,8 @@ mod closing;
 #[doc(hidden)]
 pub mod line;
 mod meter;
+#[doc(hidden)]
+pub mod parks;
 mod queues;
 #[doc(hidden)]
 pub mod slips;
@@ -14,4 +16,4 @@ pub mod waiting;
 
 pub use closing::closes;
 pub use meter::Meter;
-pub use queues::{CreateError, Queues};
+pub use queues::{CreateError, Queues, Woke};

@@ -1,11 +1,11 @@
 //! All task queues of a core.
 ghost use Rattle.std.specs.Prelude.{◌≡◌, ◌+◌, ◌<◌, ◌≤◌, ◌↔◌, [], ◌∷◌, ◌++◌, true, false, drop, length, None, is_some, IsTrue, IfOk, OnErr, IfSome, IfNone, OnSome};
-ghost use Rattle.rt_taskqueue.specs.Slips.{queue_count, shares_of, mode_of, waiting_of, held_count, has_slip, without_slip, with_slip, first_queue, IsWithinLimits, ChangesLine, ChangesShares, ChangesMode, AddsQueue};
+ghost use Rattle.rt_taskqueue.specs.Slips.{queue_count, shares_of, mode_of, waiting_of, parked_of, held_count, has_slip, without_slip, with_slip, first_queue, IsWithinLimits, ChangesLine, ChangesShares, ChangesMode, AddsQueue};
 ghost use Rattle.rt_ids.specs.Closing as spec;
 ghost use Rattle.rt_ids.specs.Limits.{most_queues};
 
 use crate::closing::closes;
-use crate::line::Line;
+use crate::line::{Line, Queue};
 use crate::slips::Slips;
 use crate::waiting::{Waiting, append};
 use rt_fixed::{SealedSlab, SealedVec};
@@ -17,6 +17,9 @@ use std::alloc::{AllocError, Allocator};
 use std::marker::Model;
 
 mod fronts;
+mod parks;
+
+pub use parks::Woke;
 
 /// Why no queue was created.
 #[derive(Clone, Copy, PartialEq, Eq, Debug, thiserror::Error)]
@@ -37,7 +40,7 @@ pub enum CreateError {
 pub struct Queues<J, A: Allocator> {
     // The jobs of all queues, each with the key of the next in its line. A key names nothing outside this crate.
     jobs: SealedSlab<Waiting<J>, A>,
-    lines: SealedVec<Line, A>,
+    lines: SealedVec<Queue, A>,
     slips: Slips<A>,
     room: usize,
 }
@@ -49,12 +52,14 @@ impl<J, A: Allocator> Model for Queues<J, A> {
 
     ghost use Rattle.std.specs.Prelude.{length};
     ghost use Rattle.rt_taskqueue.specs.Linked.{linked_view, IsKept, HasOwnSlips};
+    ghost use Rattle.rt_taskqueue.specs.Rests.{AreAtRest};
 
     ghost view = { λ q. linked_view q.room q.jobs q.lines.items q.slips.at.items };
 
     ghost invariant = { λ q.
         IsKept q.room q.lines.cap q.jobs q.lines.items
-        × HasOwnSlips (length q.lines.items) q.slips.at.cap q.slips.at.items };
+        × HasOwnSlips (length q.lines.items) q.slips.at.cap q.slips.at.items
+        × AreAtRest q.jobs q.lines.items };
 }
 
 impl<J: Drop, A: Allocator + Clone> Queues<J, A> {
@@ -63,7 +68,7 @@ impl<J: Drop, A: Allocator + Clone> Queues<J, A> {
         ensures opened { IfOk result (λ queues. queues ≡ first_queue room) }
     {
         let mut lines = Vec::with_capacity(alloc.clone()?, MOST_QUEUES)?;
-        lines.push_reserved(Line::empty(Shares::default()));
+        lines.push_reserved(Queue::empty(Shares::default()));
         let jobs = Slab::with_capacity(alloc.clone()?, room)?;
         let mut slips = Slips::open(alloc, MOST_QUEUES)?;
         slips.add(QueueNo(0))?;
@@ -89,7 +94,7 @@ impl<J: Drop, A: Allocator + Clone> Queues<J, A> {
         let queue = QueueNo(count as u8);
         match self.slips.add(queue) {
             Ok(()) => {
-                self.lines.push_reserved(Line::empty(shares));
+                self.lines.push_reserved(Queue::empty(shares));
                 Ok(queue)
             }
             Err(_) => Err(CreateError::Memory),
@@ -117,49 +122,47 @@ impl<J: Drop, A: Allocator + Clone> Queues<J, A> {
         requires exists { queue < queue_count self.old }
         requires is_open { mode_of queue self.old ≡ None }
         requires room { held_count self.old < self.old.room }
-        ensures joins { ChangesLine self.old self.new queue (waiting_of queue self.old ++ (name, false, job) ∷ []) }
+        ensures joins { ChangesLine self.old self.new queue (waiting_of queue self.old ++ (name, record { started = false; woken = false }, job) ∷ []) }
         ensures one_more { held_count self.new ≡ held_count self.old + 1 }
         ensures limits { IsWithinLimits self.new }
     {
-        self.join(queue, name, false, job);
+        self.join(queue, name, false, false, job);
     }
 
-    /// Takes the job at the head, with its name and whether it was started.
-    pub fn pop_front(&mut self, queue: QueueNo) -> Option<(JobId, bool, J)>
+    /// Takes the job at the head, with its name, whether it was started, and whether a wake of it is kept.
+    pub fn pop_front(&mut self, queue: QueueNo) -> Option<(JobId, bool, bool, J)>
         requires exists { queue < queue_count self.old }
         ensures empty { IfNone result (waiting_of queue self.old ≡ []) }
         ensures unchanged { IfNone result (self.new ≡ self.old) }
-        ensures head { IfSome result (λ front. waiting_of queue self.old ≡ front ∷ waiting_of queue self.new) }
+        ensures head { IfSome result (λ front. waiting_of queue self.old ≡ (front.0, record { started = front.1; woken = front.2 }, front.3) ∷ waiting_of queue self.new) }
         ensures rest { OnSome result (ChangesLine self.old self.new queue (drop 1 (waiting_of queue self.old))) }
         ensures one_less { OnSome result (held_count self.new + 1 ≡ held_count self.old) }
         ensures room { OnSome result (held_count self.new < self.new.room) }
         ensures limits { IsWithinLimits self.new }
     {
         let place = queue.0 as usize;
-        let line = self.lines[place];
+        let line = self.lines[place].waiting;
         if line.count == 0 {
             return None;
         }
         let front = self.jobs.remove(line.head);
-        self.lines[place] = Line {
+        self.lines[place].waiting = Line {
             head: front.next,
             tail: line.tail,
             count: line.count - 1,
-            shares: line.shares,
-            mode: line.mode,
         };
-        Some((front.name, front.started, front.job))
+        Some((front.name, front.started, front.woken, front.job))
     }
 
-    /// A job that was started joins the tail again.
-    pub fn push_back(&mut self, queue: QueueNo, name: JobId, job: J)
+    /// A job that was started joins the tail again, with the wake that is kept beside it, if one is.
+    pub fn push_back(&mut self, queue: QueueNo, name: JobId, woken: bool, job: J)
         requires exists { queue < queue_count self.old }
         requires room { held_count self.old < self.old.room }
-        ensures joins { ChangesLine self.old self.new queue (waiting_of queue self.old ++ (name, true, job) ∷ []) }
+        ensures joins { ChangesLine self.old self.new queue (waiting_of queue self.old ++ (name, record { started = true; woken = woken }, job) ∷ []) }
         ensures one_more { held_count self.new ≡ held_count self.old + 1 }
         ensures limits { IsWithinLimits self.new }
     {
-        self.join(queue, name, true, job);
+        self.join(queue, name, true, woken, job);
     }
 
     /// Whether no job waits in this queue.
@@ -167,7 +170,7 @@ impl<J: Drop, A: Allocator + Clone> Queues<J, A> {
         requires exists { queue < queue_count self.now }
         ensures { IsTrue result ↔ (waiting_of queue self.now ≡ []) }
     {
-        self.lines[queue.0 as usize].count == 0
+        self.lines[queue.0 as usize].waiting.count == 0
     }
 
     /// How many jobs wait in this queue.
@@ -176,7 +179,16 @@ impl<J: Drop, A: Allocator + Clone> Queues<J, A> {
         ensures { result ≡ length (waiting_of queue self.now) }
     {
         let place = queue.0 as usize;
-        self.lines[place].count
+        self.lines[place].waiting.count
+    }
+
+    /// How many jobs of this queue are parked.
+    pub fn parked_count(&self, queue: QueueNo) -> usize
+        requires exists { queue < queue_count self.now }
+        ensures { result ≡ length (parked_of queue self.now) }
+    {
+        let place = queue.0 as usize;
+        self.lines[place].parked.count
     }
 
     /// The shares of this queue.
@@ -245,21 +257,22 @@ impl<J: Drop, A: Allocator + Clone> Queues<J, A> {
 
 impl<J: Drop, A: Allocator + Clone> Queues<J, A> {
     /// A job joins the tail.
-    fn join(&mut self, queue: QueueNo, name: JobId, started: bool, job: J)
+    fn join(&mut self, queue: QueueNo, name: JobId, started: bool, woken: bool, job: J)
         requires exists { queue < queue_count self.old }
         requires room { held_count self.old < self.old.room }
-        ensures joins { ChangesLine self.old self.new queue (waiting_of queue self.old ++ (name, started, job) ∷ []) }
+        ensures joins { ChangesLine self.old self.new queue (waiting_of queue self.old ++ (name, record { started = started; woken = woken }, job) ∷ []) }
         ensures one_more { held_count self.new ≡ held_count self.old + 1 }
         ensures limits { IsWithinLimits self.new }
     {
         let place = queue.0 as usize;
-        let line = self.lines[place];
+        let line = self.lines[place].waiting;
         let last = Waiting {
             next: 0,
             name,
             job,
             started,
+            woken,
         };
-        self.lines[place] = append(&mut self.jobs, line, last);
+        self.lines[place].waiting = append(&mut self.jobs, line, last);
     }
 }

@@ -2,7 +2,7 @@
 ghost use Rattle.std.specs.Prelude.{◌≡◌, ◌+◌, ◌<◌, ◌^◌, IfSome};
 ghost use Rattle.slab.specs.Slab.{ContainsKey, HasRoomFor, get};
 ghost use Rattle.rt_jobs.specs.Ready.{IsReady};
-ghost use Rattle.rt_taskqueue.specs.Entries.{Relinks, Appends, StartsAt, Requeues};
+ghost use Rattle.rt_taskqueue.specs.Entries.{Relinks, Appends, StartsAt, Requeues, MovesHead};
 ghost use Rattle.rt_taskqueue.specs.Fronts.{MakesCalls, PollsAt};
 
 use crate::line::Line;
@@ -14,7 +14,7 @@ use std::alloc::Allocator;
 
 /// A job in the line of a queue.
 ///
-/// The two small fields stand at the ends, so that nothing lies between a field and the next where a job is a multiple of 8 bytes.
+/// The small fields stand at the end, so that nothing lies between a field and the next where a job is a multiple of 8 bytes.
 #[derive(Drop)]
 pub struct Waiting<J> {
     /// The key of the job behind this one. At the tail it says nothing.
@@ -23,6 +23,8 @@ pub struct Waiting<J> {
     pub job: J,
     /// Whether it was polled before.
     pub started: bool,
+    /// Whether a wake of it is kept, for the next time that it asks to be parked.
+    pub woken: bool,
 }
 
 /// Tells the entry at the tail of a line the key of the one that comes behind it.
@@ -56,23 +58,33 @@ pub fn append<J, A: Allocator>(
     longer
 }
 
-/// Marks the entry at the head of a line as started. The answer: the key of the next one.
-pub fn start<J, A: Allocator>(jobs: &mut SealedSlab<Waiting<J>, A>, head: usize) -> usize
+/// Marks the entry at the head of a line as started, and whether a wake of it is kept. The answer: the key of the next one.
+pub fn start<J, A: Allocator>(
+    jobs: &mut SealedSlab<Waiting<J>, A>,
+    head: usize,
+    woken: bool,
+) -> usize
     requires { ContainsKey jobs.old head }
-    ensures { StartsAt jobs.old head jobs.new result }
+    ensures { StartsAt jobs.old head woken jobs.new result }
 {
     let front = &mut jobs[head];
     front.started = true;
+    front.woken = woken;
     front.next
 }
 
-/// The head of a line goes behind its tail, as started. The answer: the line with it there. Only keys are written.
-pub fn requeue<J, A: Allocator>(jobs: &mut SealedSlab<Waiting<J>, A>, line: Line) -> Line
+/// The head of a line goes behind its tail, as started, with this wake. The answer: the line with it there. Only keys and marks are
+/// written.
+pub fn requeue<J, A: Allocator>(
+    jobs: &mut SealedSlab<Waiting<J>, A>,
+    line: Line,
+    woken: bool,
+) -> Line
     requires head { ContainsKey jobs.old line.head }
     requires tail { ContainsKey jobs.old line.tail }
-    ensures { Requeues jobs.old line jobs.new result }
+    ensures { Requeues jobs.old line woken jobs.new result }
 {
-    let next = start(jobs, line.head);
+    let next = start(jobs, line.head, woken);
     let mut turned = line;
     turned.tail = line.head;
     if line.count == 1 {
@@ -81,6 +93,33 @@ pub fn requeue<J, A: Allocator>(jobs: &mut SealedSlab<Waiting<J>, A>, line: Line
     turned.head = next;
     link(jobs, line.tail, line.head);
     turned
+}
+
+/// The head of a line goes behind the tail of another one, as started and with no wake. The answer: both lines from then on. Only keys
+/// and marks are written.
+pub fn move_head<J, A: Allocator>(
+    jobs: &mut SealedSlab<Waiting<J>, A>,
+    from: Line,
+    to: Line,
+) -> (Line, Line)
+    requires head { ContainsKey jobs.old from.head }
+    requires tail { 0 < to.count → ContainsKey jobs.old to.tail }
+    requires some { 0 < from.count }
+    requires short { to.count + 1 < 2 ^ 64 }
+    ensures { MovesHead jobs.old from to jobs.new result.0 result.1 }
+{
+    let mut shorter = from;
+    shorter.head = start(jobs, from.head, false);
+    shorter.count = from.count - 1;
+    let mut longer = to;
+    longer.tail = from.head;
+    longer.count = to.count + 1;
+    if to.count == 0 {
+        longer.head = from.head;
+        return (shorter, longer);
+    }
+    link(jobs, to.tail, from.head);
+    (shorter, longer)
 }
 
 /// Polls the job of an entry where it stands. The answer: what the poll came to, the time that the job told, and the time that the

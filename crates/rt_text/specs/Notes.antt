@@ -35,6 +35,7 @@ order_text (order.Create shares) = codes "create " ++ decimal shares
 order_text (order.SetShares queue shares) = codes "shares q" ++ decimal queue ++ codes " " ++ decimal shares
 order_text (order.Close queue closed) = codes "close q" ++ decimal queue ++ codes " " ++ mode_text closed
 order_text (order.CloseCore closed) = codes "closecore " ++ mode_text closed
+order_text (order.Wake actor number) = codes "wake " ++ decimal actor ++ codes "#" ++ decimal number
 
 abbrev pub answer_text : Answer → List ℕ
 answer_text (answer.Created queue) = codes "created q" ++ decimal queue
@@ -45,6 +46,8 @@ answer_text answer.SharesSet = codes "sharesset"
 answer_text answer.NoQueue = codes "noqueue"
 answer_text answer.Closed = codes "closed"
 answer_text answer.AlreadyClosed = codes "alreadyclosed"
+answer_text answer.Woken = codes "woken"
+answer_text answer.NoJob = codes "nojob"
 
 abbrev pub outcome_text : OutcomeNote ℕ → List ℕ
 outcome_text (outcome.Finished out) = codes "finished " ++ decimal out
@@ -60,10 +63,13 @@ note_text (note.Created queue shares) = codes "queue q" ++ decimal queue ++ code
 note_text (note.SharesSet queue shares) = codes "shares q" ++ decimal queue ++ codes " " ++ decimal shares
 note_text (note.QueueClosed queue closed) = codes "closed q" ++ decimal queue ++ codes " " ++ mode_text closed
 note_text (note.CoreClosed closed) = codes "coreclosed " ++ mode_text closed
+note_text (note.Woken name) = codes "woken " ++ name_text name
 note_text (note.Pick queue runtime) = codes "pick q" ++ decimal queue ++ codes " at " ++ decimal runtime
 note_text (note.Start name) = codes "start " ++ name_text name
 note_text (note.Resume name) = codes "resume " ++ name_text name
 note_text (note.Yield name time) = codes "yield " ++ name_text name ++ codes " " ++ decimal time
+note_text (note.Park name time) = codes "park " ++ name_text name ++ codes " " ++ decimal time
+note_text (note.Stayed name time) = codes "stayed " ++ name_text name ++ codes " " ++ decimal time
 note_text (note.Done name time out) = codes "done " ++ name_text name ++ codes " " ++ decimal time ++ codes " = " ++ decimal out
 note_text (note.Returned name why) = codes "returned " ++ name_text name ++ codes " " ++ reason_text why
 note_text (note.Shut from count) = codes "shut " ++ decimal from ++ codes " " ++ decimal count

@@ -61,6 +61,10 @@ impl fmt::Display for OrderText {
                 let mode = mode_word(mode);
                 write!(f, "closecore {mode}")
             }
+            Order::Wake(actor, number) => {
+                let actor = actor.0;
+                write!(f, "wake {actor}#{number}")
+            }
         }
     }
 }
@@ -81,6 +85,8 @@ impl fmt::Display for AnswerText {
             Answer::NoQueue => f.write_str("noqueue"),
             Answer::Closed => f.write_str("closed"),
             Answer::AlreadyClosed => f.write_str("alreadyclosed"),
+            Answer::Woken => f.write_str("woken"),
+            Answer::NoJob => f.write_str("nojob"),
         }
     }
 }

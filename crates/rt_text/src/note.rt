@@ -5,7 +5,7 @@ ghost use Rattle.rt_text.specs.Notes as spec;
 
 use crate::parts::{
     AnsweredText, ClosedText, DoneText, HandedText, JobText, PickText, QueueText, SentText,
-    ShutText, ToldText, TookText, YieldText,
+    ShutText, TimedText, ToldText, TookText,
 };
 use crate::word::mode_word;
 use rt_ids::{ActorNo, Note};
@@ -46,10 +46,13 @@ impl fmt::Display for NoteText {
                 let mode = mode_word(mode);
                 write!(f, "coreclosed {mode}")
             }
+            Note::Woken(name) => JobText("woken ", name).fmt(f),
             Note::Pick(queue, runtime) => PickText(queue, runtime).fmt(f),
             Note::Start(name) => JobText("start ", name).fmt(f),
             Note::Resume(name) => JobText("resume ", name).fmt(f),
-            Note::Yield(name, time) => YieldText(name, time).fmt(f),
+            Note::Yield(name, time) => TimedText("yield ", name, time).fmt(f),
+            Note::Park(name, time) => TimedText("park ", name, time).fmt(f),
+            Note::Stayed(name, time) => TimedText("stayed ", name, time).fmt(f),
             Note::Done(name, time, out) => DoneText(name, time, out).fmt(f),
             Note::Returned(name, reason) => HandedText("returned ", name, reason).fmt(f),
             Note::Shut(from, count) => ShutText(from, count).fmt(f),

@@ -58,6 +58,21 @@ impl fmt::Display for ToldText {
     }
 }
 
+/// A word, a name and a time.
+#[derive(Clone, Copy)]
+pub(crate) struct TimedText(pub(crate) &'static str, pub(crate) JobId, pub(crate) u64);
+
+impl fmt::Display for TimedText {
+    ghost output = { λ text. Some (text.0.now ++ spec.name_text text.1 ++ codes " " ++ decimal text.2) };
+
+    fn fmt<W: fmt::Write>(&self, f: &mut fmt::Formatter<W>) -> fmt::Result {
+        let word = self.0;
+        let name = NameText(self.1);
+        let time = self.2;
+        write!(f, "{word}{name} {time}")
+    }
+}
+
 /// A word, a queue and its shares.
 #[derive(Clone, Copy)]
 pub(crate) struct QueueText(
@@ -144,20 +159,6 @@ impl fmt::Display for PickText {
         let queue = self.0.0;
         let runtime = self.1;
         write!(f, "pick q{queue} at {runtime}")
-    }
-}
-
-/// `yield NAME t`
-#[derive(Clone, Copy)]
-pub(crate) struct YieldText(pub(crate) JobId, pub(crate) u64);
-
-impl fmt::Display for YieldText {
-    ghost output = { λ text. Some (spec.note_text (note.Yield text.0 text.1)) };
-
-    fn fmt<W: fmt::Write>(&self, f: &mut fmt::Formatter<W>) -> fmt::Result {
-        let name = NameText(self.0);
-        let time = self.1;
-        write!(f, "yield {name} {time}")
     }
 }
 

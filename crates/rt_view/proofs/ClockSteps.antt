@@ -2,7 +2,7 @@
 use Rattle.std.proofs.Common.{◌≡◌, ℕ, ◌+◌, ◌*◌, ◌^◌, ◌<◌, ◌≤◌, min, ◌∷◌, [], length, arith}
 use Rattle.rt_shares.specs.Charge.{clamped}
 use Rattle.rt_ids.specs.declared.note.Note.{Note}
-use Rattle.rt_ids.specs.declared.note.Note.TheVariants.{Pick, Yield, Done}
+use Rattle.rt_ids.specs.declared.note.Note.TheVariants.{Pick, Yield, Park, Stayed, Done}
 use Rattle.std.proofs.lemmas.List.{length-drop}
 use Rattle.rt_ids.specs.Journal.{Journal, at_place}
 use Rattle.rt_ids.specs.Picks.{turns, pick_count}
@@ -33,6 +33,8 @@ module _ {T : Type 0} where
 
   time_settled-below : (note : Note T) → time_settled note < 2 ^ 50
   time_settled-below (Yield name time) = clamped_below time
+  time_settled-below (Park name time) = clamped_below time
+  time_settled-below (Stayed name time) = clamped_below time
   time_settled-below (Done name time value) = clamped_below time
   time_settled-below _ = omega arith
 
@@ -50,6 +52,14 @@ module _ {T : Type 0} where
       clock_is (clock_after note (clock_of before)) (note ∷ before) (one_fits (turns before) (length before) (turns-within before) short) (still (busy_time before))
   clock_next (Yield name time) before short =
       let note : Note T = Yield name time in
+      clock_is (clock_after note (clock_of before)) (note ∷ before) (still (turns before))
+      (sum_fits (busy_time before) (clamped time) (length before) (busy_time-within before) (clamped_below time) short)
+  clock_next (Park name time) before short =
+      let note : Note T = Park name time in
+      clock_is (clock_after note (clock_of before)) (note ∷ before) (still (turns before))
+      (sum_fits (busy_time before) (clamped time) (length before) (busy_time-within before) (clamped_below time) short)
+  clock_next (Stayed name time) before short =
+      let note : Note T = Stayed name time in
       clock_is (clock_after note (clock_of before)) (note ∷ before) (still (turns before))
       (sum_fits (busy_time before) (clamped time) (length before) (busy_time-within before) (clamped_below time) short)
   clock_next (Done name time value) before short =

@@ -1,19 +1,20 @@
 -- The polls of a core after one more note.
-use Rattle.std.proofs.Common.{◌≡◌, ℕ, ◌+◌, ◌<◌, ◌≤◌, min, Bool, true, false, cond, List, [], ◌∷◌, length, refl, sym, ap, ◌∙◌, arith}
+use Rattle.std.proofs.Common.{◌≡◌, ℕ, ◌+◌, ◌<◌, ◌≤◌, min, Bool, true, false, cond, [], ◌∷◌, length, refl, sym, ap, ◌∙◌, arith}
 use Rattle.std.specs.Prelude.{Option, Some, None, option_map, unwrap_or}
 use Rattle.rt_ids.specs.declared.names.JobId.{JobId}
 use Rattle.rt_ids.specs.declared.note.Note.{Note}
-use Rattle.rt_ids.specs.declared.note.Note.TheVariants.{Yield, Done}
 use Rattle.rt_ids.specs.Journal.{Journal, latest_told, or_else, with_last}
 use Rattle.rt_ids.specs.Lines.{name_settled}
 use Rattle.rt_ids.specs.Names.{same_name, is_name}
 use Rattle.rt_ids.specs.Picks.{turns}
+use Rattle.rt_ids.specs.Polls.{name_of_poll, poll_settled}
 use Rattle.rt_ids.specs.Work.{number_if}
 use Rattle.rt_journal_facts.specs.Accounts.{greatest_count}
 use Rattle.rt_ids.proofs.NameLemmas.{one_name}
 use Rattle.rt_journal_facts.specs.Names.{known}
-use Rattle.rt_view.specs.Clocks.{clock_after, clock_of}
-use Rattle.rt_view.specs.Polls.{KnowsPolls, Settles, SettlesTold, pick_told, poll_told, polls, steps_of, time_told}
+use Rattle.rt_view.specs.Clocks.{clock_after}
+use Rattle.rt_view.specs.Ends.{end_of}
+use Rattle.rt_view.specs.Polls.{KnowsPolls, SettlesTold, pick_told, poll_told, polls, steps_of}
 use Rattle.rt_view.specs.declared.clocks.Clock.{Clock}
 use Rattle.rt_view.specs.declared.polls.Picked.{Picked}
 use Rattle.rt_view.specs.declared.polls.Poll.{Poll}
@@ -21,10 +22,12 @@ use Rattle.rt_view.specs.declared.polls.PollWalk.{PollWalk}
 use Rattle.rt_view.proofs.ClockSteps.{clock_next}
 
 -- a note settles the poll of the job whose time it tells
-settled_told : {T : Type 0} (note : Note T) → name_settled note ≡ option_map (λ (told : JobId × ℕ). told.0) (time_told note)
-settled_told (Yield name time) = refl
-settled_told (Done name time value) = refl
-settled_told _ = refl
+settled_told : {T : Type 0} (note : Note T) → name_settled note ≡ option_map (λ (told : JobId × ℕ). told.0) (poll_settled note)
+settled_told note = by_poll (poll_settled note)
+  where
+    by_poll : (poll : Option (JobId × ℕ)) → name_of_poll poll ≡ option_map (λ (told : JobId × ℕ). told.0) poll
+    by_poll None = refl
+    by_poll (Some poll) = refl
 
 few : (test : Bool) → number_if test ≤ 1
 few true = omega arith
@@ -57,7 +60,7 @@ module _ (old mid : PollWalk) (note : Note ℕ) (before : Journal ℕ) (short : 
   StepsNext = (name : JobId) → unwrap_or (known mid.steps name) 0 ≡ steps_of name (note ∷ before)
 
   -- the steps of all jobs
-  steps_next : (told : Option (JobId × ℕ)) → time_told note ≡ told → SettlesTold old mid told → StepsNext
+  steps_next : (told : Option (JobId × ℕ)) → poll_settled note ≡ told → SettlesTold old mid told (end_of note) → StepsNext
   steps_next None is goes name =
       ap (λ (walk : PollWalk). unwrap_or (known walk.steps name) 0) goes
       ∙ (knows.steps name ∙ (still (steps_of name before) ∙ ap (λ who. steps_of name before + number_if (is_name name who)) (sym (settled_told note ∙ ap (option_map (λ (it : JobId × ℕ). it.0)) is))))
@@ -79,34 +82,34 @@ module _ (old mid : PollWalk) (note : Note ℕ) (before : Journal ℕ) (short : 
   abbrev PollsNext : Type 0
   PollsNext = mid.polls.items ≡ polls (note ∷ before)
 
-  polls_next : (told : Option (JobId × ℕ)) → time_told note ≡ told → SettlesTold old mid told → PollsNext
+  polls_next : (told : Option (JobId × ℕ)) → poll_settled note ≡ told → SettlesTold old mid told (end_of note) → PollsNext
   polls_next None is goes =
-      ap (λ (walk : PollWalk). walk.polls.items) goes ∙ (knows.polls ∙ ap (with_last (polls before)) (sym (ap (λ it. poll_told (latest_told pick_told before) it before) is ∙ nothing (latest_told pick_told before))))
+      ap (λ (walk : PollWalk). walk.polls.items) goes ∙ (knows.polls ∙ ap (with_last (polls before)) (sym (ap (λ it. poll_told (latest_told pick_told before) it (end_of note) before) is ∙ nothing (latest_told pick_told before))))
     where
-      nothing : (picked : Option Picked) → poll_told picked None before ≡ None
+      nothing : (picked : Option Picked) → poll_told picked None (end_of note) before ≡ None
       nothing None = refl
       nothing (Some picked) = refl
   polls_next (Some told) is goes =
       goes.polls ∙ ((λ i. with_last (knows.polls i) (listed (knows.picked i) ((knows.clock i).turns) (next_step told.0 i))) ∙
-      ap (with_last (polls before)) (by_pick (latest_told pick_told before) ∙ sym (ap (λ it. poll_told (latest_told pick_told before) it before) is)))
+      ap (with_last (polls before)) (by_pick (latest_told pick_told before) ∙ sym (ap (λ it. poll_told (latest_told pick_told before) it (end_of note) before) is)))
     where
       listed : Option Picked → ℕ → ℕ → Option Poll
-      listed picked turn step = option_map (λ pick. record { turn = turn; picked = pick; name = told.0; step = step; time = told.1 }) picked
+      listed picked turn step = option_map (λ pick. record { turn = turn; picked = pick; name = told.0; step = step; time = told.1; end = end_of note }) picked
 
-      by_pick : (picked : Option Picked) → option_map (λ pick. record { turn = turns before; picked = pick; name = told.0; step = steps_of told.0 before + 1; time = told.1 }) picked ≡ poll_told picked (Some told) before
+      by_pick : (picked : Option Picked) → option_map (λ pick. record { turn = turns before; picked = pick; name = told.0; step = steps_of told.0 before + 1; time = told.1; end = end_of note }) picked ≡ poll_told picked (Some told) (end_of note) before
       by_pick None = refl
       by_pick (Some picked) = refl
 
-  clock_kept : (told : Option (JobId × ℕ)) → SettlesTold old mid told → mid.clock ≡ old.clock
+  clock_kept : (told : Option (JobId × ℕ)) → SettlesTold old mid told (end_of note) → mid.clock ≡ old.clock
   clock_kept None goes = ap (λ (walk : PollWalk). walk.clock) goes
   clock_kept (Some told) goes = goes.clock
 
-  pick_kept : (told : Option (JobId × ℕ)) → SettlesTold old mid told → mid.picked ≡ old.picked
+  pick_kept : (told : Option (JobId × ℕ)) → SettlesTold old mid told (end_of note) → mid.picked ≡ old.picked
   pick_kept None goes = ap (λ (walk : PollWalk). walk.picked) goes
   pick_kept (Some told) goes = goes.picked
 
   -- all that is known after one more note
-  pub walk_next : (told : Option (JobId × ℕ)) (clock : Clock) (picked : Option Picked) → told ≡ time_told note → SettlesTold old mid told →
+  pub walk_next : (told : Option (JobId × ℕ)) (clock : Clock) (picked : Option Picked) → told ≡ poll_settled note → SettlesTold old mid told (end_of note) →
       clock ≡ clock_after note mid.clock → picked ≡ or_else (pick_told note) mid.picked → KnowsPolls (record mid { clock = clock; picked = picked }) (note ∷ before)
   walk_next told clock picked is goes clock_is picked_is = record {
     clock = clock_is ∙ (ap (clock_after {T = ℕ} note) (clock_kept told goes ∙ knows.clock) ∙ clock_next note before short);

@@ -1,4 +1,4 @@
--- The worked row, by computation.
+-- The worked rows, by computation.
 use Rattle.std.proofs.Common.{refl}
 use Rattle.rt_view.specs.Rows.{RowsHold}
 use Rattle.rt_view.specs.Shares.{busy_below}
@@ -15,4 +15,8 @@ rows = record {
   nobody = refl;
   polled = refl;
   told = refl;
+  parked_due = refl;
+  awake_due = refl;
+  parked_waits = refl;
+  parks = refl;
 }

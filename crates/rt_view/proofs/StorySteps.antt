@@ -8,9 +8,8 @@ use Rattle.rt_ids.specs.Names.{is_name}
 use Rattle.rt_journal_facts.specs.Accounts.{greatest_count}
 use Rattle.rt_view.specs.Clocks.{clock_after, clock_of}
 use Rattle.rt_view.specs.Spans.{clock_when}
-use Rattle.rt_view.specs.Stories.{KnowsStory, IsRead, chapter, chapter_told, clock_told, name_told, no_clock}
+use Rattle.rt_view.specs.Stories.{KnowsStory, IsRead, chapter, clock_told, name_told, no_clock}
 use Rattle.rt_view.specs.declared.clocks.Clock.{Clock}
-use Rattle.rt_view.specs.declared.stories.Chapter.{Chapter}
 use Rattle.rt_view.specs.declared.stories.Part.{Part}
 use Rattle.rt_view.specs.declared.stories.StoryWalk.{StoryWalk}
 use Rattle.rt_view.proofs.ClockSteps.{clock_next}

@@ -1,5 +1,5 @@
 -- Numbers that are told wrongly are refused.
-use Rattle.std.proofs.Common.{◌≡◌, ℕ, [], ◌∷◌, zero, suc, ap, arith}
+use Rattle.std.proofs.Common.{◌≡◌, ℕ, zero, suc, ap, arith}
 use Rattle.std.specs.Prelude.{Option, Some, None, slice_get}
 use Rattle.rt_view.specs.BadSummaries.{SummariesAreRefused, two_spans}
 use Rattle.rt_view.specs.Percentiles.{IsFirstGreatest}

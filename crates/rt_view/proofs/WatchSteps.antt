@@ -1,5 +1,5 @@
 -- What is known of all queues after one more note.
-use Rattle.std.proofs.Common.{◌≡◌, ℕ, zero, suc, ◌+◌, ◌-◌, ◌*◌, ◌<◌, ◌≤◌, min, max, List, [], ◌∷◌, length, refl, sym, ap, ◌∙◌, cond, get_or, arith}
+use Rattle.std.proofs.Common.{◌≡◌, ℕ, zero, suc, ◌+◌, ◌-◌, ◌<◌, min, max, List, [], ◌∷◌, length, refl, ap, ◌∙◌, cond, get_or, arith}
 use Rattle.std.specs.Prelude.{nat_lt}
 use Rattle.rt_ids.specs.declared.note.Note.{Note}
 use Rattle.rt_ids.specs.Journal.{Journal}
@@ -14,7 +14,7 @@ use Rattle.rt_stats.specs.Walks.{KnowsTallies}
 use Rattle.rt_stats.specs.declared.tally.Tallies.{Tallies}
 use Rattle.rt_stats.specs.declared.tally.Tally.{Tally}
 use Rattle.rt_view.specs.Clocks.{time_settled}
-use Rattle.rt_view.specs.Shares.{busy_shares, busy_below, due, due_noted, most_waiting, part}
+use Rattle.rt_view.specs.Shares.{busy_shares, busy_below, due, due_noted, part}
 use Rattle.rt_view.specs.Watches.{KnowsWatch, no_watch, owed, seen, shares_in, shares_below, waiting_in}
 use Rattle.rt_view.specs.declared.watches.Watch.{Watch}
 
@@ -64,7 +64,7 @@ module _ {T : Type 0} where
   module _ (accounts : Accounts) (journal : Journal T) (knows : KnowsAccounts accounts journal) where
     -- the accounts tell which queues have work, and their shares
     pub busy_known : (queue : ℕ) → shares_in (get_or accounts.queues queue fresh_account) ≡ busy_shares queue journal
-    busy_known queue = λ i. cond (nat_lt ((knows.each queue).left i) ((knows.each queue).entered i)) ((knows.each queue).shares i) 0
+    busy_known queue = λ i. cond (nat_lt ((knows.each queue).left i + (knows.each queue).parked i) ((knows.each queue).entered i)) ((knows.each queue).shares i) 0
 
     pub below_known : (count : ℕ) → shares_below count accounts.queues ≡ busy_below count journal
     unfolding shares_below busy_below

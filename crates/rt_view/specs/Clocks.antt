@@ -2,7 +2,7 @@
 use Rattle.std.specs.Prelude.{ℕ, ◌+◌, min, [], ◌∷◌}
 use Rattle.rt_shares.specs.Charge.{clamped}
 use Rattle.rt_ids.specs.declared.note.Note.{Note}
-use Rattle.rt_ids.specs.declared.note.Note.TheVariants.{Pick, Yield, Done}
+use Rattle.rt_ids.specs.declared.note.Note.TheVariants.{Pick, Yield, Park, Stayed, Done}
 use Rattle.rt_ids.specs.Journal.{Journal}
 use Rattle.rt_ids.specs.Picks.{turns}
 use Rattle.rt_journal_facts.specs.Accounts.{greatest_runtime, greatest_count}
@@ -11,6 +11,8 @@ use Rattle.rt_view.specs.declared.clocks.Clock.{Clock}
 -- the time of the poll that a note settles, as it counts for its charge
 abbrev pub time_settled : {T : Type 0} → Note T → ℕ
 time_settled (Yield name time) = clamped time
+time_settled (Park name time) = clamped time
+time_settled (Stayed name time) = clamped time
 time_settled (Done name time value) = clamped time
 time_settled _ = 0
 
@@ -31,5 +33,7 @@ clock_run time clock = record clock { time = min (clock.time + clamped time) gre
 abbrev pub clock_after : {T : Type 0} → Note T → Clock → Clock
 clock_after (Pick queue runtime) clock = record clock { turns = min (clock.turns + 1) greatest_count }
 clock_after (Yield name time) clock = clock_run time clock
+clock_after (Park name time) clock = clock_run time clock
+clock_after (Stayed name time) clock = clock_run time clock
 clock_after (Done name time value) clock = clock_run time clock
 clock_after _ clock = clock

@@ -1,4 +1,5 @@
 pub mod Clocks
+pub mod Ends
 pub mod Spans
 pub mod Waits
 pub mod Percentiles

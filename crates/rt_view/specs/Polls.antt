@@ -2,15 +2,18 @@
 use Rattle.std.specs.Prelude.{◌≡◌, ℕ, ◌+◌, Option, Some, None, option_map, unwrap_or, min, List, [], ◌∷◌}
 use Rattle.rt_ids.specs.declared.names.JobId.{JobId}
 use Rattle.rt_ids.specs.declared.note.Note.{Note}
-use Rattle.rt_ids.specs.declared.note.Note.TheVariants.{Pick, Yield, Done}
+use Rattle.rt_ids.specs.declared.note.Note.TheVariants.{Pick}
 use Rattle.rt_ids.specs.Journal.{Journal, latest_told, with_last}
 use Rattle.rt_ids.specs.Lines.{name_settled}
 use Rattle.rt_ids.specs.Names.{is_name}
+use Rattle.rt_ids.specs.Polls.{poll_settled}
 use Rattle.rt_ids.specs.Picks.{turns}
 use Rattle.rt_ids.specs.Work.{number_if}
-use Rattle.rt_journal_facts.specs.Names.{Entries, known, SetsOne}
+use Rattle.rt_journal_facts.specs.Names.{known, SetsOne}
 use Rattle.rt_journal_facts.specs.Accounts.{greatest_count}
 use Rattle.rt_view.specs.Clocks.{clock_of}
+use Rattle.rt_view.specs.Ends.{end_of}
+use Rattle.rt_view.specs.declared.ends.End.{End}
 use Rattle.rt_view.specs.declared.polls.Poll.{Poll}
 use Rattle.rt_view.specs.declared.polls.PollWalk.{PollWalk}
 use Rattle.rt_view.specs.declared.polls.Picked.{Picked}
@@ -25,30 +28,24 @@ abbrev pub steps_of : {T : Type 0} → JobId → Journal T → ℕ
 steps_of name [] = 0
 steps_of name (note ∷ before) = steps_of name before + number_if (is_name name (name_settled note))
 
--- the job whose poll a note settles, with the time that it took
-abbrev pub time_told : {T : Type 0} → Note T → Option (JobId × ℕ)
-time_told (Yield name time) = Some (name, time)
-time_told (Done name time value) = Some (name, time)
-time_told _ = None
-
 -- a poll of the turn of this pick
-abbrev pub poll_of : {T : Type 0} → Picked → JobId × ℕ → Journal T → Poll
-poll_of picked told before =
-    record { turn = turns before; picked = picked; name = told.0; step = steps_of told.0 before + 1; time = told.1 }
+abbrev pub poll_of : {T : Type 0} → Picked → JobId × ℕ → End → Journal T → Poll
+poll_of picked told end before =
+    record { turn = turns before; picked = picked; name = told.0; step = steps_of told.0 before + 1; time = told.1; end = end }
 
 -- the poll that a note settles, if a pick stands before it
-abbrev pub poll_told : {T : Type 0} → Option Picked → Option (JobId × ℕ) → Journal T → Option Poll
-poll_told None told before = None
-poll_told (Some picked) None before = None
-poll_told (Some picked) (Some told) before = Some (poll_of picked told before)
+abbrev pub poll_told : {T : Type 0} → Option Picked → Option (JobId × ℕ) → End → Journal T → Option Poll
+poll_told None told end before = None
+poll_told (Some picked) None end before = None
+poll_told (Some picked) (Some told) end before = Some (poll_of picked told end before)
 
 -- the settled polls of a core, the oldest first
 abbrev pub polls : {T : Type 0} → Journal T → List Poll
 polls [] = []
-polls (note ∷ before) = with_last (polls before) (poll_told (latest_told pick_told before) (time_told note) before)
+polls (note ∷ before) = with_last (polls before) (poll_told (latest_told pick_told before) (poll_settled note) (end_of note) before)
 
 -- one more poll of this job is settled, and listed if a pick stands before it
-pub record Settles (old new : PollWalk) (name : JobId) (time : ℕ) : Type 0 where
+pub record Settles (old new : PollWalk) (name : JobId) (time : ℕ) (end : End) : Type 0 where
   pub clock : new.clock ≡ old.clock
   pub picked : new.picked ≡ old.picked
   pub steps : SetsOne old.steps new.steps name (min (unwrap_or (known old.steps name) 0 + 1) greatest_count)
@@ -58,12 +55,13 @@ pub record Settles (old new : PollWalk) (name : JobId) (time : ℕ) : Type 0 whe
     name = name;
     step = min (unwrap_or (known old.steps name) 0 + 1) greatest_count;
     time = time;
+    end = end;
   }) old.picked)
 
 -- the same of a poll that a note settles, if it settles one
-abbrev pub SettlesTold : PollWalk → PollWalk → Option (JobId × ℕ) → Type 0
-SettlesTold old new None = new ≡ old
-SettlesTold old new (Some told) = Settles old new told.0 told.1
+abbrev pub SettlesTold : PollWalk → PollWalk → Option (JobId × ℕ) → End → Type 0
+SettlesTold old new None end = new ≡ old
+SettlesTold old new (Some told) end = Settles old new told.0 told.1 end
 
 -- the turns, the newest pick, the steps of each job and the polls are those of these notes
 pub record KnowsPolls (walk : PollWalk) (journal : Journal ℕ) : Type 0 where

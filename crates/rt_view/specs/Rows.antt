@@ -1,13 +1,15 @@
--- A worked row: two jobs of two queues with equal shares, with all numbers on paper.
+-- Worked rows: two jobs of two queues with equal shares, with all numbers on paper.
 use Rattle.std.specs.Prelude.{◌≡◌, ℕ, List, [], ◌∷◌}
 use Rattle.rt_ids.specs.declared.names.JobId.{JobId}
-use Rattle.rt_ids.specs.declared.note.Note.TheVariants.{Took, Pick, Start, Resume, Yield, Done}
+use Rattle.rt_ids.specs.declared.note.Note.TheVariants.{Took, Pick, Start, Resume, Yield, Park, Done}
 use Rattle.rt_ids.specs.Journal.{Journal}
 use Rattle.rt_view.specs.Polls.{polls}
 use Rattle.rt_view.specs.Shares.{due, most_waiting}
 use Rattle.rt_view.specs.Stories.{chapters}
 use Rattle.rt_view.specs.Waits.{waits, runs}
 use Rattle.rt_view.specs.declared.clocks.Clock.{Clock}
+use Rattle.rt_view.specs.declared.ends.End.{End}
+use Rattle.rt_view.specs.declared.ends.End.TheVariants as ends
 use Rattle.rt_view.specs.declared.polls.Poll.{Poll}
 use Rattle.rt_view.specs.declared.spans.Span.{Span}
 use Rattle.rt_view.specs.declared.stories.Chapter.{Chapter}
@@ -36,9 +38,13 @@ span_row number turns time = record { name = job number; turns = turns; time = t
 abbrev pub clock_row : ℕ → ℕ → Clock
 clock_row turns time = record { turns = turns; time = time }
 
-abbrev pub poll_row : ℕ → ℕ → ℕ → ℕ → ℕ → ℕ → Poll
-poll_row turn queue runtime number step time =
-    record { turn = turn; picked = record { queue = queue; virtual_runtime = runtime }; name = job number; step = step; time = time }
+-- in the second row the first job is parked after its poll
+abbrev pub parked_row : Journal ℕ
+parked_row = Yield (job 2) 20 ∷ Start (job 2) ∷ Pick 1 0 ∷ Park (job 1) 30 ∷ Start (job 1) ∷ Pick 0 0 ∷ entered
+
+abbrev pub poll_row : ℕ → ℕ → ℕ → ℕ → ℕ → ℕ → End → Poll
+poll_row turn queue runtime number step time end =
+    record { turn = turn; picked = record { queue = queue; virtual_runtime = runtime }; name = job number; step = step; time = time; end = end }
 
 -- the notes of the second job, with their places and clocks
 abbrev pub second_story : List Chapter
@@ -58,5 +64,11 @@ pub record RowsHold : Type 0 where
   pub third_due : due 2 row ≡ 0
   pub most : most_waiting 0 row ≡ 1
   pub nobody : most_waiting 2 row ≡ 0
-  pub polled : polls row ≡ poll_row 1 0 0 1 1 30 ∷ poll_row 2 1 0 2 1 20 ∷ poll_row 3 0 30 1 2 10 ∷ []
+  pub polled : polls row ≡ poll_row 1 0 0 1 1 30 ends.Yield ∷ poll_row 2 1 0 2 1 20 ends.Done ∷ poll_row 3 0 30 1 2 10 ends.Done ∷ []
   pub told : chapters Serving (job 2) row ≡ second_story
+  -- half of 30; from then on it has no work, since its job is parked
+  pub parked_due : due 0 parked_row ≡ 15000
+  -- half of 30, and all of 20
+  pub awake_due : due 1 parked_row ≡ 35000
+  pub parked_waits : most_waiting 0 parked_row ≡ 1
+  pub parks : polls parked_row ≡ poll_row 1 0 0 1 1 30 ends.Park ∷ poll_row 2 1 0 2 1 20 ends.Yield ∷ []

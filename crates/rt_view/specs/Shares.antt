@@ -1,5 +1,5 @@
 -- What each queue of a core should have got while it had work, and how many jobs waited in it.
-use Rattle.std.specs.Prelude.{◌≡◌, ℕ, zero, suc, ◌+◌, ◌*◌, ◌/◌, ◌<◌, min, max, Option, option_map, [], ◌∷◌, if◌then◌else◌, get_or}
+use Rattle.std.specs.Prelude.{ℕ, zero, suc, ◌+◌, ◌*◌, ◌/◌, min, max, Option, option_map, [], ◌∷◌, if◌then◌else◌}
 use Rattle.rt_ids.specs.declared.note.Note.{Note}
 use Rattle.rt_ids.specs.Journal.{Journal}
 use Rattle.rt_ids.specs.Limits.{most_queues}

@@ -24,9 +24,12 @@ abbrev pub name_served : Note ℕ → Option JobId
 name_served (note.Took name queue) = Some name
 name_served (note.Back name reason) = Some name
 name_served (note.Answered name answer) = Some name
+name_served (note.Woken name) = Some name
 name_served (note.Start name) = Some name
 name_served (note.Resume name) = Some name
 name_served (note.Yield name time) = Some name
+name_served (note.Park name time) = Some name
+name_served (note.Stayed name time) = Some name
 name_served (note.Done name time value) = Some name
 name_served (note.Returned name reason) = Some name
 name_served _ = None

@@ -1,12 +1,13 @@
 -- What a walk knows of the shares of all queues.
-use Rattle.std.specs.Prelude.{◌≡◌, ℕ, zero, suc, ◌+◌, ◌-◌, ◌<◌, ◌≤◌, min, max, List, if◌then◌else◌, get_or, length}
+use Rattle.std.specs.Prelude.{◌≡◌, ℕ, zero, suc, ◌+◌, ◌-◌, ◌<◌, min, max, List, if◌then◌else◌, get_or}
 use Rattle.rt_ids.specs.Journal.{Journal}
 use Rattle.rt_ids.specs.Limits.{most_queues}
-use Rattle.rt_journal_facts.specs.Accounts.{fresh_account, greatest_count, greatest_runtime, has_jobs}
+use Rattle.rt_journal_facts.specs.Accounts.{fresh_account, greatest_runtime, has_jobs}
 use Rattle.rt_journal_facts.specs.AllAccounts.{KnowsAccounts}
 use Rattle.rt_journal_facts.specs.declared.accounts.Account.{Account}
 use Rattle.rt_stats.specs.Tallies.{no_tally}
-use Rattle.rt_stats.specs.Walks.{KnowsQueues, KnowsSums, KnowsTallies}
+use Rattle.rt_journal_facts.specs.Parks.{KnowsParks}
+use Rattle.rt_stats.specs.Walks.{KnowsSums, KnowsTallies}
 use Rattle.rt_stats.specs.declared.tally.Tally.{Tally}
 use Rattle.rt_view.specs.Shares.{due, most_waiting, part}
 use Rattle.rt_view.specs.declared.shares.CoreShares.{CoreShares}
@@ -26,7 +27,7 @@ unfoldable pub shares_below : ℕ → List Account → ℕ
 shares_below zero accounts = 0
 shares_below (suc queue) accounts = shares_below queue accounts + shares_in (get_or accounts queue fresh_account)
 
--- the jobs of a queue that wait, by its account and its tally
+-- the jobs of a queue that wait, parked ones counted too, by its account and its tally
 abbrev pub waiting_in : Account → Tally → ℕ
 waiting_in account tally = (account.entered - account.left) - (tally.begun - tally.settled)
 
@@ -61,7 +62,7 @@ AreWatched each journal = (queue : ℕ) → queue < most_queues → KnowsWatch q
 
 -- all is known as these notes tell it
 pub record KnowsWatches {T : Type 0} (watches : Watches) (journal : Journal T) : Type 0 where
-  pub queues : KnowsQueues watches.queues journal
+  pub parks : KnowsParks watches.parks journal
   pub accounts : KnowsAccounts watches.accounts journal
   pub tallies : KnowsTallies watches.tallies journal
   pub each : AreWatched watches.each journal

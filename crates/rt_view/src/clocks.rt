@@ -31,6 +31,8 @@ impl Clock {
         match *note {
             Note::Pick(_, _) => self.turns = self.turns.saturating_add(1),
             Note::Yield(_, time) => self.run(time),
+            Note::Park(_, time) => self.run(time),
+            Note::Stayed(_, time) => self.run(time),
             Note::Done(_, time, _) => self.run(time),
             _ => {}
         }

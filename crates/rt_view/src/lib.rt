@@ -2,6 +2,7 @@
 #![tactic(auto)]
 
 pub mod clocks;
+pub mod ends;
 pub mod laws;
 pub mod percentiles;
 pub mod polls;
@@ -13,6 +14,7 @@ pub mod waits;
 pub mod watches;
 
 pub use clocks::{Clock, clock_of};
+pub use ends::{End, end_of};
 pub use percentiles::Percentiles;
 pub use polls::{Picked, Poll, settled_polls};
 pub use shares::{CoreShares, QueueShare};

@@ -6,7 +6,9 @@ ghost use Rattle.rt_journal_facts.specs.Accounts.{greatest_count};
 ghost use Rattle.rt_view.specs.Polls as spec;
 
 use crate::clocks::Clock;
+use crate::ends::{End, end_of};
 use rt_ids::{JobId, Note, QueueNo};
+use rt_journal_facts::told::poll_settled;
 use rt_journal_facts::{NameTable, note_at};
 use rt_journal_notes::Journal;
 use std::alloc::{AllocError, Global};
@@ -18,8 +20,8 @@ pub struct Picked {
     pub virtual_runtime: u128,
 }
 
-/// A settled poll: the turn in which it ran, counted from 1, the pick of that turn, the job, which of its polls it is, counted from 1, and
-/// its time in nanoseconds, as the note tells it.
+/// A settled poll: the turn in which it ran, counted from 1, the pick of that turn, the job, which of its polls it is, counted from 1,
+/// its time in nanoseconds, as the note tells it, and how it ended.
 #[derive(Clone, Copy)]
 pub struct Poll {
     pub turn: u64,
@@ -27,6 +29,7 @@ pub struct Poll {
     pub name: JobId,
     pub step: u64,
     pub time: u64,
+    pub end: End,
 }
 
 /// The queue that a note picks.
@@ -38,17 +41,6 @@ fn pick_told(note: &Note<u64>) -> Option<Picked>
             queue,
             virtual_runtime,
         }),
-        _ => None,
-    }
-}
-
-/// The job whose poll a note settles, with its time.
-fn time_told(note: &Note<u64>) -> Option<(JobId, u64)>
-    ensures { result ≡ spec.time_told note.now }
-{
-    match *note {
-        Note::Yield(name, time) => Some((name, time)),
-        Note::Done(name, time, _) => Some((name, time)),
         _ => None,
     }
 }
@@ -89,25 +81,25 @@ impl PollWalk {
     fn add(&mut self, note: &Note<u64>) -> Result<(), AllocError>
         ensures { OnOk result ((before : Notes ℕ) → length before < greatest_count → spec.KnowsPolls self.old before → spec.KnowsPolls self.new (note.now ∷ before)) }
     {
-        self.settle_told(time_told(note))?;
+        self.settle_told(poll_settled(note), end_of(note))?;
         self.clock.add(note);
         self.picked = newer(pick_told(note), self.picked);
         Ok(())
     }
 
     /// A poll of a job is settled, if there is one.
-    fn settle_told(&mut self, told: Option<(JobId, u64)>) -> Result<(), AllocError>
-        ensures { OnOk result (spec.SettlesTold self.old self.new told) }
+    fn settle_told(&mut self, told: Option<(JobId, u64)>, end: End) -> Result<(), AllocError>
+        ensures { OnOk result (spec.SettlesTold self.old self.new told end) }
     {
         let Some((name, time)) = told else {
             return Ok(());
         };
-        self.settle(name, time)
+        self.settle(name, time, end)
     }
 
     /// A poll of this job is settled.
-    fn settle(&mut self, name: JobId, time: u64) -> Result<(), AllocError>
-        ensures { OnOk result (spec.Settles self.old self.new name time) }
+    fn settle(&mut self, name: JobId, time: u64, end: End) -> Result<(), AllocError>
+        ensures { OnOk result (spec.Settles self.old self.new name time end) }
     {
         let step = self.steps.get(&name).unwrap_or(0).saturating_add(1);
         self.steps.set(name, step)?;
@@ -121,6 +113,7 @@ impl PollWalk {
             name,
             step,
             time,
+            end,
         })?;
         Ok(())
     }

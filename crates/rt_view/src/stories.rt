@@ -67,14 +67,15 @@ fn name_sent(note: &Note<u64>) -> Option<JobId>
     }
 }
 
-/// The submission that a note delivers, polls or ends.
+/// The submission that a note delivers, wakes, polls or ends.
 fn name_served(note: &Note<u64>) -> Option<JobId>
     ensures { result ≡ spec.name_served note.now }
 {
     match *note {
         Note::Took(name, _) | Note::Back(name, _) | Note::Answered(name, _) => Some(name),
-        Note::Start(name) | Note::Resume(name) => Some(name),
-        Note::Yield(name, _) | Note::Done(name, _, _) | Note::Returned(name, _) => Some(name),
+        Note::Woken(name) | Note::Start(name) | Note::Resume(name) => Some(name),
+        Note::Yield(name, _) | Note::Park(name, _) | Note::Stayed(name, _) => Some(name),
+        Note::Done(name, _, _) | Note::Returned(name, _) => Some(name),
         _ => None,
     }
 }

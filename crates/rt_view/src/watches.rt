@@ -8,11 +8,10 @@ ghost use Rattle.rt_view.specs.Clocks.{time_settled};
 ghost use Rattle.rt_view.specs.Shares.{part};
 ghost use Rattle.rt_view.specs.Watches as spec;
 
-use rt_ids::{MOST_QUEUES, Note, QueueNo};
-use rt_journal_facts::told::queue_told;
-use rt_journal_facts::{Account, Accounts, NameTable};
+use rt_ids::{MOST_QUEUES, Note};
+use rt_journal_facts::{Account, Accounts, Parks};
 use rt_shares::Shares;
-use rt_stats::tally::{Tallies, Tally, queue_noted, queue_touched};
+use rt_stats::tally::{Tallies, Tally};
 use std::alloc::{AllocError, Global};
 
 /// Of the notes that were read: what one queue should have got, and how many jobs waited in it at most.
@@ -55,6 +54,8 @@ fn settled_time(note: &Note<u64>) -> u64
 {
     match *note {
         Note::Yield(_, time) => rt_shares::clamped(time),
+        Note::Park(_, time) => rt_shares::clamped(time),
+        Note::Stayed(_, time) => rt_shares::clamped(time),
         Note::Done(_, time, _) => rt_shares::clamped(time),
         _ => 0,
     }
@@ -91,7 +92,7 @@ fn part(time: u64, own: u32, all: u64) -> u128
     time as u128 * 1000 * own as u128 / all.max(1) as u128
 }
 
-/// The jobs of a queue that wait.
+/// The jobs of a queue that wait, parked ones counted too.
 fn waiting_in(account: &Account, tally: &Tally) -> u64
     ensures { result ≡ spec.waiting_in account.now tally.now }
 {
@@ -124,10 +125,10 @@ fn see_all(each: &mut [Watch; 256], accounts: &[Account; 256], tallies: &[Tally;
     }
 }
 
-/// Of the notes that were read: the queue of each job, and what is known of each queue.
+/// Of the notes that were read: the queue of each job and where it is parked, and what is known of each queue.
 #[derive(Drop)]
 pub struct Watches {
-    queues: NameTable<QueueNo>,
+    parks: Parks,
     accounts: Accounts,
     tallies: Tallies,
     each: [Watch; 256],
@@ -139,7 +140,7 @@ impl Watches {
         ensures { spec.KnowsWatches {T = ℕ} result [] }
     {
         Watches {
-            queues: NameTable::new(alloc),
+            parks: Parks::new(alloc),
             accounts: Accounts::new(),
             tallies: Tallies::new(),
             each: [Watch::new(); MOST_QUEUES],
@@ -150,13 +151,12 @@ impl Watches {
     pub fn add(&mut self, note: &Note<u64>) -> Result<(), AllocError>
         ensures { OnOk result ((before : Notes ℕ) → length before < greatest_count → spec.KnowsWatches self.old before → spec.KnowsWatches self.new (note.now ∷ before)) }
     {
-        let queue = queue_noted(note, &self.queues);
-        let touched = queue_touched(note, &queue);
+        let spot = self.parks.spot(note);
         owe_all(&mut self.each, settled_time(note), &self.accounts.queues);
-        self.tallies.add(note, &queue, &self.accounts);
-        self.accounts.add(note, touched);
+        self.tallies.add(note, &spot.queue, &self.accounts);
+        self.accounts.add(note, &spot);
         see_all(&mut self.each, &self.accounts.queues, &self.tallies.queues);
-        self.queues.set_told(queue_told(note))
+        self.parks.add(note)
     }
 
     /// What is known of each queue.

@@ -4,13 +4,13 @@ use crate::journals::journal;
 use rt_view::{Poll, settled_polls};
 use std::alloc::Global;
 
-/// A poll: its turn, its queue, the virtual runtime before it, its job, which of the job's polls it is, and its time.
-type Row = (u64, u8, u128, u64, u64, u64);
+/// A poll: its turn, its queue, the virtual runtime before it, its job, which of the job's polls it is, its time, and whether the job is done.
+type Row = (u64, u8, u128, u64, u64, u64, bool);
 
 static ROWS: [Row; 3] = [
-    (1, 0, 0, 1, 1, 30),
-    (2, 1, 0, 2, 1, 20),
-    (3, 0, 30, 1, 2, 10),
+    (1, 0, 0, 1, 1, 30, false),
+    (2, 1, 0, 2, 1, 20, true),
+    (3, 0, 30, 1, 2, 10, true),
 ];
 
 fn is_row(poll: &Poll, row: &Row) -> bool {
@@ -20,6 +20,7 @@ fn is_row(poll: &Poll, row: &Row) -> bool {
         && poll.name.number == row.3
         && poll.step == row.4
         && poll.time == row.5
+        && poll.end.is_done() == row.6
 }
 
 fn are_rows(polls: &[Poll]) -> bool {

@@ -5,10 +5,12 @@ use Rattle.rt_world.proofs.Words.{link_at, Parts, core_at, world_of, IsWorld, Is
 use Rattle.rt_world.proofs.Words.{turns, has_work, Makes, polls_made, poll_note, order_taken, opened_beside, with_notes, post_of, CallsAt, order_under}
 use Rattle.rt_world.proofs.Words.{pick_notes, IsPoll, Turns}
 use Rattle.rt_ids.specs.declared.note.Note.TheVariants as writes
+use Rattle.rt_ids.specs.Commands.{stays_in_line}
+use Rattle.rt_core.specs.Whole.{settled_of}
 use Rattle.rt_journal.specs.Polls.{settle_note}
 use Rattle.rt_world_links.specs.declared.turn.Turned.{Turned}
 use Rattle.rt_world_links.specs.declared.turn.Turned.TheVariants.{Made, Idle, Spent}
-use Rattle.rt_world.specs.Turns.{turned_reply}
+use Rattle.rt_world.specs.Turns.{settled_note, turned_reply}
 use Rattle.rt_world_links.specs.OneTurn as one
 use Rattle.rt_world.proofs.CoreSteps.{cores_are, number_is, parts_now, receives, journal_is, core_noted}
 use Rattle.rt_world.proofs.Desks.{sent_at-world}
@@ -99,13 +101,24 @@ module _ {J : Type 0} {meaning : Meaning J ℕ} {old : Parts J ℕ}
           ∙ (core_noted world number there did.turn.picked old.links (poll_note did.name did.started ∷ writes.Pick did.queue did.turn.picks.runtime ∷ []) did.turn.picks.journal refl
           ∙ ap (λ started. noted number (poll_note did.name started ∷ writes.Pick did.queue did.turn.picks.runtime ∷ []) (world_of old)) (did.turn.picks.started ∙ ap (is_told name_started did.name) (sym here)))
 
-      settled_noted : world_of turned ≡ noted number (settle_note did.name (unwrap_or did.turn.ran.told spent) did.turn.ran.step ∷ []) (world_of mid)
+      mid_notes : journal_at number (world_of mid) ≡ did.turn.left.journal.notes
+      mid_notes = journal_is mid_world number there ∙ ap (λ view. view.journal.notes) mid_core
+
+      -- what became of the job is what the journal says behind the calls of its poll
+      came : did.settled ≡ settled_of did.turn.ran.step (stays_in_line did.name (journal_at number (world_of mid)))
+      came =
+          did.turn.settles.tells
+          ∙ (ap (λ out. settled_of did.turn.ran.step (stays_in_line out.name did.turn.left.journal.notes)) (out_is did)
+          ∙ ap (λ notes. settled_of did.turn.ran.step (stays_in_line did.name notes)) (sym mid_notes))
+
+      settled_noted : world_of turned ≡ noted number (settled_note did.name (unwrap_or did.turn.ran.told spent) did.turn.ran.step (journal_at number (world_of mid)) ∷ []) (world_of mid)
       settled_noted =
           ap world_of (sym settled_is)
-          ∙ (quiet_noted mid_world number there new after stays (settle_note did.turn.settles.out.name (unwrap_or did.turn.ran.told spent) did.turn.ran.step ∷ [])
+          ∙ (quiet_noted mid_world number there new after stays (settle_note did.turn.settles.out.name (unwrap_or did.turn.ran.told spent) did.settled ∷ [])
           (did.turn.settles.journal
-          ∙ λ i. with_notes (settle_note did.turn.settles.out.name (unwrap_or did.turn.ran.told (did.turn.told i)) did.turn.ran.step ∷ []) (sym mid_core i).journal)
-          ∙ ap (λ out. noted number (settle_note out.name (unwrap_or did.turn.ran.told spent) did.turn.ran.step ∷ []) (world_of mid)) (out_is did))
+          ∙ λ i. with_notes (settle_note did.turn.settles.out.name (unwrap_or did.turn.ran.told (did.turn.told i)) did.settled ∷ []) (sym mid_core i).journal)
+          ∙ (ap (λ out. noted number (settle_note out.name (unwrap_or did.turn.ran.told spent) did.settled ∷ []) (world_of mid)) (out_is did)
+          ∙ ap (λ settled. noted number (settle_note did.name (unwrap_or did.turn.ran.told spent) settled ∷ []) (world_of mid)) came))
 
       polled : IsPoll meaning number spent (world_of old) (world_of turned)
       polled = record {

@@ -1,12 +1,12 @@
 -- A core does something on the link of a sender: it is the step of its event, and the world stays one.
 use Rattle.rt_world.proofs.Words.{◌≡◌, ℕ, ◌<◌, ◌≤◌, Bool, List, sym, ◌∙◌, ap, subst, Meaning, Whole, inward_of, RecordedView, IsInOf, WorldView, journal_at}
-use Rattle.rt_world.proofs.Words.{link_at, Parts, core_at, world_of, IsWorld, ◌+◌, true, false, [], ◌∷◌, length, arith, append-nil, slice_get, Reply, noted}
+use Rattle.rt_world.proofs.Words.{link_at, Parts, core_at, world_of, IsWorld, ◌+◌, true, false, [], ◌∷◌, length, arith, append-nil, slice_get, Reply, noted, None}
 use Rattle.rt_world.proofs.Words.{desk_at, IsAtRest, accepted_orders, ChangesLink, sent_at, Delivers, IsDelivery, next_place, HasReceived}
 use Rattle.rt_world_links.proofs.TakenLinks.{DidOnLink, on_link, took_on_link, seen_is, sent_is, only_received}
 use Rattle.rt_world.proofs.CoreSteps.{journal_is, number_is, parts_now, core_noted, core_unchanged, receives}
 use Rattle.rt_ids.specs.declared.order.Envelope.{Envelope}
 use Rattle.rt_ids.specs.Filters.{delivered_names}
-use Rattle.rt_journal.specs.Steps.{Delivers as DeliversTo}
+use Rattle.rt_journal.specs.Steps.{Delivers as DeliversTo, out_told}
 use Rattle.rt_journal_desk.proofs.NumberedOrders.{length-numbered}
 use Rattle.rt_ids.specs.declared.note.Note.TheVariants as writes
 use Rattle.rt_world.specs.declared.model.receipts.Receipt.{Receipt}
@@ -56,17 +56,21 @@ module _ {J T : Type 0} {meaning : Meaning J T} {old : Parts J T} {sender core :
   did : HasReceived meaning sender what view link answer now after
   did = received_there world by (λ view link. HasReceived meaning sender what view link answer now after) it_did
 
-  did_on_link : DidOnLink link after × (now.core.out ≡ view.core.out)
+  -- where no job was out, none is
+  abbrev StaysFree : Type 0
+  StaysFree = view.core.out ≡ None → now.core.out ≡ None
+
+  did_on_link : DidOnLink link after × StaysFree
   did_on_link = by_what what did.receives
     where
-      by_found : (found : Bool) → DeliversTo view (inward_of link) now (inward_of after) found → DidOnLink link after × (now.core.out ≡ view.core.out)
-      by_found true delivers = (took_on_link link after delivers.1.0 delivers.0 delivers.1.1 delivers.1.2 delivers.1.3, delivers.2.out)
+      by_found : (found : Bool) → DeliversTo view (inward_of link) now (inward_of after) found → DidOnLink link after × StaysFree
+      by_found true delivers = (took_on_link link after delivers.1.0 delivers.0 delivers.1.1 delivers.1.2 delivers.1.3, λ free. delivers.2.out ∙ ap (out_told now.journal.notes) free)
       by_found false delivers =
-          (on_link delivers.0.0 delivers.0.1 ([], ap (λ end. end.given) delivers.0.0 ∙ sym (append-nil link.given)), ap (λ view. view.core.out) delivers.1)
+          (on_link delivers.0.0 delivers.0.1 ([], ap (λ end. end.given) delivers.0.0 ∙ sym (append-nil link.given)), λ free. ap (λ view. view.core.out) delivers.1 ∙ free)
 
-      by_what : (what : Receipt) → ReceivesOn sender what view link answer now after → DidOnLink link after × (now.core.out ≡ view.core.out)
+      by_what : (what : Receipt) → ReceivesOn sender what view link answer now after → DidOnLink link after × StaysFree
       by_what Take receives = by_found receives.0 receives.2
-      by_what Shut receives = (on_link receives.2.0 receives.2.1 ([], ap (λ end. end.given) receives.2.0 ∙ sym (append-nil link.given)), receives.3.out)
+      by_what Shut receives = (on_link receives.2.0 receives.2.1 ([], ap (λ end. end.given) receives.2.0 ∙ sym (append-nil link.given)), λ free. receives.3.out ∙ free)
 
   same_orders : after.sent ≡ link.sent
   same_orders = sent_is link after did_on_link.0.more did.untouched did_on_link.0.rest
@@ -85,7 +89,7 @@ module _ {J T : Type 0} {meaning : Meaning J T} {old : Parts J T} {sender core :
   received = parts_now world core by.core_there now links
 
   pub received_at_rest : IsAtRest old → IsAtRest received
-  received_at_rest rest = rest_after old core now links rest (did_on_link.1 ∙ rest core by.core_there)
+  received_at_rest rest = rest_after old core now links rest (did_on_link.1 (rest core by.core_there))
 
   pub received_rests : IsWorld meaning received
   received_rests =

@@ -10,7 +10,8 @@ use Rattle.rt_ids.specs.Filters.{name_started}
 use Rattle.rt_ids.specs.Work.{has_work}
 use Rattle.rt_ids.specs.Lines.{line}
 use Rattle.rt_ids.specs.Picks.{IsRightPick, turns}
-use Rattle.rt_ids.specs.Commands.{return_reason}
+use Rattle.rt_ids.specs.Commands.{return_reason, stays_in_line}
+use Rattle.rt_core.specs.Whole.{settled_of}
 use Rattle.rt_jobs.specs.Calls.{Call, Makes}
 use Rattle.rt_jobs.specs.declared.job.Step.{Step}
 use Rattle.rt_jobs.specs.Meanings.{Meaning}
@@ -32,6 +33,10 @@ turned_reply turned.Spent = reply.Spent
 -- the notes of a pick, and of the poll that it begins
 abbrev pub pick_notes : {T : Type 0} → JobId → ℕ → ℕ → Journal T → List (Note T)
 pick_notes name queue runtime before = poll_note name (is_told name_started name before) ∷ writes.Pick queue runtime ∷ []
+
+-- the note of a settled poll, behind these: a job that asks to be parked stays in its line exactly where they say so
+abbrev pub settled_note : {T : Type 0} → JobId → ℕ → Step T → Journal T → Note T
+settled_note name time step before = settle_note name time (settled_of step (stays_in_line name before))
 
 module _ {J T : Type 0} where
   -- a turn is left, and the right pick is made: its queue or the core hands back, and so the first job of that line is returned, which charges nothing
@@ -70,7 +75,7 @@ module _ {J : Type 0} (meaning : Meaning J ℕ) where
     -- the calls are made after the notes of the pick, and before the note of the settled poll
     pub posted : WorldView J ℕ
     pub posts : Makes (CallsAt meaning core) calls (noted core (pick_notes name queue runtime (journal_at core old)) old) posted
-    pub notes : new ≡ noted core (settle_note name (unwrap_or told spent) step ∷ []) posted
+    pub notes : new ≡ noted core (settled_note name (unwrap_or told spent) step (journal_at core posted) ∷ []) posted
 
   -- Turn: a poll, or a job is handed back; nothing where no queue has work, and nothing where all turns are used
   abbrev pub Turns : ℕ → ℕ → WorldView J ℕ → WorldView J ℕ → Reply J → Type 0

@@ -13,6 +13,7 @@ module _ (calls others : List (Call Script ℕ)) where
     one_step None first second = absurd first
     one_step (Some (poll.Yield time)) first second = (first.1 ∙ sym second.1, first.2 ∙ sym second.2)
     one_step (Some (poll.Submit time core queue)) first second = (first.1 ∙ sym second.1, first.2 ∙ sym second.2)
+    one_step (Some (poll.Park time)) first second = (first.1 ∙ sym second.1, first.2 ∙ sym second.2)
     one_step (Some (poll.Done time value)) first second = (first.1 ∙ sym second.1, first.2 ∙ sym second.2)
 
   -- two lists of calls, said otherwise
@@ -34,6 +35,7 @@ module _ (calls others : List (Call Script ℕ)) where
   asks_one None step other told other_told first second = absurd first
   asks_one (Some (poll.Yield time)) step other told other_told first second = alike_as [] [] first.0 second.0 refl
   asks_one (Some (poll.Submit time core queue)) step other told other_told first second = sends_alike core queue first.0 second.0
+  asks_one (Some (poll.Park time)) step other told other_told first second = alike_as [] [] first.0 second.0 refl
   asks_one (Some (poll.Done time value)) step other told other_told first second = alike_as [] [] first.0 second.0 refl
 
 pub scripts_owe_one : OwesOne script_meaning
@@ -55,6 +57,7 @@ orders_none (Some (poll.Submit time core queue)) calls step told does = none_as 
     detached : (answer : Result JobId (SendError Script)) → CallNoQueues (detach_calls answer)
     detached (Ok name) = tt
     detached (Err error) = tt
+orders_none (Some (poll.Park time)) calls step told does = none_as calls [] does.0 tt
 orders_none (Some (poll.Done time value)) calls step told does = none_as calls [] does.0 tt
 
 pub scripts_order_none : PollsOrderNone script_meaning

@@ -2,7 +2,7 @@
 use Rattle.rt_world_laws.proofs.Words.{◌≡◌, ℕ, ◌+◌, ◌-◌, ◌^◌, ◌<◌, ◌≤◌, Bool, true, false, List, [], ◌∷◌, ◌++◌, length, refl, sym, ◌∙◌, ap, subst, ◌⊎◌, inl, inr, ⊎_elim, arith}
 use Rattle.rt_world_laws.proofs.Words.{⊎_map, nat_le, is_some, none-some, same_Some, get_or-set_same, Option, Some, None, JobId, Note, Order, Journal}
 use Rattle.rt_world_laws.proofs.Words.{Fits, Reply, WorldView, journal_at, noted, Closed, Full, Spent, accepted_orders, outstanding_count, without_job}
-use Rattle.rt_world_laws.proofs.Words.{with_sent, Sends, Answer, Job, Create, SetShares, Close, CloseCore, core_mode, created_count, effect_note, with_effect}
+use Rattle.rt_world_laws.proofs.Words.{with_sent, Sends, Answer, Job, Create, SetShares, Close, CloseCore, Wake, core_mode, created_count, effect_note, with_effect}
 use Rattle.rt_world_laws.proofs.Words.{IsDelivery, next_place, Delivers, is_refusal, tells_refusal, WasRefusedSince, TicketError, Unknown, Gone, Pending}
 use Rattle.rt_world_laws.proofs.Words.{OutcomeNote, RefusesTicket, IsRedeemable, outcome_note, Shuts, WasAccepted, uncollected, collected_notes, Collects, Detaches}
 use Rattle.rt_world_laws.proofs.Words.{Redeems, AreAlike, is_told}
@@ -157,13 +157,14 @@ creation_once None false next answer also first second = ⊎_elim (λ none. inr 
 
 module _ {T : Type 0} (name : JobId) (before : Journal T) where
   -- and so has each command
-  answer_once : (order : Order (Unit {0})) (answer also : Answer) → IsAnswer order answer before → IsAnswer order also before →
+  answer_once : (order : Order (Unit {0})) (answer also : Answer) → IsAnswer name.to order answer before → IsAnswer name.to order also before →
       (answer ≡ also) ⊎ ((answer ≡ answers.NoMemory) ⊎ (also ≡ answers.NoMemory))
   answer_once (Job queue job) answer also first second = absurd first
   answer_once (Create weight) answer also first second = creation_once (core_mode before) (nat_le 255 (created_count before)) (created_count before + 1) answer also first second
   answer_once (SetShares queue weight) answer also first second = inl (first ∙ sym second)
   answer_once (Close queue mode) answer also first second = inl (first ∙ sym second)
   answer_once (CloseCore mode) answer also first second = inl (first ∙ sym second)
+  answer_once (Wake actor number) answer also first second = inl (first ∙ sym second)
 
   -- an answer that there was no memory tells a refusal
   refusal_told : (effect : Option (Note T)) → tells_refusal (with_effect effect (writes.Answered name answers.NoMemory ∷ [])) ≡ true
@@ -171,7 +172,7 @@ module _ {T : Type 0} (name : JobId) (before : Journal T) where
   refusal_told (Some note) = or-true (is_refusal note)
 
   abbrev notes_of : Order (Unit {0}) → Answer → List (Note T)
-  notes_of order answer = with_effect (effect_note order answer) (writes.Answered name answer ∷ [])
+  notes_of order answer = with_effect (effect_note name.to order answer) (writes.Answered name answer ∷ [])
 
   answered_once : (order : Order (Unit {0})) {notes others : List (Note T)} → IsAnswered name order before notes → IsAnswered name order before others →
       (notes ≡ others) ⊎ ((tells_refusal notes ≡ true) ⊎ (tells_refusal others ≡ true))
@@ -179,7 +180,7 @@ module _ {T : Type 0} (name : JobId) (before : Journal T) where
       ⊎_map (λ same. first.2 ∙ (ap (notes_of order) same ∙ sym second.2)) (⊎_map (told first.2) (told second.2)) (answer_once order first.0 second.0 first.1 second.1)
     where
       told : {notes : List (Note T)} {answer : Answer} → notes ≡ notes_of order answer → answer ≡ answers.NoMemory → tells_refusal notes ≡ true
-      told are none = ap tells_refusal (are ∙ ap (notes_of order) none) ∙ refusal_told (effect_note order answers.NoMemory)
+      told are none = ap tells_refusal (are ∙ ap (notes_of order) none) ∙ refusal_told (effect_note name.to order answers.NoMemory)
 
   delivery_once : {J : Type 0} (order : Order J) {notes others : List (Note T)} → IsDelivery name order before notes → IsDelivery name order before others →
       (notes ≡ others) ⊎ ((tells_refusal notes ≡ true) ⊎ (tells_refusal others ≡ true))
@@ -188,6 +189,7 @@ module _ {T : Type 0} (name : JobId) (before : Journal T) where
   delivery_once (SetShares queue weight) first second = answered_once (SetShares queue weight) first second
   delivery_once (Close queue mode) first second = answered_once (Close queue mode) first second
   delivery_once (CloseCore mode) first second = answered_once (CloseCore mode) first second
+  delivery_once (Wake actor number) first second = answered_once (Wake actor number) first second
 
 module _ {J T : Type 0} (core sender : ℕ) (old : WorldView J T) (there : core < length old.journals) where
   -- notes that tell a refusal stand in the journal of their core

@@ -2,7 +2,7 @@
 use Rattle.rt_world_laws.proofs.Words.{◌≡◌, ℕ, ◌+◌, ◌-◌, ◌^◌, ◌⊎◌, inl, inr, false, List, [], ◌∷◌, refl, sym, ◌∙◌, ap, subst, arith, unwrap_or}
 use Rattle.rt_world_laws.proofs.Words.{true≢false, none-some, same_Some, Option, Some, JobId, Order, Journal, IsRightPick, Meaning, Reply, WorldView, journal_at, noted}
 use Rattle.rt_world_laws.proofs.Words.{Job, return_reason, KeyAtMost, line, turns, virtual_runtime, has_work, Makes, order_under, CallsAt, pick_notes}
-use Rattle.rt_world_laws.proofs.Words.{settle_note, IsPoll, IsHandBack, Turns, OwesOne}
+use Rattle.rt_world_laws.proofs.Words.{settled_note, IsPoll, IsHandBack, Turns, OwesOne}
 use Rattle.rt_journal.proofs.Ahead.{one_key}
 use Rattle.rt_world.specs.declared.event.Reply.TheVariants as reply
 use Rattle.rt_world.specs.Turns.{polls_made}
@@ -61,7 +61,7 @@ module _ {J : Type 0} (meaning : Meaning J ℕ) (owes : OwesOne meaning)
 
   module _ (new other : WorldView J ℕ) where
     one_poll : Polls new → Polls other → new ≡ other
-    one_poll first second = first.notes ∙ ((λ i. noted core (settle_note (its.2 i) (unwrap_or (its_told i) spent) (its_step i) ∷ []) (its_posted i)) ∙ sym second.notes)
+    one_poll first second = first.notes ∙ ((λ i. noted core (settled_note (its.2 i) (unwrap_or (its_told i) spent) (its_step i) (journal_at core (its_posted i)) ∷ []) (its_posted i)) ∙ sym second.notes)
       where
         its : (first.queue ≡ second.queue) × (first.runtime ≡ second.runtime) × (first.name ≡ second.name)
         its = made_once (by_poll first) (by_poll second)

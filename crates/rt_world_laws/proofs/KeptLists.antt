@@ -3,7 +3,7 @@ use Rattle.rt_world_laws.proofs.Words.{append_assoc, ◌≡◌, ℕ, ◌+◌, fa
 use Rattle.rt_world_laws.proofs.Words.{unwrap_or, true≢false, length-set, Some, slice_get, JobId, Note, Order, Journal, Meaning, Event, Reply, WorldView, journal_at}
 use Rattle.rt_world_laws.proofs.Words.{noted, Happens, Create, Reason, Unknown, Gone, Closed, Full, Spent, accepted_orders, name_started, is_told, outcome_note}
 use Rattle.rt_world_laws.proofs.Words.{Call, Makes, Submit, Send, Deliver, Turn, Shut, Collect, without_job, sent_at, with_sent, Sends, sent_reply, Delivers}
-use Rattle.rt_world_laws.proofs.Words.{next_place, CallsAt, pick_notes, settle_note, Turns, Shuts, collected_notes, uncollected, Collects, Redeems, Detaches}
+use Rattle.rt_world_laws.proofs.Words.{next_place, CallsAt, pick_notes, settled_note, settled_of, stays_in_line, Turns, Shuts, collected_notes, uncollected, Collects, Redeems, Detaches}
 use Rattle.rt_world_laws.proofs.Words.{redeemed_reply, detached_reply, Steps, HasAllLists, tells_refusal, WasRefused, IsNoCreation, CallNoQueues, PollsOrderNone}
 use Rattle.std.proofs.lemmas.Bool.{false_from_ne_true}
 use Rattle.rt_ids.specs.declared.note.Note.TheVariants as writes
@@ -173,7 +173,8 @@ module _ {J : Type 0} (meaning : Meaning J ℕ) where
       later_then {middle = noted core picked old}
       (later_noted core picked (λ none plain. pick_plain ℕ poll.name poll.queue poll.runtime (is_told name_started poll.name (journal_at core old))) refl)
       (later_then (later_if (λ none. none _ _ _ _ _ poll.owed) (called core poll.calls (noted core picked old) poll.posted poll.posts))
-      (later_noted core (settle_note poll.name (unwrap_or poll.told spent) poll.step ∷ []) (λ none plain. settle_plain poll.name (unwrap_or poll.told spent) poll.step) poll.notes))
+      (later_noted core (settled_note poll.name (unwrap_or poll.told spent) poll.step (journal_at core poll.posted) ∷ [])
+      (λ none plain. settle_plain poll.name (unwrap_or poll.told spent) (settled_of poll.step (stays_in_line poll.name (journal_at core poll.posted)))) poll.notes))
   turns core spent old new reply.Noted (inr back) = later_noted core (back_notes back.name back.reason back.queue back.runtime) (λ none plain. refl) back.notes
   turns core spent old new reply.Idle happens = later_same happens.1
   turns core spent old new reply.Spent happens = later_same happens.2

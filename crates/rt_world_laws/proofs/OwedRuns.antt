@@ -2,7 +2,7 @@
 use Rattle.rt_world_laws.proofs.Words.{◌≡◌, inl, inr, ⊎_elim, ℕ, ◌+◌, ◌<◌, ◌≤◌, List, [], ◌∷◌, ◌++◌, length, refl, sym, ◌∙◌, ap, subst, arith, unwrap_or}
 use Rattle.rt_world_laws.proofs.Words.{JobId, Note, Order, Journal, Meaning, Event, Reply, WorldView, journal_at, noted, order_under, terms_at, Step, is_told}
 use Rattle.rt_world_laws.proofs.Words.{accepted_orders, HasAllLists, IsUnbegun, Happens, IsRun, Steps, AreThere, Sends, Delivers, Turns, Shuts, Collects, Redeems}
-use Rattle.rt_world_laws.proofs.Words.{Detaches, Closed, Full, Spent, Unknown, Gone, Send, Deliver, Turn, Shut, Collect, IsPoll, pick_notes, settle_note, name_started}
+use Rattle.rt_world_laws.proofs.Words.{Detaches, Closed, Full, Spent, Unknown, Gone, Send, Deliver, Turn, Shut, Collect, IsPoll, pick_notes, settle_note, settled_note, name_started, Settled, settled_of, stays_in_line, Bool, true, false}
 use Rattle.rt_world_laws.proofs.Words.{none-some, collected_notes, uncollected, outcome_note, next_place, without_job}
 use Rattle.rt_ids.specs.declared.note.Note.TheVariants as writes
 use Rattle.std.proofs.Common.{append-nil}
@@ -37,6 +37,13 @@ module _ {J : Type 0} (meaning : Meaning J ℕ) (core spent : ℕ) (old new : Wo
   abbrev time : ℕ
   time = unwrap_or poll.told spent
 
+  -- what became of the job, and the note of it
+  abbrev came : Settled ℕ
+  came = settled_of poll.step (stays_in_line poll.name (journal_at core poll.posted))
+
+  abbrev ending : Note ℕ
+  ending = settled_note poll.name time poll.step (journal_at core poll.posted)
+
   there : IsThere core old
   there = record { lists = is.lists; known = omega (arith, known) }
 
@@ -52,8 +59,8 @@ module _ {J : Type 0} (meaning : Meaning J ℕ) (core spent : ℕ) (old new : Wo
   called : Adds core (posted_notes poll.calls) picked poll.posted × AreRightAnswers (terms_at core picked) (seen_of core poll.posted) poll.calls (journal_at core picked)
   called = made meaning core poll.calls picked poll.posted (record { lists = at_pick.lists is.lists; known = omega (arith, known) }) (at_pick.counted is.counted) poll.posts
 
-  at_end : Adds core (settle_note poll.name time poll.step ∷ []) poll.posted new
-  at_end = adds_noted core (settle_note poll.name time poll.step ∷ []) poll.posted new (settled_shuts_nothing ℕ poll.name time poll.step) (settled_sends_nothing ℕ poll.name time poll.step) poll.notes
+  at_end : Adds core (ending ∷ []) poll.posted new
+  at_end = adds_noted core (ending ∷ []) poll.posted new (settled_shuts_nothing ℕ poll.name time came) (settled_sends_nothing ℕ poll.name time came) poll.notes
 
   owed_posted : HasAllPollsOwed meaning poll.posted
   owed_posted =
@@ -69,7 +76,7 @@ module _ {J : Type 0} (meaning : Meaning J ℕ) (core spent : ℕ) (old new : Wo
       ∙ ap (λ notes. posted_notes poll.calls ++ notes) picked_journal
 
   terms_now : terms_at core picked ≡ terms_at core new
-  terms_now = sym (same_terms core (posted_notes poll.calls) picked poll.posted called.0 core) ∙ sym (same_terms core (settle_note poll.name time poll.step ∷ []) poll.posted new at_end core)
+  terms_now = sym (same_terms core (posted_notes poll.calls) picked poll.posted called.0 core) ∙ sym (same_terms core (ending ∷ []) poll.posted new at_end core)
 
   its_poll : IsPollOf meaning (terms_at core new) (seen_of core new) poll.queue poll.job poll.name time poll.step (journal_at core poll.posted)
   its_poll = record {
@@ -81,7 +88,7 @@ module _ {J : Type 0} (meaning : Meaning J ℕ) (core spent : ℕ) (old new : Wo
     stands = posted_journal;
     right = subst (λ terms. AreRightAnswers terms (seen_of core new) poll.calls (start ++ journal_at core old)) terms_now
         (rights_stay (terms_at core picked) (seen_of core poll.posted) (seen_of core new)
-        (sees_no_less core (settle_note poll.name time poll.step ∷ []) poll.posted new at_end core) poll.calls (start ++ journal_at core old)
+        (sees_no_less core (ending ∷ []) poll.posted new at_end core) poll.calls (start ++ journal_at core old)
         (subst (AreRightAnswers (terms_at core picked) (seen_of core poll.posted) poll.calls) picked_journal called.1));
     owed = poll.owed;
     answered = poll.answered;
@@ -91,22 +98,25 @@ module _ {J : Type 0} (meaning : Meaning J ℕ) (core spent : ℕ) (old new : Wo
   abbrev Owed : Step ℕ → Type 0
   Owed step = IsOwedPoll meaning (terms_at core new) (seen_of core new) (λ name. order_under name new) poll.name time step (journal_at core poll.posted)
 
-  settling : (step : Step ℕ) → Owed step → PollIsOwed meaning (terms_at core new) (seen_of core new) (λ name. order_under name new) (settle_note poll.name time step) (journal_at core poll.posted)
-  settling (steps.Done out) owed = owed
-  settling steps.Yield owed = owed
+  settling : (step : Step ℕ) (stays : Bool) → Owed step →
+      PollIsOwed meaning (terms_at core new) (seen_of core new) (λ name. order_under name new) (settle_note poll.name time (settled_of step stays)) (journal_at core poll.posted)
+  settling (steps.Done out) stays owed = owed
+  settling steps.Yield stays owed = owed
+  settling steps.Park true owed = owed
+  settling steps.Park false owed = owed
 
   abbrev OwedAt : ℕ → Journal ℕ → Type 0
   OwedAt other journal = PollsAreOwed meaning (terms_at other new) (seen_of other new) (λ name. order_under name new) journal
 
-  its_owed : OwedAt core (settle_note poll.name time poll.step ∷ journal_at core poll.posted)
+  its_owed : OwedAt core (ending ∷ journal_at core poll.posted)
   its_owed = (
-    settling poll.step (record {
+    settling poll.step (stays_in_line poll.name (journal_at core poll.posted)) (record {
       queue = poll.queue;
       sent = poll.job;
       task = at_end.orders poll.name _ (called.0.orders poll.name _ (at_pick.orders poll.name _ poll.task));
       poll = its_poll;
     }),
-    owed_now core (settle_note poll.name time poll.step ∷ []) poll.posted new at_end meaning core (journal_at core poll.posted) (owed_posted core),
+    owed_now core (ending ∷ []) poll.posted new at_end meaning core (journal_at core poll.posted) (owed_posted core),
   )
 
   -- a poll leaves each poll owed
@@ -115,9 +125,9 @@ module _ {J : Type 0} (meaning : Meaning J ℕ) (core spent : ℕ) (old new : Wo
     lists = at_end.lists (called.0.lists (at_pick.lists is.lists));
     counted = at_end.counted (called.0.counted (at_pick.counted is.counted));
     owed = λ other. ⊎_elim
-        (λ here. subst (OwedAt other) (sym here.1) (subst (λ at. OwedAt at (settle_note poll.name time poll.step ∷ journal_at core poll.posted)) (sym here.0) its_owed))
-        (λ same. subst (OwedAt other) (sym same) (owed_now core (settle_note poll.name time poll.step ∷ []) poll.posted new at_end meaning other (journal_at other poll.posted) (owed_posted other)))
-        (each_journal core (settle_note poll.name time poll.step ∷ []) poll.posted new at_end other);
+        (λ here. subst (OwedAt other) (sym here.1) (subst (λ at. OwedAt at (ending ∷ journal_at core poll.posted)) (sym here.0) its_owed))
+        (λ same. subst (OwedAt other) (sym same) (owed_now core (ending ∷ []) poll.posted new at_end meaning other (journal_at other poll.posted) (owed_posted other)))
+        (each_journal core (ending ∷ []) poll.posted new at_end other);
   }
 
 module _ {J : Type 0} (meaning : Meaning J ℕ) (old new : WorldView J ℕ) (is : IsOwing meaning old) where

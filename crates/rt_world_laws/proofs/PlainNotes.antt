@@ -1,13 +1,13 @@
 -- Notes that tell no refusal.
 use Rattle.rt_world_laws.proofs.Words.{◌≡◌, ℕ, Bool, true, false, cond, List, [], ◌∷◌, ◌++◌, refl, sym, ◌∙◌, ap, subst, ◌||◌, nat_le, Option, Some, None, JobId}
-use Rattle.rt_world_laws.proofs.Words.{Note, Order, Journal, Answer, Job, Create, SetShares, Close, CloseCore, Reason, created_count, effect_note, IsOpening}
-use Rattle.rt_world_laws.proofs.Words.{core_mode, Outcomes, Step, with_effect, IsDelivery, settle_note, collected_notes, is_refusal, tells_refusal, IsNoCreation}
+use Rattle.rt_world_laws.proofs.Words.{Note, Order, Journal, Answer, Job, Create, SetShares, Close, CloseCore, Wake, Reason, created_count, effect_note, IsOpening}
+use Rattle.rt_world_laws.proofs.Words.{core_mode, Outcomes, Settled, with_effect, IsDelivery, settle_note, collected_notes, is_refusal, tells_refusal, IsNoCreation}
 use Rattle.std.proofs.lemmas.Bool.{or_parts}
 use Rattle.rt_ids.specs.declared.note.Note.TheVariants as writes
 use Rattle.rt_ids.specs.declared.order.Answer.TheVariants as told_answers
-use Rattle.rt_ids.specs.Commands.{refusal}
+use Rattle.rt_ids.specs.Commands.{refusal, is_inside, job_at}
 use Rattle.rt_ids.specs.Closing.{closes, queue_mode}
-use Rattle.rt_jobs.specs.declared.job.Step.TheVariants as steps
+use Rattle.rt_core.specs.declared.turn.Settled.TheVariants as settled
 use Rattle.rt_world.specs.Deliveries.{entry_note}
 use Rattle.rt_world.specs.Turns.{poll_note}
 
@@ -23,7 +23,7 @@ module _ (T : Type 0) where
 
   -- the notes of an answer tell none
   abbrev IsPlainAnswer : JobId → Order (Unit {0}) → Answer → Type 0
-  IsPlainAnswer name order answer = tells_refusal {T = T} (with_effect (effect_note order answer) (writes.Answered name answer ∷ [])) ≡ false
+  IsPlainAnswer name order answer = tells_refusal {T = T} (with_effect (effect_note name.to order answer) (writes.Answered name answer ∷ [])) ≡ false
 
   pub pick_plain : (name : JobId) (queue runtime : ℕ) (started : Bool) → tells_refusal {T = T} (poll_note name started ∷ writes.Pick queue runtime ∷ []) ≡ false
   pick_plain name queue runtime true = refl
@@ -40,9 +40,11 @@ module _ {T : Type 0} where
   collected_plain [] = refl
   collected_plain (outcome ∷ later) = plain_after (collected_notes later) (writes.Collected outcome.0 outcome.1 ∷ []) (collected_plain later) refl
 
-  pub settle_plain : (name : JobId) (time : ℕ) (step : Step T) → tells_refusal (settle_note name time step ∷ []) ≡ false
-  settle_plain name time (steps.Done out) = refl
-  settle_plain name time steps.Yield = refl
+  pub settle_plain : (name : JobId) (time : ℕ) (came : Settled T) → tells_refusal (settle_note name time came ∷ []) ≡ false
+  settle_plain name time (settled.Finished out) = refl
+  settle_plain name time settled.Yielded = refl
+  settle_plain name time settled.Parked = refl
+  settle_plain name time settled.Stayed = refl
 
   pub opening_plain : (journal : Journal T) → IsOpening journal → tells_refusal journal ≡ false
   opening_plain [] opening = refl
@@ -64,6 +66,10 @@ module _ {T : Type 0} where
       ap tells_refusal delivery.2
       ∙ subst (IsPlainAnswer T name (CloseCore mode)) (sym delivery.1)
       (either (IsPlainAnswer T name (CloseCore mode)) (closes (core_mode before) mode) told_answers.Closed told_answers.AlreadyClosed refl refl)
+  delivery_plain name (Wake actor number) before notes plain delivery =
+      ap tells_refusal delivery.2
+      ∙ subst (IsPlainAnswer T name (Wake actor number)) (sym delivery.1)
+      (either (IsPlainAnswer T name (Wake actor number)) (is_inside (job_at name.to actor number) before) told_answers.Woken told_answers.NoJob refl refl)
 
 pub no_creation : {J : Type 0} (order : Order J) → ((weight : ℕ) → order ≡ Create weight → ⊥) → IsNoCreation order
 no_creation (Create weight) none = none weight refl
@@ -71,3 +77,4 @@ no_creation (Job queue job) none = tt
 no_creation (SetShares queue weight) none = tt
 no_creation (Close queue mode) none = tt
 no_creation (CloseCore mode) none = tt
+no_creation (Wake actor number) none = tt

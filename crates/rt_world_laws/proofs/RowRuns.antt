@@ -2,12 +2,14 @@
 use Rattle.rt_world_laws.proofs.Words.{◌≡◌, ℕ, ◌-◌, ◌^◌, ◌<◌, ◌≤◌, Bool, true, false, [], refl, sym, ◌∙◌, subst, arith, ◌==◌, true≢false, Journal, KeyAtMost}
 use Rattle.rt_world_laws.proofs.Words.{IsRightPick, virtual_runtime, has_work, ◌+◌, List, ◌∷◌, length, inl, inr, ap, None, Some, JobId, Order, Event, Reply}
 use Rattle.rt_world_laws.proofs.Words.{WorldView, Happens, journal_at, noted, Job, return_reason, accepted_orders, IsNextSent, line, outstanding_count, turns, Step}
-use Rattle.rt_world_laws.proofs.Words.{Script, Send, Turn, AreThere, without_job, terms_at, order_under, with_sent, IsNearlyFull, pick_notes, settle_note}
+use Rattle.rt_world_laws.proofs.Words.{Script, Send, Turn, AreThere, without_job, terms_at, order_under, with_sent, IsNearlyFull, pick_notes, settled_note}
 use Rattle.rt_world_laws.proofs.Words.{OrderNoQueues, with_creations, AreAlike, AreAllAlike, name, script_meaning}
 use Rattle.std.proofs.Common.{eqb-true}
 use Rattle.rt_ids.specs.Lines.{jobs_out}
-use Rattle.std.specs.Prelude.{◌&&◌}
-use Rattle.std.proofs.lemmas.Bool.{and_parts}
+use Rattle.rt_ids.specs.Parks.{parked}
+use Rattle.rt_ids.specs.Work.{entered_count, left_count}
+use Rattle.std.specs.Prelude.{◌&&◌, nat_le, nat_lt}
+use Rattle.std.proofs.lemmas.Bool.{and_parts, le-ltb, leb-true}
 use Rattle.rt_ids.specs.declared.note.Note.TheVariants.{Sent}
 use Rattle.rt_ids.specs.Orders.{IsSpelledOrder}
 use Rattle.rt_jobs.specs.Steps.{IfDone}
@@ -27,8 +29,14 @@ module _ (journal : Journal ℕ) (queue runtime : ℕ) (at : runtime ≡ virtual
   abbrev IsLeast : ℕ → Type 0
   IsLeast other = has_work other journal ≡ true → KeyAtMost runtime queue (virtual_runtime other journal) other
 
-  -- queue 0 and queue 1 alone may have work
-  pub right_of_two : IsLeast 0 → IsLeast 1 → ((other : ℕ) → (other == 0) ≡ false → (other == 1) ≡ false → has_work other journal ≡ false) → IsRightPick queue runtime journal
+  -- a queue that no job entered has no work
+  no_entries : (other : ℕ) → entered_count other journal ≡ 0 → has_work other journal ≡ false
+  no_entries other none =
+      let inside = left_count other journal + length (parked other journal) in
+      ap (nat_lt inside) none ∙ le-ltb inside 0 (omega arith)
+
+  -- jobs entered queue 0 and queue 1 alone
+  pub right_of_two : IsLeast 0 → IsLeast 1 → ((other : ℕ) → (other == 0) ≡ false → (other == 1) ≡ false → entered_count other journal ≡ 0) → IsRightPick queue runtime journal
   right_of_two zero one none = record {
     at = at;
     eligible = record { work = work; nobody_out = nobody };
@@ -38,15 +46,19 @@ module _ (journal : Journal ℕ) (queue runtime : ℕ) (at : runtime ≡ virtual
       by_test : (other : ℕ) (is_zero : Bool) → (other == 0) ≡ is_zero → (is_one : Bool) → (other == 1) ≡ is_one → has_work other journal ≡ true → KeyAtMost runtime queue (virtual_runtime other journal) other
       by_test other true same is_one test work = subst IsLeast (sym (eqb-true other 0 same)) zero work
       by_test other false same true test work = subst IsLeast (sym (eqb-true other 1 test)) one work
-      by_test other false same false test work = absurd (true≢false (sym work ∙ none other same test))
+      by_test other false same false test work = absurd (true≢false (sym work ∙ no_entries other (none other same test)))
 
-  -- queue 0 alone may have work
-  pub right_of_one : IsLeast 0 → ((other : ℕ) → (other == 0) ≡ false → has_work other journal ≡ false) → IsRightPick queue runtime journal
-  right_of_one zero none = right_of_two zero (λ work. absurd (true≢false (sym work ∙ none 1 refl))) (λ other same differs. none other same)
+  -- jobs entered queue 0 alone
+  pub right_of_one : IsLeast 0 → ((other : ℕ) → (other == 0) ≡ false → entered_count other journal ≡ 0) → IsRightPick queue runtime journal
+  right_of_one zero none = right_of_two zero (λ work. absurd (true≢false (sym work ∙ no_entries 1 (none 1 refl)))) (λ other same differs. none other same)
 
 -- a turn is left after a few
 pub few_turns : (count : ℕ) → count ≤ 50 → count < 2 ^ 64 - 1
 few_turns count few = omega arith
+
+-- notes are free after a few
+pub not_full : (needs room : ℕ) → room < needs → 100 ≤ room → nat_le needs 100 ≡ true → ⊥
+not_full needs room full enough few = omega (arith, leb-true needs 100 few)
 
 -- a number is left after a few
 pub few_names : (number : ℕ) → number ≤ 50 → number < 2 ^ 63
@@ -117,7 +129,7 @@ module _ {events : List (Event Script)} {world : WorldView Script ℕ} {journals
       core < world.cores → (IsNearlyFull core world → ⊥) → turns (journal_at core world) ≤ 50 → IsRightPick queue runtime (journal_at core world) →
       line queue (journal_at core world) ≡ its ∷ others → return_reason queue (journal_at core world) ≡ None → order_under its world ≡ Some (Job queue job) →
       script_meaning.polls job (job.polled + polls_made its (journal_at core world)) [] step (Some time) → IfDone step (script_meaning.answers job) →
-      IsRow (noted core (settle_note its time step ∷ []) (noted core (pick_notes its queue runtime (journal_at core world)) world)) events journals replies →
+      IsRow (noted core (settled_note its time step (journal_at core (noted core (pick_notes its queue runtime (journal_at core world)) world)) ∷ []) (noted core (pick_notes its queue runtime (journal_at core world)) world)) events journals replies →
       IsRow world (Turn core spent ∷ events) journals (reply.Noted ∷ replies)
   polling queue runtime time its others job step there room few right first kept task owed answered =
       and_then _ (

@@ -1,6 +1,6 @@
 -- Notes that settle no poll, shut no gate and send nothing.
 use Rattle.rt_world_laws.proofs.Words.{◌≡◌, ℕ, Bool, true, false, List, [], ◌∷◌, ◌++◌, refl, sym, ◌∙◌, ap, subst, Option, Some, None, JobId, Note, Order, Journal}
-use Rattle.rt_world_laws.proofs.Words.{Answer, Job, Create, SetShares, Close, CloseCore, Reason, effect_note, IsOpening, Outcomes, Step, with_effect, IsDelivery}
+use Rattle.rt_world_laws.proofs.Words.{Answer, Job, Create, SetShares, Close, CloseCore, Wake, Reason, effect_note, IsOpening, Outcomes, Settled, with_effect, IsDelivery}
 use Rattle.rt_world_laws.proofs.Words.{settle_note, collected_notes, accepted_orders}
 use Rattle.rt_ids.specs.declared.note.Note.TheVariants as writes
 use Rattle.rt_ids.specs.declared.order.Answer.TheVariants as answers
@@ -8,7 +8,7 @@ use Rattle.rt_ids.specs.Closing.{count_told, final_count}
 use Rattle.rt_ids.specs.Commands.{refusal}
 use Rattle.rt_ids.specs.Filters.{order_sent}
 use Rattle.rt_ids.specs.Journal.{or_else, with_last}
-use Rattle.rt_jobs.specs.declared.job.Step.TheVariants as steps
+use Rattle.rt_core.specs.declared.turn.Settled.TheVariants as settled
 use Rattle.rt_ids.specs.declared.note.OutcomeNote.{OutcomeNote}
 use Rattle.rt_journal.proofs.OwedNotes.{SettleNothing}
 use Rattle.rt_world.specs.Deliveries.{entry_note, IsAnswered}
@@ -91,31 +91,37 @@ module _ (T : Type 0) where
   pick_still name true queue runtime =
       record { settle = (refl, (refl, tt)); shut = ((λ sender. refl), ((λ sender. refl), tt)); send = ((λ core. refl), ((λ core. refl), tt)) }
 
-  pub settled_shuts_nothing : (name : JobId) (time : ℕ) (step : Step T) → ShutNothing (settle_note name time step ∷ [])
-  settled_shuts_nothing name time (steps.Done out) = ((λ sender. refl), tt)
-  settled_shuts_nothing name time steps.Yield = ((λ sender. refl), tt)
+  pub settled_shuts_nothing : (name : JobId) (time : ℕ) (came : Settled T) → ShutNothing (settle_note name time came ∷ [])
+  settled_shuts_nothing name time (settled.Finished out) = ((λ sender. refl), tt)
+  settled_shuts_nothing name time settled.Yielded = ((λ sender. refl), tt)
+  settled_shuts_nothing name time settled.Parked = ((λ sender. refl), tt)
+  settled_shuts_nothing name time settled.Stayed = ((λ sender. refl), tt)
 
-  pub settled_sends_nothing : (name : JobId) (time : ℕ) (step : Step T) → SendNothing (settle_note name time step ∷ [])
-  settled_sends_nothing name time (steps.Done out) = ((λ core. refl), tt)
-  settled_sends_nothing name time steps.Yield = ((λ core. refl), tt)
+  pub settled_sends_nothing : (name : JobId) (time : ℕ) (came : Settled T) → SendNothing (settle_note name time came ∷ [])
+  settled_sends_nothing name time (settled.Finished out) = ((λ core. refl), tt)
+  settled_sends_nothing name time settled.Yielded = ((λ core. refl), tt)
+  settled_sends_nothing name time settled.Parked = ((λ core. refl), tt)
+  settled_sends_nothing name time settled.Stayed = ((λ core. refl), tt)
 
   entry_still : (name : JobId) (queue : ℕ) (reason : Option Reason) → AreStill {T = T} (entry_note name queue reason ∷ [])
   entry_still name queue None = record { settle = (refl, tt); shut = ((λ sender. refl), tt); send = ((λ core. refl), tt) }
   entry_still name queue (Some reason) = record { settle = (refl, tt); shut = ((λ sender. refl), tt); send = ((λ core. refl), tt) }
 
-  effect_still : (order : Order (Unit {0})) (answer : Answer) (name : JobId) → AreStill {T = T} (with_effect (effect_note order answer) (writes.Answered name answer ∷ []))
-  effect_still (Create weight) (answers.Created queue) name =
+  effect_still : (core : ℕ) (order : Order (Unit {0})) (answer : Answer) (name : JobId) → AreStill {T = T} (with_effect (effect_note core order answer) (writes.Answered name answer ∷ []))
+  effect_still core (Create weight) (answers.Created queue) name =
       record { settle = (refl, (refl, tt)); shut = ((λ sender. refl), ((λ sender. refl), tt)); send = ((λ core. refl), ((λ core. refl), tt)) }
-  effect_still (SetShares queue weight) answers.SharesSet name =
+  effect_still core (SetShares queue weight) answers.SharesSet name =
       record { settle = (refl, (refl, tt)); shut = ((λ sender. refl), ((λ sender. refl), tt)); send = ((λ core. refl), ((λ core. refl), tt)) }
-  effect_still (Close queue mode) answers.Closed name =
+  effect_still core (Close queue mode) answers.Closed name =
       record { settle = (refl, (refl, tt)); shut = ((λ sender. refl), ((λ sender. refl), tt)); send = ((λ core. refl), ((λ core. refl), tt)) }
-  effect_still (CloseCore mode) answers.Closed name =
+  effect_still core (CloseCore mode) answers.Closed name =
       record { settle = (refl, (refl, tt)); shut = ((λ sender. refl), ((λ sender. refl), tt)); send = ((λ core. refl), ((λ core. refl), tt)) }
-  effect_still _ _ name = record { settle = (refl, tt); shut = ((λ sender. refl), tt); send = ((λ core. refl), tt) }
+  effect_still core (Wake actor number) answers.Woken name =
+      record { settle = (refl, (refl, tt)); shut = ((λ sender. refl), ((λ sender. refl), tt)); send = ((λ core. refl), ((λ core. refl), tt)) }
+  effect_still core _ _ name = record { settle = (refl, tt); shut = ((λ sender. refl), tt); send = ((λ core. refl), tt) }
 
   answer_still : (name : JobId) (order : Order (Unit {0})) (before : Journal T) (notes : List (Note T)) → IsAnswered name order before notes → AreStill notes
-  answer_still name order before notes is = subst (λ notes. AreStill notes) (sym is.2) (effect_still order is.0 name)
+  answer_still name order before notes is = subst (λ notes. AreStill notes) (sym is.2) (effect_still name.to order is.0 name)
 
   pub delivery_still : {J : Type 0} (name : JobId) (order : Order J) (before : Journal T) (notes : List (Note T)) → IsDelivery name order before notes → AreStill notes
   delivery_still name (Job queue job) before notes is = subst (λ notes. AreStill notes) (sym is) (entry_still name queue (refusal queue before))
@@ -123,3 +129,4 @@ module _ (T : Type 0) where
   delivery_still name (SetShares queue weight) before notes is = answer_still name (SetShares queue weight) before notes is
   delivery_still name (Close queue mode) before notes is = answer_still name (Close queue mode) before notes is
   delivery_still name (CloseCore mode) before notes is = answer_still name (CloseCore mode) before notes is
+  delivery_still name (Wake actor number) before notes is = answer_still name (Wake actor number) before notes is

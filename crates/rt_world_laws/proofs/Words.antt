@@ -1,7 +1,9 @@
 -- The words of the crates below and of this one that its proofs speak in.
 pub use Rattle.rt_ids.specs.Closing.{core_mode}
 pub use Rattle.rt_ids.specs.Collecting.{IsRedeemable}
-pub use Rattle.rt_ids.specs.Commands.{IsOpening, created_count, effect_note, return_reason}
+pub use Rattle.rt_core.specs.declared.turn.Settled.{Settled}
+pub use Rattle.rt_core.specs.Whole.{settled_of}
+pub use Rattle.rt_ids.specs.Commands.{IsOpening, created_count, effect_note, return_reason, stays_in_line}
 pub use Rattle.rt_ids.specs.Filters.{Outcomes, accepted_orders, name_started}
 pub use Rattle.rt_ids.specs.Journal.{Journal, is_told}
 pub use Rattle.rt_ids.specs.Keys.{KeyAtMost}
@@ -18,7 +20,7 @@ pub use Rattle.rt_ids.specs.declared.names.TicketError.{TicketError}
 pub use Rattle.rt_ids.specs.declared.note.Note.{Note}
 pub use Rattle.rt_ids.specs.declared.note.OutcomeNote.{OutcomeNote}
 pub use Rattle.rt_ids.specs.declared.order.Answer.{Answer}
-pub use Rattle.rt_ids.specs.declared.order.Order.TheVariants.{Close, CloseCore, Create, Job, SetShares}
+pub use Rattle.rt_ids.specs.declared.order.Order.TheVariants.{Close, CloseCore, Create, Job, SetShares, Wake}
 pub use Rattle.rt_ids.specs.declared.order.Order.{Order}
 pub use Rattle.rt_ids.specs.declared.order.Outcome.{Outcome}
 pub use Rattle.rt_ids.specs.declared.order.Reason.{Reason}
@@ -39,7 +41,7 @@ pub use Rattle.rt_world.specs.Opening.{HasAllLists, IsFresh, IsUnbegun}
 pub use Rattle.rt_world.specs.Runs.{Happens, IsRun, Steps}
 pub use Rattle.rt_world.specs.Sends.{AreThere, Sends, actor_of, sent_reply}
 pub use Rattle.rt_world.specs.State.{IsNearlyFull, WorldView, assembly_of, journal_at, noted, order_under, sent_at, terms_at, with_sent, without_job}
-pub use Rattle.rt_world.specs.Turns.{IsHandBack, IsPoll, Turns, pick_notes, settle_note}
+pub use Rattle.rt_world.specs.Turns.{IsHandBack, IsPoll, Turns, pick_notes, settle_note, settled_note}
 pub use Rattle.rt_world.specs.declared.event.Event.TheVariants.{Collect, Deliver, Send, Shut, Turn}
 pub use Rattle.rt_world.specs.declared.event.Event.{Event}
 pub use Rattle.rt_world.specs.declared.event.Reply.{Reply}

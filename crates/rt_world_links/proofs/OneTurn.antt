@@ -4,6 +4,7 @@ use Rattle.rt_world_links.proofs.Words.{Ok, Option, Some, None, JobId, Order, Wh
 use Rattle.rt_world_links.proofs.Words.{OutcomeNote, Job, Reason, polls_made, poll_note, order_taken, IsInOwing, told_under, owed_back, GivesOnOne}
 use Rattle.rt_world_links.proofs.Words.{none_owed, IsBesideAll, IsKeptBeside}
 use Rattle.std.proofs.Common.{add-zero}
+use Rattle.rt_ids.specs.Parks.{is_wake_kept}
 use Rattle.rt_ids.specs.declared.note.Note.TheVariants as writes
 use Rattle.rt_ids.specs.declared.note.OutcomeNote.TheVariants as outcomes
 use Rattle.rt_core.specs.declared.turn.Turn.{Turn}
@@ -125,7 +126,7 @@ module _ {J : Type 0} {meaning : Meaning J ℕ} {number spent : ℕ} {view new :
   }
 
   -- the job that is settled is the one that was picked
-  pub out_is : did.turn.settles.out ≡ record { name = did.name; queue = did.queue; job = did.turn.ran.before }
+  pub out_is : did.turn.settles.out ≡ record { name = did.name; queue = did.queue; woken = is_wake_kept did.name view.journal.notes; job = did.turn.ran.before }
   out_is = same_Some _ _ (sym did.turn.settles.was_out ∙ (ap (λ view. view.core.out) did.turn.rest ∙ did.turn.picks.out))
 
   counted : polls_made did.turn.settles.out.name did.turn.left.journal.notes ≡ polls_made did.name view.journal.notes

@@ -74,7 +74,7 @@ fn post_turn<J: Job + Task<Out = u64>, A: Allocator + Clone>(
     spent: u64,
 ) -> Settled<u64>
     requires number { number < core.old.core.cores }
-    requires ahead { IsAhead core.old.core next.now.queue next.now.vr next.now.name next.now.started }
+    requires ahead { IsAhead core.old.core next.now.queue next.now.vr next.now.name next.now.started next.now.woken }
     requires room { length core.old.journal.notes + core.old.core.cores * (3 * core.old.cap) + 3 ≤ core.old.journal.room }
     requires outs { one.HasOuts (Fits J.meaning) number core.old links.old }
     requires beside { one.IsBesideAll number one.none_owed core.old links.old }

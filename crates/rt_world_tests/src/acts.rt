@@ -17,12 +17,16 @@ pub enum Act {
     Job(u8, u8, u8, u64, u64),
     /// A job for this queue that yields after so many nanoseconds, and is done with the answer at its next poll of 1 ns.
     Work(u8, u8, u8, u64, u64),
+    /// A job for this queue that is parked after so many nanoseconds, and is done with the answer at its next poll of 1 ns.
+    Waits(u8, u8, u8, u64, u64),
     /// A job for queue 0 whose first polls, of 10 ns, each submit to queue 0 of one of these cores. It is done with 7 at its next poll of 1 ns.
     Posts(u8, u8, [u8; 5]),
     /// The order to make a queue of 1000 shares.
     Create(u8, u8),
     /// The order to close the core.
     CloseCore(u8, u8, Mode),
+    /// The order to wake the job of this sender and number.
+    Wake(u8, u8, u8, u64),
     Deliver(u8, u8),
     Turn(u8),
     Shut(u8, u8),
@@ -77,6 +81,13 @@ fn two_polls(time: u64, answer: u64) -> ScriptJob {
     job
 }
 
+/// A job that is parked once and is done at its next poll.
+fn parked_once(time: u64, answer: u64) -> ScriptJob {
+    let mut job = ScriptJob::done(1, answer);
+    job.add_park(time);
+    job
+}
+
 /// A job that submits to these cores, one a poll.
 fn posting(rt: &impl Abort, to: &[u8; 5]) -> ScriptJob {
     let polls = [
@@ -113,9 +124,15 @@ pub fn event_of(rt: &impl Abort, act: &Act) -> Event<ScriptJob>
         Act::Work(from, to, queue, time, answer) => {
             send_job(rt, *from, *to, *queue, two_polls(*time, *answer))
         }
+        Act::Waits(from, to, queue, time, answer) => {
+            send_job(rt, *from, *to, *queue, parked_once(*time, *answer))
+        }
         Act::Posts(from, to, cores) => send_job(rt, *from, *to, 0, posting(rt, cores)),
         Act::Create(from, to) => send(*from, *to, Order::Create(Default::default())),
         Act::CloseCore(from, to, mode) => send(*from, *to, Order::CloseCore(*mode)),
+        Act::Wake(from, to, actor, number) => {
+            send(*from, *to, Order::Wake(ActorNo(*actor), *number))
+        }
         Act::Deliver(core, from) => Event::Deliver(CoreNo(*core), ActorNo(*from)),
         Act::Turn(core) => Event::Turn(CoreNo(*core), 0),
         Act::Shut(core, from) => Event::Shut(CoreNo(*core), ActorNo(*from)),

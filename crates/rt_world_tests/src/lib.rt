@@ -15,3 +15,5 @@ mod journal;
 mod model;
 #[cfg(test)]
 mod posts;
+#[cfg(test)]
+mod waits;

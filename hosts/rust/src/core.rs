@@ -7,7 +7,7 @@ use std::thread::JoinHandle;
 /// Why a call was refused. Nothing changed.
 #[derive(Clone, Copy, PartialEq, Eq, Debug)]
 pub enum Error {
-    /// The core made 2^64 - 1 turns, or was handed 2^64 - 1 jobs and new shares: it takes no more of that.
+    /// The core made 2^64 - 1 turns, or was handed 2^64 - 1 jobs, new shares and wakes: it takes no more of that.
     Spent,
     /// A job of this core runs.
     Busy,
@@ -27,6 +27,8 @@ pub enum Error {
     TooMany,
     /// Room is for 1 to 131070 jobs.
     BadNumber,
+    /// No job of that number is inside.
+    Absent,
 }
 
 impl Error {
@@ -42,6 +44,7 @@ impl Error {
             raw::FX_CLOSED => Error::Closed,
             raw::FX_TOO_MANY => Error::TooMany,
             raw::FX_BAD_NUMBER => Error::BadNumber,
+            raw::FX_ABSENT => Error::Absent,
             // Whoever has a `Core` has an open one, so FX_EMPTY and FX_OCCUPIED don't come here.
             _ => unreachable!("the library answered code {code}"),
         }
@@ -61,6 +64,7 @@ impl fmt::Display for Error {
             Error::Closed => "the queue or the core is closed",
             Error::TooMany => "the core has 256 queues",
             Error::BadNumber => "a number is out of its range",
+            Error::Absent => "no job of that number is inside",
         })
     }
 }
@@ -74,6 +78,20 @@ pub enum Step {
     Yield,
     /// It is done.
     Done,
+    /// It waits for something: it leaves its queue until it is woken.
+    Park,
+}
+
+/// What became of the job of a settled run.
+#[derive(Clone, Copy, PartialEq, Eq, Debug)]
+pub enum Settled {
+    /// It is at the tail of its queue: it wants to run again, or asked to be parked and stays, since a wake was kept for it, or since its queue
+    /// or its core hands back.
+    Queued,
+    /// It runs again once it was woken.
+    Parked,
+    /// It is done.
+    Done,
 }
 
 /// How a queue or a core closes. Either way it takes no new job.
@@ -81,7 +99,7 @@ pub enum Step {
 pub enum Mode {
     /// The jobs inside run on.
     Finish,
-    /// Each later turn of it hands a job back.
+    /// Each later turn of it hands a job back. The parked ones go to the tail of their queue first.
     Return,
 }
 
@@ -114,7 +132,7 @@ pub struct CoreStats {
     pub queues: u32,
     /// How many jobs the core has room for.
     pub room: u64,
-    /// Jobs inside, one that runs counted too.
+    /// Jobs inside, parked ones and one that runs counted too.
     pub held: u64,
     /// Turns, those that handed a job back counted too.
     pub turns: u64,
@@ -133,7 +151,7 @@ pub struct QueueStats {
     pub shares: u32,
     /// Turns of this queue, those that handed a job back counted too.
     pub picks: u64,
-    /// Jobs inside that don't run.
+    /// Jobs inside that don't run, parked ones counted too.
     pub waiting: u64,
     /// Jobs that are done.
     pub done: u64,
@@ -245,6 +263,29 @@ impl Core {
         refused(unsafe { raw::fx_submit(&mut self.handle, queue, job) })
     }
 
+    /// The same. The answer: the number by which `wake` names this job.
+    ///
+    /// # Errors
+    ///
+    /// `Closed`, `Full`, `Spent`, `NoQueue`.
+    pub fn submit_numbered(&mut self, queue: u32, job: u64) -> Result<u64, Error> {
+        let mut order = 0;
+        // SAFETY: as above.
+        refused(unsafe { raw::fx_submit_numbered(&mut self.handle, queue, job, &mut order) })?;
+        Ok(order)
+    }
+
+    /// Wakes the job of this number. A parked one goes to the tail of its queue. For another the wake is kept until it parks next; several
+    /// kept wakes are one. A job that was woken looks again for what it waits for.
+    ///
+    /// # Errors
+    ///
+    /// `Full`, `Spent`; `Absent` if no job of this number is inside.
+    pub fn wake(&mut self, order: u64) -> Result<(), Error> {
+        // SAFETY: as above.
+        refused(unsafe { raw::fx_wake(&mut self.handle, order) })
+    }
+
     /// Tells which job to run now.
     ///
     /// # Errors
@@ -267,15 +308,18 @@ impl Core {
     /// # Errors
     ///
     /// `NoJob`.
-    pub fn settle(&mut self, step: Step, spent: u64) -> Result<(), Error> {
+    pub fn settle(&mut self, step: Step, spent: u64) -> Result<Settled, Error> {
         let number = match step {
             Step::Yield => raw::FX_STEP_YIELD,
             Step::Done => raw::FX_STEP_DONE,
+            Step::Park => raw::FX_STEP_PARK,
         };
         // SAFETY: as above.
         match unsafe { raw::fx_settle(&mut self.handle, number, spent) } {
-            raw::FX_DONE => Ok(()),
-            code => refused(code),
+            raw::FX_OK => Ok(Settled::Queued),
+            raw::FX_PARKED => Ok(Settled::Parked),
+            raw::FX_DONE => Ok(Settled::Done),
+            code => Err(Error::of(code)),
         }
     }
 

@@ -1,6 +1,6 @@
 //! A core that keeps what its jobs are.
 
-use crate::core::{start_with, Core, CoreStats, Error, Mode, Next, QueueStats, Step};
+use crate::core::{start_with, Core, CoreStats, Error, Mode, Next, QueueStats, Settled, Step};
 use std::panic::{catch_unwind, AssertUnwindSafe};
 use std::sync::OnceLock;
 use std::thread::JoinHandle;
@@ -18,8 +18,10 @@ pub fn wall_clock() -> u64 {
 /// What a turn came to.
 #[derive(PartialEq, Eq, Debug)]
 pub enum Turn<J> {
-    /// A job ran, and wants to run again.
+    /// A job ran, and is at the tail of its queue: it wants to run again, or asked to be parked and stays.
     Yielded,
+    /// A job ran, and runs again once it was woken.
+    Parked,
     /// This job ran, and is done.
     Done(J),
     /// This job goes back, unrun or unfinished, since its queue or its core hands back.
@@ -37,15 +39,16 @@ struct Inside<J> {
 }
 
 impl<J> Inside<J> {
-    fn submit(&mut self, queue: u32, job: J) -> Result<(), (Error, J)> {
+    fn submit(&mut self, queue: u32, job: J) -> Result<u64, (Error, J)> {
         // If no place is vacant the core is full, and says so.
         let place = self.vacant.last().copied().unwrap_or(0);
-        if let Err(error) = self.core.submit(queue, place as u64) {
-            return Err((error, job));
-        }
+        let order = match self.core.submit_numbered(queue, place as u64) {
+            Ok(order) => order,
+            Err(error) => return Err((error, job)),
+        };
         self.vacant.pop();
         self.places[place] = Some(job);
-        Ok(())
+        Ok(order)
     }
 
     fn vacate(&mut self, place: usize) -> J {
@@ -63,18 +66,30 @@ struct Running<'a, J> {
     clock: Clock,
     began: u64,
     step: Step,
+    is_settled: bool,
+}
+
+impl<J> Running<'_, J> {
+    /// Settles the run, if it isn't settled yet.
+    fn settle(&mut self) -> Option<Settled> {
+        if std::mem::replace(&mut self.is_settled, true) {
+            return None;
+        }
+        // A clock that panics here is charged as little as may be: nothing leaves the core with a job that nobody runs.
+        let spent = catch_unwind(AssertUnwindSafe(|| (self.clock)().saturating_sub(self.began))).unwrap_or(0);
+        let settled = self.inside.core.settle(self.step, spent);
+        debug_assert!(settled.is_ok());
+        match self.step {
+            Step::Yield | Step::Park => self.inside.places[self.place] = self.job.take(),
+            Step::Done => self.inside.vacant.push(self.place),
+        }
+        settled.ok()
+    }
 }
 
 impl<J> Drop for Running<'_, J> {
     fn drop(&mut self) {
-        // A clock that panics here is charged as little as may be: nothing leaves the core with a job that nobody runs.
-        let spent = catch_unwind(AssertUnwindSafe(|| (self.clock)().saturating_sub(self.began))).unwrap_or(0);
-        let settled = self.inside.core.settle(self.step, spent);
-        debug_assert_eq!(settled, Ok(()));
-        match self.step {
-            Step::Yield => self.inside.places[self.place] = self.job.take(),
-            Step::Done => self.inside.vacant.push(self.place),
-        }
+        self.settle();
     }
 }
 
@@ -90,7 +105,25 @@ impl<J> Cx<'_, J> {
     ///
     /// `Closed`, `Full`, `Spent`, `NoQueue`, each with the job.
     pub fn submit(&mut self, queue: u32, job: J) -> Result<(), (Error, J)> {
+        self.inside.submit(queue, job).map(|_| ())
+    }
+
+    /// The same. The answer: the number by which `wake` names this job.
+    ///
+    /// # Errors
+    ///
+    /// `Closed`, `Full`, `Spent`, `NoQueue`, each with the job.
+    pub fn submit_numbered(&mut self, queue: u32, job: J) -> Result<u64, (Error, J)> {
         self.inside.submit(queue, job)
+    }
+
+    /// See `Core::wake`.
+    ///
+    /// # Errors
+    ///
+    /// `Full`, `Spent`, `Absent`.
+    pub fn wake(&mut self, order: u64) -> Result<(), Error> {
+        self.inside.core.wake(order)
     }
 
     /// The core, without its turns: see `Core::create`.
@@ -185,7 +218,25 @@ impl<J> House<J> {
     ///
     /// `Closed`, `Full`, `Spent`, `NoQueue`, each with the job.
     pub fn submit(&mut self, queue: u32, job: J) -> Result<(), (Error, J)> {
+        self.inside.submit(queue, job).map(|_| ())
+    }
+
+    /// The same. The answer: the number by which `wake` names this job.
+    ///
+    /// # Errors
+    ///
+    /// `Closed`, `Full`, `Spent`, `NoQueue`, each with the job.
+    pub fn submit_numbered(&mut self, queue: u32, job: J) -> Result<u64, (Error, J)> {
         self.inside.submit(queue, job)
+    }
+
+    /// See `Core::wake`.
+    ///
+    /// # Errors
+    ///
+    /// `Full`, `Spent`, `Absent`.
+    pub fn wake(&mut self, order: u64) -> Result<(), Error> {
+        self.inside.core.wake(order)
     }
 
     /// See `Core::create`.
@@ -260,13 +311,17 @@ impl<J> House<J> {
             clock: self.clock,
             began: u64::MAX,
             step: Step::Done,
+            is_settled: false,
         };
         running.began = (running.clock)();
         if let Some(job) = &mut running.job {
             running.step = run(job, &mut Cx { inside: running.inside });
         }
         match running.step {
-            Step::Yield => Ok(Turn::Yielded),
+            Step::Yield | Step::Park => Ok(match running.settle() {
+                Some(Settled::Parked) => Turn::Parked,
+                _ => Turn::Yielded,
+            }),
             Step::Done => {
                 let job = running.job.take();
                 drop(running);

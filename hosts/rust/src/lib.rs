@@ -25,6 +25,6 @@ mod house;
 pub mod raw;
 mod tasks;
 
-pub use crate::core::{Core, CoreStats, Error, Mode, Next, QueueStats, Step};
+pub use crate::core::{Core, CoreStats, Error, Mode, Next, QueueStats, Settled, Step};
 pub use house::{wall_clock, Clock, Cx, House, Job, Turn};
 pub use tasks::{again, Tasks};

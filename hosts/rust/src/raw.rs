@@ -24,9 +24,12 @@ pub const FX_CLOSED: u32 = 14;
 pub const FX_TOO_MANY: u32 = 15;
 pub const FX_BAD_NUMBER: u32 = 16;
 pub const FX_OCCUPIED: u32 = 17;
+pub const FX_PARKED: u32 = 18;
+pub const FX_ABSENT: u32 = 19;
 
 pub const FX_STEP_YIELD: u32 = 0;
 pub const FX_STEP_DONE: u32 = 1;
+pub const FX_STEP_PARK: u32 = 2;
 
 pub const FX_MODE_FINISH: u32 = 0;
 pub const FX_MODE_RETURN: u32 = 1;
@@ -73,6 +76,8 @@ extern "C" {
     pub fn fx_create(core: *mut fx_core, shares: u32, queue: *mut u32) -> u32;
     pub fn fx_set_shares(core: *mut fx_core, queue: u32, shares: u32) -> u32;
     pub fn fx_submit(core: *mut fx_core, queue: u32, job: u64) -> u32;
+    pub fn fx_submit_numbered(core: *mut fx_core, queue: u32, job: u64, order: *mut u64) -> u32;
+    pub fn fx_wake(core: *mut fx_core, order: u64) -> u32;
     pub fn fx_next(core: *mut fx_core, job: *mut u64) -> u32;
     pub fn fx_settle(core: *mut fx_core, step: u32, spent: u64) -> u32;
     pub fn fx_close_queue(core: *mut fx_core, queue: u32, mode: u32) -> u32;

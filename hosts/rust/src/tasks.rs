@@ -1,4 +1,4 @@
-//! Futures on a core. The library has no wake-up: a task that waits is no job, and its waker makes it one again.
+//! Futures on a core. A task that waits is no job, and its waker, which may be called on any thread, makes it one again.
 
 use crate::core::{CoreStats, Error, Mode, QueueStats, Step};
 use crate::house::{House, Turn};
@@ -150,7 +150,7 @@ impl Tasks {
         })?;
         match turn {
             Turn::Back(place) => self.tasks[place] = None,
-            Turn::Done(_) | Turn::Yielded => {}
+            Turn::Done(_) | Turn::Yielded | Turn::Parked => {}
             Turn::Idle => return Ok(false),
         }
         Ok(true)

@@ -1,8 +1,8 @@
 //! What a house adds to the calls: who owns a core and a job, and what becomes of panics.
 
-use fairexec::{Core, Error, House, Job, Mode, Next, Step, Turn};
+use fairexec::{Core, Cx, Error, House, Job, Mode, Next, Settled, Step, Turn};
 use std::panic::{catch_unwind, AssertUnwindSafe};
-use std::sync::atomic::{AtomicUsize, Ordering};
+use std::sync::atomic::{AtomicBool, AtomicUsize, Ordering};
 use std::sync::Arc;
 
 /// Counts itself, and drops.
@@ -182,5 +182,46 @@ fn shares_divide_the_time() -> Result<(), Error> {
     let foreground = house.stats_of(0)?.time as f64;
     let background = house.stats_of(background)?.time as f64;
     assert!((foreground / (foreground + background) - 0.9).abs() < 0.001);
+    Ok(())
+}
+
+#[test]
+fn jobs_park_until_they_are_woken() -> Result<(), Error> {
+    let here = Arc::new(AtomicBool::new(false));
+    let mut house = House::open(4)?;
+    let seen = Arc::clone(&here);
+    let waits = house
+        .submit_numbered(0, Job::new(move |_| if seen.load(Ordering::SeqCst) { Step::Done } else { Step::Park }))
+        .map_err(|(error, _)| error)?;
+    assert!(matches!(house.turn()?, Turn::Parked));
+    assert!(matches!(house.turn()?, Turn::Idle));
+    house.wake(waits)?;
+    assert!(matches!(house.turn()?, Turn::Parked), "it looks again, and parks");
+    let told = Arc::clone(&here);
+    let wakes = Job::new(move |cx: &mut Cx<'_, Job>| {
+        told.store(true, Ordering::SeqCst);
+        assert_eq!(cx.wake(waits), Ok(()));
+        Step::Done
+    });
+    house.submit(0, wakes).map_err(|(error, _)| error)?;
+    assert!(matches!(house.turn()?, Turn::Done(_)));
+    assert!(matches!(house.turn()?, Turn::Done(_)));
+    assert_eq!(house.wake(waits), Err(Error::Absent));
+    Ok(())
+}
+
+#[test]
+fn a_wake_before_a_park_lets_the_job_stay() -> Result<(), Error> {
+    let mut core = Core::open(2)?;
+    let order = core.submit_numbered(0, 7)?;
+    core.wake(order)?;
+    core.wake(order)?;
+    assert_eq!(core.next_job()?, Next::Start(7));
+    assert_eq!(core.settle(Step::Park, 1)?, Settled::Queued);
+    assert_eq!(core.next_job()?, Next::Resume(7));
+    assert_eq!(core.settle(Step::Park, 1)?, Settled::Parked);
+    assert_eq!(core.next_job()?, Next::Idle);
+    core.close(Mode::Return)?;
+    assert_eq!(core.next_job()?, Next::Back(7));
     Ok(())
 }

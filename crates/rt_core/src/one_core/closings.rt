@@ -14,7 +14,8 @@ use rt_taskqueue::closes;
 use std::alloc::Allocator;
 
 impl<J: Task, A: Allocator + Clone> Core<J, A> {
-    /// Closes the core. The answer: whether that did anything. The first closing does, and `Return` after `Finish`.
+    /// Closes the core. The answer: whether that did anything. The first closing does, and `Return` after `Finish`. In mode `Return` all
+    /// parked jobs join the tails of their queues.
     pub fn close(&mut self, mode: Mode) -> (bool, Notes<J::Out>)
     where
         J::Out: Copy,
@@ -25,10 +26,11 @@ impl<J: Task, A: Allocator + Clone> Core<J, A> {
             return (false, ArrayVec::new());
         }
         self.mode = Some(mode);
+        self.end_parks_for(mode);
         (true, one_note(Note::CoreClosed(mode)))
     }
 
-    /// Closes a queue, by the same rule.
+    /// Closes a queue, by the same rules.
     pub fn close_queue(&mut self, queue: QueueNo, mode: Mode) -> (Answer, Notes<J::Out>)
     where
         J::Out: Copy,
@@ -42,6 +44,7 @@ impl<J: Task, A: Allocator + Clone> Core<J, A> {
             return (Answer::AlreadyClosed, ArrayVec::new());
         }
         self.queues.close(queue, mode);
+        self.end_queue_parks_for(queue, mode);
         (Answer::Closed, one_note(Note::QueueClosed(queue, mode)))
     }
 
@@ -81,17 +84,11 @@ impl<J: Task, A: Allocator + Clone> Core<J, A> {
         self.senders.gate(usize::from(from.0))
     }
 
-    /// Whether every gate is shut, all behind it was delivered, and no queue has work.
+    /// Whether every gate is shut, all behind it was delivered, no queue has work, and no job is parked.
     pub fn is_drained(&self) -> bool
         ensures { IsTrue result ↔ IsDrained self.now }
     {
-        if !self.senders.are_through() {
-            return false;
-        }
-        if !self.ready.is_empty() {
-            return false;
-        }
-        self.out.is_none()
+        self.senders.are_through() && self.inside == 0
     }
 
     /// Why a job that is delivered to this queue goes back, if it does.

@@ -1,7 +1,7 @@
 //! What a core tells of itself in numbers.
-ghost use Rattle.std.specs.Prelude.{◌≡◌, ◌↔◌, ℕ, ◌<◌, Some, IsTrue, slice_get};
+ghost use Rattle.std.specs.Prelude.{◌≡◌, ◌↔◌, ℕ, ◌+◌, ◌<◌, Some, IsTrue, length, slice_get};
 ghost use Rattle.arrayvec.specs.ArrayVec.{array_vec_len};
-ghost use Rattle.rt_taskqueue.specs.Queues.{queue_count};
+ghost use Rattle.rt_taskqueue.specs.Queues.{queue_count, waiting_of, parked_of};
 ghost use Rattle.rt_core.specs.Closing.{IsDrained};
 ghost use Rattle.rt_core.specs.Figures.{core_stats, queue_stats};
 
@@ -25,6 +25,16 @@ impl<J: Task, A: Allocator + Clone> Core<J, A> {
         }
     }
 
+    /// How many jobs a queue holds, parked ones counted.
+    fn held(&self, queue: QueueNo) -> usize
+        requires { queue < queue_count self.now.queues }
+        ensures { result ≡ length (waiting_of queue self.now.queues) + length (parked_of queue self.now.queues) }
+    {
+        // That the room fits is known once it was read.
+        let _room = self.room;
+        self.queues.count(queue) + self.queues.parked_count(queue)
+    }
+
     fn queue_stats(&self, queue: QueueNo) -> QueueStats
         requires { queue < queue_count self.now.queues }
         ensures { result ≡ queue_stats queue self.now }
@@ -35,7 +45,7 @@ impl<J: Task, A: Allocator + Clone> Core<J, A> {
             selected: tally.selected,
             runtime: tally.time,
             virtual_runtime: tally.runtime,
-            waiting: self.queues.count(queue) as u64,
+            waiting: self.held(queue) as u64,
             finished: tally.finished,
             returned: tally.returned,
         }

@@ -5,7 +5,7 @@ ghost use Rattle.rt_taskqueue.specs.Queues.{queue_count, waiting_of};
 ghost use Rattle.rt_core.specs.State.{runtime_of, IsBounded};
 ghost use Rattle.rt_core.specs.Turns.{TakesOut};
 ghost use Rattle.rt_core.specs.Inside.{FitsTurns};
-ghost use Rattle.rt_core.specs.Steps.{IsOut, IsOutOf, LeavesOut, YieldsOut, ReturnsOut, FinishesOut};
+ghost use Rattle.rt_core.specs.Steps.{IsOut, IsOutOf, LeavesOut, RejoinsOut, ParksOut, ReturnsOut, FinishesOut};
 
 use super::Core;
 use crate::out::Out;
@@ -34,7 +34,7 @@ impl<J: Task, A: Allocator + Clone> Core<J, A> {
         };
         let vr = key.vr;
         let queue = key.queue;
-        let Some((name, started, job)) = self.queues.pop_front(queue) else {
+        let Some((name, started, woken, job)) = self.queues.pop_front(queue) else {
             unreachable!()
         };
         self.queues.put_slip(slip);
@@ -46,16 +46,17 @@ impl<J: Task, A: Allocator + Clone> Core<J, A> {
         self.out = Some(Out {
             name,
             queue,
+            woken,
             job: as_it_was,
         });
         (key, named, started, job)
     }
 
-    /// The job that was out goes to the tail of its queue.
-    pub(super) fn yield_out(&mut self, job: J, time: u64) -> JobId
+    /// The job that was out goes to the tail of its queue, with a wake that is kept or with none.
+    pub(super) fn rejoin_out(&mut self, job: J, time: u64, woken: bool) -> JobId
         requires out { IsSome self.old.out }
         requires ready { IsReady J.meaning job }
-        ensures yields { YieldsOut self.old result job time self.new }
+        ensures rejoins { RejoinsOut self.old result woken job time self.new }
         ensures bounded { IsBounded self.new }
     {
         let Some(out) = self.out.take() else {
@@ -65,8 +66,30 @@ impl<J: Task, A: Allocator + Clone> Core<J, A> {
         let shares = self.queues.shares(queue);
         let tally = self.tallies[place(queue)].charged(time, &shares, 0);
         self.tallies[place(queue)] = tally;
-        self.queues.push_back(queue, out.name, job);
+        self.queues.push_back(queue, out.name, woken, job);
         enter(&mut self.queues, &mut self.ready, queue, tally.runtime);
+        out.name
+    }
+
+    /// The job that was out is parked. Its queue may be picked again if another job waits in it.
+    pub(super) fn park_out(&mut self, job: J, time: u64) -> JobId
+        requires out { IsSome self.old.out }
+        requires ready { IsReady J.meaning job }
+        ensures parks { ParksOut self.old result job time self.new }
+        ensures bounded { IsBounded self.new }
+    {
+        let Some(out) = self.out.take() else {
+            unreachable!()
+        };
+        let queue = out.queue;
+        let shares = self.queues.shares(queue);
+        let tally = self.tallies[place(queue)].charged(time, &shares, 0);
+        self.tallies[place(queue)] = tally;
+        self.queues.park(queue, out.name, job);
+        let Some(slip) = self.queues.take_slip(queue) else {
+            unreachable!()
+        };
+        relist(&mut self.queues, &mut self.ready, slip, tally.runtime);
         out.name
     }
 

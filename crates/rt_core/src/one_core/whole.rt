@@ -21,7 +21,7 @@ fn ended<T>(step: &Step<T>) -> u64
 {
     match step {
         Step::Done(_) => 1,
-        Step::Yield => 0,
+        Step::Yield | Step::Park => 0,
     }
 }
 
@@ -69,7 +69,7 @@ impl<J: Task, A: Allocator + Clone> Core<J, A> {
         if self.return_reason(queue).is_some() {
             return Ahead::Back;
         }
-        let Some((name, started)) = self.queues.front(queue) else {
+        let Some((name, started, woken)) = self.queues.front(queue) else {
             unreachable!()
         };
         Ahead::Job(Next {
@@ -77,6 +77,7 @@ impl<J: Task, A: Allocator + Clone> Core<J, A> {
             vr: key.vr,
             name,
             started,
+            woken,
         })
     }
 }
@@ -93,8 +94,8 @@ impl<J: Job, A: Allocator + Clone> Core<J, A> {
         post: &mut P,
         spent: u64,
     ) -> (Step<J::Out>, u64)
-        requires ahead { IsAhead self.old next.now.queue next.now.vr next.now.name next.now.started }
-        ensures whole { MakesCalls P.Does post.old post.new (λ calls. TurnsWhole J.meaning self.old spent calls next.now.name next.now.queue next.now.started (pick_notes next.now.queue next.now.vr next.now.name next.now.started) (settled_of result.0) (settle_notes next.now.name result.1 result.0) self.new) }
+        requires ahead { IsAhead self.old next.now.queue next.now.vr next.now.name next.now.started next.now.woken }
+        ensures whole { MakesCalls P.Does post.old post.new (λ calls. TurnsWhole J.meaning self.old spent calls next.now.name next.now.queue next.now.started (pick_notes next.now.queue next.now.vr next.now.name next.now.started) (settled_of result.0 next.now.woken) (settle_notes next.now.name result.1 result.0 next.now.woken) self.new) }
         ensures bounded { IsBounded self.new }
     {
         let mut known = spent;
@@ -109,8 +110,8 @@ impl<J: Job, A: Allocator + Clone> Core<J, A> {
         post: &mut P,
         meter: &mut M,
     ) -> (Step<J::Out>, u64)
-        requires ahead { IsAhead self.old next.now.queue next.now.vr next.now.name next.now.started }
-        ensures whole { MakesCalls P.Does post.old post.new (λ calls. (spent : ℕ) × M.Tells meter.old spent meter.new × TurnsWhole J.meaning self.old spent calls next.now.name next.now.queue next.now.started (pick_notes next.now.queue next.now.vr next.now.name next.now.started) (settled_of result.0) (settle_notes next.now.name result.1 result.0) self.new) }
+        requires ahead { IsAhead self.old next.now.queue next.now.vr next.now.name next.now.started next.now.woken }
+        ensures whole { MakesCalls P.Does post.old post.new (λ calls. (spent : ℕ) × M.Tells meter.old spent meter.new × TurnsWhole J.meaning self.old spent calls next.now.name next.now.queue next.now.started (pick_notes next.now.queue next.now.vr next.now.name next.now.started) (settled_of result.0 next.now.woken) (settle_notes next.now.name result.1 result.0 next.now.woken) self.new) }
         ensures bounded { IsBounded self.new }
     {
         let _named = next;

@@ -37,22 +37,36 @@ fn picked_notes(next: &Next) -> [Note<u64>; 2]
     }
 }
 
-/// The note of a settled poll.
-fn settled_notes(name: &JobId, time: u64, step: &Step<u64>) -> [Note<u64>; 1]
-    ensures { result ≡ settle_notes name.now time step.now }
+/// The note of a settled poll. A job that asks to be parked stays if a wake of it is kept.
+fn settled_notes(name: &JobId, time: u64, step: &Step<u64>, woken: bool) -> [Note<u64>; 1]
+    ensures { result ≡ settle_notes name.now time step.now woken }
 {
     match step {
         Step::Yield => [Note::Yield(*name, time)],
+        Step::Park => {
+            if woken {
+                [Note::Stayed(*name, time)]
+            } else {
+                [Note::Park(*name, time)]
+            }
+        }
         Step::Done(answer) => [Note::Done(*name, time, *answer)],
     }
 }
 
 /// What a poll of this step settles to.
-fn settled(step: &Step<u64>) -> Settled<u64>
-    ensures { result ≡ settled_of step.now }
+fn settled(step: &Step<u64>, woken: bool) -> Settled<u64>
+    ensures { result ≡ settled_of step.now woken }
 {
     match step {
         Step::Yield => Settled::Yielded,
+        Step::Park => {
+            if woken {
+                Settled::Stayed
+            } else {
+                Settled::Parked
+            }
+        }
         Step::Done(answer) => Settled::Finished(*answer),
     }
 }
@@ -67,12 +81,12 @@ fn turn_lent<J: Job<Out = u64>, A: Allocator + Clone, O: OutEnd<J> + Drop, M: Me
     next: &Next,
     meter: &mut M,
 ) -> (Step<u64>, u64)
-    requires ahead { IsAhead core.old next.now.queue next.now.vr next.now.name next.now.started }
+    requires ahead { IsAhead core.old next.now.queue next.now.vr next.now.name next.now.started next.now.woken }
     requires outs { AreOutsOf (Fits J.meaning) O.out O.credited said.old ends.old.items }
     requires room { length said.old.journal.notes + said.old.cores * (3 * said.old.cap) < said.old.journal.room }
     ensures whole { MakesCalls (Does (Fits J.meaning) O.out O.credited O.untouched) (lends said.old ends.old.items) (lends said.new ends.new.items) (λ calls.
         (spent : ℕ) × M.Tells meter.old spent meter.new × TurnsWhole J.meaning core.old spent calls next.now.name next.now.queue next.now.started
-        (pick_notes next.now.queue next.now.vr next.now.name next.now.started) (settled_of result.0) (settle_notes next.now.name result.1 result.0) core.new) }
+        (pick_notes next.now.queue next.now.vr next.now.name next.now.started) (settled_of result.0 next.now.woken) (settle_notes next.now.name result.1 result.0 next.now.woken) core.new) }
     ensures outs { AreOutsOf (Fits J.meaning) O.out O.credited said.new ends.new.items }
     ensures few { sum_by left_of said.old.lanes ≤ said.old.cores * (3 * said.old.cap) }
     ensures room { length said.new.journal.notes < said.new.journal.room }
@@ -114,7 +128,7 @@ impl<J: Job<Out = u64>, A: Allocator + Clone> Recorded<J, A> {
         next: &Next,
         meter: &mut M,
     ) -> Settled<u64>
-        requires ahead { IsAhead self.old.core next.now.queue next.now.vr next.now.name next.now.started }
+        requires ahead { IsAhead self.old.core next.now.queue next.now.vr next.now.name next.now.started next.now.woken }
         requires outs { AreOutsOf (Fits J.meaning) O.out O.credited (desk_of self.old) ends.old.items }
         requires room { length self.old.journal.notes + self.old.core.cores * (3 * self.old.cap) + 3 ≤ self.old.journal.room }
         ensures turns { IsPostingTurn J.meaning (Does (Fits J.meaning) O.out O.credited O.untouched) O.out O.untouched (λ time. M.Tells meter.old time meter.new)
@@ -140,7 +154,7 @@ impl<J: Job<Out = u64>, A: Allocator + Clone> Recorded<J, A> {
         next: &Next,
         meter: &mut M,
     ) -> Settled<u64>
-        requires ahead { IsAhead self.old.core next.now.queue next.now.vr next.now.name next.now.started }
+        requires ahead { IsAhead self.old.core next.now.queue next.now.vr next.now.name next.now.started next.now.woken }
         requires outs { AreOutsOf (Fits J.meaning) O.out O.credited (desk_of self.old) ends.old.items }
         requires room { length self.old.journal.notes + self.old.core.cores * (3 * self.old.cap) + 3 ≤ self.old.journal.room }
         ensures { TurnsNoted J.meaning O.out O.credited O.untouched (λ time. M.Tells meter.old time meter.new)
@@ -151,9 +165,9 @@ impl<J: Job<Out = u64>, A: Allocator + Clone> Recorded<J, A> {
         let picked = picked_notes(next);
         self.said.write(&picked);
         let (step, time) = turn_lent(alloc, &mut self.core, &mut self.said, ends, next, meter);
-        let told = settled_notes(&next.name, time, &step);
+        let told = settled_notes(&next.name, time, &step, next.woken);
         self.said.write(&told);
-        settled(&step)
+        settled(&step, next.woken)
     }
 
     /// Gives the outcome of a turn on the end of the job's sender, if the job is done.

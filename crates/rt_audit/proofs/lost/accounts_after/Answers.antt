@@ -2,8 +2,7 @@ use Rattle.std.proofs.Common.{ℕ, ◌<◌, length, sym, subst, arith}
 use Rattle.rt_journal_facts.specs.Accounts.{greatest_count}
 use Rattle.rt_journal_facts.specs.AllAccounts.{KnowsAccounts}
 use Rattle.rt_ids.specs.Journal.{Journal, at_place}
-use Rattle.rt_journal_facts.proofs.Walks.{at_start, whole_walk}
-use Rattle.rt_audit_picks.proofs.PickSteps.{length-at_place}
+use Rattle.rt_journal_facts.proofs.Walks.{at_start, length-at_place, whole_walk}
 use Rattle.rt_audit.proofs.lost.accounts_after.Goals as goal
 
 pub loop-place-init : goal.loop-place-init
@@ -17,7 +16,7 @@ loop-place-preserved c =
     omega (arith, length-at_place c.loop-place.place c.args.journal.now.notes, c.loop-place-test.true, c.len-place-end.type_inv) in
     let facts = c.fact-fact.ensures c.args.journal.now.notes _ _ c.requires (omega arith) c.note_at-note.ensures in
     subst (λ (journal : Journal ℕ). KnowsAccounts c.add.new.self journal) (sym c.note_at-note.ensures)
-    (c.add.ensures before (c.queue_touched.ensures before facts) read c.loop-place.invariant)
+    (c.add.ensures.known before (c.spot.ensures before facts) read c.loop-place.invariant)
 
 pub returns : goal.returns
 returns c =

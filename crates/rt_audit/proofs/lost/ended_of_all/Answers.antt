@@ -1,4 +1,5 @@
 use Rattle.std.proofs.Common.{ℕ, subst, below_more}
+use Rattle.std.proofs.lemmas.Bool.{both_ways}
 use Rattle.rt_ids.specs.Assembly.{journal_of}
 use Rattle.rt_ids.specs.Journal.{Journal, EachNote}
 use Rattle.rt_audit.specs.Ends.{EndedIfSent}
@@ -12,4 +13,15 @@ loop-sender-preserved c =
     (
     subst (λ (journal : Journal ℕ). EachNote (EndedIfSent kept c.args.assembly.now c.args.core) journal) c.journal.ensures
     (c.all_ended.ensures.right c.args.assembly.now kept c.requires.orders c.requires.history c.if-not-all_ended.false)
+    )
+
+pub returns-then-not-all_ended-clause-only : goal.returns-then-not-all_ended-clause-only
+returns-then-not-all_ended-clause-only c =
+    λ each.
+    absurd
+    (
+    both_ways c.all_ended.result c.if-not-all_ended.true
+    (
+    c.all_ended.ensures.only c.args.assembly.now (journal_of c.args.core c.args.assembly.now) c.requires.orders c.requires.history each
+    )
     )

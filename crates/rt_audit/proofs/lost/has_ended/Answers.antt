@@ -11,3 +11,6 @@ returns-in-Close c = λ journal history. rw c.in-Close.is (c.is_answered-in-Clos
 
 pub returns-in-CloseCore : goal.returns-in-CloseCore
 returns-in-CloseCore c = λ journal history. rw c.in-CloseCore.is (c.is_answered-in-CloseCore.ensures journal history)
+
+pub returns-in-Wake : goal.returns-in-Wake
+returns-in-Wake c = λ journal history. rw c.in-Wake.is (c.is_answered-in-Wake.ensures journal history)

@@ -6,9 +6,9 @@ use Rattle.rt_ids.specs.Journal.{Journal, EachNote, at_place}
 use Rattle.rt_ids.specs.Spelled.{IsSpelledNote}
 use Rattle.rt_journal_facts.specs.Accounts.{greatest_count}
 use Rattle.rt_journal_facts.proofs.FirstFaults.{each_before}
-use Rattle.rt_journal_facts.proofs.Walks.{at_start, whole_walk}
+use Rattle.rt_journal_facts.proofs.Walks.{at_start, length-at_place, whole_walk}
 use Rattle.rt_audit_picks.specs.Picks.{PicksSoFar}
-use Rattle.rt_audit_picks.proofs.PickSteps.{length-at_place, none_left}
+use Rattle.rt_audit_picks.proofs.PickSteps.{none_left}
 use Rattle.rt_audit_picks.proofs.Bounds.{are_below}
 use Rattle.rt_audit_picks.proofs.PickLines.{line_named, last_named}
 use Rattle.rt_audit_picks.proofs.picks.picks_fault.Goals as goal

@@ -1,5 +1,5 @@
 use Rattle.std.proofs.lemmas.Bool.{both_ways}
-use Rattle.rt_audit_picks.proofs.PickSteps.{settles}
+use Rattle.rt_audit_picks.proofs.PickSteps.{awake, fits_parks, settles}
 use Rattle.rt_audit_picks.proofs.RightPicks.{fits}
 use Rattle.rt_audit_picks.proofs.picks.picks_right.Goals as goal
 
@@ -7,19 +7,21 @@ pub returns-then-is_in_turn-clause-right : goal.returns-then-is_in_turn-clause-r
 returns-then-is_in_turn-clause-right c =
     λ before knows facts yes.
     let turn = c.is_in_turn.ensures.right before knows facts c.if-is_in_turn.true in
-    let fits = c.fits_out.ensures.right yes in (
+    let fits = c.is_settled.ensures.right before facts yes in (
       record {
         right = turn.0;
         turn = turn.1.turn;
         followed = turn.1.followed;
-        settles = settles c.args.turns.now.out before knows.out c.args.note.now fits;
+        settles = settles c.args.turns.now.out before knows.out c.args.note.now fits.0 fits.1;
+        awake = awake before c.args.note.now fits.1;
       },
-      fits,
+      fits.0,
     )
 
 pub returns-then-is_in_turn-clause-only : goal.returns-then-is_in_turn-clause-only
 returns-then-is_in_turn-clause-only c =
-    λ before knows facts below each right. c.fits_out.ensures.only (fits c.args.turns.now.out before knows.out each c.args.note.now right)
+    λ before knows facts below each right.
+    c.is_settled.ensures.only before facts (fits c.args.turns.now.out before knows.out each c.args.note.now right) (fits_parks before c.args.note.now right)
 
 pub returns-else-is_in_turn-clause-only : goal.returns-else-is_in_turn-clause-only
 returns-else-is_in_turn-clause-only c =

@@ -9,7 +9,7 @@ pub returns : goal.returns
 returns g c =
     let jobs = c.args.jobs.now in
     let was = c.index_mut-front.result.now in
-    let marked : Waiting g.row.J.Denot = record was { started = true } in
+    let marked : Waiting g.row.J.Denot = record was { started = true; woken = c.args.woken } in
     let within = ContainsKey-within jobs c.args.head c.requires in
     let one : Option (Waiting g.row.J.Denot) → ℕ = λ entry. cond (is_some entry) 1 0 in
     let full = ap one c.index_mut-front.ensures.value in (

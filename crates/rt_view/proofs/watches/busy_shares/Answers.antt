@@ -1,4 +1,4 @@
-use Rattle.std.proofs.Common.{ℕ, ◌+◌, ◌<◌, length, ap, ◌∙◌, arith}
+use Rattle.std.proofs.Common.{◌+◌, ◌<◌, length, ap, ◌∙◌, arith}
 use Rattle.rt_journal_facts.specs.Accounts.{fresh_account}
 use Rattle.rt_view.specs.Watches.{shares_below, shares_in}
 use Rattle.rt_view.proofs.WatchSteps.{any_default, no_shares, shares_more}

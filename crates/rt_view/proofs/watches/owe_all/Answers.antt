@@ -1,4 +1,4 @@
-use Rattle.std.proofs.Common.{◌≡◌, ℕ, ◌<◌, length, get_or, ap, ◌∙◌, arith}
+use Rattle.std.proofs.Common.{◌≡◌, ◌<◌, length, get_or, ap, ◌∙◌, arith}
 use Rattle.rt_journal_facts.specs.Accounts.{fresh_account}
 use Rattle.rt_view.specs.Shares.{part}
 use Rattle.rt_view.specs.Watches.{no_watch, owed, shares_in}

@@ -1,4 +1,4 @@
-use Rattle.std.proofs.Common.{◌≡◌, ℕ, ◌<◌, length, get_or, ap, ◌∙◌, arith}
+use Rattle.std.proofs.Common.{◌≡◌, ◌<◌, length, arith}
 use Rattle.rt_view.proofs.Tables.{none_changed, one_changed}
 use Rattle.rt_view.proofs.WatchSteps.{seen_one}
 use Rattle.rt_view.proofs.watches.see_all.Goals as goal

@@ -5,8 +5,9 @@ use Rattle.rt_ids.specs.declared.names.JobId.{JobId}
 use Rattle.rt_taskqueue.specs.Queues.{queue_count, mode_of}
 use Rattle.rt_core.specs.declared.tally.Tally.{Tally}
 use Rattle.rt_taskqueue.specs.Slips.{queues_alone}
-use Rattle.rt_core.specs.State.{CoreView, inside_count, is_working}
+use Rattle.rt_core.specs.State.{CoreView, inside_count, is_any, is_working}
 use Rattle.rt_core.specs.Inside.{core_view, job_out, unsettled_count, FitsTurns}
+use Rattle.rt_core.proofs.Entries.{is_any-push}
 use Rattle.rt_core.proofs.Listed.{LacksQueue-from_none}
 use Rattle.rt_core.proofs.Fits.{placed_fits}
 use Rattle.rt_core.proofs.Parts.{KeepsCounts-enters, IsListed-activates, IsPollable-pushed, idle_entry}
@@ -49,11 +50,11 @@ invariant_of-self g c =
     let none = core.listed.at c.args.queue ∙ idle_entry (core_view inside.core inside.cores (queues_alone inside.queues) inside.tallies.items inside.floor inside.turns (job_out inside.out) inside.senders inside.mode) c.args.queue idle in
     let lacks = LacksQueue-from_none c.args.queue inside.ready.keys none in
     rw (c.count.ensures, c.enter.ensures.keys, c.enter.ensures.given) (record {
-      counted = KeepsCounts-enters _ _ _ _ _ c.args.queue c.args.name c.args.job c.admit.ensures.joins.queues c.admit.ensures.limits space refl refl (length-set _ _ _) (length-set _ _ _) core.counted;
-      listed = IsListed-activates _ _ _ (record { vr = c.placed-vr.result; queue = c.args.queue }) tally c.args.name c.args.job c.admit.ensures.joins.queues refl
+      counted = KeepsCounts-enters _ _ _ _ _ c.args.queue c.args.name (record { started = false; woken = false }) c.args.job c.admit.ensures.joins.queues c.admit.ensures.limits space refl refl (length-set _ _ _) (length-set _ _ _) core.counted;
+      listed = IsListed-activates _ _ _ (record { vr = c.placed-vr.result; queue = c.args.queue }) tally joins.queues.others (ap is_any joins.queues.changed ∙ is_any-push _ _) refl
           (ap (λ at. slice_set inside.tallies.items at tally) c.place.ensures) within refl idle core.listed;
       slipped = KeepsSlips-inserted _ _ _ (record { vr = c.placed-vr.result; queue = c.args.queue }) (omega (arith, exists, joins.queues.same_count)) lacks (KeepsSlips-same _ _ _ _ _ joins.queues.same_count joins.slips core.slipped);
-      pollable = IsPollable-pushed _ _ _ c.args.queue c.args.name false c.args.job c.admit.ensures.joins.queues c.requires.ready core.pollable;
+      pollable = IsPollable-pushed _ _ _ c.args.queue c.args.name (record { started = false; woken = false }) c.args.job c.admit.ensures.joins.queues c.requires.ready core.pollable;
       turns = record { tallies = All-set (FitsTurns inside.turns polls) inside.tallies.items c.place.result tally fits core.turns.tallies; floor = core.turns.floor };
     })
 

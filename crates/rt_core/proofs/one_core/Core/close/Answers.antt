@@ -20,13 +20,10 @@ invariant_of-self g c =
     IsCore-closed _ old inside.senders.gates (Some c.args.mode) _ _ _ _ _ c.self.invariant
 
 pub returns-clause-closes : goal.returns-clause-closes
-returns-clause-closes g c = rw (← c.self.view_is) (sym c.closes.ensures ∙ c.if-not-closes.false, refl, c.one_note.ensures)
+returns-clause-closes g c = rw (← c.self.view_is) (sym c.closes.ensures ∙ c.if-not-closes.false, c.end_parks_for.ensures.ends, c.one_note.ensures)
 
 pub returns-clause-bounded : goal.returns-clause-bounded
-returns-clause-bounded g c =
-    let inside = c.self.inside in
-    let old = core_view inside.core inside.cores (queues_alone inside.queues) inside.tallies.items inside.floor inside.turns (job_out inside.out) inside.senders inside.mode in
-    IsBounded-from_turns old c.self.invariant.turns
+returns-clause-bounded g c = c.end_parks_for.ensures.bounded
 
 pub new-requires : goal.new-requires
 new-requires g c = assumption

@@ -1,4 +1,4 @@
-use Rattle.std.proofs.Common.{◌<◌, refl, sym, ◌∙◌, ap, subst}
+use Rattle.std.proofs.Common.{◌<◌, refl, sym, ◌∙◌, ap, subst, arith}
 use Rattle.rt_ids.specs.Closing.{closes}
 use Rattle.rt_taskqueue.specs.Queues.{queue_count, mode_of}
 use Rattle.rt_taskqueue.specs.Slips.{queues_alone}
@@ -51,9 +51,17 @@ invariant_of-self g c =
       counted = KeepsCounts-closes old _ _ _ _ c.args.queue c.args.mode closed.queues c.close.ensures.limits refl refl refl refl core.counted;
       listed = IsListed-same old _ _ closed.queues.same_lines refl (λ queue. refl) core.listed;
       slipped = KeepsSlips-same _ _ _ _ _ closed.queues.same_count closed.slips core.slipped;
-      pollable = IsPollable-same _ old _ closed.queues.same_lines core.pollable;
+      pollable = IsPollable-same _ old _ closed.queues.same_lines closed.queues.same_parks core.pollable;
       turns = record { tallies = core.turns.tallies; floor = core.turns.floor };
     }
+
+pub end_queue_parks_for-requires : goal.end_queue_parks_for-requires
+end_queue_parks_for-requires g c =
+    let did = sym c.closes.ensures ∙ c.if-not-closes.false in
+    let closed = c.close.ensures.closed (c.close.ensures.told ∙ ap (λ was. closes was c.args.mode) (sym c.mode.ensures) ∙ did) in
+    let exists : c.args.queue < queue_count (queues_alone c.self.inside.queues) =
+    subst (λ (view : CoreView g.row.J.Denot). c.args.queue < queue_count view.queues) (sym c.self.view_is) (c.has_queue.ensures.0 c.if-not-has_queue.false) in
+    record { exists = omega (arith, exists, closed.queues.same_count) }
 
 pub returns-clause-closes : goal.returns-clause-closes
 returns-clause-closes g c =
@@ -62,16 +70,15 @@ returns-clause-closes g c =
     let closed = c.close.ensures.closed (c.close.ensures.told ∙ ap (λ was. closes was c.args.mode) (sym c.mode.ensures) ∙ did) in
     let exists : c.args.queue < queue_count (queues_alone inside.queues) =
     subst (λ (view : CoreView g.row.J.Denot). c.args.queue < queue_count view.queues) (sym c.self.view_is) (c.has_queue.ensures.0 c.if-not-has_queue.false) in
-    rw (← c.self.view_is) (ap (λ was. closes was c.args.mode) (sym c.mode.ensures) ∙ did, record { exists = exists; closed = closed.queues; rest = refl }, c.one_note.ensures)
+    let mid = core_view inside.core inside.cores (queues_alone c.close.new.self) inside.tallies.items inside.floor inside.turns (job_out inside.out) inside.senders inside.mode in
+    rw (← c.self.view_is) (
+      ap (λ was. closes was c.args.mode) (sym c.mode.ensures) ∙ did,
+      (mid, record { exists = exists; closed = closed.queues; rest = refl }, c.end_queue_parks_for.ensures.ends),
+      c.one_note.ensures,
+    )
 
 pub returns-clause-bounded : goal.returns-clause-bounded
-returns-clause-bounded g c =
-    let inside = c.self.inside in
-    let core = c.self.invariant in
-    IsBounded-from_turns (core_view inside.core inside.cores (queues_alone c.close.new.self) inside.tallies.items inside.floor inside.turns (job_out inside.out) inside.senders inside.mode) (record {
-      tallies = core.turns.tallies;
-      floor = core.turns.floor;
-    })
+returns-clause-bounded g c = c.end_queue_parks_for.ensures.bounded
 
 pub new-requires : goal.new-requires
 new-requires g c = assumption

@@ -30,7 +30,7 @@ invariant_of-self g c =
       slipped =
           let none = core.listed.at (queue_count (queues_alone inside.queues)) ∙ nothing_past (core_view inside.core inside.cores (queues_alone inside.queues) inside.tallies.items inside.floor inside.turns (job_out inside.out) inside.senders inside.mode) in
           KeepsSlips-same _ _ _ _ _ adds.count c.in-Ok.ensures.created.slips (KeepsSlips-created _ _ _ none core.slipped);
-      pollable = IsPollable-same _ _ _ adds.same_lines core.pollable;
+      pollable = IsPollable-same _ _ _ adds.same_lines adds.same_parks core.pollable;
       turns = record {
         tallies = rw items (All-push (FitsTurns inside.turns polls) inside.tallies.items no_tally core.turns.tallies (no_tally_fits inside.turns polls inside.floor core.turns.floor));
         floor = core.turns.floor;

@@ -57,3 +57,14 @@ returns-in-CloseCore-clause-delivers g c =
 
 pub returns-in-CloseCore-clause-bounded : goal.returns-in-CloseCore-clause-bounded
 returns-in-CloseCore-clause-bounded g c = c.deliver_close_core.ensures.bounded
+
+pub deliver_wake-requires : goal.deliver_wake-requires
+deliver_wake-requires g c = (assumption, c.requires.sender)
+
+pub returns-in-Wake-clause-delivers : goal.returns-in-Wake-clause-delivers
+returns-in-Wake-clause-delivers g c =
+    let done = c.deliver_wake in
+    subst (λ order. Delivers c.args.self.now c.args.envelope.name order done.result.0 done.new.self done.result.1.items) (sym c.in-Wake.is) done.ensures.delivers
+
+pub returns-in-Wake-clause-bounded : goal.returns-in-Wake-clause-bounded
+returns-in-Wake-clause-bounded g c = c.deliver_wake.ensures.bounded

@@ -20,7 +20,7 @@ invariant_of-self g c =
       counted = KeepsCounts-weighs _ _ _ _ _ c.args.queue c.args.shares given c.set_shares.ensures.limits refl refl refl (length-set _ _ _) core.counted;
       listed = IsListed-same _ _ _ given.same_lines refl (λ queue. refl) core.listed;
       slipped = KeepsSlips-same _ _ _ _ _ given.same_count c.set_shares.ensures.given.slips core.slipped;
-      pollable = IsPollable-same _ _ _ given.same_lines core.pollable;
+      pollable = IsPollable-same _ _ _ given.same_lines given.same_parks core.pollable;
       turns = record { tallies = core.turns.tallies; floor = core.turns.floor };
     })
 

@@ -2,8 +2,9 @@ use Rattle.std.proofs.Common.{◌≡◌, ◌<◌, ◌≤◌, true, false, None, 
 use Rattle.rt_ids.specs.declared.names.JobId.{JobId}
 use Rattle.rt_taskqueue.specs.Queues.{queue_count, mode_of}
 use Rattle.rt_taskqueue.specs.Slips.{queues_alone}
-use Rattle.rt_core.specs.State.{CoreView, inside_count, is_working}
+use Rattle.rt_core.specs.State.{CoreView, inside_count, is_any, is_working}
 use Rattle.rt_core.specs.Inside.{core_view, job_out}
+use Rattle.rt_core.proofs.Entries.{is_any-push}
 use Rattle.rt_core.proofs.Fits.{IsBounded-from_turns}
 use Rattle.rt_core.proofs.Parts.{KeepsCounts-enters, IsListed-joins, IsPollable-pushed}
 use Rattle.rt_core.proofs.SlipsKept.{KeepsSlips-same}
@@ -18,10 +19,10 @@ invariant_of-self g c =
     let space : c.self.inside.inside < c.self.inside.room = omega (arith, old.counted.all_inside, old.counted.same_room, room) in
     let joins = c.admit.ensures.joins in
     rw c.count.ensures (record {
-      counted = KeepsCounts-enters _ _ _ _ _ c.args.queue c.args.name c.args.job joins.queues c.admit.ensures.limits space refl refl refl (length-set _ _ _) old.counted;
-      listed = IsListed-joins _ _ _ c.args.queue c.args.name c.args.job joins.queues refl refl work old.listed;
+      counted = KeepsCounts-enters _ _ _ _ _ c.args.queue c.args.name (record { started = false; woken = false }) c.args.job joins.queues c.admit.ensures.limits space refl refl refl (length-set _ _ _) old.counted;
+      listed = IsListed-joins _ _ _ c.args.queue joins.queues.others (λ some. ap is_any joins.queues.changed ∙ is_any-push _ _) refl refl work old.listed;
       slipped = KeepsSlips-same _ _ _ _ _ joins.queues.same_count joins.slips old.slipped;
-      pollable = IsPollable-pushed _ _ _ c.args.queue c.args.name false c.args.job joins.queues c.requires.ready old.pollable;
+      pollable = IsPollable-pushed _ _ _ c.args.queue c.args.name (record { started = false; woken = false }) c.args.job joins.queues c.requires.ready old.pollable;
       turns = record { tallies = old.turns.tallies; floor = old.turns.floor };
     })
 

@@ -10,5 +10,6 @@ returns-clause-whole g c =
       whole.0,
       whole.1,
       subst (λ (spent : ℕ). TurnsWhole g.J.Task.meaning c.args.self.now spent whole.0 next.name next.queue next.started
-          (pick_notes next.queue next.vr next.name next.started) (settled_of turned.result.0) (settle_notes next.name turned.result.1 turned.result.0) turned.new.self) whole.2.1 whole.2.2,
+          (pick_notes next.queue next.vr next.name next.started) (settled_of turned.result.0 next.woken)
+          (settle_notes next.name turned.result.1 turned.result.0 next.woken) turned.new.self) whole.2.1 whole.2.2,
     )

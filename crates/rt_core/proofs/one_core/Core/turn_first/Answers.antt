@@ -76,7 +76,7 @@ relist-requires g c =
     let key = c.in-Some.key in
     let later = c.take_least.new.self.keys in
     let turned = c.turn_front-step.ensures.turns.2 in
-    let count = turned_count c.turn_front-step.result.0 turned.between (queues_alone c.turn_front-step.new.self) key.queue turned.name turned.job turned.joins in
+    let count = turned_count c.turn_front-step.result.0 turned.between (queues_alone c.turn_front-step.new.self) key.queue turned.name turned.marks turned.job turned.joins in
     record {
       exists = omega (arith, exists g at, count, turned.leaves.same_count, c.in-Some.ensures.slip);
       out = ap (λ queue. slice_index_or c.turn_front-step.new.self.slips queue false) c.in-Some.ensures.slip

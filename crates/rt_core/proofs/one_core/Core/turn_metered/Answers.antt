@@ -10,7 +10,7 @@ turn_first-requires g c =
     record {
       free = is_ahead.next.free;
       turns = is_ahead.left;
-      work = (next.queue, some_front (waiting_of next.queue c.args.self.now.queues) (next.name, next.started, front.0) front.1 front.2);
+      work = (next.queue, some_front (waiting_of next.queue c.args.self.now.queues) (next.name, record { started = next.started; woken = next.woken }, front.0) front.1 front.2);
     }
 
 pub returns-clause-whole : goal.returns-clause-whole
@@ -24,6 +24,6 @@ returns-clause-whole g c =
         turns.2.0,
         turns.2.1,
         TurnsWhole-first g.J.Task.meaning c.args.self.now turned.new.self turns.2.0
-            turns.0 turned.result.0 turned.result.1 next.queue next.vr next.name next.started c.requires.ahead turns.2.2,
+            turns.0 turned.result.0 turned.result.1 next.queue next.vr next.name next.started next.woken c.requires.ahead turns.2.2,
       ),
     )

@@ -25,7 +25,7 @@ returns g c =
     let did = settled_did g.met.J.Task.laws (view_of c.self.inside.core c.self.inside.took.items c.self.inside.said) c.self.invariant.0 out.0 out.1 c.settle-settled.new.self c.args.ran its_job c.requires.polled c.args.spent c.settle-settled.result.0 c.settle-settled.result.1.items out.2 in
     let now = quiet_now c.self.inside.core c.self.inside.took.items c.self.inside.said c.self.invariant c.as_slice.ensures.value did c.write.ensures c.self.view_is in
     let owes = seen_so c.self.inside.core c.self.inside.took.items c.self.inside.said c.self.invariant c.as_slice.ensures.value did c.write.ensures c.self.view_is (λ old new. OwesSettled old c.settle-settled.result.0 new)
-    (owes_settled (view_of c.self.inside.core c.self.inside.took.items c.self.inside.said) _ out.0 out.1 c.args.ran.step c.settle-settled.result.0 did.does_so.tells (λ sender. ins_step (view_of c.self.inside.core c.self.inside.took.items c.self.inside.said) c.self.invariant.0 _ _ did.step sender tt)) in
+    (owes_settled (view_of c.self.inside.core c.self.inside.took.items c.self.inside.said) _ out.0 out.1 c.settle-settled.result.0 (λ sender. ins_step (view_of c.self.inside.core c.self.inside.took.items c.self.inside.said) c.self.invariant.0 _ _ did.step sender tt)) in
     assumption
 
 pub settle-settled-requires : goal.settle-settled-requires

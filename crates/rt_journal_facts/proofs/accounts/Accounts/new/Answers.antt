@@ -1,6 +1,10 @@
-use Rattle.std.proofs.Common.{refl}
-use Rattle.rt_journal_facts.proofs.AccountSteps.{all_fresh}
+use Rattle.std.proofs.Common.{refl, arith}
+use Rattle.rt_journal_facts.proofs.AllAccounts.{all_fresh}
 use Rattle.rt_journal_facts.proofs.accounts.Accounts.new.Goals as goal
 
 pub returns : goal.returns
-returns c = record { each = λ queue. all_fresh 256 queue c.new.result c.new.ensures; floor = refl }
+returns c = record {
+  each = λ queue. all_fresh 256 queue c.new.result c.new.ensures;
+  floor = refl;
+  recent = λ queue some. absurd (omega (arith, some));
+}

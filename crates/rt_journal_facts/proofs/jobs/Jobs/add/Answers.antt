@@ -1,12 +1,20 @@
-use Rattle.std.proofs.Common.{ℕ, sym, subst}
-use Rattle.rt_journal_facts.specs.Jobs.{JobsView, KnowsJobs}
-use Rattle.rt_journal_facts.proofs.ReadJobs.{knows_next}
+use Rattle.std.proofs.Common.{ap, ◌∙◌}
+use Rattle.std.specs.Prelude.{◌||◌}
+use Rattle.rt_ids.specs.Filters.{name_started, name_ended}
+use Rattle.rt_ids.specs.Names.{is_name}
 use Rattle.rt_journal_facts.proofs.jobs.Jobs.add.Goals as goal
 
 pub returns : goal.returns
 returns c =
-    λ before knows.
-    knows_next (record { queues = c.self.inside.queues; started = c.self.inside.started; ended = c.self.inside.ended }) _ c.args.note.now before
-    (rw c.queue_told.ensures at c.in_ok-set_told.ensures) (rw c.name_started.ensures at c.in_ok-add.ensures)
-    (rw c.name_ended.ensures at c.in_ok-add-2.ensures)
-    (subst (λ (view : JobsView). KnowsJobs {T = ℕ} view before) (sym c.self.view_is) knows)
+    λ before short knows.
+    record {
+      parks = c.in_ok-add.ensures before short knows.parks;
+      stays = c.in_ok-add-2.ensures before (c.wakes_parked-parked.ensures before knows) knows.stays;
+      started =
+          λ name.
+          (rw c.name_started.ensures at c.in_ok-add-3.ensures) name ∙
+          ap (λ has. is_name name (name_started c.args.note.now) || has) (knows.started name);
+      ended =
+          λ name.
+          (rw c.name_ended.ensures at c.in_ok-add-4.ensures) name ∙ ap (λ has. is_name name (name_ended c.args.note.now) || has) (knows.ended name);
+    }

@@ -8,9 +8,9 @@ use Rattle.rt_journal_facts.proofs.past.Past.add.Goals as goal
 
 pub returns : goal.returns
 returns c =
-    λ before knows.
+    λ before short knows.
     record {
-      jobs = c.in_ok-add.ensures before knows.jobs;
+      jobs = c.in_ok-add.ensures before short knows.jobs;
       answered =
           λ name.
           (rw c.name_answered.ensures at c.in_ok-add-2.ensures) name ∙

@@ -63,8 +63,20 @@ invariant_of-self-else-eq-2 g c = (
   owes_nobody c.self.inside.core c.pick.new.self c.in-Ok-Back.name (c.in-Ok-Back.name, Returned c.in-Ok-Back.reason) (g.I.InEnd.inward c.self.inside.outside) 1 (eqb-false c.in-Ok-Back.name.from 1 (sym c.eq.ensures ∙ c.if-eq.false)) (subst (λ turn. LeavesOwed 1 (owed_back (Ok turn) 1) c.self.inside.core c.pick.new.self) c.in-Ok-Back.field-0-is (c.in-Ok-Back.ensures.ins 1)) c.self.invariant.1,
 )
 
+pub settle-requires-in-Ok-Resume-clause-beside : goal.settle-requires-in-Ok-Resume-clause-beside
+settle-requires-in-Ok-Resume-clause-beside g c =
+    let is : c.in-Ok-Resume.name.from ≡ 1 = are_same c.in-Ok-Resume.name.from 1 c.ne-in-Ok-Resume.result c.ne-in-Ok-Resume.ensures c.if-ne-2.false in
+    subst (λ from. IsInOf from c.pick.new.self (g.I.InEnd.inward c.self.inside.outside)) (sym is) ((subst (λ turn. LeavesOwed 1 (owed_back (Ok turn) 1) c.self.inside.core c.pick.new.self) c.in-Ok-Resume.field-0-is (c.in-Ok-Resume.ensures.ins 1)).each _ c.self.invariant.1)
+
+pub invariant_of-self-then-ne-2 : goal.invariant_of-self-then-ne-2
+invariant_of-self-then-ne-2 g c = ((subst (λ turn. LeavesOwed 0 (owed_back (Ok turn) 0) c.self.inside.core c.pick.new.self) c.in-Ok-Resume.field-0-is (c.in-Ok-Resume.ensures.ins 0)).each _ c.self.invariant.0, (subst (λ turn. LeavesOwed 1 (owed_back (Ok turn) 1) c.self.inside.core c.pick.new.self) c.in-Ok-Resume.field-0-is (c.in-Ok-Resume.ensures.ins 1)).each _ c.self.invariant.1)
+
 pub invariant_of-self-in-Ok-Resume : goal.invariant_of-self-in-Ok-Resume
-invariant_of-self-in-Ok-Resume g c = ((subst (λ turn. LeavesOwed 0 (owed_back (Ok turn) 0) c.self.inside.core c.pick.new.self) c.in-Ok-Resume.field-0-is (c.in-Ok-Resume.ensures.ins 0)).each _ c.self.invariant.0, (subst (λ turn. LeavesOwed 1 (owed_back (Ok turn) 1) c.self.inside.core c.pick.new.self) c.in-Ok-Resume.field-0-is (c.in-Ok-Resume.ensures.ins 1)).each _ c.self.invariant.1)
+invariant_of-self-in-Ok-Resume g c =
+    let is : c.in-Ok-Resume.name.from ≡ 1 = are_same c.in-Ok-Resume.name.from 1 c.ne-in-Ok-Resume.result c.ne-in-Ok-Resume.ensures c.if-ne-2.false in (
+      (c.settle-in-Ok-Resume.ensures.others 0 (λ same. omega (arith, same, is))).each _ ((subst (λ turn. LeavesOwed 0 (owed_back (Ok turn) 0) c.self.inside.core c.pick.new.self) c.in-Ok-Resume.field-0-is (c.in-Ok-Resume.ensures.ins 0)).each _ c.self.invariant.0),
+      subst (λ from. IsInOf from c.settle-in-Ok-Resume.new.self (g.I.InEnd.inward c.settle-in-Ok-Resume.new.end)) is c.settle-in-Ok-Resume.ensures.beside,
+    )
 
 pub invariant_of-self-in-Ok-Idle : goal.invariant_of-self-in-Ok-Idle
 invariant_of-self-in-Ok-Idle g c = ((subst (λ turn. LeavesOwed 0 (owed_back (Ok turn) 0) c.self.inside.core c.pick.new.self) c.in-Ok-Idle.field-0-is (c.in-Ok-Idle.ensures.ins 0)).each _ c.self.invariant.0, (subst (λ turn. LeavesOwed 1 (owed_back (Ok turn) 1) c.self.inside.core c.pick.new.self) c.in-Ok-Idle.field-0-is (c.in-Ok-Idle.ensures.ins 1)).each _ c.self.invariant.1)

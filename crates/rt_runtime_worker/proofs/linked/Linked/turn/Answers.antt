@@ -26,7 +26,7 @@ turn_on-requires-clause-owed g c = c.self.invariant.0.owed
 pub turn_on-requires-clause-known : goal.turn_on-requires-clause-known
 turn_on-requires-clause-known g c =
     let next = c.in-Ok-Job.next in
-    ahead_known c.self.inside.recorded c.self.invariant.0.recorded next.queue next.vr next.name next.started (rw c.in-Ok-Job.field-0-is at c.in-Ok-Job.ensures)
+    ahead_known c.self.inside.recorded c.self.invariant.0.recorded next.queue next.vr next.name next.started next.woken (rw c.in-Ok-Job.field-0-is at c.in-Ok-Job.ensures)
 
 pub turn_on-requires-clause-core : goal.turn_on-requires-clause-core
 turn_on-requires-clause-core g c = c.ask-leave.ensures.core ∙ (c.number_of-core.ensures ∙ c.self.invariant.0.beside.number)
@@ -34,7 +34,7 @@ turn_on-requires-clause-core g c = c.ask-leave.ensures.core ∙ (c.number_of-cor
 pub turn_on-requires-clause-room : goal.turn_on-requires-clause-room
 turn_on-requires-clause-room g c =
     let next = c.in-Ok-Job.next in
-    ahead_room c.self.inside.recorded c.self.invariant.0.recorded next.queue next.vr next.name next.started (rw c.in-Ok-Job.field-0-is at c.in-Ok-Job.ensures)
+    ahead_room c.self.inside.recorded c.self.invariant.0.recorded next.queue next.vr next.name next.started next.woken (rw c.in-Ok-Job.field-0-is at c.in-Ok-Job.ensures)
     (subst (λ (view : LinkedView _ _). HasTurnRoom view.recorded) (sym c.self.view_is) c.requires.room)
 
 pub returns-in-Ok-Job-clause-makes : goal.returns-in-Ok-Job-clause-makes

@@ -1,6 +1,8 @@
 use Rattle.std.proofs.Common.{ap, sym, arith}
 use Rattle.rt_taskqueue.specs.Slips.{queues_alone}
-use Rattle.rt_taskqueue.proofs.Views.{line_read, exists-view, length-waiting_of}
+use Rattle.rt_taskqueue.specs.declared.line.Queue.{Queue}
+use Rattle.rt_taskqueue.proofs.Spots.{queue_read}
+use Rattle.rt_taskqueue.proofs.Views.{exists-view, length-waiting_of}
 use Rattle.rt_taskqueue.proofs.queues.Queues.count.Goals as goal
 
 pub index-requires : goal.index-requires
@@ -13,5 +15,5 @@ returns g c =
     let inside = c.self.inside in
     let lines = inside.lines.items in
     let exists = exists-view inside.room inside.jobs lines (ap queues_alone c.self.view_is) c.requires.exists in
-    let here = line_read lines c.queue.inside.0 c.args.queue c.index.result.now (omega (arith, exists, c.queue.view_is)) c.index.ensures c.queue.view_is in
-    rw (← c.self.view_is) (sym (length-waiting_of c.self.invariant.0 c.args.queue c.index.result.now here))
+    let here = queue_read lines c.queue.inside.0 c.args.queue c.index.result.now (omega (arith, exists, c.queue.view_is)) c.index.ensures c.queue.view_is in
+    rw (← c.self.view_is) (sym (length-waiting_of c.self.invariant.0 c.args.queue c.index.result.now.waiting (ap (λ (q : Queue). q.waiting) here)))

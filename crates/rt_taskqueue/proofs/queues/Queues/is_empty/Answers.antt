@@ -3,7 +3,9 @@ use Rattle.std.proofs.lemmas.Bool.{eqb-true, eq-eqb}
 use Rattle.std.proofs.lemmas.List.{nil_from_length}
 use Rattle.rt_taskqueue.specs.Queues.{waiting_of}
 use Rattle.rt_taskqueue.specs.Slips.{queues_alone}
-use Rattle.rt_taskqueue.proofs.Views.{alone, line_read, exists-view, length-waiting_of}
+use Rattle.rt_taskqueue.specs.declared.line.Queue.{Queue}
+use Rattle.rt_taskqueue.proofs.Spots.{queue_read}
+use Rattle.rt_taskqueue.proofs.Views.{alone, exists-view, length-waiting_of}
 use Rattle.rt_taskqueue.proofs.queues.Queues.is_empty.Goals as goal
 
 pub index-requires : goal.index-requires
@@ -16,9 +18,9 @@ returns g c =
     let inside = c.self.inside in
     let lines = inside.lines.items in
     let exists = exists-view inside.room inside.jobs lines (ap queues_alone c.self.view_is) c.requires.exists in
-    let here = line_read lines c.queue.inside.0 c.args.queue c.index.result.now (omega (arith, exists, c.queue.view_is)) c.index.ensures c.queue.view_is in
-    let counted = length-waiting_of c.self.invariant.0 c.args.queue c.index.result.now here in
+    let here = queue_read lines c.queue.inside.0 c.args.queue c.index.result.now (omega (arith, exists, c.queue.view_is)) c.index.ensures c.queue.view_is in
+    let counted = length-waiting_of c.self.invariant.0 c.args.queue c.index.result.now.waiting (ap (λ (q : Queue). q.waiting) here) in
     rw (← c.self.view_is) (
-      λ t. nil_from_length (waiting_of c.args.queue (alone inside.room inside.jobs lines)) (counted ∙ eqb-true c.index.result.now.count 0 t),
-      λ h. eq-eqb c.index.result.now.count 0 (sym counted ∙ ap length h),
+      λ t. nil_from_length (waiting_of c.args.queue (alone inside.room inside.jobs lines)) (counted ∙ eqb-true c.index.result.now.waiting.count 0 t),
+      λ h. eq-eqb c.index.result.now.waiting.count 0 (sym counted ∙ ap length h),
     )

@@ -1,10 +1,15 @@
 use Rattle.std.proofs.Common.{ap, arith}
-use Rattle.rt_taskqueue.specs.declared.line.Line.{Line}
+use Rattle.rt_taskqueue.specs.declared.line.Queue.{Queue}
 use Rattle.rt_taskqueue.proofs.Changes.{IsKept-opened}
 use Rattle.rt_taskqueue.proofs.OwnSlips.{HasOwnSlips-one}
+use Rattle.rt_taskqueue.proofs.Rests.{AreAtRest-opened}
 use Rattle.rt_taskqueue.proofs.queues.Queues.open.Goals as goal
 
 pub invariant_of-result : goal.invariant_of-result
 invariant_of-result g c =
-    rw (c.sealed.ensures, c.sealed-2.ensures.items, c.sealed-2.ensures.capacity, c.push_reserved.ensures.items, c.push_reserved.ensures.capacity, c.in_ok-lines.ensures.items, c.in_ok-add.ensures.added, c.add.ensures.capacity, c.in_ok-slips.ensures.empty)
-    (IsKept-opened _ _ c.in_ok-jobs.jobs c.empty.result c.in_ok-jobs.ensures.empty (ap (λ (l : Line). l.count) c.empty.ensures) (omega (arith, c.in_ok-jobs.ensures.capacity)) (omega (arith, c.in_ok-lines.ensures.capacity)), HasOwnSlips-one _ (omega (arith, c.in_ok-slips.ensures.room)))
+    rw (c.sealed.ensures, c.sealed-2.ensures.items, c.sealed-2.ensures.capacity, c.push_reserved.ensures.items, c.push_reserved.ensures.capacity, c.in_ok-lines.ensures.items, c.in_ok-add.ensures.added, c.add.ensures.capacity, c.in_ok-slips.ensures.empty) (
+      IsKept-opened _ _ c.in_ok-jobs.jobs c.empty.result c.in_ok-jobs.ensures.empty (ap (λ (q : Queue). q.waiting.count) c.empty.ensures) (ap (λ (q : Queue). q.parked.count) c.empty.ensures)
+          (omega (arith, c.in_ok-jobs.ensures.capacity)) (omega (arith, c.in_ok-lines.ensures.capacity)),
+      HasOwnSlips-one _ (omega (arith, c.in_ok-slips.ensures.room)),
+      AreAtRest-opened c.in_ok-jobs.jobs c.empty.result (ap (λ (q : Queue). q.parked.count) c.empty.ensures),
+    )

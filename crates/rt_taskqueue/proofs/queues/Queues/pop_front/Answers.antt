@@ -1,9 +1,13 @@
-use Rattle.std.proofs.Common.{◌≡◌, ℕ, ◌-◌, ◌<◌, sym, ap, subst, refl, arith, length-set}
+use Rattle.std.proofs.Common.{◌≡◌, ℕ, ◌-◌, ◌<◌, drop, sym, ap, subst, refl, arith, length-set}
 use Rattle.rt_taskqueue.specs.declared.line.Line.{Line}
+use Rattle.rt_taskqueue.specs.declared.line.Queue.{Queue}
+use Rattle.rt_taskqueue.specs.Queues.{ChangesLine}
 use Rattle.rt_taskqueue.specs.Slips.{queues_alone}
 use Rattle.rt_taskqueue.specs.Linked.{HasOwnSlips}
-use Rattle.rt_taskqueue.proofs.Leaves.{Leaves, IsKept-left, waiting_of-left, ChangesLine-left, held_count-left}
-use Rattle.rt_taskqueue.proofs.Views.{line_read, exists-view, head_filled, held_count-view, IsWithinLimits-view}
+use Rattle.rt_taskqueue.proofs.Leaves.{Leaves, IsKept-left, waiting_of-left, ChangesLine-left, held_count-left, Writes-left}
+use Rattle.rt_taskqueue.proofs.Spots.{waits, queue_read}
+use Rattle.rt_taskqueue.proofs.Views.{exists-view, head_filled, held_count-view, IsWithinLimits-view}
+use Rattle.rt_taskqueue.proofs.Rests.{false_true, AreAtRest-writes}
 use Rattle.rt_taskqueue.proofs.queues.Queues.pop_front.Goals as goal
 
 some-count : (n : ℕ) → (n ≡ 0 → ⊥) → 0 < n
@@ -16,20 +20,21 @@ pub remove-front-requires : goal.remove-front-requires
 remove-front-requires g c =
     let inside = c.self.inside in
     let lines = inside.lines.items in
-    let line = c.index-line.result.now in
+    let was = c.index.result.now in
     let exists = exists-view inside.room inside.jobs lines (ap queues_alone c.self.view_is) c.requires.exists in
-    let here = line_read lines c.queue.inside.0 c.args.queue line (omega (arith, exists, c.queue.view_is)) c.index-line.ensures c.queue.view_is in
-    head_filled c.self.invariant.0 c.args.queue line here (some-count line.count c.if-line-eq0.false)
+    let read = queue_read lines c.queue.inside.0 c.args.queue was (omega (arith, exists, c.queue.view_is)) c.index.ensures c.queue.view_is in
+    head_filled c.self.invariant.0 (waits c.args.queue) was.waiting (ap (λ (q : Queue). q.waiting) read) (some-count was.waiting.count c.if-line-eq0.false)
 
 pub invariant_of-self : goal.invariant_of-self
 invariant_of-self g c =
     let inside = c.self.inside in
     let lines = inside.lines.items in
-    let line = c.index-line.result.now in
+    let line = c.index.result.now.waiting in
     let front = c.remove-front.result in
-    let rest : Line = record { head = front.next; tail = line.tail; count = line.count - 1; shares = line.shares; mode = line.mode } in
+    let rest : Line = record { head = front.next; tail = line.tail; count = line.count - 1 } in
     let exists = exists-view inside.room inside.jobs lines (ap queues_alone c.self.view_is) c.requires.exists in
-    let here = line_read lines c.queue.inside.0 c.args.queue line (omega (arith, exists, c.queue.view_is)) c.index-line.ensures c.queue.view_is in
+    let read = queue_read lines c.queue.inside.0 c.args.queue c.index.result.now (omega (arith, exists, c.queue.view_is)) c.index.ensures c.queue.view_is in
+    let wrote = queue_read lines c.queue.inside.0 c.args.queue c.index_mut.result.now (omega (arith, exists, c.queue.view_is)) c.index_mut.ensures.value c.queue.view_is in
     let leaves_line : Leaves inside.jobs line front c.remove-front.new.self rest = record {
       some = some-count line.count c.if-line-eq0.false;
       first = c.remove-front.ensures.value;
@@ -39,24 +44,24 @@ invariant_of-self g c =
       head = refl;
       tail = refl;
       count = refl;
-      shares = refl;
-      mode = refl;
     } in
-    let leaves = subst (λ (l : Line). Leaves inside.jobs l front c.remove-front.new.self rest) (sym here) leaves_line in
-    rw c.queue.view_is (
-      IsKept-left c.args.queue front rest c.self.invariant.0 leaves exists,
-      subst (λ count. HasOwnSlips count inside.slips.at.cap inside.slips.at.items) (sym (length-set lines c.args.queue rest)) c.self.invariant.1,
+    let leaves = subst (λ (q : Queue). Leaves inside.jobs q.waiting front c.remove-front.new.self rest) (sym read) leaves_line in
+    rw (c.queue.view_is, ← wrote) (
+      IsKept-left (waits c.args.queue) front rest c.self.invariant.0 leaves exists,
+      subst (λ count. HasOwnSlips count inside.slips.at.cap inside.slips.at.items) (sym (length-set lines c.args.queue _)) c.self.invariant.1,
+      AreAtRest-writes inside.jobs c.remove-front.new.self lines _ (waits c.args.queue) _ c.self.invariant.2 (Writes-left (waits c.args.queue) front rest c.self.invariant.0 leaves exists) (λ is. absurd (false_true is)),
     )
 
 pub returns : goal.returns
 returns g c =
     let inside = c.self.inside in
     let lines = inside.lines.items in
-    let line = c.index-line.result.now in
+    let line = c.index.result.now.waiting in
     let front = c.remove-front.result in
-    let rest : Line = record { head = front.next; tail = line.tail; count = line.count - 1; shares = line.shares; mode = line.mode } in
+    let rest : Line = record { head = front.next; tail = line.tail; count = line.count - 1 } in
     let exists = exists-view inside.room inside.jobs lines (ap queues_alone c.self.view_is) c.requires.exists in
-    let here = line_read lines c.queue.inside.0 c.args.queue line (omega (arith, exists, c.queue.view_is)) c.index-line.ensures c.queue.view_is in
+    let read = queue_read lines c.queue.inside.0 c.args.queue c.index.result.now (omega (arith, exists, c.queue.view_is)) c.index.ensures c.queue.view_is in
+    let wrote = queue_read lines c.queue.inside.0 c.args.queue c.index_mut.result.now (omega (arith, exists, c.queue.view_is)) c.index_mut.ensures.value c.queue.view_is in
     let leaves_line : Leaves inside.jobs line front c.remove-front.new.self rest = record {
       some = some-count line.count c.if-line-eq0.false;
       first = c.remove-front.ensures.value;
@@ -66,23 +71,22 @@ returns g c =
       head = refl;
       tail = refl;
       count = refl;
-      shares = refl;
-      mode = refl;
     } in
-    let leaves = subst (λ (l : Line). Leaves inside.jobs l front c.remove-front.new.self rest) (sym here) leaves_line in
-    let fewer = held_count-left c.args.queue front rest c.self.invariant.0 leaves exists in
-    rw (← c.self.view_is, c.queue.view_is) (record {
+    let leaves = subst (λ (q : Queue). Leaves inside.jobs q.waiting front c.remove-front.new.self rest) (sym read) leaves_line in
+    let fewer = held_count-left (waits c.args.queue) front rest c.self.invariant.0 leaves exists in
+    let head = waiting_of-left c.args.queue front rest c.self.invariant.0 leaves exists in
+    rw (← c.self.view_is, c.queue.view_is, ← wrote) (record {
       empty = tt;
       unchanged = tt;
-      head = waiting_of-left c.args.queue front rest c.self.invariant.0 leaves exists;
-      rest = record { queues = ChangesLine-left c.args.queue front rest c.self.invariant.0 leaves exists; slips = refl };
+      head = head;
+      rest = record { queues = subst (ChangesLine _ _ c.args.queue) (ap (drop 1) (sym head)) (ChangesLine-left c.args.queue front rest c.self.invariant.0 leaves exists); slips = refl };
       one_less = fewer;
       room = omega (arith, fewer, held_count-view c.self.invariant.0, c.self.invariant.0.within_room);
-      limits = IsWithinLimits-view (IsKept-left c.args.queue front rest c.self.invariant.0 leaves exists);
+      limits = IsWithinLimits-view (IsKept-left (waits c.args.queue) front rest c.self.invariant.0 leaves exists);
     })
 
-pub index-line-requires : goal.index-line-requires
-index-line-requires g c =
+pub index-requires : goal.index-requires
+index-requires g c =
     let exists = exists-view c.self.inside.room c.self.inside.jobs c.self.inside.lines.items (ap queues_alone c.self.view_is) c.requires.exists in
     omega (arith, exists, c.queue.view_is)
 

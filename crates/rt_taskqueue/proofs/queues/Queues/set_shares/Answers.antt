@@ -1,9 +1,11 @@
 use Rattle.std.proofs.Common.{sym, ap, subst, refl, arith, length-set}
-use Rattle.rt_taskqueue.specs.declared.line.Line.{Line}
+use Rattle.rt_taskqueue.specs.declared.line.Queue.{Queue}
 use Rattle.rt_taskqueue.specs.Slips.{queues_alone}
 use Rattle.rt_taskqueue.specs.Linked.{HasOwnSlips}
-use Rattle.rt_taskqueue.proofs.Changes.{IsKept-weighed, ChangesShares-weighed}
-use Rattle.rt_taskqueue.proofs.Views.{line_read, exists-view, IsWithinLimits-view}
+use Rattle.rt_taskqueue.proofs.Changes.{says-weighed, IsKept-weighed, ChangesShares-weighed}
+use Rattle.rt_taskqueue.proofs.Rests.{AreAtRest-same}
+use Rattle.rt_taskqueue.proofs.Spots.{queue_read}
+use Rattle.rt_taskqueue.proofs.Views.{exists-view, IsWithinLimits-view}
 use Rattle.rt_taskqueue.proofs.queues.Queues.set_shares.Goals as goal
 
 pub index_mut-requires : goal.index_mut-requires
@@ -17,15 +19,15 @@ invariant_of-self g c =
     let inside = c.self.inside in
     let lines = inside.lines.items in
     let was = c.index_mut.result.now in
-    let line : Line = record was { shares = c.args.shares } in
+    let now : Queue = record was { shares = c.args.shares } in
     let exists = exists-view inside.room inside.jobs lines (ap queues_alone c.self.view_is) c.requires.exists in
-    let here = line_read lines c.queue.inside.0 c.args.queue was (omega (arith, exists, c.queue.view_is)) c.index_mut.ensures.value c.queue.view_is in
-    let head = ap (λ (l : Line). l.head) (sym here) in
-    let tail = ap (λ (l : Line). l.tail) (sym here) in
-    let count = ap (λ (l : Line). l.count) (sym here) in
+    let here = queue_read lines c.queue.inside.0 c.args.queue was (omega (arith, exists, c.queue.view_is)) c.index_mut.ensures.value c.queue.view_is in
+    let waiting = ap (λ (q : Queue). q.waiting) (sym here) in
+    let parked = ap (λ (q : Queue). q.parked) (sym here) in
     rw c.queue.view_is (
-      IsKept-weighed c.args.queue line c.self.invariant.0 exists head tail count,
-      subst (λ places. HasOwnSlips places inside.slips.at.cap inside.slips.at.items) (sym (length-set lines c.args.queue line)) c.self.invariant.1,
+      IsKept-weighed c.args.queue now c.self.invariant.0 exists waiting parked,
+      subst (λ places. HasOwnSlips places inside.slips.at.cap inside.slips.at.items) (sym (length-set lines c.args.queue now)) c.self.invariant.1,
+      AreAtRest-same inside.jobs inside.jobs lines _ (says-weighed inside.jobs lines c.args.queue now exists waiting parked) c.self.invariant.2,
     )
 
 pub returns : goal.returns
@@ -33,14 +35,13 @@ returns g c =
     let inside = c.self.inside in
     let lines = inside.lines.items in
     let was = c.index_mut.result.now in
-    let line : Line = record was { shares = c.args.shares } in
+    let now : Queue = record was { shares = c.args.shares } in
     let exists = exists-view inside.room inside.jobs lines (ap queues_alone c.self.view_is) c.requires.exists in
-    let here = line_read lines c.queue.inside.0 c.args.queue was (omega (arith, exists, c.queue.view_is)) c.index_mut.ensures.value c.queue.view_is in
-    let head = ap (λ (l : Line). l.head) (sym here) in
-    let tail = ap (λ (l : Line). l.tail) (sym here) in
-    let count = ap (λ (l : Line). l.count) (sym here) in
-    let mode = ap (λ (l : Line). l.mode) (sym here) in
+    let here = queue_read lines c.queue.inside.0 c.args.queue was (omega (arith, exists, c.queue.view_is)) c.index_mut.ensures.value c.queue.view_is in
+    let waiting = ap (λ (q : Queue). q.waiting) (sym here) in
+    let parked = ap (λ (q : Queue). q.parked) (sym here) in
+    let mode = ap (λ (q : Queue). q.mode) (sym here) in
     rw (← c.self.view_is, c.queue.view_is) (record {
-      given = record { queues = ChangesShares-weighed c.args.queue line c.self.invariant.0 exists head tail count mode; slips = refl };
-      limits = IsWithinLimits-view (IsKept-weighed c.args.queue line c.self.invariant.0 exists head tail count);
+      given = record { queues = ChangesShares-weighed c.args.queue now c.self.invariant.0 exists waiting parked mode; slips = refl };
+      limits = IsWithinLimits-view (IsKept-weighed c.args.queue now c.self.invariant.0 exists waiting parked);
     })

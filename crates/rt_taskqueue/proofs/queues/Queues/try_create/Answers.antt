@@ -1,10 +1,11 @@
 use Rattle.std.proofs.Common.{[], ◌∷◌, ◌++◌, Some, length, sym, ap, subst, ◌∙◌, refl, arith}
 use Rattle.std.proofs.lemmas.List.{length_push}
-use Rattle.rt_taskqueue.specs.declared.line.Line.{Line}
+use Rattle.rt_taskqueue.specs.declared.line.Queue.{Queue}
 use Rattle.rt_taskqueue.specs.Queues.{AddsQueue}
 use Rattle.rt_taskqueue.specs.Linked.{HasOwnSlips}
 use Rattle.rt_taskqueue.proofs.Views.{alone, IsWithinLimits-view, queue_count-view}
-use Rattle.rt_taskqueue.proofs.Changes.{IsKept-created, AddsQueue-created}
+use Rattle.rt_taskqueue.proofs.Changes.{IsKept-created, AddsQueue-created, says-created}
+use Rattle.rt_taskqueue.proofs.Rests.{AreAtRest-same}
 use Rattle.rt_taskqueue.proofs.OwnSlips.{HasOwnSlips-push, map_is_some-push}
 use Rattle.rt_taskqueue.proofs.queues.Queues.try_create.Goals as goal
 
@@ -21,15 +22,14 @@ add-requires g c =
 
 pub invariant_of-self : goal.invariant_of-self
 invariant_of-self g c =
-    let head = ap (λ (l : Line). l.head) c.empty.ensures in
-    let tail = ap (λ (l : Line). l.tail) c.empty.ensures in
-    let count = ap (λ (l : Line). l.count) c.empty.ensures in
+    let waiting = ap (λ (q : Queue). q.waiting) c.empty.ensures in
+    let parked = ap (λ (q : Queue). q.parked) c.empty.ensures in
     let lines = c.self.inside.lines.items in
     let slips = c.self.inside.slips.at.items in
     let of_number : HasOwnSlips (length (lines ++ c.empty.result ∷ [])) c.self.inside.slips.at.cap (slips ++ Some c.len-count.result ∷ []) =
     rw (length_push, c.len-count.ensures) (HasOwnSlips-push (length lines) c.self.inside.slips.at.cap slips c.self.invariant.1) in
     rw (c.push_reserved.ensures.items, c.push_reserved.ensures.capacity, c.in-Ok.ensures.added, c.add.ensures.capacity)
-    (IsKept-created c.empty.result c.self.invariant.0 (λ e. c.if-count-eq-MOST_QUEUES.false (c.len-count.ensures ∙ e)) head tail count, of_number)
+    (IsKept-created c.empty.result c.self.invariant.0 (λ e. c.if-count-eq-MOST_QUEUES.false (c.len-count.ensures ∙ e)) waiting parked, of_number, AreAtRest-same c.self.inside.jobs c.self.inside.jobs lines _ (says-created c.self.inside.jobs lines c.empty.result waiting parked) c.self.invariant.2)
 
 pub invariant_of-self-in-Err : goal.invariant_of-self-in-Err
 invariant_of-self-in-Err g c = rw c.in-Err.ensures.refused c.self.invariant
@@ -38,14 +38,13 @@ pub returns-in-Ok-clause-created : goal.returns-in-Ok-clause-created
 returns-in-Ok-clause-created g c =
     let inside = c.self.inside in
     let lines = inside.lines.items in
-    let weight = ap (λ (l : Line). l.shares) c.empty.ensures in
-    let head = ap (λ (l : Line). l.head) c.empty.ensures in
-    let tail = ap (λ (l : Line). l.tail) c.empty.ensures in
-    let count = ap (λ (l : Line). l.count) c.empty.ensures in
-    let never = ap (λ (l : Line). l.mode) c.empty.ensures in
+    let weight = ap (λ (q : Queue). q.shares) c.empty.ensures in
+    let waiting = ap (λ (q : Queue). q.waiting) c.empty.ensures in
+    let parked = ap (λ (q : Queue). q.parked) c.empty.ensures in
+    let never = ap (λ (q : Queue). q.mode) c.empty.ensures in
     rw (c.push_reserved.ensures.items, c.in-Ok.ensures.added, ← c.self.view_is, c.len-count.ensures) (record {
       queues = subst (λ shares. AddsQueue (alone inside.room inside.jobs lines) (alone inside.room inside.jobs (lines ++ c.empty.result ∷ [])) (length lines) shares) weight
-          (AddsQueue-created c.empty.result c.self.invariant.0 (λ e. c.if-count-eq-MOST_QUEUES.false (c.len-count.ensures ∙ e)) head tail count never);
+          (AddsQueue-created c.empty.result c.self.invariant.0 (λ e. c.if-count-eq-MOST_QUEUES.false (c.len-count.ensures ∙ e)) waiting parked never);
       slips = map_is_some-push inside.slips.at.items (length lines);
     })
 
@@ -55,10 +54,9 @@ returns-in-Ok-clause-too_many g c =
 
 pub returns-in-Ok-clause-limits : goal.returns-in-Ok-clause-limits
 returns-in-Ok-clause-limits g c =
-    let head = ap (λ (l : Line). l.head) c.empty.ensures in
-    let tail = ap (λ (l : Line). l.tail) c.empty.ensures in
-    let count = ap (λ (l : Line). l.count) c.empty.ensures in
-    rw c.push_reserved.ensures.items (IsWithinLimits-view (IsKept-created c.empty.result c.self.invariant.0 (λ e. c.if-count-eq-MOST_QUEUES.false (c.len-count.ensures ∙ e)) head tail count))
+    let waiting = ap (λ (q : Queue). q.waiting) c.empty.ensures in
+    let parked = ap (λ (q : Queue). q.parked) c.empty.ensures in
+    rw c.push_reserved.ensures.items (IsWithinLimits-view (IsKept-created c.empty.result c.self.invariant.0 (λ e. c.if-count-eq-MOST_QUEUES.false (c.len-count.ensures ∙ e)) waiting parked))
 
 pub returns-in-Err-clause-too_many : goal.returns-in-Err-clause-too_many
 returns-in-Err-clause-too_many g c =

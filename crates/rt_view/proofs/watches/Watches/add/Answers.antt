@@ -1,23 +1,22 @@
 use Rattle.std.proofs.Common.{◌∷◌, get_or}
 use Rattle.std.proofs.lemmas.Result.{on_ok_weaker}
 use Rattle.rt_ids.specs.Limits.{most_queues}
-use Rattle.rt_stats.proofs.SumSteps.{queues_next}
 use Rattle.rt_view.specs.Watches.{no_watch}
 use Rattle.rt_view.proofs.WatchSteps.{busy_known, below_known, waiting_known, watch_next}
 use Rattle.rt_view.proofs.watches.Watches.add.Goals as goal
 
 pub returns : goal.returns
 returns c =
-    on_ok_weaker c.set_told.result
+    on_ok_weaker c.add-3.result
     (
-    λ sets before short knows.
+    λ adds before short knows.
     let note = c.args.note.now in
     let old = c.args.self.now in
-    let noted = c.queue_noted-queue.ensures before knows.queues in
-    let accounts = c.add-2.ensures before (c.queue_touched-touched.ensures before noted) short knows.accounts in
-    let tallies = c.add.ensures before noted short knows.accounts knows.tallies in
+    let fits = c.spot-spot.ensures before knows.parks in
+    let accounts = c.add-2.ensures.known before fits short knows.accounts in
+    let tallies = c.add.ensures before fits.queue short knows.accounts knows.tallies in
     record {
-      queues = queues_next old.queues c.set_told.new.self note before (rw c.queue_told.ensures at sets) knows.queues;
+      parks = adds before short knows.parks;
       accounts = accounts;
       tallies = tallies;
       each =
@@ -28,4 +27,4 @@ returns c =
           (knows.each queue less);
     }
     )
-    c.set_told.ensures
+    c.add-3.ensures

@@ -1,5 +1,4 @@
-use Rattle.std.proofs.Common.{get_or, replicate, ℕ, ap}
-use Rattle.rt_journal_facts.specs.Names.{Entries, known}
+use Rattle.std.proofs.Common.{get_or, replicate}
 use Rattle.rt_stats.proofs.Tables.{all_alike}
 use Rattle.rt_view.specs.Watches.{no_watch}
 use Rattle.rt_view.proofs.WatchSteps.{none_watched}
@@ -7,7 +6,7 @@ use Rattle.rt_view.proofs.watches.Watches.new.Goals as goal
 
 pub returns : goal.returns
 returns c = record {
-  queues = λ name. ap (λ (entries : Entries ℕ). known entries name) c.new.ensures;
+  parks = c.new.ensures;
   accounts = c.new-2.ensures;
   tallies = c.new-3.ensures;
   each =

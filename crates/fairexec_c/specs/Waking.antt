@@ -1,0 +1,27 @@
+-- How the host wakes a job by its number: the core before, the number, the code, and the core after.
+use Rattle.std.specs.Prelude.{◌≡◌, ℕ, ◌-◌, ◌^◌, ◌<◌, ◌≤◌, true, false}
+use Rattle.rt_ids.specs.Commands.{job_at}
+use Rattle.rt_core.specs.State.{CoreView, delivered_of, inside_count}
+use Rattle.rt_core.specs.Deliveries.{counted}
+use Rattle.rt_core.specs.Waking.{Wakes}
+use Rattle.fairexec_c.specs.declared.code.Code.{Code}
+use Rattle.fairexec_c.specs.declared.code.Code.TheVariants as code
+use Rattle.fairexec_c.specs.declared.job.HostJob.{HostJob}
+use Rattle.fairexec_c.specs.Hosting.{TakesOrders, next_name}
+
+-- a job's number is told as it enters; else what stood there stays
+abbrev pub TellsNumber : CoreView HostJob → ℕ → Code → ℕ → Type 0
+TellsNumber old before code.Ok after = after ≡ (next_name old).number
+TellsNumber old before other after = after ≡ before
+
+-- the core once the next order of the host is counted
+abbrev pub with_order : CoreView HostJob → CoreView HostJob
+with_order old = record old { delivered = counted (next_name old) old }
+
+-- a wake is an order of the host: it is counted, and then wakes the job of this number, if it is inside; a core that is full takes no order
+abbrev pub WakesNumber : CoreView HostJob → ℕ → Code → CoreView HostJob → Type 0
+WakesNumber old number code.Ok new = TakesOrders old × Wakes (with_order old) (job_at old.core 1 number) true new
+WakesNumber old number code.Full new = (old.queues.room ≤ inside_count old) × (new ≡ old)
+WakesNumber old number code.Spent new = (inside_count old < old.queues.room) × (delivered_of 1 old ≡ 2 ^ 64 - 1) × (new ≡ old)
+WakesNumber old number code.Absent new = TakesOrders old × Wakes (with_order old) (job_at old.core 1 number) false new
+WakesNumber old number other new = ⊥

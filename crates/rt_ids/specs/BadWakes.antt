@@ -1,0 +1,130 @@
+-- Journals of a core in which a park ends as none may.
+use Rattle.std.specs.Prelude.{ℕ, [], ◌∷◌}
+use Rattle.rt_ids.specs.declared.note.Note.TheVariants as notes
+use Rattle.rt_ids.specs.declared.order.Answer.TheVariants as answers
+use Rattle.rt_ids.specs.declared.order.Mode.TheVariants.{Finish, Return}
+use Rattle.rt_ids.specs.declared.order.Order.TheVariants.{Wake}
+use Rattle.rt_ids.specs.declared.order.Reason.TheVariants as why
+use Rattle.rt_ids.specs.Assembly.{Assembly}
+use Rattle.rt_ids.specs.BadJournals.{submission, with_journals, one_job, two_jobs, job_for_each, both_taken}
+use Rattle.rt_ids.specs.BadParks.{asleep, one_asleep, one_wake}
+use Rattle.rt_ids.specs.Joining.{LinksAgree}
+use Rattle.rt_ids.specs.Journal.{Journal}
+use Rattle.rt_ids.specs.Sound.{PicksAreSound}
+use Rattle.rt_ids.specs.StepsRefused.{CoreMayWrite}
+
+-- the job of queue 1 is parked at 5, and the job of queue 0 goes on to 20
+abbrev pub other_goes_on : Journal ℕ
+other_goes_on =
+    notes.Yield (submission 1) 10 ∷ notes.Resume (submission 1) ∷ notes.Pick 0 10 ∷
+    notes.Park (submission 2) 5 ∷ notes.Start (submission 2) ∷ notes.Pick 1 0 ∷ notes.Yield (submission 1) 10 ∷ notes.Start (submission 1) ∷ notes.Pick 0 0 ∷
+    notes.Took (submission 2) 1 ∷ notes.Took (submission 1) 0 ∷ notes.Created 1 1000 ∷ []
+
+-- woken, its queue keeps its old virtual runtime, below the floor
+abbrev pub old_runtime_kept : Assembly ℕ
+old_runtime_kept =
+    with_journals
+    (notes.Resume (submission 2) ∷ notes.Pick 1 5 ∷ notes.Woken (submission 2) ∷ notes.Answered (submission 3) answers.Woken ∷ other_goes_on)
+    (notes.Sent (submission 3) (Wake 1 2) ∷ job_for_each)
+
+-- and a job that enters beside a parked one doesn't place its queue at the floor
+abbrev pub entered_beside_parked : Assembly ℕ
+entered_beside_parked = with_journals (notes.Start (submission 3) ∷ notes.Pick 1 5 ∷ notes.Took (submission 3) 1 ∷ other_goes_on) job_for_each
+
+-- the closing of its queue, or of the core, doesn't place it there either
+abbrev pub closed_at_old_runtime : Assembly ℕ
+closed_at_old_runtime =
+    with_journals (notes.Returned (submission 2) why.QueueReturned ∷ notes.Pick 1 5 ∷ notes.QueueClosed 1 Return ∷ other_goes_on) job_for_each
+
+abbrev pub core_closed_at_old_runtime : Assembly ℕ
+core_closed_at_old_runtime =
+    with_journals (notes.Returned (submission 2) why.CoreReturned ∷ notes.Pick 1 5 ∷ notes.CoreClosed Return ∷ other_goes_on) job_for_each
+
+-- a closing in mode `Return`, of the queue or of the core, leaves a job parked, and so another queue is picked
+abbrev pub left_parked : Assembly ℕ
+left_parked = with_journals (notes.Resume (submission 1) ∷ notes.Pick 0 20 ∷ notes.QueueClosed 1 Return ∷ other_goes_on) job_for_each
+
+abbrev pub left_parked_by_core : Assembly ℕ
+left_parked_by_core = with_journals (notes.Returned (submission 1) why.CoreReturned ∷ notes.Pick 0 20 ∷ notes.CoreClosed Return ∷ other_goes_on) job_for_each
+
+-- a closing in mode `Finish` ends a park
+abbrev pub finish_wakes : Assembly ℕ
+finish_wakes = with_journals (notes.Resume (submission 1) ∷ notes.Pick 0 10 ∷ notes.QueueClosed 0 Finish ∷ asleep) one_job
+
+-- a job is woken by nobody's command
+abbrev pub woken_unasked : Journal ℕ
+woken_unasked = notes.Woken (submission 1) ∷ asleep
+
+-- a wake is answered, and nobody is woken
+abbrev pub wake_missing : Journal ℕ
+wake_missing = notes.Took (submission 3) 0 ∷ notes.Answered (submission 2) answers.Woken ∷ asleep
+
+-- a job is woken that isn't inside
+abbrev pub woken_outside : Journal ℕ
+woken_outside = notes.Woken (submission 2) ∷ notes.Answered (submission 1) answers.Woken ∷ []
+
+-- a job that is woken goes to the head of its queue, and is polled before the one that waited
+abbrev pub woken_to_head : Journal ℕ
+woken_to_head = notes.Resume (submission 1) ∷ notes.Pick 0 10 ∷ notes.Woken (submission 1) ∷ notes.Answered (submission 3) answers.Woken ∷ one_asleep
+
+-- so does a job that stays
+abbrev pub stayed_at_head : Journal ℕ
+stayed_at_head =
+    notes.Resume (submission 1) ∷ notes.Pick 0 10 ∷ notes.Stayed (submission 1) 10 ∷ notes.Start (submission 1) ∷ notes.Pick 0 0 ∷
+    notes.Woken (submission 1) ∷ notes.Answered (submission 3) answers.Woken ∷ both_taken
+
+-- and one whose park a closing ends
+abbrev pub returned_before_waiting : Journal ℕ
+returned_before_waiting = notes.Returned (submission 1) why.QueueReturned ∷ notes.Pick 0 10 ∷ notes.QueueClosed 0 Return ∷ one_asleep
+
+-- both jobs are parked, the first one first
+abbrev pub both_asleep : Journal ℕ
+both_asleep = notes.Park (submission 2) 10 ∷ notes.Start (submission 2) ∷ notes.Pick 0 10 ∷ one_asleep
+
+-- a closing hands the one back first that was parked last
+abbrev pub returned_backwards : Journal ℕ
+returned_backwards = notes.Returned (submission 2) why.CoreReturned ∷ notes.Pick 0 20 ∷ notes.CoreClosed Return ∷ both_asleep
+
+-- both jobs are parked, the second one first
+abbrev pub second_asleep_first : Journal ℕ
+second_asleep_first =
+    notes.Park (submission 1) 10 ∷ notes.Resume (submission 1) ∷ notes.Pick 0 20 ∷ notes.Park (submission 2) 10 ∷ notes.Start (submission 2) ∷ notes.Pick 0 10 ∷
+    notes.Yield (submission 1) 10 ∷ notes.Start (submission 1) ∷ notes.Pick 0 0 ∷ both_taken
+
+-- a closing hands them back in order of their names
+abbrev pub returned_by_name : Journal ℕ
+returned_by_name = notes.Returned (submission 1) why.CoreReturned ∷ notes.Pick 0 30 ∷ notes.CoreClosed Return ∷ second_asleep_first
+
+-- a job that is inside is denied
+abbrev pub job_denied : Assembly ℕ
+job_denied = with_journals (notes.Answered (submission 2) answers.NoJob ∷ asleep) one_wake
+
+-- since its queue is closed
+abbrev pub denied_behind_close : Assembly ℕ
+denied_behind_close = with_journals (notes.Answered (submission 2) answers.NoJob ∷ notes.QueueClosed 0 Finish ∷ asleep) one_wake
+
+-- another job is woken than the one that the order names
+abbrev pub another_woken : Assembly ℕ
+another_woken =
+    with_journals (notes.Woken (submission 2) ∷ notes.Answered (submission 3) answers.Woken ∷ one_asleep) (notes.Sent (submission 3) (Wake 1 1) ∷ two_jobs)
+
+-- none of them is sound, may stand, or is as the order sent calls for
+pub record WakesAreRefused : Type 0 where
+  pub old_runtime : PicksAreSound old_runtime_kept → ⊥
+  pub beside : PicksAreSound entered_beside_parked → ⊥
+  pub closed_queue : PicksAreSound closed_at_old_runtime → ⊥
+  pub closed_core : PicksAreSound core_closed_at_old_runtime → ⊥
+  pub left_by_queue : PicksAreSound left_parked → ⊥
+  pub left_by_core : PicksAreSound left_parked_by_core → ⊥
+  pub finish : PicksAreSound finish_wakes → ⊥
+  pub unasked : CoreMayWrite woken_unasked → ⊥
+  pub missing : CoreMayWrite wake_missing → ⊥
+  pub outside : CoreMayWrite woken_outside → ⊥
+  pub head : CoreMayWrite woken_to_head → ⊥
+  pub stayed_head : CoreMayWrite stayed_at_head → ⊥
+  pub before_waiting : CoreMayWrite returned_before_waiting → ⊥
+  pub backwards : CoreMayWrite returned_backwards → ⊥
+  pub by_name : CoreMayWrite returned_by_name → ⊥
+  pub denied : LinksAgree job_denied → ⊥
+  pub denied_closed : LinksAgree denied_behind_close → ⊥
+  pub another_job : LinksAgree another_woken → ⊥
