@@ -141,7 +141,11 @@ static void parks() {
 
 #if defined(__cpp_impl_coroutine)
 static fairexec::task waits_for(bool &here, unsigned long &looks) {
-    for (looks = 1; !here; looks++) co_await fairexec::park;
+    looks = 1;
+    while (!here) {
+        co_await fairexec::park;
+        looks++;
+    }
 }
 
 static fairexec::task counts_to(unsigned long most, unsigned long &count) {
