@@ -56,7 +56,7 @@ module _ (old : CoreView HostJob) (name : JobId) (new : CoreView HostJob) where
       let ended : KeepsHost (record (over old name) { mode = Some mode }) new = keeps_ends (record (over old name) { mode = Some mode }) new (λ queue. true) (is_return mode) ends in
       record { cores = ended.cores; delivered = ended.delivered; room = ended.room; run = ended.run }
 
-  -- the core is as it was with the order counted, but for what the order changes inside
+  -- the core is as it was with the order counted, except in what the order changes inside
   pub keeps_delivery : (order : Order HostJob) (delivered : Delivered HostJob) (written : List (Note ℕ)) → Delivers old name order delivered new written → KeepsHost (over old name) new
   keeps_delivery (Job queue job) Took written is = keeps_entered queue job is.1
   keeps_delivery (Job queue job) (Back reason order) written is = keeps_same is.2
