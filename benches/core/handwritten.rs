@@ -26,6 +26,7 @@ enum Note {
     Resume(JobId),
     Yield(JobId, u64),
     Done(JobId, u64, u64),
+    Turned(u8, u64),
 }
 
 enum Step {
@@ -103,6 +104,8 @@ struct Core<J> {
     turns: u64,
     inside: usize,
     out: Option<(JobId, u8)>,
+    // Its queue, its polls, and their time.
+    turn_open: Option<(u8, u64, u64)>,
     journal: Vec<Note>,
     dice: u64,
 }
@@ -118,6 +121,7 @@ impl<J: Job> Core<J> {
             turns: 0,
             inside: 0,
             out: None,
+            turn_open: None,
             journal: Vec::with_capacity(NOTES),
             dice: 1,
         }
@@ -157,6 +161,65 @@ impl<J: Job> Core<J> {
         let name = JobId { from: 0, to: 0, number: self.delivered[0] + 1 };
         if self.inside < ROOM {
             self.deliver(name, queue as u8, J::fresh());
+        }
+    }
+
+    // One poll of an open turn, or its end. Whether it was a poll.
+    fn follow(&mut self, burst: u64, spent: u64) -> bool {
+        let (queue, polls, time) = self.turn_open.unwrap();
+        let of = &mut self.queues[queue as usize];
+        if polls == burst || of.line.is_empty() {
+            of.runtime += u128::from((time * 1000).div_ceil(of.shares));
+            of.time += u128::from(time);
+            if !of.line.is_empty() {
+                self.ready.insert((of.runtime, queue));
+            }
+            self.turn_open = None;
+            self.note(Note::Turned(queue, time));
+            return false;
+        }
+        let (name, started, mut job) = of.line.pop_front().unwrap();
+        self.note(if started { Note::Resume(name) } else { Note::Start(name) });
+        let step = job.poll();
+        let of = &mut self.queues[queue as usize];
+        match step {
+            Step::Yield => {
+                of.line.push_back((name, true, job));
+                self.note(Note::Yield(name, spent));
+            }
+            Step::Done(answer) => {
+                of.finished += 1;
+                self.inside -= 1;
+                self.note(Note::Done(name, spent, answer));
+            }
+        }
+        self.turn_open = Some((queue, polls + 1, (time + spent.max(1)).min((1 << 40) - 1)));
+        true
+    }
+
+    // A turn that may have several polls begins: its queue is taken, and its first job polled.
+    fn begin(&mut self, burst: u64, spent: u64) {
+        let Some((runtime, queue)) = self.ready.pop_first() else { return };
+        self.queues[queue as usize].selected += 1;
+        self.floor = self.floor.max(runtime);
+        self.turns += 1;
+        self.note(Note::Pick(queue, runtime));
+        self.turn_open = Some((queue, 0, 0));
+        self.follow(burst, spent);
+    }
+
+    #[inline(never)]
+    fn bursts(&mut self, burst: u64) {
+        for _ in 0..TURNS {
+            let spent = self.roll() % 1024;
+            if burst < 2 {
+                self.turn(spent);
+                continue;
+            }
+            if self.turn_open.is_some() && self.follow(burst, spent) {
+                continue;
+            }
+            self.begin(burst, spent);
         }
     }
 
@@ -213,7 +276,7 @@ impl<J: Job> Core<J> {
     }
 }
 
-fn measure<J: Job>(what: &str, queues: u64, jobs: u64) {
+fn measure<J: Job>(what: &str, queues: u64, jobs: u64, burst: u64) {
     let mut core: Core<J> = Core::open(queues);
     for job in 0..jobs {
         core.send(job % queues);
@@ -222,6 +285,9 @@ fn measure<J: Job>(what: &str, queues: u64, jobs: u64) {
     let count = if what == "deliveries" {
         core.deliveries(queues);
         DELIVERIES
+    } else if what == "bursts" {
+        core.bursts(burst);
+        TURNS
     } else {
         core.turns();
         TURNS
@@ -234,8 +300,8 @@ fn main() {
     let number = |place: usize| words.get(place).and_then(|word| word.parse::<u64>().ok()).unwrap_or(1);
     for _ in 0..number(4) {
         match words[5].as_str() {
-            "large" => measure::<Large>(&words[1], number(2).max(1), number(3)),
-            _ => measure::<Small>(&words[1], number(2).max(1), number(3)),
+            "large" => measure::<Large>(&words[1], number(2).max(1), number(3), number(6)),
+            _ => measure::<Small>(&words[1], number(2).max(1), number(3), number(6)),
         }
     }
 }

@@ -1,7 +1,8 @@
 # Reads the text of journals. For each core and each two queues of it that had work at once: the greatest lead of either over the
 # other while both kept work, in virtual runtime, and the bound, which is the greatest charge of the one and of the other together, up
 # to the last place where both had work. One line each: core D qQ ahead L qR ahead M bound B
-# Each lead is compared with the charges up to its own place. The last line tells how many pairs were never above that: N pairs, M within
+# Where turns may have several polls (line 2 ends with `burst`), a queue is charged for its turn at the end, else for each poll. A parked job
+# is no work. Each lead is compared with the charges up to its own place. The last line tells how many pairs were never above that: N pairs, M within
 # the bound. The status is 1 if another one was. One pass; the memory is that of the jobs and of each two queues.
 
 function shares_of(core, queue) { return (core, queue) in shares ? shares[core, queue] : 1000 }
@@ -59,6 +60,22 @@ function charged(core, queue, time,    cost) {
     return cost
 }
 
+# A job leaves the queue's work for good or for a park, or comes to it.
+function leaves(core, name,    queue) { queue = queue_of[name]; left[core, queue]++; return queue }
+
+# The park of a job ends: it is work again.
+function unpark(core, name,    queue) {
+    queue = parked[core, name]
+    delete parked[core, name]
+    entered[core, queue]++
+    look(core, queue, 0)
+}
+
+# What a poll costs its queue at once.
+function polled(core, queue, time) { return bursts ? 0 : charged(core, queue, time) }
+
+$1 == "cores" { bursts = $5 == "burst" }
+
 ($2 == "queue" || $2 == "shares") && $3 ~ /^q/ { shares[$1, substr($3, 2)] = $4 }
 
 $2 == "took" {
@@ -69,19 +86,33 @@ $2 == "took" {
     look($1, queue, 0)
 }
 
-$2 == "yield" { look($1, queue_of[$3], charged($1, queue_of[$3], $4)) }
+$2 == "yield" || $2 == "stayed" { look($1, queue_of[$3], polled($1, queue_of[$3], $4)) }
+
+$2 == "turned" { look($1, substr($3, 2), charged($1, substr($3, 2), $4)) }
+
+$2 == "park" {
+    parked[$1, $3] = queue_of[$3]
+    queue = leaves($1, $3)
+    look($1, queue, polled($1, queue, $4))
+}
+
+$2 == "woken" && ($1, $3) in parked { unpark($1, $3) }
+
+($2 == "closed" || $2 == "coreclosed") && $NF == "return" {
+    for (each in parked) {
+        split(each, part, SUBSEP)
+        if (part[1] == $1 && ($2 == "coreclosed" || $3 == "q" parked[each])) unpark(part[1], part[2])
+    }
+}
 
 $2 == "done" {
-    queue = queue_of[$3]
-    left[$1, queue]++
-    cost = charged($1, queue, $4)
-    look($1, queue, cost)
+    queue = leaves($1, $3)
+    look($1, queue, polled($1, queue, $4))
     delete queue_of[$3]
 }
 
 $2 == "returned" && $3 in queue_of {
-    queue = queue_of[$3]
-    left[$1, queue]++
+    queue = leaves($1, $3)
     look($1, queue, 0)
     delete queue_of[$3]
 }

@@ -43,6 +43,7 @@ fn config(alloc: Global) -> Result<Config, AllocError> {
     Ok(Config {
         cores: CORES,
         cap: 64,
+        burst: 1,
         room: 65536,
         queues,
     })
@@ -150,6 +151,7 @@ fn statistics(alloc: Global, assembly: &Assembly) -> Result<String, AllocError> 
             alloc,
             CoreNo(core),
             cores,
+            assembly.burst(),
             assembly.journal(ActorNo(core)),
             &mut page,
         )?;

@@ -23,7 +23,7 @@ use Rattle.fairexec_c.proofs.Kept.{KeepsHost, kept, keeps_same, keeps_then, keep
 keeps_closed : {old new : CoreView HostJob} (queue : ℕ) (mode : Mode) → HasClosed old queue mode new → KeepsHost old new
 keeps_closed queue mode done =
     kept (ap (λ (view : CoreView HostJob). view.cores) done.rest) (ap (λ (view : CoreView HostJob). view.delivered) done.rest) done.closed.same_room
-    (ap (λ (view : CoreView HostJob). view.out) done.rest)
+    (ap (λ (view : CoreView HostJob). view.out) done.rest) (ap (λ (view : CoreView HostJob). view.bursts) done.rest)
 
 -- an order to close a queue, by its answer
 keeps_closing : (old new : CoreView HostJob) (queue : ℕ) (mode : Mode) (answer : Answer) (written : List (Note ℕ)) → ClosesQueue old queue mode answer new written → KeepsHost old new
@@ -41,20 +41,20 @@ module _ (old : CoreView HostJob) (name : JobId) (new : CoreView HostJob) where
   keeps_entered : (queue : ℕ) (job : HostJob) → Enters old name queue job new → KeepsHost (over old name) new
   keeps_entered queue job done =
       kept (ap (λ (view : CoreView HostJob). view.cores) done.rest) (ap (λ (view : CoreView HostJob). view.delivered) done.rest) done.line.same_room
-      (ap (λ (view : CoreView HostJob). view.out) done.rest)
+      (ap (λ (view : CoreView HostJob). view.out) done.rest) (ap (λ (view : CoreView HostJob). view.bursts) done.rest)
 
   keeps_made : (weight : ℕ) → Creates old weight new → new.delivered ≡ counted name old → KeepsHost (over old name) new
   keeps_made weight done delivered =
-      kept (ap (λ (view : CoreView HostJob). view.cores) done.rest) delivered done.added.same_room (ap (λ (view : CoreView HostJob). view.out) done.rest)
+      kept (ap (λ (view : CoreView HostJob). view.cores) done.rest) delivered done.added.same_room (ap (λ (view : CoreView HostJob). view.out) done.rest) (ap (λ (view : CoreView HostJob). view.bursts) done.rest)
 
   keeps_weighed : (queue weight : ℕ) → Weighs old queue weight new → new.delivered ≡ counted name old → KeepsHost (over old name) new
   keeps_weighed queue weight done delivered =
-      kept (ap (λ (view : CoreView HostJob). view.cores) done.rest) delivered done.shares.same_room (ap (λ (view : CoreView HostJob). view.out) done.rest)
+      kept (ap (λ (view : CoreView HostJob). view.cores) done.rest) delivered done.shares.same_room (ap (λ (view : CoreView HostJob). view.out) done.rest) (ap (λ (view : CoreView HostJob). view.bursts) done.rest)
 
   keeps_closed_core : (mode : Mode) → EndsParksIf (is_return mode) (record (over old name) { mode = Some mode }) (λ queue. true) new → KeepsHost (over old name) new
   keeps_closed_core mode ends =
       let ended : KeepsHost (record (over old name) { mode = Some mode }) new = keeps_ends (record (over old name) { mode = Some mode }) new (λ queue. true) (is_return mode) ends in
-      record { cores = ended.cores; delivered = ended.delivered; room = ended.room; run = ended.run }
+      record { cores = ended.cores; delivered = ended.delivered; room = ended.room; bursts = ended.bursts; run = ended.run }
 
   -- the core is as it was with the order counted, except in what the order changes inside
   pub keeps_delivery : (order : Order HostJob) (delivered : Delivered HostJob) (written : List (Note ℕ)) → Delivers old name order delivered new written → KeepsHost (over old name) new
@@ -81,4 +81,5 @@ hosted_then {old} {new} {sent} {room} {run} hosted keeps = record {
   delivered = subst (λ (counts : List ℕ). new.delivered ≡ slice_set counts 1 (sent + 1)) hosted.delivered keeps.delivered;
   roomy = keeps.room ∙ hosted.roomy;
   runs = keeps.run run hosted.runs;
+  single = keeps.bursts ∙ hosted.single;
 }

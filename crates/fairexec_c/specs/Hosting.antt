@@ -20,12 +20,13 @@ IsRunOf (Some out) (Some job) = (job ≡ out.job) × (job.ended ≡ false)
 IsRunOf None (Some job) = ⊥
 IsRunOf (Some out) None = ⊥
 
--- the host is the only sender, and each order that it handed in was delivered
+-- the host is the only sender, each order that it handed in was delivered, and each run is a turn of its own
 pub record IsHosted (core : CoreView HostJob) (sent room : ℕ) (run : Option HostJob) : Type 0 where
   pub cores : core.cores ≡ 1
   pub delivered : core.delivered ≡ 0 ∷ sent ∷ []
   pub roomy : core.queues.room ≡ room
   pub runs : IsRunOf core.out run
+  pub single : core.bursts ≡ record { burst = 1; «open» = None }
 
 -- the name of the next order of the host
 abbrev pub next_name : CoreView HostJob → JobId

@@ -13,7 +13,7 @@ half_room jobs = (jobs + 1) / 2
 
 -- an empty handle gets a core with room for so many jobs, or stays empty
 abbrev pub OpensCore : ℕ → Code → Option (CoreView HostJob) → Type 0
-OpensCore jobs code.Ok new = (1 ≤ jobs) × (jobs ≤ 131070) × (new ≡ Some (opened 0 1 (2 * half_room jobs) 0))
+OpensCore jobs code.Ok new = (1 ≤ jobs) × (jobs ≤ 131070) × (new ≡ Some (opened 0 1 (2 * half_room jobs) 0 1))
 OpensCore jobs code.BadNumber new = ((jobs ≡ 0) ⊎ (131070 < jobs)) × (new ≡ None)
 OpensCore jobs code.NoMemory new = new ≡ None
 OpensCore jobs other new = ⊥

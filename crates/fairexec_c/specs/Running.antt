@@ -36,12 +36,13 @@ handle_told (Ok (Resume name queue job)) before = job.handle
 handle_told (Ok (Back name reason (orders.Job queue job))) before = job.handle
 handle_told turn before = before
 
--- a pick, with its code and the job that it tells
+-- a pick, with its code and the job that it tells; no turn is open, since each run is one
 pub record Nexts (old : CoreView HostJob) (before : ℕ) (told : Code) (after : ℕ) (new : CoreView HostJob) : Type 0 where
   pub turn : Result (Turn HostJob) PickError
   pub written : List (Note ℕ)
   pub picks : Picks old turn new written
   pub code : told ≡ code_of_turn turn
+  pub no_turn : old.bursts.open ≡ None
   pub job : after ≡ handle_told turn before
 
 -- the code of a settled run; one that asks to be parked and stays in its queue is told as one that yields

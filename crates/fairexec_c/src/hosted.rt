@@ -46,7 +46,7 @@ impl Model for Hosted {
 impl Hosted {
     /// Opens a core with room for twice `cap` jobs.
     pub fn open(alloc: Global, cap: u16) -> Result<Self, AllocError>
-        ensures { IfOk result (λ hosted. hosted ≡ opened 0 1 (2 * cap) 0) }
+        ensures { IfOk result (λ hosted. hosted ≡ opened 0 1 (2 * cap) 0 1) }
     {
         Ok(Hosted {
             core: Core::open(alloc, CoreNo(0), 1, cap)?,

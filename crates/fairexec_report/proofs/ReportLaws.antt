@@ -5,6 +5,7 @@ use Rattle.rt_ids.specs.Journal.{Journal}
 use Rattle.rt_audit.specs.declared.judge.Verdict.{Verdict}
 use Rattle.rt_audit.proofs.OneVerdict.{one_verdict}
 use Rattle.rt_journal_write.specs.Texts.{journal_text}
+use Rattle.rt_journal_write.proofs.LineLemmas.{journal_some}
 use Rattle.rt_stats.specs.Stats.{core_stats}
 use Rattle.fairexec_report.specs.Outcomes.{outcomes_text}
 use Rattle.fairexec_report.specs.Reports.{WrongReportsAreRefused}
@@ -16,7 +17,7 @@ use Rattle.fairexec_report.proofs.StatLemmas.{stats_once}
 
 -- the statistics that are wanted of these journals have one text
 counted_once : (stats : Bool) (assembly : Assembly ℕ) (text other : List ℕ) → IsStatsIf stats assembly text → IsStatsIf stats assembly other → text ≡ other
-counted_once true assembly text other first second = stats_once assembly.cores (λ core. journal_of core assembly) text other first second
+counted_once true assembly text other first second = stats_once assembly.cores assembly.burst (λ core. journal_of core assembly) text other first second
 counted_once false assembly text other first second = first ∙ sym second
 
 same_verdict : (journal stats more_journal more_stats : Bool) (assembly : Assembly ℕ) (one other : Verdict) (text more : List ℕ) → IsReport journal stats assembly one text → IsReport more_journal more_stats assembly other more → one ≡ other
@@ -46,35 +47,30 @@ nothing_behind text more same =
     let lengths = ap length same in
     omega arith
 
--- the text of journals is never empty
-journal_some : (assembly : Assembly ℕ) → 1 ≤ length (journal_text assembly)
-unfolding journal_text
-journal_some assembly = omega arith
-
--- nor is the line of a verdict
+-- the text of journals is never empty (`journal_some`), nor is the line of a verdict
 verdict_some : (verdict : Verdict) → 1 ≤ length (verdict_text verdict)
 verdict_some verdict = let long = length-append (verdict_line verdict) (codes "\n") in omega arith
 
 -- nor the statistics of a core
-core_some : (core cores : ℕ) (journal : Journal ℕ) (text : List ℕ) → IsCoreText core cores journal text → 1 ≤ length text
-core_some core cores journal text one =
+core_some : (core cores burst : ℕ) (journal : Journal ℕ) (text : List ℕ) → IsCoreText core cores burst journal text → 1 ≤ length text
+core_some core cores burst journal text one =
     let line = core_line core (core_stats one.drained journal) in
     let whole = ap length one.told in
-    let long = length-append (line ++ codes "\n") (queues_below 256 core journal) in
+    let long = length-append (line ++ codes "\n") (queues_below 256 core burst journal) in
     let inner = length-append line (codes "\n") in
     omega arith
 
-stats_some : (core cores : ℕ) (journals : ℕ → Journal ℕ) (text : List ℕ) → IsTextBelow (suc core) cores journals text → 1 ≤ length text
+stats_some : (core cores burst : ℕ) (journals : ℕ → Journal ℕ) (text : List ℕ) → IsTextBelow (suc core) cores burst journals text → 1 ≤ length text
 unfolding IsTextBelow
-stats_some core cores journals text (first, rest, below, one, whole) =
-    let some = core_some core cores (journals core) rest one in
+stats_some core cores burst journals text (first, rest, below, one, whole) =
+    let some = core_some core cores burst (journals core) rest one in
     let long = length-append first rest in
     let lengths = ap length whole in
     omega arith
 
-stats_of_some : (cores count : ℕ) (journals : ℕ → Journal ℕ) (text : List ℕ) → 1 ≤ count → IsTextBelow count cores journals text → 1 ≤ length text
-stats_of_some cores zero journals text some told = absurd (omega (arith, some))
-stats_of_some cores (suc core) journals text some told = stats_some core cores journals text told
+stats_of_some : (cores burst count : ℕ) (journals : ℕ → Journal ℕ) (text : List ℕ) → 1 ≤ count → IsTextBelow count cores burst journals text → 1 ≤ length text
+stats_of_some cores burst zero journals text some told = absurd (omega (arith, some))
+stats_of_some cores burst (suc core) journals text some told = stats_some core cores burst journals text told
 
 unasked_journal : (stats : Bool) (assembly : Assembly ℕ) (one other : Verdict) (text : List ℕ) → IsReport true stats assembly one text → IsReport false stats assembly other text → ⊥
 unasked_journal stats assembly one other text first second =
@@ -86,7 +82,7 @@ unasked_journal stats assembly one other text first second =
 unasked_stats : (journal : Bool) (assembly : Assembly ℕ) (one other : Verdict) (text : List ℕ) → IsReport journal true assembly one text → IsReport journal false assembly other text → ⊥
 unasked_stats journal assembly one other text first second =
     let bare = ap₂ (told_text journal assembly) second.right (same_verdict journal false journal true assembly other one text text second first) in
-    let some = stats_of_some assembly.cores assembly.cores (λ core. journal_of core assembly) first.counted first.judged.spelled.limits.some_core first.right in
+    let some = stats_of_some assembly.cores assembly.burst assembly.cores (λ core. journal_of core assembly) first.counted first.judged.spelled.limits.some_core first.right in
     let outcomes = outcomes_text assembly in
     let journals = journal_if journal assembly in
     let lengths = ap length (sym first.told ∙ second.told ∙ bare) in

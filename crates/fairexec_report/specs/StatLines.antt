@@ -18,7 +18,7 @@ abbrev pub shares_text : ℕ → ℕ → QueueStats → List ℕ
 shares_text core queue stats =
     codes "stat " ++ decimal core ++ codes " q" ++ decimal queue ++ codes " shares " ++ decimal stats.shares ++ codes " selected " ++ decimal stats.selected
 
--- its middle part: the time that its polls took, and its virtual runtime
+-- its middle part: the time that its turns took, and its virtual runtime
 abbrev pub times_text : QueueStats → List ℕ
 times_text stats = codes "runtime " ++ decimal stats.runtime ++ codes " vr " ++ decimal stats.virtual_runtime
 

@@ -23,15 +23,17 @@ pub fn put_all_stats(
     assembly: &Assembly,
     page: &mut String,
 ) -> Result<(), AllocError>
-    ensures { OnOk result ((text : List ℕ) × spec.IsStatsText assembly.now.cores (λ core. journal_of core assembly.now) text
+    ensures { OnOk result ((text : List ℕ) × spec.IsStatsText assembly.now.cores assembly.now.burst (λ core. journal_of core assembly.now) text
         × (string_bytes page.new ≡ string_bytes page.old ++ text)) }
 {
     let cores = assembly.cores();
+    let burst = assembly.burst();
     for core in 0..cores {
         put_stats(
             alloc,
             CoreNo(core),
             cores,
+            burst,
             assembly.journal(ActorNo(core)),
             page,
         )?;
@@ -39,7 +41,8 @@ pub fn put_all_stats(
     Ok(())
 }
 
-/// Puts the line of a core on the page, and then a line for each of its queues, by number. `cores` is how many cores there are in all.
+/// Puts the line of a core on the page, and then a line for each of its queues, by number. `cores` is how many cores there are in all,
+/// and `burst` how many polls a turn may have.
 ///
 /// # Errors
 ///
@@ -48,20 +51,21 @@ pub fn put_stats(
     alloc: Global,
     core: CoreNo,
     cores: u8,
+    burst: u8,
     journal: &Journal<u64>,
     page: &mut String,
 ) -> Result<(), AllocError>
-    ensures { OnOk result ((text : List ℕ) × spec.IsCoreText core cores journal.now.notes text
+    ensures { OnOk result ((text : List ℕ) × spec.IsCoreText core cores burst journal.now.notes text
         × (string_bytes page.new ≡ string_bytes page.old ++ text)) }
 {
-    let sums = Sums::of(alloc, journal)?;
+    let sums = Sums::of(alloc, journal, burst)?;
     put_core(core, cores, &sums, page)?;
     put_queues(core, &sums, page)
 }
 
 /// Puts the line of the core.
 fn put_core(core: CoreNo, cores: u8, sums: &Sums, page: &mut String) -> Result<(), AllocError>
-    ensures { OnOk result ((journal : Notes ℕ) → KnowsSums sums.now journal
+    ensures { OnOk result ((burst : ℕ) (journal : Notes ℕ) → KnowsSums burst sums.now journal
         → spec.IsCorePut core cores journal (string_bytes page.old) (string_bytes page.new)) }
 {
     let line = CoreLine(core, sums.core_stats(cores));
@@ -71,8 +75,8 @@ fn put_core(core: CoreNo, cores: u8, sums: &Sums, page: &mut String) -> Result<(
 
 /// Puts the lines of all queues that there are, by number.
 fn put_queues(core: CoreNo, sums: &Sums, page: &mut String) -> Result<(), AllocError>
-    ensures { OnOk result ((journal : Notes ℕ) → KnowsSums sums.now journal
-        → string_bytes page.new ≡ string_bytes page.old ++ spec.queues_below 256 core journal) }
+    ensures { OnOk result ((burst : ℕ) (journal : Notes ℕ) → KnowsSums burst sums.now journal
+        → string_bytes page.new ≡ string_bytes page.old ++ spec.queues_below 256 core burst journal) }
 {
     for queue in 0..256u16 {
         put_queue(core, QueueNo(queue as u8), sums, page)?;
@@ -82,8 +86,8 @@ fn put_queues(core: CoreNo, sums: &Sums, page: &mut String) -> Result<(), AllocE
 
 /// Puts the line of the queue, if there is such a queue.
 fn put_queue(core: CoreNo, queue: QueueNo, sums: &Sums, page: &mut String) -> Result<(), AllocError>
-    ensures { OnOk result ((journal : Notes ℕ) → KnowsSums sums.now journal
-        → string_bytes page.new ≡ string_bytes page.old ++ spec.queue_text core queue (queue_stats queue journal)) }
+    ensures { OnOk result ((burst : ℕ) (journal : Notes ℕ) → KnowsSums burst sums.now journal
+        → string_bytes page.new ≡ string_bytes page.old ++ spec.queue_text core queue (queue_stats burst queue journal)) }
 {
     if let Some(stats) = sums.queue_stats(queue) {
         let line = QueueLine(core, queue, stats);

@@ -2,8 +2,9 @@
 
 ghost use Rattle.rt_ids.specs.Spelled.{IsSpelled};
 
+use crate::bursts::BURSTS;
 use crate::texts::TURNS;
-use crate::verdicts::STATS;
+use crate::verdicts::{BURST_STATS, STATS};
 use fairexec_report::{audit_text, put_stats};
 use rt_ids::{ActorNo, CoreNo};
 use rt_journal_notes::Assembly;
@@ -110,6 +111,7 @@ fn is_found_sound(alloc: Global, text: &str) -> bool {
 #[test]
 fn texts_are_audited_again(rt: HostRuntime) {
     assert!(rt; is_found_sound(rt.alloc(), TURNS));
+    assert!(rt; is_found_sound(rt.alloc(), BURSTS));
 }
 
 /// Whether these are the statistics of core 0, asked for until memory isn't refused. A refusal leaves a first part of them.
@@ -117,7 +119,7 @@ fn tells(alloc: Global, journals: &Assembly, lines: &str) -> bool {
     let journal = journals.journal(ActorNo(0));
     for _ in 0..TRIES {
         let mut page = String::new(alloc);
-        if put_stats(alloc, CoreNo(0), 1, journal, &mut page).is_ok() {
+        if put_stats(alloc, CoreNo(0), 1, journals.burst(), journal, &mut page).is_ok() {
             return page.as_bytes() == lines.as_bytes();
         }
         if !lines.as_bytes().starts_with(page.as_bytes()) {
@@ -131,6 +133,15 @@ fn tells(alloc: Global, journals: &Assembly, lines: &str) -> bool {
 fn statistics_are_written_again(rt: HostRuntime) {
     let told = match read(rt.alloc(), TURNS) {
         Some(journals) => tells(rt.alloc(), &journals, STATS),
+        None => false,
+    };
+    assert!(rt; told);
+}
+
+#[test]
+fn statistics_of_bursts_are_written_again(rt: HostRuntime) {
+    let told = match read(rt.alloc(), BURSTS) {
+        Some(journals) => tells(rt.alloc(), &journals, BURST_STATS),
         None => false,
     };
     assert!(rt; told);

@@ -4,6 +4,8 @@
 #[cfg(test)]
 mod again;
 #[cfg(test)]
+mod bursts;
+#[cfg(test)]
 mod devices;
 #[cfg(test)]
 mod journals;

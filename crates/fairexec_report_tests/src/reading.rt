@@ -1,5 +1,6 @@
 //! Texts that are read and written again, and texts that are refused.
 
+use crate::bursts::{FAULTY_BURSTS, WHOLE_BURSTS};
 use crate::devices::{FaultyReader, reader_of};
 use crate::texts::{FAULTY, TURNS, WHOLE};
 use rt_journal_read::{JournalCause, read_journal};
@@ -51,8 +52,22 @@ fn each_faulty_line_is_told_by_its_cause(rt: HostRuntime) {
 }
 
 #[test]
+fn each_faulty_line_with_bursts_is_told_by_its_cause(rt: HostRuntime) {
+    for (text, line, cause) in FAULTY_BURSTS.iter() {
+        assert!(rt; is_refused(rt.alloc(), text, *line, *cause), "{line}");
+    }
+}
+
+#[test]
 fn what_is_read_is_written_again(rt: HostRuntime) {
     for (count, text) in WHOLE.iter() {
+        assert!(rt; is_same(rt.alloc(), text), "{count}");
+    }
+}
+
+#[test]
+fn what_is_read_with_bursts_is_written_again(rt: HostRuntime) {
+    for (count, text) in WHOLE_BURSTS.iter() {
         assert!(rt; is_same(rt.alloc(), text), "{count}");
     }
 }

@@ -14,7 +14,7 @@ const IN: JobId = JobId {
 };
 
 /// Notes, and which of the actors 0, 1 and 2 of two cores may write each.
-const NOTES: [(Note<u64>, bool, bool, bool); 19] = [
+const NOTES: [(Note<u64>, bool, bool, bool); 22] = [
     (
         Note::Sent(IN, Order::Job(QueueNo(255), ())),
         false,
@@ -50,6 +50,9 @@ const NOTES: [(Note<u64>, bool, bool, bool); 19] = [
     (Note::Stayed(IN, 0), false, true, false),
     (Note::Returned(IN, Reason::CoreReturned), false, true, false),
     (Note::Returned(IN, Reason::NoQueue), false, false, false),
+    (Note::Turned(QueueNo(0), 1), true, true, false),
+    (Note::Turned(QueueNo(255), 0), false, false, false),
+    (Note::Turned(QueueNo(0), 1099511627776), false, false, false),
     (Note::Shut(ActorNo(2), 0), true, true, false),
     (Note::Shut(ActorNo(3), 0), false, false, false),
     (
@@ -114,6 +117,7 @@ fn may_write(actor: u8, note: &Note<u64>) -> bool {
         actor,
         cores: 2,
         cap: 4,
+        burst: 2,
     };
     is_spelled_note(writer, *note)
 }

@@ -42,7 +42,7 @@ pub(crate) const FAULTY: [(&[u8], u32, JournalCause); 85] = [
     (b"", 1, JournalCause::Header),
     (b"\n", 1, JournalCause::Header),
     (b"journal 01\n", 1, JournalCause::Header),
-    (b"journal 2\n", 1, JournalCause::Header),
+    (b"journal 3\n", 1, JournalCause::Header),
     (b"journal 1 \n", 1, JournalCause::Header),
     (b"journal 1\r\n", 1, JournalCause::Header),
     (

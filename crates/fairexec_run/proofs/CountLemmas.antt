@@ -1,11 +1,11 @@
--- Notes counted with their submissions, less the outcomes collected.
-use Rattle.std.proofs.Common.{◌≡◌, ◌≤◌, ℕ, ◌+◌, List, [], ◌∷◌, ◌++◌, length, Option, Some, None, refl, arith, length-append}
+-- Notes counted with their submissions, less the outcomes collected; those that submissions and collected outcomes don't pay; and delivered orders.
+use Rattle.std.proofs.Common.{◌≡◌, ◌≤◌, ℕ, ◌+◌, ◌*◌, ap, List, [], ◌∷◌, ◌++◌, length, Option, Some, None, refl, arith, length-append}
 use Rattle.rt_ids.specs.declared.names.JobId.{JobId}
 use Rattle.rt_ids.specs.declared.note.Note.{Note}
 use Rattle.rt_ids.specs.declared.note.Note.TheVariants as written
 use Rattle.rt_ids.specs.Filters.{Outcomes}
 use Rattle.rt_world.specs.Collections.{collected_notes}
-use Rattle.fairexec_run.specs.Counts.{name_sent, one_if, sent_count, collected_count}
+use Rattle.fairexec_run.specs.Counts.{name_sent, one_if, sent_count, collected_count, one_if_delivered, delivered_count}
 
 sent_more : (notes before : List (Note ℕ)) → sent_count (notes ++ before) ≡ sent_count notes + sent_count before
 sent_more [] before = omega arith
@@ -23,15 +23,29 @@ pub sent_at_most : (notes : List (Note ℕ)) → sent_count notes ≤ length not
 sent_at_most [] = omega arith
 sent_at_most (note ∷ notes) = let one = one_at_most (name_sent note) in let others = sent_at_most notes in omega arith
 
--- notes that add at most so many to the count
-pub record AreLight (most : ℕ) (notes : List (Note ℕ)) : Type 0 where
-  pub within : length notes + sent_count notes ≤ collected_count notes + most
+delivered_more : (notes before : List (Note ℕ)) → delivered_count (notes ++ before) ≡ delivered_count notes + delivered_count before
+delivered_more [] before = omega arith
+delivered_more (note ∷ notes) before = let more = delivered_more notes before in omega arith
 
-pub light : (most : ℕ) (notes : List (Note ℕ)) → length notes + sent_count notes ≤ most → AreLight most notes
-light most notes few = record { within = omega arith }
+one_delivered : (note : Note ℕ) → one_if_delivered note ≤ 1
+one_delivered (written.Took name queue) = omega arith
+one_delivered (written.Back name reason) = omega arith
+one_delivered (written.Answered name answer) = omega arith
+one_delivered _ = omega arith
 
-pub few_light : (notes : List (Note ℕ)) → length notes ≤ 3 → AreLight 6 notes
-few_light notes few = let sent = sent_at_most notes in light 6 notes (omega arith)
+pub delivered_at_most : (notes : List (Note ℕ)) → delivered_count notes ≤ length notes
+delivered_at_most [] = omega arith
+delivered_at_most (note ∷ notes) = let one = one_delivered note in let others = delivered_at_most notes in omega arith
+
+-- notes that add at most so many to the count, of which so many aren't paid, and that tell at most so many delivered orders
+pub record AreLight (most unpaid orders : ℕ) (notes : List (Note ℕ)) : Type 0 where
+  pub counted : length notes + sent_count notes ≤ collected_count notes + most
+  pub paid : length notes ≤ 2 * sent_count notes + collected_count notes + unpaid
+  pub delivered : delivered_count notes ≤ orders
+
+-- notes of which at most one tells a delivered order
+pub few_light : (notes : List (Note ℕ)) → length notes ≤ 3 → delivered_count notes ≤ 1 → AreLight 6 3 1 notes
+few_light notes few one = let sent = sent_at_most notes in record { counted = omega arith; paid = omega arith; delivered = one }
 
 -- collected outcomes add nothing
 collected_light_more : (outcomes : Outcomes ℕ) → (sent_count (collected_notes outcomes) ≡ 0) × (length (collected_notes outcomes) ≡ collected_count (collected_notes outcomes))
@@ -44,15 +58,63 @@ collected_light_more (outcome ∷ later) =
     let count = length-append (collected_notes later) last in
     (omega (arith, more.0), omega (arith, more.1))
 
-pub collected_light : (outcomes : Outcomes ℕ) → AreLight 6 (collected_notes outcomes)
-collected_light outcomes = let all = collected_light_more outcomes in record { within = omega (arith, all.0, all.1) }
+none_delivered : (outcomes : Outcomes ℕ) → delivered_count (collected_notes outcomes) ≡ 0
+none_delivered [] = refl
+none_delivered (outcome ∷ later) =
+    let more = none_delivered later in
+    let both = delivered_more (collected_notes later) (written.Collected outcome.0 outcome.1 ∷ []) in
+    omega (arith, more)
+
+pub collected_light : (outcomes : Outcomes ℕ) → AreLight 6 3 1 (collected_notes outcomes)
+collected_light outcomes =
+    let all = collected_light_more outcomes in
+    let none = none_delivered outcomes in
+    record { counted = omega (arith, all.0, all.1); paid = omega (arith, all.0, all.1); delivered = omega arith }
+
+-- a journal after another: so much longer, counted so, with so many notes unpaid, and with so many delivered orders more
+pub record IsLonger (most unpaid orders : ℕ) (before after : List (Note ℕ)) : Type 0 where
+  pub counted : length after + sent_count after + collected_count before ≤ length before + sent_count before + collected_count after + most
+  pub paid : length after + 2 * sent_count before + collected_count before ≤ length before + 2 * sent_count after + collected_count after + unpaid
+  pub delivered : delivered_count after ≤ delivered_count before + orders
 
 -- a journal behind light notes
-pub light_more : (most : ℕ) (notes before : List (Note ℕ)) → AreLight most notes →
-    length (notes ++ before) + sent_count (notes ++ before) + collected_count before ≤ length before + sent_count before + collected_count (notes ++ before) + most
-light_more most notes before light =
-    let within = light.within in
+pub light_more : (most unpaid orders : ℕ) (notes before : List (Note ℕ)) → AreLight most unpaid orders notes → IsLonger most unpaid orders before (notes ++ before)
+light_more most unpaid orders notes before light =
+    let counted = light.counted in
+    let paid = light.paid in
+    let told = light.delivered in
     let sent = sent_more notes before in
     let collected = collected_more notes before in
+    let delivered = delivered_more notes before in
     let count = length-append notes before in
-    omega arith
+    record { counted = omega arith; paid = omega arith; delivered = omega arith }
+
+-- the same journal
+pub longer_same : (most unpaid orders : ℕ) (before after : List (Note ℕ)) → after ≡ before → IsLonger most unpaid orders before after
+longer_same most unpaid orders before after same =
+    let count = ap length same in
+    let sent = ap sent_count same in
+    let collected = ap collected_count same in
+    let delivered = ap delivered_count same in
+    record { counted = omega arith; paid = omega arith; delivered = omega arith }
+
+-- longer, and then longer again
+pub longer_then : (most unpaid orders more_most more_unpaid more_orders : ℕ) (before between after : List (Note ℕ)) → IsLonger most unpaid orders before between → IsLonger more_most more_unpaid more_orders between after →
+    IsLonger (most + more_most) (unpaid + more_unpaid) (orders + more_orders) before after
+longer_then most unpaid orders more_most more_unpaid more_orders before between after one other =
+    let one_counted = one.counted in
+    let one_paid = one.paid in
+    let one_delivered = one.delivered in
+    let other_counted = other.counted in
+    let other_paid = other.paid in
+    let other_delivered = other.delivered in
+    record { counted = omega arith; paid = omega arith; delivered = omega arith }
+
+-- what adds less adds no more
+pub longer_within : (most unpaid orders more_most more_unpaid more_orders : ℕ) (before after : List (Note ℕ)) → most ≤ more_most → unpaid ≤ more_unpaid → orders ≤ more_orders → IsLonger most unpaid orders before after →
+    IsLonger more_most more_unpaid more_orders before after
+longer_within most unpaid orders more_most more_unpaid more_orders before after few_most few_unpaid few_orders is =
+    let counted = is.counted in
+    let paid = is.paid in
+    let delivered = is.delivered in
+    record { counted = omega arith; paid = omega arith; delivered = omega arith }

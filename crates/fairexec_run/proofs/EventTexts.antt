@@ -10,12 +10,13 @@ use Rattle.fairexec_script.specs.declared.event.ScriptEvent.{ScriptEvent}
 use Rattle.fairexec_script.specs.declared.event.ScriptEvent.TheVariants.{Send, Deliver, Turn, Shut, Collect, Redeem, Detach}
 use Rattle.rt_world.specs.declared.event.Event.{Event}
 use Rattle.rt_world.specs.declared.event.Reply.{Reply}
+use Rattle.rt_ids.specs.Bursts.{has_bursts}
 use Rattle.rt_ids.specs.Joining.{AreJoined}
 use Rattle.rt_world.specs.State.{journal_at, assembly_of}
 use Rattle.rt_world.specs.Sends.{actor_of}
 use Rattle.rt_text.specs.declared.reply.Ends.{Ends}
 use Rattle.rt_text.specs.declared.reply.Quiet.{Quiet}
-use Rattle.fairexec_script.specs.Limits.{IsEventOf}
+use Rattle.fairexec_script.specs.Limits.{IsEventOf, IsSize, IsBurst}
 use Rattle.rt_journal_write.specs.Pages.{AppendsFront}
 use Rattle.rt_journal_write.proofs.PageLemmas.{puts_more, puts_out, front_now, front_of_page}
 use Rattle.fairexec_run.specs.Begun.{WritesFirst}
@@ -24,7 +25,7 @@ use Rattle.fairexec_run.specs.Replies.{event_of, ends_of, quiet_of}
 use Rattle.fairexec_run.specs.Rooms.{IsRoomy}
 use Rattle.fairexec_run.specs.Transcripts.{ScriptWorld, Occurs, IsHeard, Prints, PrintsAll, event_text, note_lines, quiet_text, script_room}
 use Rattle.fairexec_run.proofs.EventLimits.{are_there, is_there}
-use Rattle.fairexec_run.proofs.WorldSteps.{event_grows, is_heard, is_free}
+use Rattle.fairexec_run.proofs.WorldSteps.{event_grows, event_short, is_heard, is_free}
 
 pub same_actor : (event : ScriptEvent) → (ends_of event).actor ≡ actor_of (event_of event)
 same_actor (Send sender core what) = refl
@@ -54,7 +55,7 @@ new_notes notes before =
     ∙ ap (λ count. drop count (reverse before ++ reverse notes)) (sym (length-reverse before))
     ∙ drop-append_seam (reverse before) (reverse notes)
 
-module _ (event : ScriptEvent) (old new : ScriptWorld) (answer : Reply Script) (occurs : Occurs (event_of event) old new answer) (roomy : IsRoomy old.cores old.cap 32768 old) (joined : AreJoined (assembly_of old)) (here : IsEventOf old.cores event) where
+module _ (event : ScriptEvent) (old new : ScriptWorld) (answer : Reply Script) (occurs : Occurs (event_of event) old new answer) (roomy : IsRoomy old.cores old.cap old.burst 4095 old) (joined : AreJoined (assembly_of old)) (here : IsEventOf old.cores event) where
   heard : IsHeard answer
   heard = is_heard (event_of event) old new answer occurs (are_there old.cores event here) (is_free (actor_of (event_of event)) old (is_there old.cores event here) joined roomy)
 
@@ -62,7 +63,7 @@ module _ (event : ScriptEvent) (old new : ScriptWorld) (answer : Reply Script) (
   pub prints_notes : length (journal_at (actor_of (event_of event)) old) < length (journal_at (actor_of (event_of event)) new) →
       Prints event old new (note_lines (ends_of event).actor (drop (length (journal_at (actor_of (event_of event)) old)) (reverse (journal_at (actor_of (event_of event)) new))))
   prints_notes more =
-      let grows = event_grows (event_of event) old new answer occurs in
+      let grows = event_grows (event_of event) old new answer roomy.bursts occurs in
       let count = ap length grows.noted ∙ length-append grows.notes (journal_at (actor_of (event_of event)) old) in
       let turned = length-reverse grows.notes in
       let some : 1 ≤ length (reverse grows.notes) = omega arith in
@@ -81,7 +82,7 @@ module _ (event : ScriptEvent) (old new : ScriptWorld) (answer : Reply Script) (
   -- an event with none prints what its reply says
   pub prints_quiet : length (journal_at (actor_of (event_of event)) new) ≤ length (journal_at (actor_of (event_of event)) old) → Prints event old new (quiet_text (ends_of event) (quiet_of answer))
   prints_quiet same =
-      let grows = event_grows (event_of event) old new answer occurs in
+      let grows = event_grows (event_of event) old new answer roomy.bursts occurs in
       let count = ap length grows.noted ∙ length-append grows.notes (journal_at (actor_of (event_of event)) old) in
       let none : grows.notes ≡ [] = no_notes grows.notes (omega arith) in
       record {
@@ -123,23 +124,50 @@ module _ (event : ScriptEvent) (old new : ScriptWorld) (answer : Reply Script) (
         printed ∙ ap (λ both. page_old ++ quiet_text both quiet) ends_are ∙ ap (λ said. page_old ++ quiet_text (ends_of event) said) quiet_is,
       )
 
--- an event adds at most six to a journal
-pub roomy_more : (cores cap notes more : ℕ) (event : ScriptEvent) (old new : ScriptWorld) (text : List ℕ) → IsRoomy cores cap notes old → Prints event old new text → notes + 6 ≤ more → IsRoomy cores cap more new
-roomy_more cores cap notes more event old new text roomy prints within =
-    let grows = event_grows (event_of event) old new prints.answer prints.occurs in
+-- the actor of an event is there after it too
+pub still_there : (event : ScriptEvent) (old new : ScriptWorld) (answer : Reply Script) → Occurs (event_of event) old new answer → IsRoomy old.cores old.cap old.burst 4095 old → IsEventOf old.cores event →
+    (ends : Ends) → ends ≡ ends_of event → ends.actor ≤ new.cores
+still_there event old new answer occurs roomy here ends ends_are =
+    let grows = event_grows (event_of event) old new answer roomy.bursts occurs in
+    let cores = grows.cores in
+    let actor : ends.actor ≡ actor_of (event_of event) = ap (λ both. both.actor) ends_are ∙ same_actor event in
+    let there = is_there old.cores event here in
+    omega arith
+
+-- behind one event more
+pub roomy_more : (cores cap burst events more : ℕ) (event : ScriptEvent) (old new : ScriptWorld) (text : List ℕ) → IsRoomy cores cap burst events old → Prints event old new text → more ≡ events + 1 →
+    IsRoomy cores cap burst more new
+roomy_more cores cap burst events more event old new text roomy prints next =
+    let grows = event_grows (event_of event) old new prints.answer (subst IsBurst (sym roomy.burst_is) roomy.bursts) prints.occurs in
     record {
       cores_are = grows.cores ∙ roomy.cores_are;
       cap_is = grows.cap ∙ roomy.cap_is;
+      burst_is = grows.burst ∙ roomy.burst_is;
       room_is = grows.room ∙ roomy.room_is;
-      short = λ actor. let before = roomy.short actor in let after = grows.short actor in omega arith;
+      size = roomy.size;
+      bursts = roomy.bursts;
+      short =
+          λ form actor.
+          let before = roomy.short form actor in
+          let after = ((event_short (event_of event) old new prints.answer (ap has_bursts roomy.burst_is ∙ form) prints.occurs).longer actor).counted in
+          omega arith;
+      paid = λ actor. let before = roomy.paid actor in let after = (grows.longer actor).paid in omega arith;
+      delivered = λ actor. let before = roomy.delivered actor in let after = (grows.longer actor).delivered in omega arith;
     }
 
-pub roomy_here : (cores cap notes : ℕ) (world : ScriptWorld) → IsRoomy cores cap notes world → notes ≤ 32768 → IsRoomy world.cores world.cap 32768 world
-roomy_here cores cap notes world roomy within = record {
+pub roomy_here : (cores cap burst events : ℕ) (world : ScriptWorld) → IsRoomy cores cap burst events world → events ≤ 4095 → IsRoomy world.cores world.cap world.burst 4095 world
+roomy_here cores cap burst events world roomy within = record {
   cores_are = refl;
   cap_is = refl;
-  room_is = roomy.room_is ∙ ap (λ size. script_room size cap) (sym roomy.cores_are) ∙ ap (λ size. script_room world.cores size) (sym roomy.cap_is);
-  short = λ actor. let before = roomy.short actor in omega arith;
+  burst_is = refl;
+  room_is =
+      roomy.room_is ∙ ap (λ size. script_room size cap burst) (sym roomy.cores_are) ∙ ap (λ size. script_room world.cores size burst) (sym roomy.cap_is)
+      ∙ ap (λ size. script_room world.cores world.cap size) (sym roomy.burst_is);
+  size = subst (λ count. IsSize count world.cap) (sym roomy.cores_are) (subst (λ count. IsSize cores count) (sym roomy.cap_is) roomy.size);
+  bursts = subst IsBurst (sym roomy.burst_is) roomy.bursts;
+  short = λ form actor. let before = roomy.short (ap has_bursts (sym roomy.burst_is) ∙ form) actor in omega arith;
+  paid = λ actor. let before = roomy.paid actor in omega arith;
+  delivered = λ actor. let before = roomy.delivered actor in omega arith;
 }
 
 -- what is left of the events

@@ -3,10 +3,13 @@ pub mod EventTexts
 pub mod Growing
 pub mod OpeningLemmas
 pub mod PrintLemmas
+pub mod CallSteps
+pub mod TurnSteps
 pub mod WorldSteps
 pub mod OneOutput
 pub mod RearLemmas
 pub mod PlayLemmas
 pub mod RunLemmas
 pub mod CollectedCounts
+pub mod SentCounts
 pub mod CountLemmas

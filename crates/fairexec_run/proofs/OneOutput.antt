@@ -86,9 +86,9 @@ queues_are [] world = refl
 queues_are (queue ∷ queues) world = queues_are queues (with_queue queue world)
 
 -- a script begins with a world in which nothing has happened
-begins : (script : Drafted) (cores cap : ℕ) (empty : ScriptWorld) → IsFresh cores cap (script_room cores cap) empty → IsUnbegun (with_queues script.queues empty)
+begins : (script : Drafted) (cores cap : ℕ) (empty : ScriptWorld) → IsFresh cores cap script.burst (script_room cores cap script.burst) empty → IsUnbegun (with_queues script.queues empty)
 begins script cores cap empty fresh =
-    subst (λ world. IsUnbegun world) (sym (queues_are script.queues empty)) (unbegun_creations script.queues empty (unbegun_fresh cores cap (script_room cores cap) empty fresh))
+    subst (λ world. IsUnbegun world) (sym (queues_are script.queues empty)) (unbegun_creations script.queues empty (unbegun_fresh cores cap script.burst (script_room cores cap script.burst) empty fresh))
 
 module _ (script : Drafted) (output : List ℕ) (is : IsOutput script output) where
   -- the run behind the output
@@ -105,7 +105,7 @@ module _ (script : Drafted) (output : List ℕ) (is : IsOutput script output) wh
       (run_plain script_meaning scripts_order_none (map event_of script.events) none start is.end run.0 run.1 (plain_unbegun start (begins script is.cores is.cap is.empty is.fresh))).told
 
 -- and there is one such world
-module _ (script : Drafted) (cores cap other_cores other_cap : ℕ) (size : script.size ≡ Some (cores, cap)) (other_size : script.size ≡ Some (other_cores, other_cap)) (empty other_empty : ScriptWorld) (fresh : IsFresh cores cap (script_room cores cap) empty) (other_fresh : IsFresh other_cores other_cap (script_room other_cores other_cap) other_empty) where
+module _ (script : Drafted) (cores cap other_cores other_cap : ℕ) (size : script.size ≡ Some (cores, cap)) (other_size : script.size ≡ Some (other_cores, other_cap)) (empty other_empty : ScriptWorld) (fresh : IsFresh cores cap script.burst (script_room cores cap script.burst) empty) (other_fresh : IsFresh other_cores other_cap script.burst (script_room other_cores other_cap script.burst) other_empty) where
   abbrev first_size : ℕ × ℕ
   first_size = (cores, cap)
 
@@ -121,13 +121,13 @@ module _ (script : Drafted) (cores cap other_cores other_cap : ℕ) (size : scri
   same_cap : cap ≡ other_cap
   same_cap = ap (λ (size : ℕ × ℕ). size.1) same_size
 
-  moved : IsFresh cores cap (script_room cores cap) other_empty
+  moved : IsFresh cores cap script.burst (script_room cores cap script.burst) other_empty
   moved =
-      subst (λ count. IsFresh count cap (script_room count cap) other_empty) (sym same_cores)
-      (subst (λ count. IsFresh other_cores count (script_room other_cores count) other_empty) (sym same_cap) other_fresh)
+      subst (λ count. IsFresh count cap script.burst (script_room count cap script.burst) other_empty) (sym same_cores)
+      (subst (λ count. IsFresh other_cores count script.burst (script_room other_cores count script.burst) other_empty) (sym same_cap) other_fresh)
 
   same_start : with_queues script.queues empty ≡ with_queues script.queues other_empty
-  same_start = ap (with_queues script.queues) (fresh_once cores cap (script_room cores cap) empty other_empty fresh moved)
+  same_start = ap (with_queues script.queues) (fresh_once cores cap script.burst (script_room cores cap script.burst) empty other_empty fresh moved)
 
 -- the events are printed in one way
 events_once : (script : Drafted) (output other : List ℕ) (first : IsOutput script output) (second : IsOutput script other) →
@@ -182,8 +182,8 @@ front_once script false assembly other text other_text first second =
 -- what comes behind it
 rear_once : (stats : Bool) (assembly other : Assembly ℕ) (text other_text : List ℕ) → assembly ≡ other → IsStatsIf stats assembly text → IsStatsIf stats other other_text → text ≡ other_text
 rear_once true assembly other text other_text same first second =
-    stats_once assembly.cores (λ core. journal_of core assembly) text other_text first
-    (subst (λ all. IsStatsText all.cores (λ core. journal_of core all) other_text) (sym same) second)
+    stats_once assembly.cores assembly.burst (λ core. journal_of core assembly) text other_text first
+    (subst (λ all. IsStatsText all.cores all.burst (λ core. journal_of core all) other_text) (sym same) second)
 rear_once false assembly other text other_text same first second = first ∙ sym second
 
 printed_once : (journal stats : Bool) (script : Drafted) (output other : List ℕ) (first : IsPrinted journal stats script output) (second : IsPrinted journal stats script other) →

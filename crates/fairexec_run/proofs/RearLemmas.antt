@@ -30,25 +30,27 @@ from_nothing page text empty = ap (λ front. front ++ text) empty
 -- the statistics of the first cores stand on the page, or are written
 abbrev pub HasStats : Assembly ℕ → ℕ → List ℕ → List ℕ → Option (List ℕ) → Option (List ℕ) → Type 0
 HasStats assembly count start page old now =
-    (text : List ℕ) × IsTextBelow count assembly.cores (λ core. journal_of core assembly) text × Puts start page old now text
+    (text : List ℕ) × IsTextBelow count assembly.cores assembly.burst (λ core. journal_of core assembly) text × Puts start page old now text
 
 pub no_stats : (assembly : Assembly ℕ) (page : List ℕ) (sink : Option (List ℕ)) → HasStats assembly 0 page page sink sink
-no_stats assembly page sink = ([], no_cores assembly.cores _, puts_nothing page sink)
+no_stats assembly page sink = ([], no_cores assembly.cores assembly.burst _, puts_nothing page sink)
 
-module _ (assembly : Assembly ℕ) (core cores : ℕ) (all : cores ≡ assembly.cores) (journal : Journal ℕ) (same : journal ≡ journal_of core assembly) (start page : List ℕ) (old now : Option (List ℕ)) (has : HasStats assembly core start page old now) where
-  moved : (text : List ℕ) → IsCoreText core cores journal text → IsCoreText core assembly.cores (journal_of core assembly) text
-  moved text one = subst (λ notes. IsCoreText core assembly.cores notes text) same (subst (λ size. IsCoreText core size journal text) all one)
+module _ (assembly : Assembly ℕ) (core cores burst : ℕ) (all : cores ≡ assembly.cores) (polls : burst ≡ assembly.burst) (journal : Journal ℕ) (same : journal ≡ journal_of core assembly) (start page : List ℕ) (old now : Option (List ℕ)) (has : HasStats assembly core start page old now) where
+  moved : (text : List ℕ) → IsCoreText core cores burst journal text → IsCoreText core assembly.cores assembly.burst (journal_of core assembly) text
+  moved text one =
+      subst (λ notes. IsCoreText core assembly.cores assembly.burst notes text) same
+      (subst (λ most. IsCoreText core assembly.cores most journal text) polls (subst (λ size. IsCoreText core size burst journal text) all one))
 
   -- one core more
-  pub stats_more : (next : List ℕ) (new : Option (List ℕ)) → (text : List ℕ) × IsCoreText core cores journal text × Puts page next now new text → HasStats assembly (core + 1) start next old new
+  pub stats_more : (next : List ℕ) (new : Option (List ℕ)) → (text : List ℕ) × IsCoreText core cores burst journal text × Puts page next now new text → HasStats assembly (core + 1) start next old new
   stats_more next new (text, one, puts) = (
     has.0 ++ text,
-    after_core core assembly.cores (λ each. journal_of each assembly) has.0 text has.1 (moved text one),
+    after_core core assembly.cores assembly.burst (λ each. journal_of each assembly) has.0 text has.1 (moved text one),
     puts_then start page next old now new has.0 text (has.0 ++ text) has.2 puts refl,
   )
 
   -- none more: a beginning is written
-  pub stats_stop : (new : Option (List ℕ)) → core < cores → (text : List ℕ) × IsNoneOr (IsCoreText core cores journal) text × AppendsFront now new (page ++ text) → WritesStats assembly start old new
+  pub stats_stop : (new : Option (List ℕ)) → core < cores → (text : List ℕ) × IsNoneOr (IsCoreText core cores burst journal) text × AppendsFront now new (page ++ text) → WritesStats assembly start old new
   stats_stop new within (text, inl none, front) = record {
     text = has.0;
     told = (core, omega arith, has.1);
@@ -56,7 +58,7 @@ module _ (assembly : Assembly ℕ) (core cores : ℕ) (all : cores ≡ assembly.
   }
   stats_stop new within (text, inr one, front) = record {
     text = has.0 ++ text;
-    told = (core + 1, omega arith, after_core core assembly.cores (λ each. journal_of each assembly) has.0 text has.1 (moved text one));
+    told = (core + 1, omega arith, after_core core assembly.cores assembly.burst (λ each. journal_of each assembly) has.0 text has.1 (moved text one));
     front = front_out start page old now new has.0 text has.2 front;
   }
 
@@ -64,7 +66,7 @@ module _ (assembly : Assembly ℕ) (core cores : ℕ) (all : cores ≡ assembly.
 pub stats_whole : (assembly : Assembly ℕ) (count : ℕ) (start page : List ℕ) (old now : Option (List ℕ)) → count ≡ assembly.cores → HasStats assembly count start page old now → PutsStats assembly start page old now
 stats_whole assembly count start page old now all (text, told, puts) = record {
   text = text;
-  told = subst (λ size. IsTextBelow size assembly.cores (λ core. journal_of core assembly) text) all told;
+  told = subst (λ size. IsTextBelow size assembly.cores assembly.burst (λ core. journal_of core assembly) text) all told;
   puts = puts;
 }
 
@@ -73,7 +75,7 @@ rear_none : (stats : Bool) (assembly : Assembly ℕ) → stats ≡ false → IsS
 rear_none true assembly same = cc
 rear_none false assembly same = refl
 
-rear_all : (stats : Bool) (assembly : Assembly ℕ) (text : List ℕ) → stats ≡ true → IsStatsText assembly.cores (λ core. journal_of core assembly) text → IsStatsIf stats assembly text
+rear_all : (stats : Bool) (assembly : Assembly ℕ) (text : List ℕ) → stats ≡ true → IsStatsText assembly.cores assembly.burst (λ core. journal_of core assembly) text → IsStatsIf stats assembly text
 rear_all true assembly text same told = told
 rear_all false assembly text same told = cc
 

@@ -28,7 +28,7 @@ pub record IsFirstText (script : Drafted) (text : List ℕ) : Type 0 where
   pub cap : ℕ
   pub size : script.size ≡ Some (cores, cap)
   pub empty : ScriptWorld
-  pub fresh : IsFresh cores cap (script_room cores cap) empty
+  pub fresh : IsFresh cores cap script.burst (script_room cores cap script.burst) empty
   pub first : List ScriptEvent
   pub others : List ScriptEvent
   pub end : ScriptWorld
@@ -37,7 +37,7 @@ pub record IsFirstText (script : Drafted) (text : List ℕ) : Type 0 where
 
 -- the statistics of so many cores, if they are wanted
 abbrev pub IsRearPart : Bool → Assembly ℕ → List ℕ → Type 0
-IsRearPart true assembly text = (count : ℕ) × (count ≤ assembly.cores) × IsTextBelow count assembly.cores (λ core. journal_of core assembly) text
+IsRearPart true assembly text = (count : ℕ) × (count ≤ assembly.cores) × IsTextBelow count assembly.cores assembly.burst (λ core. journal_of core assembly) text
 IsRearPart false assembly text = text ≡ []
 
 -- the statistics of the first cores are put behind what the page had, and a beginning of that is written

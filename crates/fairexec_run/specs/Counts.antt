@@ -1,8 +1,8 @@
--- How many submissions a journal has, and how many outcomes were collected.
+-- How many submissions a journal has, how many outcomes were collected, and how many orders were delivered.
 use Rattle.std.specs.Prelude.{ℕ, ◌+◌, [], ◌∷◌, Option, None, Some}
 use Rattle.rt_ids.specs.declared.names.JobId.{JobId}
 use Rattle.rt_ids.specs.declared.note.Note.{Note}
-use Rattle.rt_ids.specs.declared.note.Note.TheVariants.{Sent}
+use Rattle.rt_ids.specs.declared.note.Note.TheVariants.{Sent, Took, Back, Answered}
 use Rattle.rt_ids.specs.Journal.{Journal}
 use Rattle.rt_ids.specs.Outstanding.{name_collected}
 
@@ -24,3 +24,15 @@ sent_count (note ∷ before) = one_if (name_sent note) + sent_count before
 abbrev pub collected_count : Journal ℕ → ℕ
 collected_count [] = 0
 collected_count (note ∷ before) = one_if (name_collected note) + collected_count before
+
+-- one for an order that a note says was delivered
+abbrev pub one_if_delivered : Note ℕ → ℕ
+one_if_delivered (Took name queue) = 1
+one_if_delivered (Back name reason) = 1
+one_if_delivered (Answered name answer) = 1
+one_if_delivered _ = 0
+
+-- how many delivered orders they tell
+abbrev pub delivered_count : Journal ℕ → ℕ
+delivered_count [] = 0
+delivered_count (note ∷ before) = one_if_delivered note + delivered_count before

@@ -1,5 +1,5 @@
 -- What is printed of a script, by what is wanted: its events or its journals, and the statistics behind them.
-use Rattle.std.specs.Prelude.{◌≡◌, ℕ, Bool, true, false, List, [], ◌++◌, map, Option, Some}
+use Rattle.std.specs.Prelude.{◌≡◌, ℕ, Bool, true, false, List, ◌++◌, map, Option, Some}
 use Rattle.rt_ids.specs.Assembly.{Assembly, journal_of}
 use Rattle.rt_ids.specs.Joining.{AreJoined}
 use Rattle.rt_ids.specs.Sound.{IsSound}
@@ -19,7 +19,7 @@ pub record IsRunText (script : Drafted) (assembly : Assembly ℕ) (text : List �
   pub cap : ℕ
   pub size : script.size ≡ Some (cores, cap)
   pub empty : ScriptWorld
-  pub fresh : IsFresh cores cap (script_room cores cap) empty
+  pub fresh : IsFresh cores cap script.burst (script_room cores cap script.burst) empty
   pub runs : RunsOf (map event_of script.events) (with_queues script.queues empty) assembly
   pub spelled : IsSpelled assembly
   pub joined : AreJoined assembly
@@ -39,7 +39,7 @@ IsFront false script assembly text = IsEventText script assembly text
 -- the statistics of all cores are put behind what the page had; a first part of the page may be written already
 pub record PutsStats (assembly : Assembly ℕ) (page_old page_new : List ℕ) (sink_old sink_new : Option (List ℕ)) : Type 0 where
   pub text : List ℕ
-  pub told : IsStatsText assembly.cores (λ core. journal_of core assembly) text
+  pub told : IsStatsText assembly.cores assembly.burst (λ core. journal_of core assembly) text
   pub puts : Puts page_old page_new sink_old sink_new text
 
 -- all that is printed of a script: behind its front the statistics, if they are wanted

@@ -1,7 +1,8 @@
 -- What is printed of a script's events.
-use Rattle.std.specs.Prelude.{◌≡◌, ℕ, ◌+◌, ◌*◌, ◌++◌, List, [], ◌∷◌, codes, reverse, Option, Some, None}
+use Rattle.std.specs.Prelude.{◌≡◌, ℕ, ◌+◌, ◌*◌, ◌++◌, List, [], ◌∷◌, codes, reverse, Option, Some, None, if◌then◌else◌}
 use Rattle.rt_ids.specs.declared.note.Note.{Note}
 use Rattle.rt_ids.specs.declared.note.Note.TheVariants.{Created}
+use Rattle.rt_ids.specs.Bursts.{has_bursts}
 use Rattle.rt_ids.specs.Commands.{created_count}
 use Rattle.rt_jobs.specs.Scripts.{Script}
 use Rattle.rt_world.specs.declared.event.Event.{Event}
@@ -83,9 +84,11 @@ abbrev pub with_queues : List (ℕ × ℕ) → ScriptWorld → ScriptWorld
 with_queues [] world = world
 with_queues (queue ∷ queues) world = with_queues queues (with_queue queue world)
 
--- the room of a journal in a system of this size: more than 4096 lines fill
-abbrev pub script_room : ℕ → ℕ → ℕ
-script_room cores cap = 32768 + 3 * cores * cap + 4
+-- the room of a journal in a system of this size, with such turns: more than 4096 lines fill
+abbrev pub script_room : ℕ → ℕ → ℕ → ℕ
+script_room cores cap burst =
+    if has_bursts burst then 1048576 + 3 * cores * cap + 2 * burst + 2
+    else 32768 + 3 * cores * cap + 4
 
 -- what is printed of a whole script; behind it stands a journal for each actor, lawful and joined, and they are sound together
 pub record IsOutput (script : Drafted) (output : List ℕ) : Type 0 where
@@ -93,7 +96,7 @@ pub record IsOutput (script : Drafted) (output : List ℕ) : Type 0 where
   pub cap : ℕ
   pub size : script.size ≡ Some (cores, cap)
   pub empty : ScriptWorld
-  pub fresh : IsFresh cores cap (script_room cores cap) empty
+  pub fresh : IsFresh cores cap script.burst (script_room cores cap script.burst) empty
   pub end : ScriptWorld
   pub all : PrintsAll script.events (with_queues script.queues empty) end output
   pub lists : HasAllLists end

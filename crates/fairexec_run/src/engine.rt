@@ -1,11 +1,11 @@
 //! Runs a script on the model.
 
-ghost use Rattle.std.specs.Prelude.{◌≡◌, ◌<◌, ◌+◌, [], ℕ, List, length, IfOk, IfErr, OnOk, OnErr, IfSome, Err, Some, true, false};
+ghost use Rattle.std.specs.Prelude.{◌≡◌, ◌<◌, ◌≤◌, ◌+◌, [], ℕ, List, length, IfOk, IfErr, OnOk, OnErr, IfSome, Err, Some, true, false};
 ghost use Rattle.std.specs.Io.KnownBytes.{Keeps, Appends};
 ghost use Rattle.rt_ids.specs.Commands.{created_count};
 ghost use Rattle.rt_world.specs.Opening.{IsFresh, IsUnbegun};
 ghost use Rattle.rt_world.specs.State.{journal_at};
-ghost use Rattle.fairexec_script.specs.Limits.{IsSize, ArePlaced, HasFewQueues};
+ghost use Rattle.fairexec_script.specs.Limits.{IsSize, IsBurst, ArePlaced, HasFewQueues};
 ghost use Rattle.fairexec_script.specs.Drafts.{empty_draft};
 ghost use Rattle.fairexec_script.specs.Scripts.{judge, script_of};
 ghost use Rattle.fairexec_script.specs.Whole.{drafted};
@@ -16,7 +16,8 @@ ghost use Rattle.fairexec_run.specs.Begun.{BreaksOff, IsCutShort};
 ghost use Rattle.fairexec_run.specs.Outputs.{IsDone, TellsScript};
 ghost use Rattle.fairexec_run.specs.Rooms.{MayMake, IsOpened};
 ghost use Rattle.fairexec_run.specs.Printed.{IsPrinted};
-ghost use Rattle.fairexec_run.specs.Transcripts.{script_room, with_queue, with_queues};
+ghost use Rattle.fairexec_run.specs.Transcripts.{with_queue, with_queues};
+ghost use Rattle.fairexec_run.specs.Transcripts as spec;
 
 use crate::journal::{events_of, print_journal, print_journal_rear, print_rear};
 use crate::print::{FULL_PAGE, LONGEST_PRINT, Model, print_events};
@@ -101,10 +102,11 @@ fn play_events<S: Sink>(
     let Script {
         cores,
         cap,
+        burst,
         queues,
         events,
     } = script;
-    let mut model = open_model(alloc, cores, cap, queues.as_slice())?;
+    let mut model = open_model(alloc, cores, cap, burst, queues.as_slice())?;
     let mut page = String::with_capacity(alloc, FULL_PAGE + LONGEST_PRINT)?;
     print_events(&mut model, events, &mut page, sink)?;
     model.complete();
@@ -129,10 +131,11 @@ fn play_journal<S: Sink>(
     let Script {
         cores,
         cap,
+        burst,
         queues,
         events,
     } = script;
-    let model = open_model(alloc, cores, cap, queues.as_slice())?;
+    let model = open_model(alloc, cores, cap, burst, queues.as_slice())?;
     let events = events_of(alloc, events)?;
     let mut page = String::with_capacity(alloc, FULL_PAGE + LONGEST_PRINT)?;
     let assembly = model.run(events);
@@ -140,37 +143,56 @@ fn play_journal<S: Sink>(
     print_journal_rear(alloc, stats, &assembly, &mut page, sink)
 }
 
-/// A world of so many cores with links of that capacity and with these queues. Its journals have room for all notes of a script.
+/// A world of so many cores with links of that capacity, with turns of so many polls and with these queues. Its journals have room for all notes of a script.
 fn open_model(
     alloc: Global,
     cores: u8,
     cap: u16,
+    burst: u8,
     queues: &[(CoreNo, Shares)],
 ) -> Result<Model, Fault<Cause>>
     requires sized { IsSize cores cap }
+    requires bursts { IsBurst burst }
     requires few { HasFewQueues queues.now }
     requires placed { ArePlaced (Some (cores, cap)) queues.now }
-    ensures ok { IfOk result (IsOpened cores cap queues.now) }
+    ensures ok { IfOk result (IsOpened cores cap burst queues.now) }
     ensures device { IfErr result (IfUnread ⊥) }
     ensures quiet { IfErr result (IfUnwritten ⊥) }
 {
-    let mut model = empty_model(alloc, cores, cap)?;
+    let mut model = empty_model(alloc, cores, cap, burst)?;
     create_queues(&mut model, queues)?;
     Ok(model)
 }
 
 /// The same without queues.
-fn empty_model(alloc: Global, cores: u8, cap: u16) -> Result<Model, Fault<Cause>>
-    requires { IsSize cores cap }
-    ensures ok { IfOk result (IsFresh cores cap (script_room cores cap)) }
+fn empty_model(alloc: Global, cores: u8, cap: u16, burst: u8) -> Result<Model, Fault<Cause>>
+    requires sized { IsSize cores cap }
+    requires bursts { IsBurst burst }
+    ensures ok { IfOk result (IsFresh cores cap burst (spec.script_room cores cap burst)) }
     ensures device { IfErr result (IfUnread ⊥) }
     ensures quiet { IfErr result (IfUnwritten ⊥) }
 {
-    let room = 32768 + 3 * u32::from(cores) * u32::from(cap) + 4;
-    match World::try_new(alloc, alloc, cores, cap, room) {
+    let room = script_room(cores, cap, burst);
+    match World::try_new_burst(alloc, alloc, cores, cap, burst, room) {
         Ok(model) => Ok(model),
         Err(WorldError::Memory) => Err(Fault::Memory),
         Err(WorldError::BadConfig) => unreachable!(),
+    }
+}
+
+/// The room of a journal: more than 4096 lines fill.
+fn script_room(cores: u8, cap: u16, burst: u8) -> u32
+    requires sized { IsSize cores cap }
+    requires bursts { IsBurst burst }
+    ensures room { result ≡ spec.script_room cores cap burst }
+    ensures low { result ≤ 1097858 }
+{
+    // 3 * 16 * 1024 places are 49152, so the sum is at most 1048576 + 49152 + 2 * 64 + 2.
+    let places = 3 * u32::from(cores) * u32::from(cap);
+    if burst > 1 {
+        1048576 + places + 2 * u32::from(burst) + 2
+    } else {
+        32768 + places + 4
     }
 }
 

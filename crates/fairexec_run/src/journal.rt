@@ -116,11 +116,13 @@ fn print_stats<S: Sink>(
     ensures tried { IsNoFewer (S.tries sink.old) (S.tries sink.new) }
 {
     let cores = model.cores();
+    let burst = model.burst();
     for core in 0..cores {
         print_core(
             alloc,
             CoreNo(core),
             cores,
+            burst,
             model.journal(ActorNo(core)),
             page,
             sink,
@@ -143,11 +145,13 @@ fn print_journal_stats<S: Sink>(
     ensures tried { IsNoFewer (S.tries sink.old) (S.tries sink.new) }
 {
     let cores = assembly.cores();
+    let burst = assembly.burst();
     for core in 0..cores {
         print_core(
             alloc,
             CoreNo(core),
             cores,
+            burst,
             assembly.journal(ActorNo(core)),
             page,
             sink,
@@ -161,19 +165,20 @@ fn print_core<S: Sink>(
     alloc: Global,
     core: CoreNo,
     cores: u8,
+    burst: u8,
     journal: &Journal<u64>,
     page: &mut String,
     sink: &mut S,
 ) -> Result<(), Fault<Cause>>
-    ensures ok { OnOk result ((text : List ℕ) × IsCoreText core cores journal.now.notes text
+    ensures ok { OnOk result ((text : List ℕ) × IsCoreText core cores burst journal.now.notes text
         × Puts (string_bytes page.old) (string_bytes page.new) (S.contents sink.old) (S.contents sink.new) text) }
-    ensures err { OnErr result ((text : List ℕ) × IsNoneOr (IsCoreText core cores journal.now.notes) text
+    ensures err { OnErr result ((text : List ℕ) × IsNoneOr (IsCoreText core cores burst journal.now.notes) text
         × AppendsFront (S.contents sink.old) (S.contents sink.new) (string_bytes page.old ++ text)) }
     ensures device { IfErr result (IfUnread ⊥) }
     ensures failed { IfErr result (IfUnwritten (HasFailedSince S.tries S.interrupts S.fails sink.old sink.new)) }
     ensures tried { IsNoFewer (S.tries sink.old) (S.tries sink.new) }
 {
-    put_stats(alloc, core, cores, journal, page)?;
+    put_stats(alloc, core, cores, burst, journal, page)?;
     if page.len() < FULL_PAGE {
         return Ok(());
     }

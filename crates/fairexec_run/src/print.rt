@@ -26,8 +26,8 @@ pub(crate) type Model = World<ScriptJob, Global>;
 /// A page of this many bytes is full, and is written.
 pub(crate) const FULL_PAGE: usize = 16384;
 
-/// More than the lines of most events: four notes of at most 128 bytes. If an event collects many outcomes, or a core has many
-/// queues, the page grows.
+/// More than the lines of most events: four notes of at most 128 bytes. If an event collects many outcomes, a turn has many polls, or
+/// a core has many queues, the page grows.
 pub(crate) const LONGEST_PRINT: usize = 1024;
 
 /// Lets the events happen, one after another. A full page is written to the sink at once.
@@ -37,7 +37,7 @@ pub(crate) fn print_events<S: Sink>(
     page: &mut String,
     sink: &mut S,
 ) -> Result<(), Fault<Cause>>
-    requires roomy { IsRoomy model.old.cores model.old.cap 510 model.old }
+    requires roomy { IsRoomy model.old.cores model.old.cap model.old.burst 0 model.old }
     requires there { AreEventsOf (Some (model.old.cores, model.old.cap)) events.items }
     requires short { length events.items ≤ 4096 }
     ensures ok { OnOk result (WritesAll events.items model.old model.new (string_bytes page.old) (string_bytes page.new)
@@ -58,7 +58,7 @@ pub(crate) fn print_events<S: Sink>(
 
 /// Lets the event happen, and puts its lines on the page.
 fn print_event(model: &mut Model, event: ScriptEvent, page: &mut String) -> Result<(), Fault<Cause>>
-    requires roomy { IsRoomy model.old.cores model.old.cap 32768 model.old }
+    requires roomy { IsRoomy model.old.cores model.old.cap model.old.burst 4095 model.old }
     requires there { IsEventOf model.old.cores event }
     ensures ok { OnOk result ((text : List ℕ) × Prints event model.old model.new text
         × (string_bytes page.new ≡ string_bytes page.old ++ text)) }

@@ -47,7 +47,7 @@ const JOB_NOTES: [(Note<u64>, &str); 15] = [
 ];
 
 /// The other notes.
-const CORE_NOTES: [(Note<u64>, &str); 7] = [
+const CORE_NOTES: [(Note<u64>, &str); 8] = [
     (
         Note::Sent(NAME, Order::Close(QueueNo(4), Mode::Return)),
         "1 sent 2>1#3 close q4 return",
@@ -68,6 +68,10 @@ const CORE_NOTES: [(Note<u64>, &str); 7] = [
     (
         Note::Pick(QueueNo(0), 1 << 64),
         "1 pick q0 at 18446744073709551616",
+    ),
+    (
+        Note::Turned(QueueNo(255), 1099511627775),
+        "1 turned q255 1099511627775",
     ),
     (Note::Shut(ActorNo(2), 6), "1 shut 2 6"),
 ];

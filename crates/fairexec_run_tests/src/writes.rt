@@ -12,7 +12,7 @@ use std::alloc::Global;
 const JOURNALS: &str = "journal 1\ncores 1 cap 4\n0 sent 0>0#1 job q0\n0 took 0>0#1 q0\nend\n";
 
 /// Its first line is faulty, and ends with the first read.
-const FAULTY: &str = "journal 2\ncores 1 cap 4\nend\n";
+const FAULTY: &str = "journal 3\ncores 1 cap 4\nend\n";
 
 /// A run with these flags whose call of this number to the sink fails.
 fn ran(

@@ -9,15 +9,16 @@ use Rattle.rt_words.specs.Words.{words}
 use Rattle.fairexec_script.specs.Lines.{first_line, later_line}
 use Rattle.fairexec_script.specs.TextLimits.{most_lines, longest_line}
 
--- cores and capacity, once a line told them; the `queue` lines by core and shares; the events; all in order
+-- cores and capacity, once a line told them; the burst, 1 if no line told it; the `queue` lines by core and shares; the events; all in order
 pub record Drafted : Type 0 where
   pub size : Option (ℕ × ℕ)
+  pub burst : ℕ
   pub queues : List (ℕ × ℕ)
   pub events : List ScriptEvent
 
 -- before the first line
 abbrev pub empty_draft : Drafted
-empty_draft = record { size = None; queues = []; events = [] }
+empty_draft = record { size = None; burst = 1; queues = []; events = [] }
 
 -- how many `queue` lines a core has
 abbrev pub queue_lines : ℕ → List (ℕ × ℕ) → ℕ
@@ -25,11 +26,11 @@ queue_lines core queues = count_by (λ queue. queue.0 == core) queues
 
 -- the draft and one line more; a core has at most 255 `queue` lines
 abbrev pub with_line : Drafted → Line → Result Drafted Cause
-with_line draft (Size cores cap) = Ok (record { size = Some (cores, cap); queues = draft.queues; events = draft.events })
+with_line draft (Size cores cap burst) = Ok (record { size = Some (cores, cap); burst = burst; queues = draft.queues; events = draft.events })
 with_line draft (Queue core shares) =
-    if nat_lt (queue_lines core draft.queues) 255 then Ok (record { size = draft.size; queues = draft.queues ++ (core, shares) ∷ []; events = draft.events })
+    if nat_lt (queue_lines core draft.queues) 255 then Ok (record { size = draft.size; burst = draft.burst; queues = draft.queues ++ (core, shares) ∷ []; events = draft.events })
     else Err TooManyQueues
-with_line draft (Step event) = Ok (record { size = draft.size; queues = draft.queues; events = draft.events ++ event ∷ [] })
+with_line draft (Step event) = Ok (record { size = draft.size; burst = draft.burst; queues = draft.queues; events = draft.events ++ event ∷ [] })
 
 -- what was read, taken into the draft
 abbrev pub with_read : Drafted → Result Line Cause → Result Drafted Cause

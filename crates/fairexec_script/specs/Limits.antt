@@ -1,7 +1,7 @@
 -- A script keeps within the limits of a system.
 use Rattle.std.specs.Prelude.{◌≡◌, ℕ, ◌≤◌, ◌<◌, [], ◌∷◌, List, Option, Some, None, All, length}
 use Rattle.rt_ids.specs.declared.order.Order.TheVariants as order
-use Rattle.rt_ids.specs.Limits.{most_capacity, most_cores}
+use Rattle.rt_ids.specs.Limits.{most_burst, most_capacity, most_cores}
 use Rattle.rt_jobs.specs.Scripts.{Script}
 use Rattle.fairexec_script.specs.declared.event.ScriptEvent.{ScriptEvent}
 use Rattle.fairexec_script.specs.declared.event.ScriptEvent.TheVariants.{Send, Deliver, Turn, Shut, Collect, Redeem, Detach}
@@ -16,6 +16,11 @@ pub record IsSize (cores cap : ℕ) : Type 0 where
   pub few_cores : cores ≤ most_cores
   pub some_cap : 1 ≤ cap
   pub small_cap : cap ≤ most_capacity
+
+-- a turn may have 1 to 64 polls
+pub record IsBurst (burst : ℕ) : Type 0 where
+  pub some_poll : 1 ≤ burst
+  pub few_polls : burst ≤ most_burst
 
 -- the size, once it is told, is one
 abbrev pub IsSized : Option (ℕ × ℕ) → Type 0
@@ -69,6 +74,7 @@ AreEventsOf (Some size) events = All (IsEventOf size.0) events
 
 pub record IsWithinLimits (draft : Drafted) : Type 0 where
   pub sized : IsSized draft.size
+  pub bursts : IsBurst draft.burst
   pub placed : ArePlaced draft.size draft.queues
   pub few : HasFewQueues draft.queues
   pub happen : AreEventsOf draft.size draft.events
@@ -84,6 +90,6 @@ IsEventFor (Some size) event = IsEventOf size.0 event
 
 -- what a line may say, where the size is this one so far
 abbrev pub MayFollow : Option (ℕ × ℕ) → Line → Type 0
-MayFollow size (Size cores cap) = (size ≡ None) × IsSize cores cap
+MayFollow size (Size cores cap burst) = (size ≡ None) × IsSize cores cap × IsBurst burst
 MayFollow size (Queue core shares) = IsCoreOf size core
 MayFollow size (Step event) = IsEventFor size event

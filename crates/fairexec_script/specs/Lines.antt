@@ -1,7 +1,7 @@
 -- What one line of a script says.
 use Rattle.std.specs.Prelude.{ℕ, ◌&&◌, ◌==◌, not, Bool, false, List, codes, Option, Some, None, Result, Err, if◌then◌else◌}
 use Rattle.std.specs.Str.{bytes_eq}
-use Rattle.rt_ids.specs.Limits.{most_capacity, most_cores}
+use Rattle.rt_ids.specs.Limits.{most_burst, most_capacity, most_cores}
 use Rattle.fairexec_script.specs.declared.line.Line.{Line}
 use Rattle.fairexec_script.specs.declared.line.Line.TheVariants.{Size, Queue}
 use Rattle.fairexec_script.specs.declared.keyword.Keyword.{Keyword}
@@ -14,9 +14,21 @@ use Rattle.fairexec_script.specs.Keywords.{keyword_of, takes, is_queue}
 use Rattle.rt_words.specs.Fields.{both, made, core_field, shares_field, fixed_field}
 use Rattle.fairexec_script.specs.EventLines.{submit_line, create_line, shares_line, close_line, closecore_line, wake_line, deliver_line, turn_line, shut_line, collect_line, redeem_line, detach_line}
 
--- `C cap K`
+-- `C cap K`: how many cores, and the capacity of each link
+abbrev pub size_fields : List (List ℕ) → Result (ℕ × ℕ) Cause
+size_fields ws = made (λ p. (p.0, (p.1).1)) (both (within 1 most_cores (number_of (first ws))) (both (fixed_field (codes "cap") (second ws)) (within 1 most_capacity (number_of (third ws)))))
+
+-- `burst B`: how many polls a turn may have
+abbrev pub burst_fields : List (List ℕ) → Result ℕ Cause
+burst_fields ws = made (λ p. p.1) (both (fixed_field (codes "burst") (first ws)) (within 1 most_burst (number_of (second ws))))
+
+-- `C cap K`: each poll is a turn
 abbrev pub size_line : List (List ℕ) → Result Line Cause
-size_line ws = made (λ p. Size p.0 (p.1).1) (both (within 1 most_cores (number_of (first ws))) (both (fixed_field (codes "cap") (second ws)) (within 1 most_capacity (number_of (third ws)))))
+size_line ws = made (λ size. Size size.0 size.1 1) (size_fields ws)
+
+-- `C cap K burst B`
+abbrev pub burst_line : List (List ℕ) → Result Line Cause
+burst_line ws = made (λ p. Size (p.0).0 (p.0).1 p.1) (both (size_fields ws) (burst_fields (others (others (others ws)))))
 
 -- `d w`
 abbrev pub queue_line : ℕ → List (List ℕ) → Result Line Cause
@@ -43,12 +55,13 @@ abbrev pub counts : (ℕ → Bool) → Option ℕ → Bool
 counts test None = false
 counts test (Some count) = test count
 
--- the first line that isn't skipped
+-- the first line that isn't skipped; it may end with the burst
 abbrev pub first_line : List (List ℕ) → Result Line Cause
 first_line ws =
     if not (bytes_eq (first ws) (codes "cores")) then Err CoresLineExpected
     else (if counts (λ count. count == 4) (word_count ws) then size_line (others ws)
-    else Err WrongNumberOfWords)
+    else (if counts (λ count. count == 6) (word_count ws) then burst_line (others ws)
+    else Err WrongNumberOfWords))
 
 -- a line after it, with this first word; `late` says that a line other than a `queue` line came before
 abbrev pub keyword_line : Option Keyword → ℕ → Bool → List (List ℕ) → Result Line Cause

@@ -25,6 +25,8 @@ const MOST_QUEUE_LINES: usize = 255;
 #[derive(Drop)]
 pub(crate) struct Draft {
     size: Option<(u8, u16)>,
+    // How many polls a turn may have: 1 before a line tells it.
+    burst: u8,
     queues: Vec<(CoreNo, Shares)>,
     // How many `queue` lines each core has.
     counts: CoreCounts,
@@ -37,10 +39,10 @@ impl Model for Draft {
 
     ghost Value = { Drafted };
 
-    ghost view = { λ d. record { size = d.size; queues = d.queues.items; events = d.events.items } };
+    ghost view = { λ d. record { size = d.size; burst = d.burst; queues = d.queues.items; events = d.events.items } };
 
     ghost invariant = { λ d. HasCountedLines
-        (record { size = d.size; queues = d.queues.items; events = d.events.items }) d.counts };
+        (record { size = d.size; burst = d.burst; queues = d.queues.items; events = d.events.items }) d.counts };
 }
 
 impl Draft {
@@ -50,6 +52,7 @@ impl Draft {
     {
         Draft {
             size: None,
+            burst: 1,
             queues: Vec::new(alloc),
             counts: CoreCounts::new(),
             events: Vec::new(alloc),
@@ -64,6 +67,7 @@ impl Draft {
     {
         let Draft {
             size,
+            burst,
             queues,
             counts: _,
             events,
@@ -72,6 +76,7 @@ impl Draft {
         Some(Script {
             cores,
             cap,
+            burst,
             queues,
             events,
         })
@@ -114,7 +119,10 @@ impl Draft {
         ensures err { OnErr result (self.new ≡ self.old) }
     {
         match line {
-            Line::Size(cores, cap) => self.size = Some((cores, cap)),
+            Line::Size(cores, cap, burst) => {
+                self.size = Some((cores, cap));
+                self.burst = burst;
+            }
             Line::Queue(core, shares) => {
                 if self.counts.of(core) >= MOST_QUEUE_LINES {
                     return Err(Stop::Cause(Cause::TooManyQueues));

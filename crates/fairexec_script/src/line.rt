@@ -1,8 +1,8 @@
 //! What one line of a script says.
 
 ghost use Rattle.std.specs.Prelude.{◌≡◌, ◌≤◌, ◌+◌, length, IsTrue};
-ghost use Rattle.rt_words.specs.Words.{words};
-ghost use Rattle.rt_ids.specs.Limits.{most_capacity, most_cores};
+ghost use Rattle.rt_words.specs.Words.{words, others};
+ghost use Rattle.rt_ids.specs.Limits.{most_burst, most_capacity, most_cores};
 ghost use Rattle.fairexec_script.specs.Keywords.{takes};
 ghost use Rattle.rt_words.specs.Numbers.{within, number_of};
 ghost use Rattle.fairexec_script.specs.Lines as spec;
@@ -10,6 +10,7 @@ ghost use Rattle.fairexec_script.specs.Lines as spec;
 use crate::event::ScriptEvent;
 use crate::event_line as event;
 use crate::keyword::{Keyword, keyword_of};
+use rt_ids::limits::MOST_BURST;
 use rt_ids::{CoreNo, MOST_CAPACITY, MOST_CORES};
 use rt_shares::Shares;
 use rt_text::Cause;
@@ -20,15 +21,15 @@ use rt_words::words::{Words, word_count as count_words};
 /// What a line of a script says, well spelled and within its ranges.
 #[derive(Drop)]
 pub enum Line {
-    /// `cores C cap K`
-    Size(u8, u16),
+    /// `cores C cap K` or `cores C cap K burst B`. Without a burst it is 1.
+    Size(u8, u16, u8),
     /// `queue d w`
     Queue(CoreNo, Shares),
     /// Any other line: one event.
     Step(ScriptEvent),
 }
 
-/// The first line that isn't skipped.
+/// The first line that isn't skipped. It may end with the burst.
 pub fn first_line(line: &[u8]) -> Result<Line, Cause>
     ensures { result ≡ spec.first_line (words line.now) }
 {
@@ -38,6 +39,7 @@ pub fn first_line(line: &[u8]) -> Result<Line, Cause>
     }
     match count_words(line) {
         Some(4) => size_line(&mut fields),
+        Some(6) => burst_line(&mut fields),
         _ => Err(Cause::WrongNumberOfWords),
     }
 }
@@ -84,16 +86,46 @@ fn line_of(keyword: Keyword, cores: u8, fields: &mut Words<'_>, count: usize) ->
     }
 }
 
+/// `C cap K`: each poll is a turn.
 fn size_line(fields: &mut Words<'_>) -> Result<Line, Cause>
     ensures { result ≡ spec.size_line fields.old }
+{
+    let (cores, cap) = size_fields(fields)?;
+    Ok(Line::Size(cores, cap, 1))
+}
+
+/// `C cap K burst B`
+fn burst_line(fields: &mut Words<'_>) -> Result<Line, Cause>
+    ensures { result ≡ spec.burst_line fields.old }
+{
+    let size = size_fields(fields);
+    let burst = burst_fields(fields);
+    let ((cores, cap), burst) = both(size, burst)?;
+    Ok(Line::Size(cores, cap, burst))
+}
+
+/// `C cap K`: how many cores, and the capacity of each link.
+fn size_fields(fields: &mut Words<'_>) -> Result<(u8, u16), Cause>
+    ensures size { result ≡ spec.size_fields fields.old }
+    ensures rest { fields.new ≡ others (others (others fields.old)) }
 {
     let cores = cores_field(fields.next_word());
     let cap_word = fixed_field(fields.next_word(), "cap");
     let cap = cap_field(fields.next_word());
     match both(cores, both(cap_word, cap)) {
-        Ok((cores, (_, cap))) => Ok(Line::Size(cores, cap)),
+        Ok((cores, (_, cap))) => Ok((cores, cap)),
         Err(cause) => Err(cause),
     }
+}
+
+/// `burst B`: how many polls a turn may have.
+fn burst_fields(fields: &mut Words<'_>) -> Result<u8, Cause>
+    ensures { result ≡ spec.burst_fields fields.old }
+{
+    let burst_word = fixed_field(fields.next_word(), "burst");
+    let burst = burst_field(fields.next_word());
+    let (_, burst) = both(burst_word, burst)?;
+    Ok(burst)
 }
 
 /// How many cores there are.
@@ -108,6 +140,13 @@ fn cap_field(word: &[u8]) -> Result<u16, Cause>
     ensures { result ≡ within 1 most_capacity (number_of word.now) }
 {
     Ok(number_within(word, 1, MOST_CAPACITY as u64)? as u16)
+}
+
+/// How many polls a turn may have.
+fn burst_field(word: &[u8]) -> Result<u8, Cause>
+    ensures { result ≡ within 1 most_burst (number_of word.now) }
+{
+    Ok(number_within(word, 1, MOST_BURST as u64)? as u8)
 }
 
 fn queue_line(cores: u8, fields: &mut Words<'_>) -> Result<Line, Cause>

@@ -1,7 +1,7 @@
 //! A whole script.
 
 ghost use Rattle.std.specs.Prelude.{Some, length, ◌≤◌};
-ghost use Rattle.fairexec_script.specs.Limits.{IsSize, ArePlaced, HasFewQueues, AreEventsOf};
+ghost use Rattle.fairexec_script.specs.Limits.{IsSize, IsBurst, ArePlaced, HasFewQueues, AreEventsOf};
 
 use crate::event::ScriptEvent;
 use rt_ids::CoreNo;
@@ -14,11 +14,14 @@ pub struct Script {
     pub cores: u8,
     /// How many submissions each link may have outstanding.
     pub cap: u16,
+    /// How many polls a turn may have.
+    pub burst: u8,
     /// The queues to create at the opening, by core, in order.
     pub queues: Vec<(CoreNo, Shares)>,
     /// What then happens, in order.
     pub events: Vec<ScriptEvent>,
     ghost sized: { IsSize cores cap },
+    ghost bursts: { IsBurst burst },
     ghost placed: { ArePlaced (Some (cores, cap)) queues.items },
     ghost few: { HasFewQueues queues.items },
     ghost happen: { AreEventsOf (Some (cores, cap)) events.items },

@@ -66,9 +66,9 @@ module _ (ended : View) (assembly : Assembly ℕ) (finishes : HasFinished script
       )
 
 -- the journals of a run tell an outcome of each of its orders, and it is what the order asks
-pub answered : (cores cap : ℕ) (queues : List Entry) (orders : List Told) (started ended : View) (assembly : Assembly ℕ) → IsStarted cores cap (room_of cores cap) queues started → (offers : OffersAll orders started ended) →
+pub answered : (cores cap burst : ℕ) (queues : List Entry) (orders : List Told) (started ended : View) (assembly : Assembly ℕ) → IsStarted cores cap burst (room_of cores cap burst) queues started → (offers : OffersAll orders started ended) →
     HasFinished script_meaning ended assembly → AreAnswered orders started ended offers assembly
-answered cores cap queues orders started ended assembly starts offers finishes =
+answered cores cap burst queues orders started ended assembly starts offers finishes =
     let more = (grows orders started ended offers).cores in
     all_answered ended assembly finishes orders started offers
     (ap (λ (desk : DeskView Script ℕ). desk.actor) starts.desk ∙ (ap (λ (desk : DeskView Script ℕ). desk.cores) (sym starts.desk) ∙ sym more))

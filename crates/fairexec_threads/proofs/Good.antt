@@ -7,7 +7,7 @@ use Rattle.std.proofs.lemmas.List.Sums.{sum_by-cons}
 use Rattle.std.specs.Prelude.{All, nat_lt}
 use Rattle.rt_ids.specs.Work.{number_if}
 use Rattle.fairexec_script.specs.Drafts.{queue_lines}
-use Rattle.fairexec_script.specs.Limits.{IsSize, ArePlaced, HasFewQueues}
+use Rattle.fairexec_script.specs.Limits.{IsSize, IsBurst, ArePlaced, HasFewQueues}
 use Rattle.rt_runtime_config.specs.Configs.{Entry, queues_of, strays, least_room, IsGood}
 use Rattle.rt_jobs.specs.Scripts.{Script}
 use Rattle.rt_runtime.specs.declared.error.StartError.{StartError}
@@ -38,8 +38,8 @@ none_strays cores (queue ∷ rest) placed =
     rw (there, before) refl
 
 -- a journal of so many notes has room for the queues of each core
-room_for_queues : (cores cap count : ℕ) → count ≤ 255 → least_room cores cap + count ≤ room_of cores cap
-room_for_queues cores cap count few = omega (arith, few)
+room_for_queues : (cores cap burst count : ℕ) → count ≤ 255 → least_room cores cap burst + count ≤ room_of cores cap burst
+room_for_queues cores cap burst count few = omega (arith, few)
 
 one_more : (n most : ℕ) → n ≤ most → n + 1 ≤ most + 1
 one_more n most few = omega (arith, few)
@@ -48,27 +48,29 @@ one_more n most few = omega (arith, few)
 room_within : (cores cap : ℕ) → cores ≤ 16 → cap ≤ 1024 → (cores + 1) * (cap + 1) ≤ 17425
 room_within cores cap few small = let most = mul-le-mul (one_more cores 16 few) (one_more cap 1024 small) in omega (arith, most)
 
-pub config_good : (cores cap clocks gates : ℕ) (queues : List Entry) → IsSize cores cap → ArePlaced (Some (cores, cap)) queues → HasFewQueues queues → clocks ≡ cores → gates ≡ cores →
-    IsGood cores cap (room_of cores cap) queues clocks gates
-config_good cores cap clocks gates queues size placed few clocks_are gates_are = record {
+pub config_good : (cores cap burst clocks gates : ℕ) (queues : List Entry) → IsSize cores cap → IsBurst burst → ArePlaced (Some (cores, cap)) queues → HasFewQueues queues → clocks ≡ cores → gates ≡ cores →
+    IsGood cores cap burst (room_of cores cap burst) queues clocks gates
+config_good cores cap burst clocks gates queues size bursts placed few clocks_are gates_are = record {
   numbers = record {
     some_core = size.some_cores;
     cores_most = size.few_cores;
     some_place = size.some_cap;
     places_most = size.small_cap;
-    room_most = let within = room_within cores cap size.few_cores size.small_cap in omega (arith, within);
+    some_poll = bursts.some_poll;
+    polls_most = bursts.few_polls;
+    room_most = let within = room_within cores cap size.few_cores size.small_cap in let few_polls = bursts.few_polls in omega (arith, within, few_polls);
   };
   named = none_strays cores queues placed;
   each =
       λ core there.
       let same = counted core queues in
       let few_lines = few core in
-      record { queues_most = omega (arith, same, few_lines); room_least = rw same (room_for_queues cores cap (queue_lines core queues) few_lines) };
+      record { queues_most = omega (arith, same, few_lines); room_least = rw same (room_for_queues cores cap burst (queue_lines core queues) few_lines) };
   clocks_are = clocks_are;
   gates_are = gates_are;
 }
 
 -- so it is never refused
-pub never_bad : (cores cap room clocks gates : ℕ) (queues : List Entry) (error : StartError) → Starts {J = Script} {T = ℕ} cores cap room queues clocks gates (Err error) → error ≡ BadConfig →
-    IsGood cores cap room queues clocks gates → ⊥
-never_bad cores cap room clocks gates queues error starts bad good = subst (λ why. Starts {J = Script} {T = ℕ} cores cap room queues clocks gates (Err why)) bad starts good
+pub never_bad : (cores cap burst room clocks gates : ℕ) (queues : List Entry) (error : StartError) → Starts {J = Script} {T = ℕ} cores cap burst room queues clocks gates (Err error) → error ≡ BadConfig →
+    IsGood cores cap burst room queues clocks gates → ⊥
+never_bad cores cap burst room clocks gates queues error starts bad good = subst (λ why. Starts {J = Script} {T = ℕ} cores cap burst room queues clocks gates (Err why)) bad starts good

@@ -79,13 +79,13 @@ module _ (ended : RuntimeView Script ℕ) (assembly : Assembly ℕ) (finishes : 
   lawful : EachNote (MayStand (terms_of core assembly)) notes
   lawful = let within = within in (finishes.joined.lawful core (omega (arith, within))).notes
 
-  acts : EachNote (MayAct (least_free ended.desk.cores ended.desk.cap) ended.room) notes
+  acts : EachNote (MayAct (least_free ended.desk.cores ended.desk.cap ended.desk.burst) ended.room) notes
   acts = finishes.acts core there
 
   delivers : EachNote (DeliversAsSent assembly) notes
   delivers = let within = within in finishes.joined.links.as_sent core (omega (arith, within))
 
-  module _ (final : ℕ) (all : length (accepted_orders core (journal_of assembly.cores assembly)) ≡ final) (room : ended.room ≡ room_of ended.desk.cores ended.desk.cap) where
+  module _ (final : ℕ) (all : length (accepted_orders core (journal_of assembly.cores assembly)) ≡ final) (room : ended.room ≡ room_of ended.desk.cores ended.desk.cap ended.desk.burst) where
     -- a command that closed the core was accepted before
     told_to_close : (mode : Mode) (later before : Journal ℕ) → notes ≡ later ++ CoreClosed mode ∷ before → IsSome (effect_awaited before) → IsToldToClose core final mode assembly
     told_to_close mode later before is awaited =
@@ -112,11 +112,11 @@ module _ (ended : RuntimeView Script ℕ) (assembly : Assembly ℕ) (finishes : 
 
     closes_for : (mode : Mode) (later before : Journal ℕ) → notes ≡ later ++ CoreClosed mode ∷ before → ClosesItself mode before assembly ⊎ IsToldToClose core final mode assembly
     closes_for mode later before is =
-        let acted = each_behind (MayAct (least_free ended.desk.cores ended.desk.cap) ended.room) later (CoreClosed mode ∷ before) (subst (EachNote (MayAct (least_free ended.desk.cores ended.desk.cap) ended.room)) is acts) in
+        let acted = each_behind (MayAct (least_free ended.desk.cores ended.desk.cap ended.desk.burst) ended.room) later (CoreClosed mode ∷ before) (subst (EachNote (MayAct (least_free ended.desk.cores ended.desk.cap ended.desk.burst) ended.room)) is acts) in
         ⊎_elim (λ awaited. inr (told_to_close mode later before is awaited)) (λ own. inl (record { returning = own.0; short = by_room before own.1 })) acted.0
       where
-        by_room : (before : Journal ℕ) → ended.room - length before < least_free ended.desk.cores ended.desk.cap → room_of assembly.cores assembly.cap - length before < least_free assembly.cores assembly.cap
-        by_room before short = rw (finishes.cores, finishes.cap) (subst (λ room. room - length before < least_free ended.desk.cores ended.desk.cap) room short)
+        by_room : (before : Journal ℕ) → ended.room - length before < least_free ended.desk.cores ended.desk.cap ended.desk.burst → room_of assembly.cores assembly.cap assembly.burst - length before < least_free assembly.cores assembly.cap assembly.burst
+        by_room before short = rw (finishes.cores, finishes.cap, finishes.burst) (subst (λ room. room - length before < least_free ended.desk.cores ended.desk.cap ended.desk.burst) room short)
 
     pub has_closed : HasClosed core final assembly
     has_closed =

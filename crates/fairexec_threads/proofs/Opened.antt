@@ -15,9 +15,9 @@ use Rattle.fairexec_threads.specs.Offers.{OffersAll}
 use Rattle.fairexec_threads.specs.Rooms.{room_of}
 use Rattle.fairexec_threads.proofs.Sending.{grows}
 
-pub opened : (cores cap : ℕ) (queues : List Entry) (orders : List Told) (started ended : RuntimeView Script ℕ) (assembly : Assembly ℕ) → IsStarted cores cap (room_of cores cap) queues started → OffersAll orders started ended → HasFinished script_meaning ended assembly →
+pub opened : (cores cap burst : ℕ) (queues : List Entry) (orders : List Told) (started ended : RuntimeView Script ℕ) (assembly : Assembly ℕ) → IsStarted cores cap burst (room_of cores cap burst) queues started → OffersAll orders started ended → HasFinished script_meaning ended assembly →
     (core : ℕ) → core < cores → opening_of (journal_of core assembly) ≡ creations core queues
-opened cores cap queues orders started ended assembly starts offers finishes core there =
+opened cores cap burst queues orders started ended assembly starts offers finishes core there =
     let more = grows orders started ended offers in
     let cores_now : ended.desk.cores ≡ cores = more.cores ∙ ap (λ desk. desk.cores) starts.desk in
     finishes.openings core (rw cores_now there)

@@ -28,11 +28,11 @@ places_few : (cores cap sum : ℕ) → cores ≤ 16 → cap ≤ 1024 → sum ≤
 places_few cores cap sum few small sum_few = let most = mul-le-mul few small in omega (arith, most, sum_few)
 
 -- the journal is long enough
-room_enough : (each cores cap notes outstanding room : ℕ) → each ≤ 3 → cores ≤ 16 → notes ≤ 4111 → outstanding ≤ 16384 → room ≡ room_of cores cap → 3 * (outstanding + 1) + each * cores ≤ room - notes
-room_enough each cores cap notes outstanding room some few short less is = let most = mul-le-mul some few in omega (arith, most, short, less, is)
+room_enough : (each cores cap burst notes outstanding room : ℕ) → each ≤ 3 → cores ≤ 16 → notes ≤ 4111 → outstanding ≤ 16384 → room ≡ room_of cores cap burst → 3 * (outstanding + 1) + each * cores ≤ room - notes
+room_enough each cores cap burst notes outstanding room some few short less is = let most = mul-le-mul some few in omega (arith, most, short, less, is)
 
 pub has_room : (each core : ℕ) (view : RuntimeView Script ℕ) → each ≤ 3 → HasPlace core view → room_left each view ≤ free_notes view.desk.journal
 has_room each core view some place =
-    room_enough each view.desk.cores view.desk.cap (length view.desk.journal.notes) (outstanding_upto view.desk.journal.notes view.desk.cores) view.desk.journal.room some place.of_script.few_cores place.notes
+    room_enough each view.desk.cores view.desk.cap view.desk.burst (length view.desk.journal.notes) (outstanding_upto view.desk.journal.notes view.desk.cores) view.desk.journal.room some place.of_script.few_cores place.notes
     (places_few view.desk.cores view.desk.cap _ place.of_script.few_cores place.of_script.small_cap (upto_few view.desk.cores view.desk.cap view.desk.journal.notes place.each))
     place.of_script.room

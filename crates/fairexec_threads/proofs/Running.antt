@@ -15,11 +15,11 @@ pub own : (P : ℕ → ℕ → Type 0) (a b c d : ℕ) → c ≡ a → d ≡ b �
 own P a b c d first second p = rw (first, second) p
 
 -- the run is of the script that the source tells
-pub tells_run : (source : Option (List ℕ)) (script : ThreadsScript) (assembly : Assembly ℕ) → IfSome source (λ text. threads_script_of text ≡ Ok (drafted script)) → RunsOrders script.cores script.cap script.queues.items script.orders.items assembly → TellsRun source assembly
+pub tells_run : (source : Option (List ℕ)) (script : ThreadsScript) (assembly : Assembly ℕ) → IfSome source (λ text. threads_script_of text ≡ Ok (drafted script)) → RunsOrders script.cores script.cap script.burst script.queues.items script.orders.items assembly → TellsRun source assembly
 tells_run None script assembly told runs = tt
 tells_run (Some text) script assembly told runs = (drafted script, told, ((script.cores, script.cap), refl, runs))
 
 -- sound journals are told as sound
-pub told_sound : (cores cap : ℕ) (queues : List Entry) (orders : List Told) (assembly : Assembly ℕ) (journal stats : Bool) (old new : Option (List ℕ)) (answer : Bool) → RunsOrders cores cap queues orders assembly →
+pub told_sound : (cores cap burst : ℕ) (queues : List Entry) (orders : List Told) (assembly : Assembly ℕ) (journal stats : Bool) (old new : Option (List ℕ)) (answer : Bool) → RunsOrders cores cap burst queues orders assembly →
     IsTold journal stats assembly old new answer → answer ≡ true
-told_sound cores cap queues orders assembly journal stats old new answer runs told = told.answered ∙ ap is_sound (told.report.judged.sound.1 runs.finishes.sound)
+told_sound cores cap burst queues orders assembly journal stats old new answer runs told = told.answered ∙ ap is_sound (told.report.judged.sound.1 runs.finishes.sound)

@@ -87,6 +87,7 @@ submits_one core order old (Err (NoCore back)) new none = absurd none
 pub record Grows (orders : List Told) (old new : View) : Type 0 where
   pub cores : new.desk.cores ≡ old.desk.cores
   pub cap : new.desk.cap ≡ old.desk.cap
+  pub burst : new.desk.burst ≡ old.desk.burst
   pub room : new.desk.journal.room ≡ old.desk.journal.room
   pub closings : length new.closing ≡ length old.closing
   pub spare : new.room ≡ old.room
@@ -98,6 +99,7 @@ pub grows : (orders : List Told) (old new : View) → OffersAll orders old new �
 grows [] old new same = record {
   cores = ap (λ (view : View). view.desk.cores) same;
   cap = ap (λ (view : View). view.desk.cap) same;
+  burst = ap (λ (view : View). view.desk.burst) same;
   room = ap (λ (view : View). view.desk.journal.room) same;
   closings = ap (λ (view : View). length view.closing) same;
   workers = ap (λ (view : View). view.workers) same;
@@ -112,6 +114,7 @@ grows (told ∷ rest) old new (between, one, others) =
     record {
       cores = later.cores ∙ ap (λ (desk : DeskView Script ℕ). desk.cores) sends.stays.desk;
       cap = later.cap ∙ ap (λ (desk : DeskView Script ℕ). desk.cap) sends.stays.desk;
+      burst = later.burst ∙ ap (λ (desk : DeskView Script ℕ). desk.burst) sends.stays.desk;
       room = later.room ∙ ap (λ (desk : DeskView Script ℕ). desk.journal.room) sends.stays.desk;
       workers = later.workers ∙ sends.stays.workers;
       spare = later.spare ∙ sends.stays.room;
@@ -125,7 +128,7 @@ script_kept orders old new more script = record {
   some_cores = rw more.cores script.some_cores;
   few_cores = rw more.cores script.few_cores;
   small_cap = rw more.cap script.small_cap;
-  room = rw (more.room, more.cores, more.cap) script.room;
+  room = rw (more.room, more.cores, more.cap, more.burst) script.room;
   closings = rw (more.closings, more.cores) script.closings;
 }
 
@@ -140,15 +143,16 @@ offers_both [] second old between new same later = subst (λ (view : View). Offe
 offers_both (told ∷ rest) second old between new (next, done, others) later = (next, done, offers_both rest second next between new others later)
 
 -- a runtime that was just started
-pub started_of : (cores cap : ℕ) (queues : List Entry) (view : View) → IsStarted cores cap (room_of cores cap) queues view → IsSize cores cap → IsOfScript view × (view.desk.journal.notes ≡ [])
-started_of cores cap queues view started size =
+pub started_of : (cores cap burst : ℕ) (queues : List Entry) (view : View) → IsStarted cores cap burst (room_of cores cap burst) queues view → IsSize cores cap → IsOfScript view × (view.desk.journal.notes ≡ [])
+started_of cores cap burst queues view started size =
     let cores_are : view.desk.cores ≡ cores = ap (λ (desk : DeskView Script ℕ). desk.cores) started.desk in
-    let cap_is : view.desk.cap ≡ cap = ap (λ (desk : DeskView Script ℕ). desk.cap) started.desk in (
+    let cap_is : view.desk.cap ≡ cap = ap (λ (desk : DeskView Script ℕ). desk.cap) started.desk in
+    let burst_is : view.desk.burst ≡ burst = ap (λ (desk : DeskView Script ℕ). desk.burst) started.desk in (
       record {
         some_cores = rw cores_are size.some_cores;
         few_cores = rw cores_are size.few_cores;
         small_cap = rw cap_is size.small_cap;
-        room = rw (cores_are, cap_is) (ap (λ (desk : DeskView Script ℕ). desk.journal.room) started.desk);
+        room = rw (cores_are, cap_is, burst_is) (ap (λ (desk : DeskView Script ℕ). desk.journal.room) started.desk);
         closings = ap length started.closing ∙ (length-replicate cores false ∙ sym cores_are);
       },
       ap (λ (desk : DeskView Script ℕ). desk.journal.notes) started.desk,

@@ -123,7 +123,7 @@ stays_shut core (told ∷ rest) old new (between, one, others) shut =
     let first = one_shut core told old between one shut in
     stays_shut core rest between new others first.shut ∙ first.orders
 
-module _ (ended : View) (assembly : Assembly ℕ) (finishes : HasFinished script_meaning ended assembly) (room : ended.room ≡ room_of ended.desk.cores ended.desk.cap) where
+module _ (ended : View) (assembly : Assembly ℕ) (finishes : HasFinished script_meaning ended assembly) (room : ended.room ≡ room_of ended.desk.cores ended.desk.cap ended.desk.burst) where
   outside : journal_of assembly.cores assembly ≡ notes_of ended.desk
   outside = ap (λ cores. journal_of cores assembly) finishes.cores ∙ finishes.outside
 
@@ -154,10 +154,11 @@ module _ (ended : View) (assembly : Assembly ℕ) (finishes : HasFinished script
       (by_answer told rest old between there others one.answer one.taken one.sends, all_heard rest between others)
 
 -- the same of a whole run
-pub heard : (cores cap : ℕ) (queues : List Entry) (orders : List Told) (started ended : View) (assembly : Assembly ℕ) → IsStarted cores cap (room_of cores cap) queues started → (offers : OffersAll orders started ended) →
+pub heard : (cores cap burst : ℕ) (queues : List Entry) (orders : List Told) (started ended : View) (assembly : Assembly ℕ) → IsStarted cores cap burst (room_of cores cap burst) queues started → (offers : OffersAll orders started ended) →
     HasFinished script_meaning ended assembly → AreHeard orders started ended offers assembly
-heard cores cap queues orders started ended assembly starts offers finishes =
+heard cores cap burst queues orders started ended assembly starts offers finishes =
     let more = grows orders started ended offers in
     let cores_are : ended.desk.cores ≡ cores = more.cores ∙ ap (λ (desk : DeskView Script ℕ). desk.cores) starts.desk in
     let cap_is : ended.desk.cap ≡ cap = more.cap ∙ ap (λ (desk : DeskView Script ℕ). desk.cap) starts.desk in
-    all_heard ended assembly finishes (rw (cores_are, cap_is) (more.spare ∙ starts.room_is)) orders started offers
+    let burst_is : ended.desk.burst ≡ burst = more.burst ∙ ap (λ (desk : DeskView Script ℕ). desk.burst) starts.desk in
+    all_heard ended assembly finishes (rw (cores_are, cap_is, burst_is) (more.spare ∙ starts.room_is)) orders started offers

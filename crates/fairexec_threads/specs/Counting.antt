@@ -15,7 +15,7 @@ pub record IsOfScript (view : RuntimeView Script ℕ) : Type 0 where
   pub some_cores : 1 ≤ view.desk.cores
   pub few_cores : view.desk.cores ≤ most_cores
   pub small_cap : view.desk.cap ≤ most_capacity
-  pub room : view.desk.journal.room ≡ room_of view.desk.cores view.desk.cap
+  pub room : view.desk.journal.room ≡ room_of view.desk.cores view.desk.cap view.desk.burst
   pub closings : length view.closing ≡ view.desk.cores
 
 -- there is room for one order more to this core, whatever became of those before: no outcome is ever collected

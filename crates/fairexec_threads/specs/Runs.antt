@@ -22,10 +22,10 @@ use Rattle.rt_runtime_worker.specs.Queues.{creations, opening_of}
 -- A runtime of these numbers and queues is started, the orders are sent, each core is closed from 0 upwards, and the runtime is finished. The
 -- journal of each core begins with the creation of its queues. Each order is accepted, unless its core has closed. What the journals tell of an
 -- order is what it asks.
-pub record RunsOrders (cores cap : ℕ) (queues : List Entry) (orders : List Told) (assembly : Assembly ℕ) : Type 0 where
+pub record RunsOrders (cores cap burst : ℕ) (queues : List Entry) (orders : List Told) (assembly : Assembly ℕ) : Type 0 where
   pub started : RuntimeView Script ℕ
   pub ended : RuntimeView Script ℕ
-  pub starts : IsStarted cores cap (room_of cores cap) queues started
+  pub starts : IsStarted cores cap burst (room_of cores cap burst) queues started
   pub offers : OffersAll (orders ++ closings cores) started ended
   pub finishes : HasFinished script_meaning ended assembly
   pub opened : (core : ℕ) → core < cores → opening_of (journal_of core assembly) ≡ creations core queues
@@ -34,7 +34,7 @@ pub record RunsOrders (cores cap : ℕ) (queues : List Entry) (orders : List Tol
 
 -- the same of a script that told its size
 abbrev pub RunsScript : Drafted → Assembly ℕ → Type 0
-RunsScript draft assembly = (size : ℕ × ℕ) × (draft.size ≡ Some size) × RunsOrders size.0 size.1 draft.queues draft.orders assembly
+RunsScript draft assembly = (size : ℕ × ℕ) × (draft.size ≡ Some size) × RunsOrders size.0 size.1 draft.burst draft.queues draft.orders assembly
 
 -- the journals are those of a run of the script that the source tells
 abbrev pub TellsRun : Option (List ℕ) → Assembly ℕ → Type 0

@@ -3,7 +3,7 @@
 ghost use Rattle.std.specs.Prelude.{◌≡◌, ◌≤◌, length, IfOk, IfErr, Some};
 ghost use Rattle.rt_ids.specs.Limits.{most_capacity, most_cores};
 ghost use Rattle.rt_runtime.specs.Calls.{IsStarted};
-ghost use Rattle.fairexec_script.specs.Limits.{IsSize, ArePlaced, HasFewQueues};
+ghost use Rattle.fairexec_script.specs.Limits.{IsSize, IsBurst, ArePlaced, HasFewQueues};
 ghost use Rattle.fairexec_threads.specs.Rooms as spec;
 ghost use Rattle.fairexec_threads.specs.Starting.{IsOfStart};
 
@@ -23,12 +23,13 @@ use std::thread::Threads;
 pub(crate) type House = Runtime<ScriptJob, StillClock, NoGate>;
 
 /// How many notes each journal has room for.
-fn room_of(cores: u8, cap: u16) -> u32
+fn room_of(cores: u8, cap: u16, burst: u8) -> u32
     requires cores { cores ≤ most_cores }
     requires cap { cap ≤ most_capacity }
-    ensures { result ≡ spec.room_of cores cap }
+    requires bursts { IsBurst burst }
+    ensures { result ≡ spec.room_of cores cap burst }
 {
-    (1 << 16) + 16 * ((u32::from(cores) + 1) * (u32::from(cap) + 1))
+    (1 << 16) + 16 * ((u32::from(cores) + 1) * (u32::from(cap) + 1)) + 4 * u32::from(burst - 1)
 }
 
 /// A clock for each core.
@@ -49,7 +50,7 @@ fn gates_of(alloc: Global, cores: u8) -> Result<Vec<NoGate>, AllocError>
     Ok(gates)
 }
 
-/// Starts the runtime of a script of this size with these queues.
+/// Starts the runtime of a script of this size, with turns of so many polls and with these queues.
 ///
 /// # Errors
 ///
@@ -59,14 +60,16 @@ pub(crate) fn start_house<R>(
     alloc: Global,
     cores: u8,
     cap: u16,
+    burst: u8,
     queues: Vec<(CoreNo, Shares)>,
 ) -> Result<House, ThreadsFault>
 where
     R: Threads + Wait + Copy + Drop + Send + 'static,
     requires size { IsSize cores cap }
+    requires bursts { IsBurst burst }
     requires placed { ArePlaced (Some (cores, cap)) queues.items }
     requires few { HasFewQueues queues.items }
-    ensures ok { IfOk result (IsStarted cores cap (spec.room_of cores cap) queues.items) }
+    ensures ok { IfOk result (IsStarted cores cap burst (spec.room_of cores cap burst) queues.items) }
     ensures fault { IfErr result IsOfStart }
 {
     let clocks = clocks_of(alloc, cores)?;
@@ -74,7 +77,8 @@ where
     let config = Config {
         cores,
         cap,
-        room: room_of(cores, cap),
+        burst,
+        room: room_of(cores, cap, burst),
         queues,
     };
     match House::start(rt, alloc, config, clocks, gates) {

@@ -27,16 +27,17 @@ use std::thread::Threads;
 fn run_orders<H>(rt: H, alloc: Global, script: ThreadsScript) -> Result<Assembly, ThreadsFault>
 where
     H: Threads + Wait + Copy + Drop + Send + 'static,
-    ensures ok { IfOk result (RunsOrders script.cores script.cap script.queues.items script.orders.items) }
+    ensures ok { IfOk result (RunsOrders script.cores script.cap script.burst script.queues.items script.orders.items) }
     ensures fault { IfErr result IsOfStart }
 {
     let ThreadsScript {
         cores,
         cap,
+        burst,
         queues,
         orders,
     } = script;
-    let mut house = start_house(rt, alloc, cores, cap, queues)?;
+    let mut house = start_house(rt, alloc, cores, cap, burst, queues)?;
     offer_all(&mut house, orders);
     close_all(&mut house, cores);
     match house.finish(&rt) {

@@ -55,22 +55,22 @@ sent_told (Some size) sender core one h never = sent_of size.0 sender core one h
 no_orders : (size : ℕ × ℕ) (orders : List Told) → script.IsSize size.0 size.1 → orders ≡ [] → AreTold (Some size) orders × HasSpare (Some size) orders
 no_orders size orders limits none = rw none (All-nil (IsToldOf size.0), λ core. limits.some_cap)
 
-pub size_known : (draft : Drafted) (size : ℕ × ℕ) → IsWithinLimits draft → draft.size ≡ None → script.IsSize size.0 size.1 → IsWithinLimits (record { size = Some size; queues = draft.queues; orders = draft.orders })
-size_known draft size limits first is =
+pub size_known : (draft : Drafted) (size : ℕ × ℕ) (burst : ℕ) → IsWithinLimits draft → draft.size ≡ None → script.IsSize size.0 size.1 → script.IsBurst burst → IsWithinLimits (record { size = Some size; burst = burst; queues = draft.queues; orders = draft.orders })
+size_known draft size burst limits first is bursts =
     let none : draft.orders ≡ [] = rw first at limits.told in
     let no_queues : draft.queues ≡ [] = rw first at limits.placed in
     let orders = no_orders size draft.orders is none in
-    record { sized = is; placed = rw no_queues (All-nil (λ queue. queue.0 < size.0)); few = limits.few; told = orders.0; spare = orders.1 }
+    record { sized = is; bursts = bursts; placed = rw no_queues (All-nil (λ queue. queue.0 < size.0)); few = limits.few; told = orders.0; spare = orders.1 }
 
 -- one queue more
 no_events : (size : Option (ℕ × ℕ)) → script.AreEventsOf size []
 no_events None = refl
 no_events (Some size) = λ i x h. absurd (omega arith)
 
-pub queue_more : (draft : Drafted) (queue : ℕ × ℕ) → IsWithinLimits draft → script.IsCoreOf draft.size queue.0 → queue_lines queue.0 draft.queues < 255 → IsWithinLimits (record { size = draft.size; queues = draft.queues ++ queue ∷ []; orders = draft.orders })
+pub queue_more : (draft : Drafted) (queue : ℕ × ℕ) → IsWithinLimits draft → script.IsCoreOf draft.size queue.0 → queue_lines queue.0 draft.queues < 255 → IsWithinLimits (record { size = draft.size; burst = draft.burst; queues = draft.queues ++ queue ∷ []; orders = draft.orders })
 queue_more draft queue limits core room =
-    let more = limits_more (record { size = draft.size; queues = draft.queues; events = [] }) queue (record { sized = limits.sized; placed = limits.placed; few = limits.few; happen = no_events draft.size }) core room in
-    record { sized = more.sized; placed = more.placed; few = more.few; told = limits.told; spare = limits.spare }
+    let more = limits_more (record { size = draft.size; burst = draft.burst; queues = draft.queues; events = [] }) queue (record { sized = limits.sized; bursts = limits.bursts; placed = limits.placed; few = limits.few; happen = no_events draft.size }) core room in
+    record { sized = more.sized; bursts = more.bursts; placed = more.placed; few = more.few; told = limits.told; spare = limits.spare }
 
 -- one order more
 told_more : (size : Option (ℕ × ℕ)) (orders : List Told) (told : Told) → AreTold size orders → IsToldFor size told → AreTold size (orders ++ told ∷ [])
@@ -92,9 +92,10 @@ spare_more (Some size) orders told spare room =
     still_below (eqb told.0 core) (orders_to core orders) (orders_to core (orders ++ told ∷ [])) size.1 (number_more core orders told)
     (λ same. let e : told.0 ≡ core = grind (arith, nat_tests) in rw (← e) room) (spare core)
 
-pub order_more : (draft : Drafted) (told : Told) → IsWithinLimits draft → IsToldFor draft.size told → orders_to told.0 draft.orders + 1 < cap_of draft.size → IsWithinLimits (record { size = draft.size; queues = draft.queues; orders = draft.orders ++ told ∷ [] })
+pub order_more : (draft : Drafted) (told : Told) → IsWithinLimits draft → IsToldFor draft.size told → orders_to told.0 draft.orders + 1 < cap_of draft.size → IsWithinLimits (record { size = draft.size; burst = draft.burst; queues = draft.queues; orders = draft.orders ++ told ∷ [] })
 order_more draft told limits one room = record {
   sized = limits.sized;
+  bursts = limits.bursts;
   placed = limits.placed;
   few = limits.few;
   told = told_more draft.size draft.orders told limits.told one;

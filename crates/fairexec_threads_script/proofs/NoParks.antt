@@ -1,7 +1,7 @@
 -- A line that threads take tells of no job that parks.
 use Rattle.std.proofs.Common.{◌≡◌, ℕ, ◌==◌, ◌&&◌, ◌||◌, Bool, true, false, cond, List, [], ◌∷◌, Option, Some, None, Result, Ok, Err, refl}
 use Rattle.rt_jobs.specs.declared.poll.Poll.{Poll}
-use Rattle.rt_jobs.specs.declared.poll.Poll.TheVariants.{Yield, Submit, Park, Done}
+use Rattle.rt_jobs.specs.declared.poll.Poll.TheVariants.{Yield, Submit, Park}
 use Rattle.rt_jobs.specs.Scripts.{Script}
 use Rattle.rt_text.specs.declared.fault.Cause.{Cause}
 use Rattle.rt_text.specs.declared.fault.Cause.TheVariants.{BadWord, QueueLineTooLate, WrongNumberOfWords}
@@ -12,11 +12,11 @@ use Rattle.fairexec_script.specs.declared.line.Line.{Line}
 use Rattle.fairexec_script.specs.declared.keyword.Keyword.{Keyword}
 use Rattle.fairexec_script.specs.declared.keyword.Keyword.TheVariants as keyword
 use Rattle.fairexec_script.specs.Keywords.{keyword_of, takes, is_queue}
-use Rattle.fairexec_script.specs.EventLines.{submit_line, create_line, shares_line, close_line}
-use Rattle.fairexec_script.specs.Lines.{counts, size_line, queue_line, line_of, first_line, keyword_line, later_line}
+use Rattle.fairexec_script.specs.EventLines.{submit_line}
+use Rattle.fairexec_script.specs.Lines.{counts, size_line, burst_line, line_of, first_line, keyword_line, later_line}
 use Rattle.fairexec_script.specs.Polls.{submit_field, early_field, done_field, polls_field, job_field}
 use Rattle.fairexec_threads_script.specs.declared.fault.ThreadsCause.{ThreadsCause}
-use Rattle.fairexec_threads_script.specs.Lines.{of_script, bars, is_barred, is_park, has_park, parks, size_told, line_told}
+use Rattle.fairexec_threads_script.specs.Lines.{bars, is_barred, is_park, has_park, parks, size_told, line_told}
 use Rattle.fairexec_threads_script.specs.Limits.{is_parking, NeverParks, TellsNoPark}
 use Rattle.fairexec_threads_script.proofs.LimitLemmas.{of_script_ok, not_barred_ok}
 
@@ -127,11 +127,17 @@ line_told_never cores late ws line e =
 size_never : (ws : List (List ℕ)) (line : Line) → size_line ws ≡ Ok line → TellsNoPark line
 size_never ws line e = let m = made_ok _ _ _ e in rw m.2 tt
 
-held : {A : Type 0} (b : Bool) (r : Result A Cause) (cause : Cause) (value : A) → cond b r (Err cause) ≡ Ok value → r ≡ Ok value
-held b r cause value e = (chosen b r cause value e).1
+burst_never : (ws : List (List ℕ)) (line : Line) → burst_line ws ≡ Ok line → TellsNoPark line
+burst_never ws line e = let m = made_ok _ _ _ e in rw m.2 tt
+
+by_count : (four six : Bool) (ws : List (List ℕ)) (line : Line) → cond four (size_line ws) (cond six (burst_line ws) (Err WrongNumberOfWords)) ≡ Ok line → TellsNoPark line
+by_count true six ws line e = size_never ws line e
+by_count false true ws line e = burst_never ws line e
+by_count false false ws line e = cc
 
 first_never : (ws : List (List ℕ)) (line : Line) → first_line ws ≡ Ok line → TellsNoPark line
-first_never ws line e = size_never (others ws) line (held _ _ _ _ (missed _ _ _ _ e))
+first_never ws line e =
+    by_count (counts (λ count. count == 4) (word_count ws)) (counts (λ count. count == 6) (word_count ws)) (others ws) line (missed _ _ _ _ e)
 
 pub size_told_never : (ws : List (List ℕ)) (line : Line) → size_told ws ≡ Ok line → TellsNoPark line
 size_told_never ws line e = first_never ws line (of_script_ok (first_line ws) line e)

@@ -19,15 +19,16 @@ use Rattle.fairexec_threads_script.specs.Lines.{size_told, line_told}
 abbrev pub Told : Type 0
 Told = ℕ × Order Script
 
--- cores and capacity, once a line told them; the `queue` lines by core and shares; the orders; all in order
+-- cores and capacity, once a line told them; the burst, 1 if no line told it; the `queue` lines by core and shares; the orders; all in order
 pub record Drafted : Type 0 where
   pub size : Option (ℕ × ℕ)
+  pub burst : ℕ
   pub queues : List (ℕ × ℕ)
   pub orders : List Told
 
 -- before the first line
 abbrev pub empty_draft : Drafted
-empty_draft = record { size = None; queues = []; orders = [] }
+empty_draft = record { size = None; burst = 1; queues = []; orders = [] }
 
 -- how many orders a core gets
 abbrev pub orders_to : ℕ → List Told → ℕ
@@ -57,7 +58,7 @@ refusal draft core polls =
 -- the draft and one order more, unless there is no room for it
 abbrev pub unless : Option ThreadsCause → Drafted → Told → Result Drafted ThreadsCause
 unless (Some cause) draft told = Err cause
-unless None draft told = Ok (record { size = draft.size; queues = draft.queues; orders = draft.orders ++ told ∷ [] })
+unless None draft told = Ok (record { size = draft.size; burst = draft.burst; queues = draft.queues; orders = draft.orders ++ told ∷ [] })
 
 abbrev pub with_order : Drafted → Told → Result Drafted ThreadsCause
 with_order draft told = unless (refusal draft told.0 (polls_of told.1)) draft told
@@ -70,12 +71,12 @@ with_event draft _ = Err why.NotForThreads
 -- the draft and one queue more; a core has at most 255 `queue` lines
 abbrev pub with_queue : Drafted → ℕ → ℕ → Result Drafted ThreadsCause
 with_queue draft core shares =
-    if nat_lt (queue_lines core draft.queues) 255 then Ok (record { size = draft.size; queues = draft.queues ++ (core, shares) ∷ []; orders = draft.orders })
+    if nat_lt (queue_lines core draft.queues) 255 then Ok (record { size = draft.size; burst = draft.burst; queues = draft.queues ++ (core, shares) ∷ []; orders = draft.orders })
     else Err (why.Line TooManyQueues)
 
 -- the draft and one line more
 abbrev pub with_line : Drafted → Line → Result Drafted ThreadsCause
-with_line draft (Size cores cap) = Ok (record { size = Some (cores, cap); queues = draft.queues; orders = draft.orders })
+with_line draft (Size cores cap burst) = Ok (record { size = Some (cores, cap); burst = burst; queues = draft.queues; orders = draft.orders })
 with_line draft (Queue core shares) = with_queue draft core shares
 with_line draft (Step event) = with_event draft event
 

@@ -8,7 +8,7 @@ use Rattle.rt_jobs.specs.declared.poll.Poll.TheVariants.{Yield, Park}
 use Rattle.rt_jobs.specs.Scripts.{Script}
 use Rattle.fairexec_script.specs.Counts.{count_of}
 use Rattle.fairexec_script.specs.Drafts.{queue_lines}
-use Rattle.fairexec_script.specs.Limits.{IsSized, ArePlaced, HasFewQueues}
+use Rattle.fairexec_script.specs.Limits.{IsSized, IsBurst, ArePlaced, HasFewQueues}
 use Rattle.fairexec_script.specs.declared.event.ScriptEvent.{ScriptEvent}
 use Rattle.fairexec_script.specs.declared.event.ScriptEvent.TheVariants.{Send}
 use Rattle.fairexec_script.specs.declared.line.Line.{Line}
@@ -62,6 +62,7 @@ HasSpare (Some size) orders = (core : ℕ) → orders_to core orders < size.1
 
 pub record IsWithinLimits (draft : Drafted) : Type 0 where
   pub sized : IsSized draft.size
+  pub bursts : IsBurst draft.burst
   pub placed : ArePlaced draft.size draft.queues
   pub few : HasFewQueues draft.queues
   pub told : AreTold draft.size draft.orders

@@ -4,4 +4,4 @@ use Rattle.fairexec_threads_script.specs.declared.script.ThreadsScript.{ThreadsS
 use Rattle.fairexec_threads_script.specs.Drafts.{Drafted}
 
 abbrev pub drafted : ThreadsScript → Drafted
-drafted script = record { size = Some (script.cores, script.cap); queues = script.queues.items; orders = script.orders.items }
+drafted script = record { size = Some (script.cores, script.cap); burst = script.burst; queues = script.queues.items; orders = script.orders.items }

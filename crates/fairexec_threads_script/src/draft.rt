@@ -3,7 +3,7 @@
 ghost use Rattle.std.specs.Prelude.{◌≡◌, Ok, Err, IfOk, IfErr, IfSome, IsNone, None, Some, OnOk, OnErr, length, nat_lt, ◌<◌, ◌≤◌, ◌+◌, ◌++◌, ◌∷◌, [], ◌↔◌};
 ghost use Rattle.rt_words.specs.Words.{words};
 ghost use Rattle.fairexec_script.specs.Drafts.{is_skipped};
-ghost use Rattle.fairexec_script.specs.Limits.{IsCoreOf, IsSize, MayFollow, IsEventFor};
+ghost use Rattle.fairexec_script.specs.Limits.{IsCoreOf, IsSize, IsBurst, MayFollow, IsEventFor};
 ghost use Rattle.rt_lines.specs.Faults.{IfCause};
 ghost use Rattle.rt_lines.specs.declared.fault.Stop.TheVariants.{Memory};
 ghost use Rattle.fairexec_threads_script.specs.Drafts as spec;
@@ -34,6 +34,8 @@ const MOST_POLLS: u32 = 4096;
 #[derive(Drop)]
 pub(crate) struct Draft {
     size: Option<(u8, u16)>,
+    /// How many polls a turn may have: 1 before a line tells it.
+    burst: u8,
     queues: Vec<(CoreNo, Shares)>,
     /// How many `queue` lines each core has.
     lines: CoreCounts,
@@ -51,10 +53,10 @@ impl Model for Draft {
 
     ghost Value = { Drafted };
 
-    ghost view = { λ d. record { size = d.size; queues = d.queues.items; orders = d.orders.items } };
+    ghost view = { λ d. record { size = d.size; burst = d.burst; queues = d.queues.items; orders = d.orders.items } };
 
     ghost invariant = { λ d. IsWithinLimits
-        (record { size = d.size; queues = d.queues.items; orders = d.orders.items })
+        (record { size = d.size; burst = d.burst; queues = d.queues.items; orders = d.orders.items })
         × (d.polls ≡ polls_in d.orders.items) × (d.polls ≤ 4096)
         × AreCounted d.queues.items d.orders.items d.lines d.sent };
 }
@@ -66,6 +68,7 @@ impl Draft {
     {
         Draft {
             size: None,
+            burst: 1,
             queues: Vec::new(alloc),
             lines: CoreCounts::new(),
             orders: Vec::new(alloc),
@@ -82,6 +85,7 @@ impl Draft {
     {
         let Draft {
             size,
+            burst,
             queues,
             lines: _,
             orders,
@@ -92,6 +96,7 @@ impl Draft {
         Some(ThreadsScript {
             cores,
             cap,
+            burst,
             queues,
             orders,
         })
@@ -136,8 +141,8 @@ impl Draft {
         ensures err { OnErr result (self.new ≡ self.old) }
     {
         match line {
-            Line::Size(cores, cap) => {
-                self.set_size(cores, cap);
+            Line::Size(cores, cap, burst) => {
+                self.set_size(cores, cap, burst);
                 Ok(())
             }
             Line::Queue(core, shares) => self.add_queue(core, shares),
@@ -146,12 +151,14 @@ impl Draft {
     }
 
     /// Takes the first line.
-    fn set_size(&mut self, cores: u8, cap: u16)
+    fn set_size(&mut self, cores: u8, cap: u16, burst: u8)
         requires first { self.old.size ≡ None }
         requires size { IsSize cores cap }
-        ensures { self.new ≡ record self.old { size = Some (cores, cap) } }
+        requires burst { IsBurst burst }
+        ensures { self.new ≡ record self.old { size = Some (cores, cap); burst = burst } }
     {
         self.size = Some((cores, cap));
+        self.burst = burst;
     }
 
     /// Takes a `queue` line.

@@ -1,7 +1,7 @@
 //! A whole script for threads.
 
 ghost use Rattle.std.specs.Prelude.{Some, length, ◌≤◌};
-ghost use Rattle.fairexec_script.specs.Limits.{IsSize, ArePlaced, HasFewQueues};
+ghost use Rattle.fairexec_script.specs.Limits.{IsSize, IsBurst, ArePlaced, HasFewQueues};
 ghost use Rattle.fairexec_threads_script.specs.Limits.{AreTold, HasSpare};
 
 use rt_ids::{CoreNo, Order};
@@ -15,11 +15,14 @@ pub struct ThreadsScript {
     pub cores: u8,
     /// How many submissions each link may have outstanding.
     pub cap: u16,
+    /// How many polls a turn may have.
+    pub burst: u8,
     /// The queues that there are from the start, by core, in order.
     pub queues: Vec<(CoreNo, Shares)>,
     /// The orders that the outside actor sends, each with its core, in order.
     pub orders: Vec<(CoreNo, Order<ScriptJob>)>,
     ghost sized: { IsSize cores cap },
+    ghost bursts: { IsBurst burst },
     ghost placed: { ArePlaced (Some (cores, cap)) queues.items },
     ghost few: { HasFewQueues queues.items },
     ghost told: { AreTold (Some (cores, cap)) orders.items },

@@ -15,7 +15,7 @@ struct Row {
     stats: &'static str,
 }
 
-const ROWS: [Row; 3] = [
+const ROWS: [Row; 4] = [
     Row {
         script: "cores 1 cap 1",
         outcomes: "1>0#1 answered closed\n",
@@ -44,6 +44,16 @@ const ROWS: [Row; 3] = [
             core 0 turns 2 floor 4 held 0 drained yes\n\
             stat 0 q0 shares 1000 selected 0 runtime 0 vr 0 waiting 0 finished 0 returned 0\n\
             stat 0 q1 shares 2000 selected 2 runtime 20 vr 11 waiting 0 finished 1 returned 0\n",
+    },
+    // One turn of three polls, which is charged once.
+    Row {
+        script: "cores 1 cap 8 burst 3\nqueue 0 500\nsubmit 1 0 1 y10 y0 d10=4\n",
+        outcomes: "1>0#1 finished 4\n1>0#2 answered closed\n",
+        head: "journal 2\ncores 1 cap 8 burst 3\n",
+        stats: "\
+            core 0 turns 1 floor 0 held 0 drained yes\n\
+            stat 0 q0 shares 1000 selected 0 runtime 0 vr 0 waiting 0 finished 0 returned 0\n\
+            stat 0 q1 shares 500 selected 1 runtime 21 vr 42 waiting 0 finished 1 returned 0\n",
     },
 ];
 

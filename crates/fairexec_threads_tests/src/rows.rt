@@ -12,7 +12,7 @@ const POLLS_LINE: &str =
 /// What a script begins with, a line that is written so often behind it, and what is told of the whole.
 type Row = (&'static str, &'static str, u32, &'static str);
 
-const ROWS: [Row; 29] = [
+const ROWS: [Row; 35] = [
     (
         "cores 2 cap 8\nqueue 1 500\nsubmit 2 0 0 y10 d10=4\ncreate 2 0 250\nsubmit 2 1 1 d20=5\nsubmit 2 1 7 d1=6\n",
         "",
@@ -102,6 +102,22 @@ const ROWS: [Row; 29] = [
         0,
         "line 2: wrong number of words",
     ),
+    (
+        "cores 1 cap 4 burst 64\nsubmit 1 0 0 d1=1\n",
+        "",
+        0,
+        "queues 0, orders 1",
+    ),
+    (
+        "cores 1 cap 4 burst\n",
+        "",
+        0,
+        "line 1: wrong number of words",
+    ),
+    ("cores 1 cap 4 bursts 2\n", "", 0, "line 1: bad word"),
+    ("cores 1 cap 0 burst x\n", "", 0, "line 1: bad word"),
+    ("cores 1 cap 4 burst 0\n", "", 0, "line 1: out of range"),
+    ("cores 1 cap 4 burst 65\n", "", 0, "line 1: out of range"),
     ("cores 1 cap 4\nturn 0\n", "", 0, "line 2: not for threads"),
     (
         "cores 1 cap 4\nclosecore 1 0 finish\n",

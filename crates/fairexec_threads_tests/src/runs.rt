@@ -12,7 +12,7 @@ use std::thread::Threads;
 /// A script, and what is written of its run. Whatever the threads do, it is the same.
 type Row = (&'static str, &'static str);
 
-const ROWS: [Row; 5] = [
+const ROWS: [Row; 7] = [
     (
         "cores 2 cap 8\nqueue 1 500\nsubmit 2 0 0 y10 d10=4\ncreate 2 0 250\nsubmit 2 1 1 d20=5\nsubmit 2 1 7 d1=6\n",
         "2>0#1 finished 4\n2>0#2 answered created q1\n2>0#3 answered closed\n2>1#1 finished 5\n2>1#2 returned noqueue\n2>1#3 answered closed\nsound\n",
@@ -30,6 +30,15 @@ const ROWS: [Row; 5] = [
     (
         "cores 3 cap 1\n",
         "3>0#1 answered closed\n3>1#1 answered closed\n3>2#1 answered closed\nsound\n",
+    ),
+    (
+        "cores 2 cap 8 burst 64\nqueue 1 500\nsubmit 2 0 0 y10 y10 d10=4\nsubmit 2 0 0 y1 d1=5\nsubmit 2 1 1 d20=6\n",
+        "2>0#1 finished 4\n2>0#2 finished 5\n2>0#3 answered closed\n2>1#1 finished 6\n2>1#2 answered closed\nsound\n",
+    ),
+    // The jobs of both cores submit within a turn.
+    (
+        "cores 2 cap 8 burst 2\nsubmit 2 0 0 p1>1.0 p1>1.0 d1=1\nsubmit 2 1 0 p1>0.0 p1>0.0 d1=2\n",
+        "2>0#1 finished 1\n2>0#2 answered closed\n2>1#1 finished 2\n2>1#2 answered closed\nsound\n",
     ),
 ];
 

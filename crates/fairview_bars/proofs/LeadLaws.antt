@@ -23,11 +23,11 @@ use Rattle.fairview_bars.specs.declared.standing.Lead.{Lead}
 
 module _ (terms : Terms) (first second : ℕ) where
   near : (queue other : ℕ) (journal : Journal ℕ) → EachNote (MayStand terms) journal → has_work other journal ≡ true →
-      virtual_runtime queue journal ≤ virtual_runtime other journal + greatest_charge queue journal
+      virtual_runtime terms.burst queue journal ≤ virtual_runtime terms.burst other journal + greatest_charge terms.burst queue journal
   near queue other journal notes work = omega (arith, runtime_is_near_floor terms queue journal notes, floor_below terms other journal notes work)
 
   lead_within : (journal : Journal ℕ) → EachNote (MayStand terms) journal → has_work first journal ≡ true → has_work second journal ≡ true →
-      IsWithinCharges (lead first second journal)
+      IsWithinCharges (lead terms.burst first second journal)
   lead_within journal notes one other = record {
     first = omega (arith, near first second journal notes other);
     second = omega (arith, near second first journal notes one);
@@ -35,15 +35,15 @@ module _ (terms : Terms) (first second : ℕ) where
 
   pushed : (leads : List Lead) (journal : Journal ℕ) → EachNote (MayStand terms) journal → All IsWithinCharges leads →
       (one other : Bool) → has_work first journal ≡ one → has_work second journal ≡ other →
-      All IsWithinCharges (with_last leads (cond (one && other) (Some (lead first second journal)) None))
-  pushed leads journal notes all true true one other = All-push IsWithinCharges leads (lead first second journal) all (lead_within journal notes one other)
+      All IsWithinCharges (with_last leads (cond (one && other) (Some (lead terms.burst first second journal)) None))
+  pushed leads journal notes all true true one other = All-push IsWithinCharges leads (lead terms.burst first second journal) all (lead_within journal notes one other)
   pushed leads journal notes all true false one other = all
   pushed leads journal notes all false other one _ = all
 
-  pub leads_within : (journal : Journal ℕ) → EachNote (MayStand terms) journal → All IsWithinCharges (leads first second journal)
+  pub leads_within : (journal : Journal ℕ) → EachNote (MayStand terms) journal → All IsWithinCharges (leads terms.burst first second journal)
   leads_within [] notes = All-nil IsWithinCharges
   leads_within (Pick queue runtime ∷ before) notes =
-      pushed (leads first second before) before notes.1 (leads_within before notes.1) (has_work first before) (has_work second before) refl refl
+      pushed (leads terms.burst first second before) before notes.1 (leads_within before notes.1) (has_work first before) (has_work second before) refl refl
   leads_within (note ∷ before) notes = leads_within before notes.1
 
 abbrev pub bar_time : Bar → ℕ

@@ -1,5 +1,5 @@
 -- What is known of queues after one more note.
-use Rattle.std.proofs.Common.{◌≡◌, ℕ, ◌+◌, ◌<◌, min, length, ◌∙◌, ap}
+use Rattle.std.proofs.Common.{◌≡◌, ℕ, ◌+◌, ◌<◌, min, length, ◌∙◌, ap, subst}
 use Rattle.rt_ids.specs.declared.note.Note.TheVariants.{Pick}
 use Rattle.rt_ids.specs.Journal.{Journal}
 use Rattle.rt_ids.specs.Picks.{turns}
@@ -7,6 +7,13 @@ use Rattle.rt_journal_facts.specs.Accounts.{greatest_count}
 use Rattle.rt_view.specs.Clocks.{clock_of}
 use Rattle.rt_view.proofs.ClockSteps.{clock_next}
 use Rattle.rt_view.specs.declared.clocks.Clock.{Clock}
+use Rattle.fairview_bars.specs.Leads.{KnowsStanding}
+use Rattle.fairview_bars.specs.declared.standing.Standing.{Standing}
+
+-- what is known under a burst that is the same
+pub under_same : {T : Type 0} {burst other : ℕ} (standing : Standing) (journal : Journal T) → burst ≡ other → KnowsStanding burst standing journal →
+    KnowsStanding other standing journal
+under_same standing journal same knows = subst (λ (polls : ℕ). KnowsStanding polls standing journal) same knows
 
 -- the next turn has the next number
 pub next_turn : {T : Type 0} (before : Journal T) (clock : Clock) (turn : ℕ) → length before < greatest_count →

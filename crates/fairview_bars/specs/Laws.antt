@@ -17,7 +17,7 @@ pub record IsWithinCharges (lead : Lead) : Type 0 where
 -- each lead of a lawful journal is within the charges
 abbrev pub LeadsAreBounded : Type 0
 LeadsAreBounded =
-    (terms : Terms) (first second : ℕ) (journal : Journal ℕ) → EachNote (MayStand terms) journal → All IsWithinCharges (leads first second journal)
+    (terms : Terms) (first second : ℕ) (journal : Journal ℕ) → EachNote (MayStand terms) journal → All IsWithinCharges (leads terms.burst first second journal)
 
 -- the times of all bars together are the processor time of the core
 abbrev pub BarsFillTheClock : Type 0

@@ -46,6 +46,7 @@ fn push_lead(leads: &mut Vec<Lead>, lead: Option<Lead>) -> Result<(), AllocError
 }
 
 /// The leads of two queues of a core by its journal, the oldest first: one for each turn at whose beginning both have work.
+/// A turn may have so many polls: where it may have several, queues are charged by turns.
 /// It takes as many steps for a note as the count of jobs has binary digits.
 ///
 /// # Errors
@@ -56,10 +57,11 @@ pub fn leads_of(
     journal: &Journal<u64>,
     first: QueueNo,
     second: QueueNo,
+    burst: u8,
 ) -> Result<Vec<Lead>, AllocError>
-    ensures { IfOk result (λ leads. leads.items ≡ spec.leads first second journal.now.notes) }
+    ensures { IfOk result (λ leads. leads.items ≡ spec.leads burst first second journal.now.notes) }
 {
-    let mut standing = Standing::new(alloc);
+    let mut standing = Standing::new(alloc, burst);
     let mut told = Vec::new(alloc);
     for place in 0..journal.len() {
         let note = note_at(journal, place);

@@ -1,6 +1,7 @@
 //! What a walk over a journal knows of its queues.
 
 ghost use Rattle.std.specs.Prelude.{◌≡◌, ◌<◌, ◌∷◌, ℕ, [], length, OnOk};
+ghost use Rattle.rt_ids.specs.Bursts.{has_bursts};
 ghost use Rattle.rt_ids.specs.Journal.{Journal as Notes};
 ghost use Rattle.rt_ids.specs.Picks.{turns};
 ghost use Rattle.rt_journal_facts.specs.Accounts.{greatest_count};
@@ -24,9 +25,10 @@ pub struct Lead {
     pub second_most: u64,
 }
 
-/// Of the notes that were read: the clock, the queue of each job and where it is parked, and the account and the tally of each queue.
+/// Of the notes that were read, where a turn may have so many polls: the clock, the queue of each job and where it is parked, and the account and the tally of each queue.
 #[derive(Drop)]
 pub struct Standing {
+    burst: u8,
     clock: Clock,
     parks: Parks,
     accounts: Accounts,
@@ -34,11 +36,12 @@ pub struct Standing {
 }
 
 impl Standing {
-    /// No note was read.
-    pub fn new(alloc: Global) -> Self
-        ensures { spec.KnowsStanding {T = ℕ} result [] }
+    /// No note was read. A turn may have so many polls: 0 and 1 mean a single one.
+    pub fn new(alloc: Global, burst: u8) -> Self
+        ensures { spec.KnowsStanding {T = ℕ} burst result [] }
     {
         Standing {
+            burst,
             clock: Clock::new(),
             parks: Parks::new(alloc),
             accounts: Accounts::new(),
@@ -52,39 +55,47 @@ impl Standing {
     ///
     /// `AllocError` for want of memory; then nothing is known any more.
     pub fn add(&mut self, note: &Note<u64>) -> Result<(), AllocError>
-        ensures { OnOk result ((before : Notes ℕ) → length before < greatest_count → spec.KnowsStanding self.old before → spec.KnowsStanding self.new (note.now ∷ before)) }
+        ensures { OnOk result ((burst : ℕ) (before : Notes ℕ) → length before < greatest_count → spec.KnowsStanding burst self.old before → spec.KnowsStanding burst self.new (note.now ∷ before)) }
     {
         let spot = self.parks.spot(note);
         self.clock.add(note);
-        self.tallies.add(note, &spot.queue, &self.accounts);
-        self.accounts.add(note, &spot);
+        self.tallies
+            .add(note, &spot.queue, &self.accounts, self.burst);
+        self.accounts.add(note, &spot, self.burst);
         self.parks.add(note)
+    }
+
+    /// Whether a note of its own ends a turn.
+    pub fn has_bursts(&self) -> bool
+        ensures { (burst : ℕ) (before : Notes ℕ) → spec.KnowsStanding burst self.now before → result ≡ has_bursts burst }
+    {
+        rt_journal_facts::has_bursts(self.burst)
     }
 
     /// How many turns of the core began.
     pub fn turns(&self) -> u64
-        ensures { (before : Notes ℕ) → spec.KnowsStanding self.now before → result ≡ turns before }
+        ensures { (burst : ℕ) (before : Notes ℕ) → spec.KnowsStanding burst self.now before → result ≡ turns before }
     {
         self.clock.turns
     }
 
     /// What is counted of a queue.
     pub fn tally(&self, queue: QueueNo) -> Tally
-        ensures { (before : Notes ℕ) → spec.KnowsStanding self.now before → result ≡ tally_of queue before }
+        ensures { (burst : ℕ) (before : Notes ℕ) → spec.KnowsStanding burst self.now before → result ≡ tally_of burst queue before }
     {
         self.tallies.of(queue)
     }
 
     /// Whether both queues have work.
     pub fn are_together(&self, first: QueueNo, second: QueueNo) -> bool
-        ensures { (before : Notes ℕ) → spec.KnowsStanding self.now before → result ≡ spec.are_together first second before }
+        ensures { (burst : ℕ) (before : Notes ℕ) → spec.KnowsStanding burst self.now before → result ≡ spec.are_together first second before }
     {
         self.accounts.of(first).has_jobs() && self.accounts.of(second).has_jobs()
     }
 
     /// The lead of two queues.
     fn lead_between(&self, first: QueueNo, second: QueueNo) -> Lead
-        ensures { (before : Notes ℕ) → length before < greatest_count → spec.KnowsStanding self.now before → result ≡ spec.lead first second before }
+        ensures { (burst : ℕ) (before : Notes ℕ) → length before < greatest_count → spec.KnowsStanding burst self.now before → result ≡ spec.lead burst first second before }
     {
         Lead {
             turn: self.clock.turns.saturating_add(1),
@@ -97,7 +108,7 @@ impl Standing {
 
     /// The lead of two queues, if both have work.
     fn lead_of(&self, first: QueueNo, second: QueueNo) -> Option<Lead>
-        ensures { (before : Notes ℕ) → length before < greatest_count → spec.KnowsStanding self.now before → result ≡ spec.lead_of first second before }
+        ensures { (burst : ℕ) (before : Notes ℕ) → length before < greatest_count → spec.KnowsStanding burst self.now before → result ≡ spec.lead_of burst first second before }
     {
         if self.are_together(first, second) {
             Some(self.lead_between(first, second))
@@ -108,7 +119,7 @@ impl Standing {
 
     /// The lead of two queues where the next note begins a turn, if both have work.
     pub fn lead(&self, first: QueueNo, second: QueueNo, note: &Note<u64>) -> Option<Lead>
-        ensures { (before : Notes ℕ) → length before < greatest_count → spec.KnowsStanding self.now before → result ≡ spec.lead_told first second note.now before }
+        ensures { (burst : ℕ) (before : Notes ℕ) → length before < greatest_count → spec.KnowsStanding burst self.now before → result ≡ spec.lead_told burst first second note.now before }
     {
         match *note {
             Note::Pick(_, _) => self.lead_of(first, second),

@@ -44,7 +44,7 @@ marked_any panel lag old at there default within placed is =
 
 -- the columns after one more note
 pub columns_next : (panel : Panel) (old new : List (Option Column)) (note : Note ℕ) (before : Journal ℕ) (told : Option Lag) →
-    told ≡ lag_told panel.first panel.second note before → AreAfter panel told old new → AreColumns panel old before → AreColumns panel new (note ∷ before)
+    told ≡ lag_told panel.burst panel.first panel.second note before → AreAfter panel told old new → AreColumns panel old before → AreColumns panel new (note ∷ before)
 columns_next panel old new note before told is after so_far = λ number. after number ∙ (λ i. column_after panel number (so_far number i) (is i))
 
 -- one column more without a lag

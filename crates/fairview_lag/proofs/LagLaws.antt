@@ -4,7 +4,8 @@ use Rattle.std.specs.Prelude.{◌&&◌, nat_lt, Option, Some, None, All}
 use Rattle.std.proofs.lemmas.List.Elements.{All-nil, All-push, All-weaker, Contains-push, Contains-append_left}
 use Rattle.std.proofs.lemmas.Bool.{ltb-true, ltb-false}
 use Rattle.rt_ids.specs.declared.note.Note.{Note}
-use Rattle.rt_ids.specs.declared.note.Note.TheVariants.{Yield, Park, Stayed, Done}
+use Rattle.rt_ids.specs.declared.note.Note.TheVariants.{Yield, Park, Stayed, Done, Turned}
+use Rattle.rt_ids.specs.Bursts.{has_bursts}
 use Rattle.rt_ids.specs.Journal.{Journal, EachNote, with_last}
 use Rattle.rt_ids.specs.Lag.{KeepsWork, greatest_charge}
 use Rattle.rt_ids.specs.Lawful.{MayStand}
@@ -12,7 +13,7 @@ use Rattle.rt_ids.specs.Terms.{Terms}
 use Rattle.rt_ids.specs.Work.{has_work}
 use Rattle.rt_ids.proofs.Lag.{lag_is_bounded}
 use Rattle.fairview_bars.specs.Leads.{are_together}
-use Rattle.fairview_lag.specs.Lags.{apart, lag, lags, lag_told, further, greatest_lag, IsGreatest}
+use Rattle.fairview_lag.specs.Lags.{apart, lag, lag_of, lag_polled, lag_turned, lags, lag_told, further, greatest_lag, IsGreatest}
 use Rattle.fairview_lag.specs.Laws.{IsWithinBound, IsStretch, BeginsHere}
 use Rattle.fairview_lag.specs.Stretches.{later_notes, earlier_notes}
 use Rattle.fairview_lag.specs.declared.stretch.Lag.{Lag}
@@ -58,7 +59,7 @@ begins first second (note ∷ before) =
     begins_by first second (are_together first second before) note (earlier_notes first second before) before refl (begins first second before)
 
 module _ (terms : Terms) (first second : ℕ) where
-  lag_within : (journal : Journal ℕ) → EachNote (MayStand terms) journal → are_together first second journal ≡ true → IsWithinBound (lag first second journal)
+  lag_within : (journal : Journal ℕ) → EachNote (MayStand terms) journal → are_together first second journal ≡ true → IsWithinBound (lag terms.burst first second journal)
   lag_within journal notes both =
       let it = stretch first second journal both in
       let later = later_notes first second journal in
@@ -66,29 +67,40 @@ module _ (terms : Terms) (first second : ℕ) where
       let there : EachNote (MayStand terms) (later ++ earlier) = subst (λ (journal : Journal ℕ). EachNote (MayStand terms) journal) (sym it.whole) notes in
       let ahead = lag_is_bounded terms first second later earlier there it.first_keeps it.second_keeps in
       let behind = lag_is_bounded terms second first later earlier there it.second_keeps it.first_keeps in
-      let one = ap (greatest_charge first) it.whole in
-      let other = ap (greatest_charge second) it.whole in
+      let one = ap (greatest_charge terms.burst first) it.whole in
+      let other = ap (greatest_charge terms.burst second) it.whole in
       record { first = omega (arith, ahead, one, other); second = omega (arith, behind, one, other) }
 
   told_within : (lags : List Lag) (journal : Journal ℕ) (test : Bool) → EachNote (MayStand terms) journal → are_together first second journal ≡ test →
-      All IsWithinBound lags → All IsWithinBound (with_last lags (cond test (Some (lag first second journal)) None))
-  told_within lags journal true notes both all = All-push IsWithinBound lags (lag first second journal) all (lag_within journal notes both)
+      All IsWithinBound lags → All IsWithinBound (with_last lags (cond test (Some (lag terms.burst first second journal)) None))
+  told_within lags journal true notes both all = All-push IsWithinBound lags (lag terms.burst first second journal) all (lag_within journal notes both)
   told_within lags journal false notes both all = all
 
-  pub lags_within : (journal : Journal ℕ) → EachNote (MayStand terms) journal → All IsWithinBound (lags first second journal)
+  -- a lag is told behind a settled poll in the one form, and behind a note of its own in the other
+  polled_within : (lags : List Lag) (journal : Journal ℕ) → EachNote (MayStand terms) journal → All IsWithinBound lags →
+      All IsWithinBound (with_last lags (lag_polled terms.burst first second journal))
+  polled_within lags journal notes all = by_form (has_bursts terms.burst)
+    where
+      by_form : (form : Bool) → All IsWithinBound (with_last lags (cond form None (lag_of terms.burst first second journal)))
+      by_form true = all
+      by_form false = told_within lags journal (are_together first second journal) notes refl all
+
+  turned_within : (lags : List Lag) (journal : Journal ℕ) → EachNote (MayStand terms) journal → All IsWithinBound lags →
+      All IsWithinBound (with_last lags (lag_turned terms.burst first second journal))
+  turned_within lags journal notes all = by_form (has_bursts terms.burst)
+    where
+      by_form : (form : Bool) → All IsWithinBound (with_last lags (cond form (lag_of terms.burst first second journal) None))
+      by_form true = told_within lags journal (are_together first second journal) notes refl all
+      by_form false = all
+
+  pub lags_within : (journal : Journal ℕ) → EachNote (MayStand terms) journal → All IsWithinBound (lags terms.burst first second journal)
   lags_within [] notes = All-nil IsWithinBound
-  lags_within (Yield name time ∷ before) notes =
-      let note : Note ℕ = Yield name time in
-      told_within (lags first second before) (note ∷ before) (are_together first second (note ∷ before)) notes refl (lags_within before notes.1)
-  lags_within (Park name time ∷ before) notes =
-      let note : Note ℕ = Park name time in
-      told_within (lags first second before) (note ∷ before) (are_together first second (note ∷ before)) notes refl (lags_within before notes.1)
-  lags_within (Stayed name time ∷ before) notes =
-      let note : Note ℕ = Stayed name time in
-      told_within (lags first second before) (note ∷ before) (are_together first second (note ∷ before)) notes refl (lags_within before notes.1)
+  lags_within (Yield name time ∷ before) notes = polled_within (lags terms.burst first second before) (Yield name time ∷ before) notes (lags_within before notes.1)
+  lags_within (Park name time ∷ before) notes = polled_within (lags terms.burst first second before) (Park name time ∷ before) notes (lags_within before notes.1)
+  lags_within (Stayed name time ∷ before) notes = polled_within (lags terms.burst first second before) (Stayed name time ∷ before) notes (lags_within before notes.1)
   lags_within (Done name time value ∷ before) notes =
-      let note : Note ℕ = Done name time value in
-      told_within (lags first second before) (note ∷ before) (are_together first second (note ∷ before)) notes refl (lags_within before notes.1)
+      polled_within (lags terms.burst first second before) (Done name time value ∷ before) notes (lags_within before notes.1)
+  lags_within (Turned queue time ∷ before) notes = turned_within (lags terms.burst first second before) (Turned queue time ∷ before) notes (lags_within before notes.1)
   lags_within (note ∷ before) notes = lags_within before notes.1
 
 -- what is at most as far apart as one lag is at most as far apart as a greater one
@@ -112,7 +124,7 @@ greatest_after lags None (Some new) is =
     subst (λ (lags : List Lag). IsGreatest lags (Some new)) (sym only) (All-push (λ (lag : Lag). apart lag ≤ apart new) [] new (All-nil _) (omega arith), Contains-push [] new)
 greatest_after lags (Some old) (Some new) is = one_more lags old new (nat_lt (apart old) (apart new)) refl is
 
-pub greatest_of_all : (first second : ℕ) (journal : Journal ℕ) → IsGreatest (lags first second journal) (greatest_lag first second journal)
-greatest_of_all first second [] = refl
-greatest_of_all first second (note ∷ before) =
-    greatest_after (lags first second before) (greatest_lag first second before) (lag_told first second note before) (greatest_of_all first second before)
+pub greatest_of_all : (burst first second : ℕ) (journal : Journal ℕ) → IsGreatest (lags burst first second journal) (greatest_lag burst first second journal)
+greatest_of_all burst first second [] = refl
+greatest_of_all burst first second (note ∷ before) =
+    greatest_after (lags burst first second before) (greatest_lag burst first second before) (lag_told burst first second note before) (greatest_of_all burst first second before)

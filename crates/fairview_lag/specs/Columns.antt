@@ -40,7 +40,7 @@ column_after panel number old (Some lag) = if number == cell panel lag.turn then
 -- the column of this number, if it has any lag
 abbrev pub column : Panel → ℕ → Journal ℕ → Option Column
 column panel number [] = None
-column panel number (note ∷ before) = column_after panel number (column panel number before) (lag_told panel.first panel.second note before)
+column panel number (note ∷ before) = column_after panel number (column panel number before) (lag_told panel.burst panel.first panel.second note before)
 
 -- each column is changed by a lag as it should be
 abbrev pub AreAfter : Panel → Option Lag → List (Option Column) → List (Option Column) → Type 0

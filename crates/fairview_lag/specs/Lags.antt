@@ -1,7 +1,8 @@
--- The lags of two queues: what each gained since both have work, behind each poll.
+-- The lags of two queues: what each gained since both have work, behind each turn.
 use Rattle.std.specs.Prelude.{◌≡◌, ℕ, ◌+◌, ◌-◌, ◌≤◌, nat_lt, if◌then◌else◌, Option, Some, None, List, [], ◌∷◌, All, Contains}
 use Rattle.rt_ids.specs.declared.note.Note.{Note}
-use Rattle.rt_ids.specs.declared.note.Note.TheVariants.{Yield, Park, Stayed, Done}
+use Rattle.rt_ids.specs.declared.note.Note.TheVariants.{Yield, Park, Stayed, Done, Turned}
+use Rattle.rt_ids.specs.Bursts.{has_bursts}
 use Rattle.rt_ids.specs.Journal.{Journal, with_last}
 use Rattle.rt_ids.specs.Lag.{greatest_charge}
 use Rattle.rt_ids.specs.Picks.{turns}
@@ -22,34 +23,43 @@ abbrev pub apart : Lag → ℕ
 apart lag = ahead lag + behind lag
 
 -- the greatest charges of two queues together
-abbrev pub bound : {T : Type 0} → ℕ → ℕ → Journal T → ℕ
-bound first second journal = greatest_charge first journal + greatest_charge second journal
+abbrev pub bound : {T : Type 0} → ℕ → ℕ → ℕ → Journal T → ℕ
+bound burst first second journal = greatest_charge burst first journal + greatest_charge burst second journal
 
 -- the lag of two queues that have work
-abbrev pub lag : {T : Type 0} → ℕ → ℕ → Journal T → Lag
-lag first second journal = record {
+abbrev pub lag : {T : Type 0} → ℕ → ℕ → ℕ → Journal T → Lag
+lag burst first second journal = record {
   turn = turns journal;
-  first = gained_together first second first journal;
-  second = gained_together first second second journal;
-  bound = bound first second journal;
+  first = gained_together burst first second first journal;
+  second = gained_together burst first second second journal;
+  bound = bound burst first second journal;
 }
 
 -- a lag is told only of queues that both have work
-abbrev pub lag_of : {T : Type 0} → ℕ → ℕ → Journal T → Option Lag
-lag_of first second journal = if are_together first second journal then Some (lag first second journal) else None
+abbrev pub lag_of : {T : Type 0} → ℕ → ℕ → ℕ → Journal T → Option Lag
+lag_of burst first second journal = if are_together first second journal then Some (lag burst first second journal) else None
 
--- the lag behind a note that settles a poll
-abbrev pub lag_told : {T : Type 0} → ℕ → ℕ → Note T → Journal T → Option Lag
-lag_told first second (Yield name time) before = lag_of first second (Yield name time ∷ before)
-lag_told first second (Park name time) before = lag_of first second (Park name time ∷ before)
-lag_told first second (Stayed name time) before = lag_of first second (Stayed name time ∷ before)
-lag_told first second (Done name time value) before = lag_of first second (Done name time value ∷ before)
-lag_told first second _ before = None
+-- the lag behind a settled poll that ends its turn
+abbrev pub lag_polled : {T : Type 0} → ℕ → ℕ → ℕ → Journal T → Option Lag
+lag_polled burst first second journal = if has_bursts burst then None else lag_of burst first second journal
+
+-- the lag behind a turn that a note of its own ends
+abbrev pub lag_turned : {T : Type 0} → ℕ → ℕ → ℕ → Journal T → Option Lag
+lag_turned burst first second journal = if has_bursts burst then lag_of burst first second journal else None
+
+-- the lag behind a note that ends a turn
+abbrev pub lag_told : {T : Type 0} → ℕ → ℕ → ℕ → Note T → Journal T → Option Lag
+lag_told burst first second (Yield name time) before = lag_polled burst first second (Yield name time ∷ before)
+lag_told burst first second (Park name time) before = lag_polled burst first second (Park name time ∷ before)
+lag_told burst first second (Stayed name time) before = lag_polled burst first second (Stayed name time ∷ before)
+lag_told burst first second (Done name time value) before = lag_polled burst first second (Done name time value ∷ before)
+lag_told burst first second (Turned queue time) before = lag_turned burst first second (Turned queue time ∷ before)
+lag_told burst first second _ before = None
 
 -- the lags of two queues, the oldest first
-abbrev pub lags : {T : Type 0} → ℕ → ℕ → Journal T → List Lag
-lags first second [] = []
-lags first second (note ∷ before) = with_last (lags first second before) (lag_told first second note before)
+abbrev pub lags : {T : Type 0} → ℕ → ℕ → ℕ → Journal T → List Lag
+lags burst first second [] = []
+lags burst first second (note ∷ before) = with_last (lags burst first second before) (lag_told burst first second note before)
 
 -- the first of two lags, unless the queues are further apart in the second
 abbrev pub further : Option Lag → Option Lag → Option Lag
@@ -58,9 +68,9 @@ further None (Some new) = Some new
 further (Some old) (Some new) = if nat_lt (apart old) (apart new) then Some new else Some old
 
 -- the first lag in which the queues are the furthest apart
-abbrev pub greatest_lag : {T : Type 0} → ℕ → ℕ → Journal T → Option Lag
-greatest_lag first second [] = None
-greatest_lag first second (note ∷ before) = further (greatest_lag first second before) (lag_told first second note before)
+abbrev pub greatest_lag : {T : Type 0} → ℕ → ℕ → ℕ → Journal T → Option Lag
+greatest_lag burst first second [] = None
+greatest_lag burst first second (note ∷ before) = further (greatest_lag burst first second before) (lag_told burst first second note before)
 
 -- of no lag nothing is told, else a lag in which the queues are the furthest apart
 abbrev pub IsGreatest : List Lag → Option Lag → Type 0

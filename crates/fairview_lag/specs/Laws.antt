@@ -16,7 +16,7 @@ pub record IsWithinBound (lag : Lag) : Type 0 where
 
 -- each lag of a lawful journal is within its bound
 abbrev pub LagsAreBounded : Type 0
-LagsAreBounded = (terms : Terms) (first second : ℕ) (journal : Journal ℕ) → EachNote (MayStand terms) journal → All IsWithinBound (lags first second journal)
+LagsAreBounded = (terms : Terms) (first second : ℕ) (journal : Journal ℕ) → EachNote (MayStand terms) journal → All IsWithinBound (lags terms.burst first second journal)
 
 -- a journal in which two queues have work at its end: both keep it in the later notes, and those stand behind the earlier ones
 pub record IsStretch (first second : ℕ) (later earlier journal : Journal ℕ) : Type 0 where
@@ -40,4 +40,4 @@ StretchesAreWhole = (first second : ℕ) (journal : Journal ℕ) → BeginsHere 
 
 -- what is told as the greatest lag is the greatest of all
 abbrev pub GreatestIsOfAll : Type 0
-GreatestIsOfAll = (first second : ℕ) (journal : Journal ℕ) → IsGreatest (lags first second journal) (greatest_lag first second journal)
+GreatestIsOfAll = (burst first second : ℕ) (journal : Journal ℕ) → IsGreatest (lags burst first second journal) (greatest_lag burst first second journal)

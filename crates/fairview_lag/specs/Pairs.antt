@@ -24,18 +24,18 @@ abbrev pub pair_of : ℕ → ℕ → ℕ → Option Lag → Option PairLag
 pair_of core first second None = None
 pair_of core first second (Some lag) = Some (record { core = core; first = first; second = second; lag = lag })
 
--- the greatest lag of a pair, if both ever had work behind a poll
-abbrev pub pair_told : ℕ → ℕ → ℕ → Journal ℕ → Option PairLag
-pair_told core first second journal = pair_of core first second (greatest_lag first second journal)
+-- the greatest lag of a pair, if both ever had work behind a turn
+abbrev pub pair_told : ℕ → ℕ → ℕ → ℕ → Journal ℕ → Option PairLag
+pair_told burst core first second journal = pair_of core first second (greatest_lag burst first second journal)
 
 -- the pairs of a queue with each queue of a lower number
-abbrev pub pairs_with : ℕ → ℕ → Journal ℕ → List PairLag
-pairs_with core second journal = lists_below (λ first. one_of (pair_told core first second journal)) second
+abbrev pub pairs_with : ℕ → ℕ → ℕ → Journal ℕ → List PairLag
+pairs_with burst core second journal = lists_below (λ first. one_of (pair_told burst core first second journal)) second
 
 -- all pairs of a core
-abbrev pub core_pairs : ℕ → Journal ℕ → List PairLag
-core_pairs core journal = lists_below (λ second. pairs_with core second journal) (queue_count journal)
+abbrev pub core_pairs : ℕ → ℕ → Journal ℕ → List PairLag
+core_pairs burst core journal = lists_below (λ second. pairs_with burst core second journal) (queue_count journal)
 
 -- all pairs of a run
 abbrev pub run_pairs : Assembly ℕ → List PairLag
-run_pairs assembly = lists_below (λ core. core_pairs core (journal_of core assembly)) assembly.cores
+run_pairs assembly = lists_below (λ core. core_pairs assembly.burst core (journal_of core assembly)) assembly.cores

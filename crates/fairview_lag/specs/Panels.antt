@@ -14,8 +14,15 @@ abbrev pub top_of : ℕ → ℕ
 top_of index = fitting_line (fitting_line (index * 200) + 100)
 
 -- the panel of a pair: the turns of its core, and the bound at the last
-abbrev pub panel_of : ℕ → PairLag → Journal ℕ → Panel
-panel_of index pair journal = record { top = top_of index; first = pair.first; second = pair.second; turns = turns journal; bound = bound pair.first pair.second journal }
+abbrev pub panel_of : ℕ → ℕ → PairLag → Journal ℕ → Panel
+panel_of burst index pair journal = record {
+  top = top_of index;
+  burst = burst;
+  first = pair.first;
+  second = pair.second;
+  turns = turns journal;
+  bound = bound burst pair.first pair.second journal;
+}
 
 -- the ground of a panel
 abbrev pub ground_text : Panel → List ℕ
@@ -46,5 +53,5 @@ head_text panel pair = ground_text panel ++ (above_text panel ++ (below_text pan
 abbrev pub panel_on : Panel → PairLag → Journal ℕ → List ℕ
 panel_on panel pair journal = head_text panel pair ++ columns_text panel journal
 
-abbrev pub panel_text : ℕ → PairLag → Journal ℕ → List ℕ
-panel_text index pair journal = panel_on (panel_of index pair journal) pair journal
+abbrev pub panel_text : ℕ → ℕ → PairLag → Journal ℕ → List ℕ
+panel_text burst index pair journal = panel_on (panel_of burst index pair journal) pair journal

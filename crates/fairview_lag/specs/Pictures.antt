@@ -34,7 +34,7 @@ shown pairs = min (length pairs) most_panels
 
 -- the panel of a pair, if its core is there
 unfoldable pub panel_if : ℕ → PairLag → Assembly ℕ → List ℕ
-panel_if index pair assembly = if nat_lt pair.core assembly.cores then panel_text index pair (journal_of pair.core assembly) else []
+panel_if index pair assembly = if nat_lt pair.core assembly.cores then panel_text assembly.burst index pair (journal_of pair.core assembly) else []
 
 abbrev pub panel_told : ℕ → Option PairLag → Assembly ℕ → List ℕ
 panel_told index None assembly = []

@@ -18,23 +18,24 @@ module _ {T : Type 0} (first second : ℕ) where
   earlier_notes [] = []
   earlier_notes (note ∷ before) = if are_together first second before then earlier_notes before else note ∷ before
 
+module _ {T : Type 0} (burst first second : ℕ) where
   -- what a queue gained since both have work
   abbrev pub gained_together : ℕ → Journal T → ℕ
-  gained_together queue journal = gained queue (later_notes journal) (earlier_notes journal)
+  gained_together queue journal = gained burst queue (later_notes first second journal) (earlier_notes first second journal)
 
   -- all charges of the two queues
   abbrev pub charged_of : Journal T → Begun
-  charged_of journal = record { first = charges first journal; second = charges second journal }
+  charged_of journal = record { first = charges burst first journal; second = charges burst second journal }
 
   -- the same where both began to have work
   abbrev pub begun_of : Journal T → Begun
-  begun_of journal = charged_of (earlier_notes journal)
+  begun_of journal = charged_of (earlier_notes first second journal)
 
   -- they are known while both have work
   abbrev pub begun : Journal T → Option Begun
   begun journal = if are_together first second journal then Some (begun_of journal) else None
 
-  -- what is known of all queues, and where the stretch of these two began
+  -- what is known of all queues, where a turn may have so many polls, and where the stretch of these two began
   pub record KnowsStretch (stretch : Stretch) (journal : Journal T) : Type 0 where
-    pub standing : KnowsStanding stretch.standing journal
+    pub standing : KnowsStanding burst stretch.standing journal
     pub begun : stretch.begun ≡ begun journal

@@ -9,10 +9,11 @@ use rt_journal_facts::note_at;
 use rt_journal_notes::Journal;
 use std::alloc::{AllocError, Global};
 
-/// The place of a panel in the picture, its two queues, how many turns their core has, and the bound at its last.
+/// The place of a panel in the picture, how many polls a turn may have, its two queues, how many turns their core has, and the bound at its last.
 #[derive(Clone, Copy)]
 pub struct Panel {
     pub top: u32,
+    pub burst: u8,
     pub first: QueueNo,
     pub second: QueueNo,
     pub turns: u64,
@@ -124,7 +125,7 @@ pub fn columns_of(
     ensures sized { IfOk result (λ columns. length columns.items ≡ 1000) }
     ensures each { IfOk result (λ columns. spec.AreColumns panel.now columns.items journal.now.notes) }
 {
-    let mut stretch = Stretch::new(alloc);
+    let mut stretch = Stretch::new(alloc, panel.burst);
     let mut columns = no_columns(alloc)?;
     for place in 0..journal.len() {
         let note = note_at(journal, place);

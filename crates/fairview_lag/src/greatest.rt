@@ -26,7 +26,8 @@ fn further(old: Option<Lag>, new: Option<Lag>) -> Option<Lag>
     }
 }
 
-/// The first lag of two queues of a core in which they are the furthest apart, by the core's journal. It is none if no poll is settled while both have work.
+/// The first lag of two queues of a core in which they are the furthest apart, by the core's journal. It is none if no turn ends while both have work.
+/// A turn may have so many polls: where it may have several, a note of its own ends it.
 /// One pass. It takes as many steps for a note as the count of jobs has binary digits, and keeps no notes.
 ///
 /// # Errors
@@ -37,10 +38,11 @@ pub fn greatest_lag(
     journal: &Journal<u64>,
     first: QueueNo,
     second: QueueNo,
+    burst: u8,
 ) -> Result<Option<Lag>, AllocError>
-    ensures { IfOk result (λ lag. lag ≡ spec.greatest_lag first second journal.now.notes) }
+    ensures { IfOk result (λ lag. lag ≡ spec.greatest_lag burst first second journal.now.notes) }
 {
-    let mut stretch = Stretch::new(alloc);
+    let mut stretch = Stretch::new(alloc, burst);
     let mut greatest = None;
     for place in 0..journal.len() {
         let note = note_at(journal, place);

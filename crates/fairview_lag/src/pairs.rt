@@ -66,18 +66,19 @@ fn pair_of(core: CoreNo, first: QueueNo, second: QueueNo, lag: Option<Lag>) -> O
     }
 }
 
-/// Puts the pair behind the others, if both queues ever had work behind a poll.
+/// Puts the pair behind the others, if both queues ever had work behind a turn.
 fn push_pair(
     alloc: Global,
     core: CoreNo,
     first: QueueNo,
     second: QueueNo,
     journal: &Journal<u64>,
+    burst: u8,
     pairs: &mut Vec<PairLag>,
 ) -> Result<(), AllocError>
-    ensures { OnOk result (pairs.new.items ≡ pairs.old.items ++ one_of (spec.pair_told core first second journal.now.notes)) }
+    ensures { OnOk result (pairs.new.items ≡ pairs.old.items ++ one_of (spec.pair_told burst core first second journal.now.notes)) }
 {
-    let lag = greatest_lag(alloc, journal, first, second)?;
+    let lag = greatest_lag(alloc, journal, first, second, burst)?;
     if let Some(pair) = pair_of(core, first, second, lag) {
         pairs.push(pair)?;
     }
@@ -90,12 +91,13 @@ fn push_pairs_with(
     core: CoreNo,
     second: QueueNo,
     journal: &Journal<u64>,
+    burst: u8,
     pairs: &mut Vec<PairLag>,
 ) -> Result<(), AllocError>
-    ensures { OnOk result (pairs.new.items ≡ pairs.old.items ++ spec.pairs_with core second journal.now.notes) }
+    ensures { OnOk result (pairs.new.items ≡ pairs.old.items ++ spec.pairs_with burst core second journal.now.notes) }
 {
     for first in 0..second.0 {
-        push_pair(alloc, core, QueueNo(first), second, journal, pairs)?;
+        push_pair(alloc, core, QueueNo(first), second, journal, burst, pairs)?;
     }
     Ok(())
 }
@@ -105,18 +107,19 @@ fn push_core(
     alloc: Global,
     core: CoreNo,
     journal: &Journal<u64>,
+    burst: u8,
     pairs: &mut Vec<PairLag>,
 ) -> Result<(), AllocError>
-    ensures { OnOk result (pairs.new.items ≡ pairs.old.items ++ spec.core_pairs core journal.now.notes) }
+    ensures { OnOk result (pairs.new.items ≡ pairs.old.items ++ spec.core_pairs burst core journal.now.notes) }
 {
     let count = queue_count(journal);
     for second in 0..count {
-        push_pairs_with(alloc, core, QueueNo(second as u8), journal, pairs)?;
+        push_pairs_with(alloc, core, QueueNo(second as u8), journal, burst, pairs)?;
     }
     Ok(())
 }
 
-/// The greatest lags of all pairs of queues of a run by its journals, core by core: one for each pair of which both ever had work behind a poll.
+/// The greatest lags of all pairs of queues of a run by its journals, core by core: one for each pair of which both ever had work behind a turn.
 /// It reads the journal of a core once for each two queues up to the last one that a job ever entered.
 ///
 /// # Errors
@@ -131,6 +134,7 @@ pub fn lags_of_run(alloc: Global, assembly: &Assembly) -> Result<Vec<PairLag>, A
             alloc,
             CoreNo(core),
             assembly.journal(ActorNo(core)),
+            assembly.burst(),
             &mut pairs,
         )?;
     }

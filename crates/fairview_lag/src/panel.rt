@@ -79,10 +79,10 @@ impl fmt::Display for Words {
 }
 
 /// What is known of all queues by all notes.
-fn standing_of(alloc: Global, journal: &Journal<u64>) -> Result<Standing, AllocError>
-    ensures { IfOk result (λ standing. KnowsStanding standing journal.now.notes) }
+fn standing_of(alloc: Global, journal: &Journal<u64>, burst: u8) -> Result<Standing, AllocError>
+    ensures { IfOk result (λ standing. KnowsStanding burst standing journal.now.notes) }
 {
-    let mut standing = Standing::new(alloc);
+    let mut standing = Standing::new(alloc, burst);
     for place in 0..journal.len() {
         standing.add(&note_at(journal, place))?;
     }
@@ -102,14 +102,16 @@ fn panel_of(
     index: u32,
     pair: &PairLag,
     journal: &Journal<u64>,
+    burst: u8,
 ) -> Result<Panel, AllocError>
-    ensures { IfOk result (λ panel. panel ≡ spec.panel_of index pair.now journal.now.notes) }
+    ensures { IfOk result (λ panel. panel ≡ spec.panel_of burst index pair.now journal.now.notes) }
 {
-    let standing = standing_of(alloc, journal)?;
+    let standing = standing_of(alloc, journal, burst)?;
     let one = standing.tally(pair.first).greatest;
     let other = standing.tally(pair.second).greatest;
     Ok(Panel {
         top: top_of(index),
+        burst,
         first: pair.first,
         second: pair.second,
         turns: standing.turns(),
@@ -170,11 +172,12 @@ pub(crate) fn put_panel(
     index: u32,
     pair: &PairLag,
     journal: &Journal<u64>,
+    burst: u8,
     page: &mut String,
 ) -> Result<(), AllocError>
-    ensures { OnOk result (string_bytes page.new ≡ string_bytes page.old ++ spec.panel_text index pair.now journal.now.notes) }
+    ensures { OnOk result (string_bytes page.new ≡ string_bytes page.old ++ spec.panel_text burst index pair.now journal.now.notes) }
 {
-    let panel = panel_of(alloc, index, pair, journal)?;
+    let panel = panel_of(alloc, index, pair, journal, burst)?;
     put_head(&panel, pair, page)?;
     put_columns(alloc, &panel, journal, page)
 }

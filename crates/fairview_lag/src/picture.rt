@@ -136,7 +136,7 @@ fn put_if_there(
 {
     if pair.core.0 < assembly.cores() {
         let journal = assembly.journal(ActorNo(pair.core.0));
-        put_panel(alloc, index, pair, journal, page)
+        put_panel(alloc, index, pair, journal, assembly.burst(), page)
     } else {
         Ok(())
     }

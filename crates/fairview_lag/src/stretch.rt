@@ -15,7 +15,7 @@ use std::alloc::{AllocError, Global};
 /// What two queues gained, in virtual runtime, since both have work without a break.
 #[derive(Clone, Copy)]
 pub struct Lag {
-    /// The turn of the core behind whose poll this is so, counted from 1.
+    /// The turn of the core behind which this is so, counted from 1.
     pub turn: u64,
     pub first: u128,
     pub second: u128,
@@ -62,7 +62,7 @@ pub struct Stretch {
 
 /// Where a stretch began, of which both queues have work: where it was known to begin, else here.
 fn begun_by(standing: &Standing, begun: Option<Begun>, first: QueueNo, second: QueueNo) -> Begun
-    ensures { (note : NoteSeen ℕ) → (before : Notes ℕ) → KnowsStanding standing.now (note ∷ before) → begun ≡ spec.begun first second before → result ≡ spec.begun_of first second (note ∷ before) }
+    ensures { (burst : ℕ) → (note : NoteSeen ℕ) → (before : Notes ℕ) → KnowsStanding burst standing.now (note ∷ before) → begun ≡ spec.begun burst first second before → result ≡ spec.begun_of burst first second (note ∷ before) }
 {
     match begun {
         Some(begun) => begun,
@@ -80,7 +80,7 @@ fn begun_after(
     first: QueueNo,
     second: QueueNo,
 ) -> Option<Begun>
-    ensures { (note : NoteSeen ℕ) → (before : Notes ℕ) → KnowsStanding standing.now (note ∷ before) → begun ≡ spec.begun first second before → result ≡ spec.begun first second (note ∷ before) }
+    ensures { (burst : ℕ) → (note : NoteSeen ℕ) → (before : Notes ℕ) → KnowsStanding burst standing.now (note ∷ before) → begun ≡ spec.begun burst first second before → result ≡ spec.begun burst first second (note ∷ before) }
 {
     if standing.are_together(first, second) {
         Some(begun_by(standing, begun, first, second))
@@ -90,12 +90,12 @@ fn begun_after(
 }
 
 impl Stretch {
-    /// No note was read.
-    pub fn new(alloc: Global) -> Self
-        ensures { (first : ℕ) → (second : ℕ) → spec.KnowsStretch {T = ℕ} first second result [] }
+    /// No note was read. A turn may have so many polls: 0 and 1 mean a single one.
+    pub fn new(alloc: Global, burst: u8) -> Self
+        ensures { (first : ℕ) → (second : ℕ) → spec.KnowsStretch {T = ℕ} burst first second result [] }
     {
         Stretch {
-            standing: Standing::new(alloc),
+            standing: Standing::new(alloc, burst),
             begun: None,
         }
     }
@@ -111,7 +111,7 @@ impl Stretch {
         second: QueueNo,
         note: &Note<u64>,
     ) -> Result<(), AllocError>
-        ensures { OnOk result ((before : Notes ℕ) → length before < greatest_count → spec.KnowsStretch first second self.old before → spec.KnowsStretch first second self.new (note.now ∷ before)) }
+        ensures { OnOk result ((burst : ℕ) → (before : Notes ℕ) → length before < greatest_count → spec.KnowsStretch burst first second self.old before → spec.KnowsStretch burst first second self.new (note.now ∷ before)) }
     {
         self.standing.add(note)?;
         self.begun = begun_after(&self.standing, self.begun, first, second);
@@ -120,7 +120,7 @@ impl Stretch {
 
     /// What the queues gained since their stretch began.
     fn lag_since(&self, first: QueueNo, second: QueueNo, begun: Begun) -> Lag
-        ensures { (journal : Notes ℕ) → KnowsStanding self.now.standing journal → begun ≡ spec.begun_of first second journal → result ≡ lags.lag first second journal }
+        ensures { (burst : ℕ) → (journal : Notes ℕ) → KnowsStanding burst self.now.standing journal → begun ≡ spec.begun_of burst first second journal → result ≡ lags.lag burst first second journal }
     {
         let one = self.standing.tally(first);
         let other = self.standing.tally(second);
@@ -134,7 +134,7 @@ impl Stretch {
 
     /// The lag of the queues, if both have work.
     fn lag_now(&self, first: QueueNo, second: QueueNo) -> Option<Lag>
-        ensures { (journal : Notes ℕ) → spec.KnowsStretch first second self.now journal → result ≡ lags.lag_of first second journal }
+        ensures { (burst : ℕ) → (journal : Notes ℕ) → spec.KnowsStretch burst first second self.now journal → result ≡ lags.lag_of burst first second journal }
     {
         match self.begun {
             Some(begun) => Some(self.lag_since(first, second, begun)),
@@ -142,15 +142,38 @@ impl Stretch {
         }
     }
 
-    /// The lag of the queues behind the note that was read last, if it settles a poll and both have work.
+    /// The lag of the queues behind a settled poll that ends its turn, if both have work.
+    fn lag_polled(&self, first: QueueNo, second: QueueNo) -> Option<Lag>
+        ensures { (burst : ℕ) → (journal : Notes ℕ) → spec.KnowsStretch burst first second self.now journal → result ≡ lags.lag_polled burst first second journal }
+    {
+        if self.standing.has_bursts() {
+            None
+        } else {
+            self.lag_now(first, second)
+        }
+    }
+
+    /// The lag of the queues behind a turn that a note of its own ends, if both have work.
+    fn lag_turned(&self, first: QueueNo, second: QueueNo) -> Option<Lag>
+        ensures { (burst : ℕ) → (journal : Notes ℕ) → spec.KnowsStretch burst first second self.now journal → result ≡ lags.lag_turned burst first second journal }
+    {
+        if self.standing.has_bursts() {
+            self.lag_now(first, second)
+        } else {
+            None
+        }
+    }
+
+    /// The lag of the queues behind the note that was read last, if it ends a turn and both have work.
     pub fn lag(&self, first: QueueNo, second: QueueNo, note: &Note<u64>) -> Option<Lag>
-        ensures { (before : Notes ℕ) → spec.KnowsStretch first second self.now (note.now ∷ before) → result ≡ lags.lag_told first second note.now before }
+        ensures { (burst : ℕ) → (before : Notes ℕ) → spec.KnowsStretch burst first second self.now (note.now ∷ before) → result ≡ lags.lag_told burst first second note.now before }
     {
         match *note {
-            Note::Yield(_, _) => self.lag_now(first, second),
-            Note::Park(_, _) => self.lag_now(first, second),
-            Note::Stayed(_, _) => self.lag_now(first, second),
-            Note::Done(_, _, _) => self.lag_now(first, second),
+            Note::Yield(_, _) => self.lag_polled(first, second),
+            Note::Park(_, _) => self.lag_polled(first, second),
+            Note::Stayed(_, _) => self.lag_polled(first, second),
+            Note::Done(_, _, _) => self.lag_polled(first, second),
+            Note::Turned(_, _) => self.lag_turned(first, second),
             _ => None,
         }
     }

@@ -1,7 +1,7 @@
 //! What is put of a journal.
 
-use crate::read::journals;
-use crate::texts::{LANE, LINES, PANEL, TRACE, TURN_2};
+use crate::read::{journals, journals_of};
+use crate::texts::{JOURNAL, LANE, LINES, PANEL, TRACE, TURN_2, TURNED, TURNED_LINES};
 use fairview_lag::{put_lag, put_lag_text};
 use fairview_svg::{Cut, put_gantt};
 use fairview_trace::put_trace;
@@ -30,9 +30,9 @@ fn is_panel(alloc: Global, panel: &str) -> bool {
     put_lag(alloc, &assembly, &mut page).is_ok() && is_picture(&page, panel)
 }
 
-/// Whether these are the lines of the journal's leads.
-fn is_told(alloc: Global, lines: &str) -> bool {
-    let Some(assembly) = journals(alloc) else {
+/// Whether these are the lines of the leads of a journal.
+fn is_told(alloc: Global, text: &str, lines: &str) -> bool {
+    let Some(assembly) = journals_of(alloc, text) else {
         return false;
     };
     let mut page = String::new(alloc);
@@ -70,7 +70,8 @@ fn each_pair_has_a_panel(rt: HostRuntime) {
 
 #[test]
 fn each_pair_has_a_line(rt: HostRuntime) {
-    assert!(rt; is_told(rt.alloc(), LINES));
+    assert!(rt; is_told(rt.alloc(), JOURNAL, LINES));
+    assert!(rt; is_told(rt.alloc(), TURNED, TURNED_LINES));
 }
 
 #[test]

@@ -8,7 +8,13 @@ use std::alloc::Global;
 /// How many leads the two queues of the journal have, and how far the greatest is apart.
 fn greatest(alloc: Global) -> Option<(usize, u128, u64)> {
     let assembly = journals(alloc)?;
-    let Ok(leads) = leads_of(alloc, assembly.journal(ActorNo(0)), QueueNo(1), QueueNo(2)) else {
+    let Ok(leads) = leads_of(
+        alloc,
+        assembly.journal(ActorNo(0)),
+        QueueNo(1),
+        QueueNo(2),
+        assembly.burst(),
+    ) else {
         return None;
     };
     match greatest_lead(alloc, &leads) {

@@ -45,6 +45,34 @@ cores 1 cap 8\n\
 end\n\
 ";
 
+/// Two queues of one core, whose turns may have two polls.
+pub(crate) const TURNED: &str = "journal 2\n\
+cores 1 cap 8 burst 2\n\
+0 queue q1 700\n\
+0 queue q2 300\n\
+0 took 1>0#1 q1\n\
+0 took 1>0#2 q2\n\
+0 pick q1 at 0\n\
+0 start 1>0#1\n\
+0 yield 1>0#1 35\n\
+0 resume 1>0#1\n\
+0 yield 1>0#1 70\n\
+0 turned q1 105\n\
+0 pick q2 at 0\n\
+0 start 1>0#2\n\
+0 yield 1>0#2 15\n\
+0 resume 1>0#2\n\
+0 yield 1>0#2 15\n\
+0 turned q2 30\n\
+1 sent 1>0#1 job q1\n\
+1 sent 1>0#2 job q2\n\
+end\n\
+";
+
+/// Its greatest lag: q1 was charged 150 at the end of its turn, and q2 nothing so far.
+pub(crate) const TURNED_LINES: &str =
+    "core 0, q1 ahead of q2: lead 150 of at most 150, at turn 1\n";
+
 /// The lane of its picture: 70, 30, 70 and 10 ns, of 180.
 pub(crate) const LANE: &str =
     "<rect class=\"lane\" x=\"300\" y=\"120\" width=\"2000\" height=\"56\"/><text x=\"40\" y=\"158\">core 0</text>\n\

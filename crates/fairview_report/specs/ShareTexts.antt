@@ -55,16 +55,16 @@ row_text Blocks core busy queue (Some share) = table_row false core busy queue s
 row_text Plain core busy queue (Some share) = table_row true core busy queue share
 row_text Csv core busy queue (Some share) = csv_row core queue share ++ codes "\n"
 
--- the rows of a core's queues, by number
-abbrev pub queues_text : Form → ℕ → ℕ → Journal ℕ → List ℕ
-queues_text form core busy journal = lists_below (λ queue. row_text form core busy queue (queue_share queue journal)) 256
+-- the rows of a core's queues, by number, where a turn may have so many polls
+abbrev pub queues_text : Form → ℕ → ℕ → ℕ → Journal ℕ → List ℕ
+queues_text form burst core busy journal = lists_below (λ queue. row_text form core busy queue (queue_share burst queue journal)) 256
 
-abbrev pub core_text : Form → ℕ → Journal ℕ → List ℕ
-core_text form core journal = queues_text form core (busy_time journal) journal
+abbrev pub core_text : Form → ℕ → ℕ → Journal ℕ → List ℕ
+core_text form burst core journal = queues_text form burst core (busy_time journal) journal
 
 -- the rows of all cores, by number
 abbrev pub cores_text : Form → Assembly ℕ → List ℕ
-cores_text form assembly = lists_below (λ core. core_text form core (journal_of core assembly)) assembly.cores
+cores_text form assembly = lists_below (λ core. core_text form assembly.burst core (journal_of core assembly)) assembly.cores
 
 -- the whole table
 abbrev pub shares_text : Form → Assembly ℕ → List ℕ

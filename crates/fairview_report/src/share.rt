@@ -63,7 +63,7 @@ fn put_cores(
 {
     for core in 0..assembly.cores() {
         let journal = assembly.journal(ActorNo(core));
-        put_core(alloc, form, CoreNo(core), journal, page)?;
+        put_core(alloc, form, CoreNo(core), journal, assembly.burst(), page)?;
     }
     Ok(())
 }
@@ -74,11 +74,12 @@ fn put_core(
     form: Form,
     core: CoreNo,
     journal: &Journal<u64>,
+    burst: u8,
     page: &mut String,
 ) -> Result<(), AllocError>
-    ensures { OnOk result (string_bytes page.new ≡ string_bytes page.old ++ spec.core_text form core journal.now.notes) }
+    ensures { OnOk result (string_bytes page.new ≡ string_bytes page.old ++ spec.core_text form burst core journal.now.notes) }
 {
-    let shares = CoreShares::of(alloc, journal)?;
+    let shares = CoreShares::of(alloc, journal, burst)?;
     let busy = clock_of(journal).time;
     put_queues(alloc, form, core, busy, &shares, page)
 }
@@ -92,8 +93,8 @@ fn put_queues(
     shares: &CoreShares,
     page: &mut String,
 ) -> Result<(), AllocError>
-    ensures { OnOk result ((journal : Notes ℕ) → KnowsShares shares.now journal
-        → string_bytes page.new ≡ string_bytes page.old ++ spec.queues_text form core busy journal) }
+    ensures { OnOk result ((burst : ℕ) (journal : Notes ℕ) → KnowsShares burst shares.now journal
+        → string_bytes page.new ≡ string_bytes page.old ++ spec.queues_text form burst core busy journal) }
 {
     for queue in 0..256u16 {
         let queue = QueueNo(queue as u8);

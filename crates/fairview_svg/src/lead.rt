@@ -66,6 +66,7 @@ fn put_line(
 
 /// Puts a line for the first turn of a core at which the virtual runtimes of two queues are the furthest apart: both virtual runtimes,
 /// and the greatest charge of each so far, which bounds how far it may be above the other. There is no line if they never have work together.
+/// A turn may have so many polls: where it may have several, queues are charged by turns.
 ///
 /// # Errors
 ///
@@ -76,12 +77,13 @@ pub fn put_greatest_lead(
     first: QueueNo,
     second: QueueNo,
     journal: &Journal<u64>,
+    burst: u8,
     page: &mut String,
 ) -> Result<(), AllocError>
-    ensures { OnOk result ((lead : Option LeadSeen) × IsGreatestLead (leads first second journal.now.notes) lead
+    ensures { OnOk result ((lead : Option LeadSeen) × IsGreatestLead (leads burst first second journal.now.notes) lead
         × (string_bytes page.new ≡ string_bytes page.old ++ spec.lead_line core first second lead)) }
 {
-    let leads = leads_of(alloc, journal, first, second)?;
+    let leads = leads_of(alloc, journal, first, second, burst)?;
     let lead = greatest_lead(alloc, &leads)?;
     put_line(core, first, second, lead, page)
 }

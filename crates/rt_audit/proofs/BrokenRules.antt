@@ -37,7 +37,7 @@ module _ (assembly : Assembly ℕ) where
     outcomes = λ is sound. let at = place.outcomes is in outcomes_broken actor line (omega (arith, at.within)) at.here sound;
     picks = λ is sound.
         let at = place.picks is in
-        pick_breaks (journal_of actor assembly) line at.here (sound.notes actor at.within) (sound.last_followed actor at.within);
+        pick_breaks assembly.burst (journal_of actor assembly) line at.here (sound.notes actor at.within) (sound.last_followed actor at.within);
   }
 
   -- sound journals have no fault

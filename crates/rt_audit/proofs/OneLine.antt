@@ -14,9 +14,9 @@ use Rattle.rt_audit.specs.Faults.{IsFirstPlace}
 use Rattle.rt_audit.proofs.LeastLines.{at_within, fault_behind, no_earlier}
 
 -- the newest note of a journal follows as it should
-abbrev FollowsNewest : Journal ℕ → Type 0
-FollowsNewest [] = Unit {0}
-FollowsNewest (note ∷ before) = Follows note before
+abbrev FollowsNewest : ℕ → Journal ℕ → Type 0
+FollowsNewest burst [] = Unit {0}
+FollowsNewest burst (note ∷ before) = Follows burst note before
 
 -- there is one first fault
 pub one_first_fault : {T : Type 0} (P : Note T → Journal T → Type 0) (journal : Journal T) (line other : ℕ) → IsFirstFault P journal line →
@@ -41,63 +41,63 @@ one_place count Keeps IsAt breaks one_line actor line other second here there = 
         let same : other ≡ actor = omega (arith, behind, before) in
         (sym same, one_line actor line second here.here (subst (λ (at : ℕ). IsAt at second) same there.here))
 
-module _ (journal : Journal ℕ) where
+module _ (burst : ℕ) (journal : Journal ℕ) where
   -- up to a place behind a cut the notes aren't right
-  cut_off : (line later : ℕ) → line < later → later ≤ length journal → EachNote PicksRight (at_place later journal) → IsCutOff journal line → ⊥
+  cut_off : (line later : ℕ) → line < later → later ≤ length journal → EachNote (PicksRight burst) (at_place later journal) → IsCutOff burst journal line → ⊥
   cut_off line later before within each off =
-      let here = each_before PicksRight (line + 1) (at_place later journal) each in
+      let here = each_before (PicksRight burst) (line + 1) (at_place later journal) each in
       let same = at_within journal (line + 1) later (omega (arith, before)) within in
-      let right = subst (λ (read : Journal ℕ). EachNote PicksRight read) (same ∙ off.there) here in
+      let right = subst (λ (read : Journal ℕ). EachNote (PicksRight burst) read) (same ∙ off.there) here in
       off.broken (record { turn = right.0.turn; followed = right.0.followed })
 
   -- behind a pick that isn't followed no note is the first wrong one by itself
-  wrong_behind : (line other : ℕ) → line < other → IsUnfollowed journal line → IsWrongNote journal other → ⊥
+  wrong_behind : (line other : ℕ) → line < other → IsUnfollowed burst journal line → IsWrongNote burst journal other → ⊥
   wrong_behind line other before pick wrong = by_end pick.unfollowed
     where
       rest : wrong.fault.before ≡ at_place (other - 1) journal
-      rest = fault_behind PicksRight journal other (omega (arith, before)) wrong.fault
+      rest = fault_behind (PicksRight burst) journal other (omega (arith, before)) wrong.fault
 
-      by_own : (line + 1 ≡ other) → IsCutOff journal line → (queue_just_picked wrong.fault.before ≡ None) ⊎ Follows wrong.fault.note wrong.fault.before → ⊥
+      by_own : (line + 1 ≡ other) → IsCutOff burst journal line → (queue_just_picked wrong.fault.before ≡ None) ⊎ Follows burst wrong.fault.note wrong.fault.before → ⊥
       by_own next off (inl none) =
           let here : wrong.fault.before ≡ at_place line journal = rest ∙ ap (λ (at : ℕ). at_place at journal) (omega (arith, next)) in
           true≢false (sym pick.picked ∙ ap is_some (ap queue_just_picked (sym here) ∙ none))
       by_own next off (inr follows) =
           let there : at_place other journal ≡ off.note ∷ at_place line journal = ap (λ (at : ℕ). at_place at journal) (sym next) ∙ off.there in
-          off.broken (subst FollowsNewest (sym wrong.fault.there ∙ there) follows)
+          off.broken (subst (FollowsNewest burst) (sym wrong.fault.there ∙ there) follows)
 
-      by_place : IsCutOff journal line → (line < other - 1) ⊎ (other - 1 ≤ line) → ⊥
+      by_place : IsCutOff burst journal line → (line < other - 1) ⊎ (other - 1 ≤ line) → ⊥
       by_place off (inl less) =
-          cut_off line (other - 1) less (omega (arith, wrong.fault.within)) (subst (λ (read : Journal ℕ). EachNote PicksRight read) rest wrong.fault.kept) off
+          cut_off line (other - 1) less (omega (arith, wrong.fault.within)) (subst (λ (read : Journal ℕ). EachNote (PicksRight burst) read) rest wrong.fault.kept) off
       by_place off (inr more) = by_own (omega (arith, more, before)) off wrong.own
 
-      by_end : (line ≡ length journal) ⊎ IsCutOff journal line → ⊥
+      by_end : (line ≡ length journal) ⊎ IsCutOff burst journal line → ⊥
       by_end (inl end) = absurd (omega (arith, end, before, wrong.fault.within))
       by_end (inr off) = by_place off (cases_lt line (other - 1))
 
   -- before a pick that isn't followed no note is wrong
-  wrong_before : (line other : ℕ) → other ≤ line → IsUnfollowed journal line → IsWrongNote journal other → ⊥
+  wrong_before : (line other : ℕ) → other ≤ line → IsUnfollowed burst journal line → IsWrongNote burst journal other → ⊥
   wrong_before line other before pick wrong =
-      let here = each_before PicksRight other (at_place line journal) pick.kept in
+      let here = each_before (PicksRight burst) other (at_place line journal) pick.kept in
       let same = at_within journal other line before pick.within in
-      let right = subst (λ (read : Journal ℕ). EachNote PicksRight read) (same ∙ wrong.fault.there) here in
+      let right = subst (λ (read : Journal ℕ). EachNote (PicksRight burst) read) (same ∙ wrong.fault.there) here in
       wrong.fault.broken right.0
 
-  not_both : (line other : ℕ) → IsUnfollowed journal line → IsWrongNote journal other → ⊥
+  not_both : (line other : ℕ) → IsUnfollowed burst journal line → IsWrongNote burst journal other → ⊥
   not_both line other pick wrong = by_order (cases_lt line other)
     where
       by_order : (line < other) ⊎ (other ≤ line) → ⊥
       by_order (inl before) = wrong_behind line other before pick wrong
       by_order (inr behind) = wrong_before line other behind pick wrong
 
-  none_earlier : (line other : ℕ) → line < other → IsUnfollowed journal line → IsUnfollowed journal other → ⊥
+  none_earlier : (line other : ℕ) → line < other → IsUnfollowed burst journal line → IsUnfollowed burst journal other → ⊥
   none_earlier line other before pick second = by_end pick.unfollowed
     where
-      by_end : (line ≡ length journal) ⊎ IsCutOff journal line → ⊥
+      by_end : (line ≡ length journal) ⊎ IsCutOff burst journal line → ⊥
       by_end (inl end) = absurd (omega (arith, end, before, second.within))
       by_end (inr off) = cut_off line other before second.within second.kept off
 
   -- there is one line at which the rule of picks is first broken
-  pub one_pick_fault : (line other : ℕ) → IsPickFault journal line → IsPickFault journal other → line ≡ other
+  pub one_pick_fault : (line other : ℕ) → IsPickFault burst journal line → IsPickFault burst journal other → line ≡ other
   one_pick_fault line other (inl pick) (inl second) = by_order (cases_lt line other) (cases_lt other line)
     where
       by_order : (line < other) ⊎ (other ≤ line) → (other < line) ⊎ (line ≤ other) → line ≡ other
@@ -106,4 +106,4 @@ module _ (journal : Journal ℕ) where
       by_order (inr behind) (inr before) = omega (arith, behind, before)
   one_pick_fault line other (inl pick) (inr wrong) = absurd (not_both line other pick wrong)
   one_pick_fault line other (inr wrong) (inl pick) = absurd (not_both other line pick wrong)
-  one_pick_fault line other (inr wrong) (inr second) = one_first_fault PicksRight journal line other wrong.fault second.fault
+  one_pick_fault line other (inr wrong) (inr second) = one_first_fault (PicksRight burst) journal line other wrong.fault second.fault

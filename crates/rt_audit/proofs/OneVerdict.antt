@@ -52,8 +52,8 @@ module _ (assembly : Assembly ℕ) where
       (there.outcomes refl)
   same_place (suc (suc (suc (suc (suc zero))))) actor line other second some few here there =
       one_place assembly.cores (PicksOf assembly) (PicksFault assembly)
-      (λ core line fault keeps. pick_breaks (journal_of core assembly) line fault keeps.notes keeps.last_followed)
-      (λ core. one_pick_fault (journal_of core assembly)) actor line other second (here.picks refl) (there.picks refl)
+      (λ core line fault keeps. pick_breaks assembly.burst (journal_of core assembly) line fault keeps.notes keeps.last_followed)
+      (λ core. one_pick_fault assembly.burst (journal_of core assembly)) actor line other second (here.picks refl) (there.picks refl)
   same_place (suc (suc (suc (suc (suc (suc rule)))))) actor line other second some few here there = absurd (omega (arith, few))
 
   -- the journals determine the verdict

@@ -33,7 +33,7 @@ OutcomesFault assembly actor line =
 
 -- of the fifth rule: of a pick that isn't followed as it should be, its own line
 abbrev pub PicksFault : Assembly ℕ → ℕ → ℕ → Type 0
-PicksFault assembly core line = IsPickFault (journal_of core assembly) line
+PicksFault assembly core line = IsPickFault assembly.burst (journal_of core assembly) line
 
 -- the rule of this number is broken at this place first: at the first actor that doesn't keep to it, at the line of its fault
 pub record IsPlaceOf (assembly : Assembly ℕ) (rule actor line : ℕ) : Type 0 where

@@ -44,5 +44,5 @@ pub record OutcomesOf (assembly : Assembly ℕ) (actor : ℕ) : Type 0 where
 
 -- the fifth rule, of one core
 pub record PicksOf (assembly : Assembly ℕ) (core : ℕ) : Type 0 where
-  pub notes : EachNote PicksRight (journal_of core assembly)
+  pub notes : EachNote (PicksRight assembly.burst) (journal_of core assembly)
   pub last_followed : queue_just_picked (journal_of core assembly) ≡ None

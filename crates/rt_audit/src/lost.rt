@@ -35,22 +35,22 @@ fn has_ended(history: &History, name: &JobId, order: &Order<()>) -> bool
 
 /// Whether no queue has work, and no job is parked.
 fn is_idle(accounts: &Accounts) -> bool
-    ensures right { (before : Notes ℕ) → KnowsAccounts accounts.now before → IsTrue result → (queue : ℕ) → HasNobody queue before }
-    ensures only { (before : Notes ℕ) → KnowsAccounts accounts.now before → ((queue : ℕ) → HasNobody queue before) → IsTrue result }
+    ensures right { (burst : ℕ) (before : Notes ℕ) → KnowsAccounts burst accounts.now before → IsTrue result → (queue : ℕ) → HasNobody queue before }
+    ensures only { (burst : ℕ) (before : Notes ℕ) → KnowsAccounts burst accounts.now before → ((queue : ℕ) → HasNobody queue before) → IsTrue result }
 {
     accounts.are_empty()
 }
 
-/// The accounts of a core's queues at the end of its journal.
-fn accounts_after(history: &History, journal: &Journal<u64>) -> Accounts
+/// The accounts of a core's queues at the end of its journal, where turns have so many polls at most.
+fn accounts_after(burst: u8, history: &History, journal: &Journal<u64>) -> Accounts
     requires { IsHistory history.now journal.now.notes }
-    ensures { KnowsAccounts result journal.now.notes }
+    ensures { KnowsAccounts burst result journal.now.notes }
 {
     let mut accounts = Accounts::new();
     for place in 0..journal.len() {
         let note = note_at(journal, place);
         let fact = history.fact(place);
-        accounts.add(&note, &fact.spot(&note));
+        accounts.add(&note, &fact.spot(&note), burst);
     }
     accounts
 }
@@ -212,7 +212,7 @@ pub(crate) fn has_lost(
     if !are_emptied(count, journal) {
         return false;
     }
-    let accounts = accounts_after(history, journal);
+    let accounts = accounts_after(assembly.burst(), history, journal);
     if !is_idle(&accounts) {
         return false;
     }

@@ -248,7 +248,7 @@ pub(crate) fn picks_place(histories: &[History], assembly: &Assembly) -> Option<
     for core in 0..assembly.cores() {
         let journal = assembly.journal(ActorNo(core));
         let history = history_of(histories, core);
-        if let Some(line) = picks_fault(history, journal) {
+        if let Some(line) = picks_fault(assembly.burst(), history, journal) {
             return Some(Place {
                 actor: ActorNo(core),
                 line,

@@ -2,22 +2,21 @@
 use Rattle.std.proofs.Common.{ℕ, ◌*◌, ◌^◌, ◌<◌, ◌≤◌, Bool, true, false, [], ◌∷◌, length, cond, arith}
 use Rattle.std.specs.Prelude.{Option, Some, None, ◌==◌, unwrap_or}
 use Rattle.rt_shares.specs.Charge.{charge, InRange}
-use Rattle.rt_ids.specs.declared.names.JobId.{JobId}
 use Rattle.rt_ids.specs.declared.note.Note.{Note}
 use Rattle.rt_ids.specs.declared.note.Note.TheVariants.{Created, SharesSet, Pick}
 use Rattle.rt_ids.specs.Clauses.{PicksRight}
-use Rattle.rt_ids.specs.Journal.{Journal, EachNote}
+use Rattle.rt_ids.specs.Bursts.{turn_told}
+use Rattle.rt_ids.specs.Journal.{Journal, EachNote, or_else}
 use Rattle.rt_ids.specs.Names.{is_number}
 use Rattle.rt_ids.specs.Polls.{poll_settled}
-use Rattle.rt_ids.specs.Runtimes.{shares, floor, virtual_runtime, runtime_picked, charge_noted, charge_of}
+use Rattle.rt_ids.specs.Runtimes.{shares, floor, virtual_runtime, runtime_picked, charge_noted, charge_of, poll_charged, turn_charged}
 use Rattle.rt_ids.specs.Spelled.{IsSpelledNote, AreSpelledNotes}
 use Rattle.rt_ids.specs.Terms.{Terms}
-use Rattle.rt_ids.specs.Work.{queue_of}
 use Rattle.rt_ids.proofs.RuntimeBound.{charge_below, place_noted-bounded}
 use Rattle.rt_journal_facts.specs.Accounts.{greatest_runtime, greatest_count}
 use Rattle.rt_audit_picks.specs.Picks.{AreBelow}
 
-module _ (terms : Terms) where
+module _ (terms : Terms) (burst : ℕ) where
   -- the shares of a queue are within their range
   shares_next : (queue : ℕ) (note : Note ℕ) (before : Journal ℕ) → IsSpelledNote terms note → InRange (shares queue before) → InRange (shares queue (note ∷ before))
   shares_next queue (Created other weight) before spelled was = by_test (queue == other)
@@ -37,19 +36,19 @@ module _ (terms : Terms) where
   in_range queue (note ∷ before) spelled = shares_next queue note before spelled.0 (in_range queue before spelled.1)
 
   -- a note costs a queue at most 2^50
-  costs_little : (queue : ℕ) (note : Note ℕ) (before : Journal ℕ) → InRange (shares queue before) → charge_noted queue note before ≤ 2 ^ 50
-  costs_little queue note before range = by_poll (poll_settled note)
+  costs_little : (queue : ℕ) (note : Note ℕ) (before : Journal ℕ) → InRange (shares queue before) → charge_noted burst queue note before ≤ 2 ^ 50
+  costs_little queue note before range = by_charge (or_else (turn_charged burst (turn_told note)) (poll_charged burst (poll_settled note) before))
     where
       by_test : (time : ℕ) (test : Bool) → cond test (charge time (shares queue before)) 0 ≤ 2 ^ 50
       by_test time true = let below = charge_below time (shares queue before) range.positive in omega arith
       by_test time false = omega arith
 
-      by_poll : (poll : Option (JobId × ℕ)) → charge_of queue poll before ≤ 2 ^ 50
-      by_poll None = omega arith
-      by_poll (Some poll) = by_test poll.1 (is_number queue (queue_of poll.0 before))
+      by_charge : (charged : Option (Option ℕ × ℕ)) → charge_of queue charged before ≤ 2 ^ 50
+      by_charge None = omega arith
+      by_charge (Some charged) = by_test charged.1 (is_number queue charged.0)
 
   -- a right pick is at the virtual runtime of its queue
-  picked_low : (bound : ℕ) (note : Note ℕ) (before : Journal ℕ) → PicksRight note before → ((queue : ℕ) → virtual_runtime queue before ≤ bound) →
+  picked_low : (bound : ℕ) (note : Note ℕ) (before : Journal ℕ) → PicksRight burst note before → ((queue : ℕ) → virtual_runtime burst queue before ≤ bound) →
       runtime_picked note ≤ bound
   picked_low bound (Pick queue runtime) before right low = let at_queue = low queue in omega (arith, right.right.at)
   picked_low bound _ before right low = omega arith
@@ -57,9 +56,9 @@ module _ (terms : Terms) where
   -- the floor and all virtual runtimes are at most this
   record IsLow (bound : ℕ) (journal : Journal ℕ) : Type 0 where
     of_floor : floor journal ≤ bound
-    of_queues : (queue : ℕ) → virtual_runtime queue journal ≤ bound
+    of_queues : (queue : ℕ) → virtual_runtime burst queue journal ≤ bound
 
-  low : (journal : Journal ℕ) → AreSpelledNotes terms journal → EachNote PicksRight journal → IsLow (length journal * 2 ^ 50) journal
+  low : (journal : Journal ℕ) → AreSpelledNotes terms journal → EachNote (PicksRight burst) journal → IsLow (length journal * 2 ^ 50) journal
   low [] spelled each = record { of_floor = omega arith; of_queues = λ queue. omega arith }
   low (note ∷ before) spelled each = step (low before spelled.1 each.1)
     where
@@ -78,6 +77,6 @@ module _ (terms : Terms) where
       }
 
   -- no virtual runtime of a journal in memory is cut off
-  pub are_below : (journal : Journal ℕ) → AreSpelledNotes terms journal → EachNote PicksRight journal → length journal < greatest_count →
-      AreBelow greatest_runtime journal
+  pub are_below : (journal : Journal ℕ) → AreSpelledNotes terms journal → EachNote (PicksRight burst) journal → length journal < greatest_count →
+      AreBelow burst greatest_runtime journal
   are_below journal spelled each short queue = let here = (low journal spelled each).of_queues queue in omega (arith, short, here)

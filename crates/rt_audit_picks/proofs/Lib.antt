@@ -1,4 +1,5 @@
 pub mod Bounds
+pub mod OpenTurns
 pub mod PickLines
 pub mod PickSteps
 pub mod Placings

@@ -10,13 +10,13 @@ use Rattle.rt_journal_facts.proofs.FirstFaults.{each_before, fault_breaks}
 use Rattle.rt_journal_facts.proofs.Walks.{at_end}
 use Rattle.rt_audit_picks.specs.PickFaults.{IsCutOff, IsPickFault, IsLineOf}
 
-module _ (journal : Journal ℕ) where
+module _ (burst : ℕ) (journal : Journal ℕ) where
   -- behind notes that are right, a wrong note names its line, or that of the pick before it
   pub line_named : (place line : ℕ) (note : Note ℕ) → place < length journal → at_place (place + 1) journal ≡ note ∷ at_place place journal →
-      EachNote PicksRight (at_place place journal) → (PicksRight note (at_place place journal) → ⊥) → IsLineOf note (at_place place journal) place line →
-      IsPickFault journal line
+      EachNote (PicksRight burst) (at_place place journal) → (PicksRight burst note (at_place place journal) → ⊥) → IsLineOf burst note (at_place place journal) place line →
+      IsPickFault burst journal line
   line_named place line note within there kept broken (inl pick) =
-      subst (λ (at : ℕ). IsPickFault journal at) (sym pick.0)
+      subst (λ (at : ℕ). IsPickFault burst journal at) (sym pick.0)
       (
       inl (record {
         within = omega (arith, within);
@@ -26,7 +26,7 @@ module _ (journal : Journal ℕ) where
       })
       )
   line_named place line note within there kept broken (inr own) =
-      subst (λ (at : ℕ). IsPickFault journal at) (sym own.0)
+      subst (λ (at : ℕ). IsPickFault burst journal at) (sym own.0)
       (
       inr (record {
         fault = record { note = note; before = at_place place journal; within = omega (arith, within); there = there; kept = kept; broken = broken };
@@ -35,25 +35,25 @@ module _ (journal : Journal ℕ) where
       )
 
   -- a pick at the end names its line
-  pub last_named : (line : ℕ) → line ≡ length journal → EachNote PicksRight journal → is_some (queue_just_picked journal) ≡ true → IsPickFault journal line
+  pub last_named : (line : ℕ) → line ≡ length journal → EachNote (PicksRight burst) journal → is_some (queue_just_picked journal) ≡ true → IsPickFault burst journal line
   last_named line last kept picked =
       let whole : at_place line journal ≡ journal = ap (λ (at : ℕ). at_place at journal) last ∙ at_end journal in
       inl (record {
         within = omega (arith, last);
-        kept = subst (λ (read : Journal ℕ). EachNote PicksRight read) (sym whole) kept;
+        kept = subst (λ (read : Journal ℕ). EachNote (PicksRight burst) read) (sym whole) kept;
         picked = subst (λ (read : Journal ℕ). is_some (queue_just_picked read) ≡ true) (sym whole) picked;
         unfollowed = inl last;
       })
 
   -- if a line is named, the journal breaks the rule
-  pub pick_breaks : (line : ℕ) → IsPickFault journal line → EachNote PicksRight journal → queue_just_picked journal ≡ None → ⊥
-  pick_breaks line (inr wrong) each last = fault_breaks PicksRight journal line wrong.fault each
+  pub pick_breaks : (line : ℕ) → IsPickFault burst journal line → EachNote (PicksRight burst) journal → queue_just_picked journal ≡ None → ⊥
+  pick_breaks line (inr wrong) each last = fault_breaks (PicksRight burst) journal line wrong.fault each
   pick_breaks line (inl pick) each last = by_end pick.unfollowed
     where
-      by_end : (line ≡ length journal) ⊎ IsCutOff journal line → ⊥
+      by_end : (line ≡ length journal) ⊎ IsCutOff burst journal line → ⊥
       by_end (inl end) =
           let whole : at_place line journal ≡ journal = ap (λ (at : ℕ). at_place at journal) end ∙ at_end journal in
           true≢false (sym pick.picked ∙ ap is_some (ap queue_just_picked whole ∙ last))
       by_end (inr off) =
-          let right = subst (λ (read : Journal ℕ). EachNote PicksRight read) off.there (each_before PicksRight (line + 1) journal each) in
+          let right = subst (λ (read : Journal ℕ). EachNote (PicksRight burst) read) off.there (each_before (PicksRight burst) (line + 1) journal each) in
           off.broken (record { turn = right.0.turn; followed = right.0.followed })

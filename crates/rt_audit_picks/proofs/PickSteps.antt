@@ -6,6 +6,7 @@ use Rattle.rt_ids.specs.declared.names.JobId.{JobId}
 use Rattle.rt_ids.specs.declared.names.Key.{Key}
 use Rattle.rt_ids.specs.declared.note.Note.{Note}
 use Rattle.rt_ids.specs.declared.note.Note.TheVariants.{Start, Resume, Yield, Park, Stayed, Done, Returned}
+use Rattle.rt_ids.specs.Bursts.{queue_in_turn}
 use Rattle.rt_ids.specs.Clauses.{IsOfTheJobOut, IsOfNoParkedJob, PicksRight}
 use Rattle.rt_ids.specs.Journal.{Journal, with_last}
 use Rattle.rt_ids.specs.Keys.{KeyAtMost}
@@ -50,7 +51,7 @@ module _ {T : Type 0} (out : Option JobId) (before : Journal T) (known : jobs_ou
   settles (Done name time value) fits parks = known ∙ ap out_list fits
   settles _ fits parks = tt
 
-module _ {T : Type 0} (before : Journal T) where
+module _ {T : Type 0} (burst : ℕ) (before : Journal T) where
   -- no parked job is polled or handed back
   pub awake : (note : Note T) → FitsParks note before → IsOfNoParkedJob note before
   awake (Resume name) parks = parks
@@ -58,7 +59,7 @@ module _ {T : Type 0} (before : Journal T) where
   awake _ parks = tt
 
   -- a note that is right fits who is parked
-  pub fits_parks : (note : Note T) → PicksRight note before → FitsParks note before
+  pub fits_parks : (note : Note T) → PicksRight burst note before → FitsParks note before
   fits_parks (Park name time) right = right.settles.1
   fits_parks (Stayed name time) right = right.settles.1
   fits_parks (Resume name) right = right.awake
@@ -86,27 +87,28 @@ at_most : (runtime queue other stored whole : ℕ) → stored ≡ min whole grea
 at_most runtime queue other stored whole is below (inl less) = inl (still_below runtime stored whole greatest_runtime is less)
 at_most runtime queue other stored whole is below (inr same) = inr (exact_below runtime stored whole greatest_runtime is (sym same.0) below, same.1)
 
-module _ (before : Journal ℕ) where
+module _ (burst : ℕ) (before : Journal ℕ) where
   -- a pick at or before the least key of the queues with work is right
-  pub right_pick : (accounts : Accounts) (least : Least) (queue runtime : ℕ) → KnowsAccounts accounts before → length accounts.queues ≤ 256 →
-      KnowsLeast least before → jobs_out before ≡ [] → has_jobs (get_or accounts.queues queue fresh_account) ≡ true →
+  pub right_pick : (accounts : Accounts) (least : Least) (queue runtime : ℕ) → KnowsAccounts burst accounts before → length accounts.queues ≤ 256 →
+      KnowsLeast burst least before → jobs_out before ≡ [] → queue_in_turn burst before ≡ None → has_jobs (get_or accounts.queues queue fresh_account) ≡ true →
       (get_or accounts.queues queue fresh_account).virtual_runtime ≡ runtime → runtime < greatest_runtime → IsBelowAll runtime queue least →
-      IsRightPick queue runtime before
-  right_pick accounts least queue runtime knows few stands nobody jobs at below first = record {
+      IsRightPick burst queue runtime before
+  right_pick accounts least queue runtime knows few stands nobody no_turn jobs at below first = record {
     at =
-        exact_below runtime (get_or accounts.queues queue fresh_account).virtual_runtime (virtual_runtime queue before) greatest_runtime
+        exact_below runtime (get_or accounts.queues queue fresh_account).virtual_runtime (virtual_runtime burst queue before) greatest_runtime
         (knows.each queue).runtime at below;
     eligible = record {
       work = sym (works queue (get_or accounts.queues queue fresh_account) before (knows.each queue)) ∙ jobs;
       nobody_out = nobody;
+      no_turn = no_turn;
     };
     least = λ other eligible. by_place other eligible.work (cases_lt other 256);
   }
     where
       by_place : (other : ℕ) → has_work other before ≡ true → (other < 256) ⊎ (256 ≤ other) →
-          KeyAtMost runtime queue (virtual_runtime other before) other
+          KeyAtMost runtime queue (virtual_runtime burst other before) other
       by_place other work (inl within) =
-          at_most runtime queue other (min (virtual_runtime other before) greatest_runtime) (virtual_runtime other before) refl below
+          at_most runtime queue other (min (virtual_runtime burst other before) greatest_runtime) (virtual_runtime burst other before) refl below
           (subst (λ (key : Key). KeyAtMost runtime queue key.vr key.queue) (stands other work) (first other within))
       by_place other work (inr past) =
           let fresh = read_past accounts.queues other fresh_account (omega (arith, few, past)) in

@@ -25,7 +25,7 @@ use Rattle.rt_audit_picks.proofs.Placings.{placed_cases}
 waits_here : (accounts : Accounts) (queue : ℕ) (key : Key) → key ≡ key_waiting accounts queue → IsWaiting (account_of accounts queue) queue key
 waits_here accounts queue key is = record { runtime = ap (λ (it : Key). it.vr) is; number = λ jobs. ap (λ (it : Key). it.queue) is }
 
-module _ (old new : Accounts) (note : Note ℕ) (spot : Spot) (before : Journal ℕ) (knows : KnowsAccounts old before)
+module _ (burst : ℕ) (old new : Accounts) (note : Note ℕ) (spot : Spot) (before : Journal ℕ) (knows : KnowsAccounts burst old before)
     (others : (queue : ℕ) → IsApart note spot queue (account_of old queue) → account_of new queue ≡ account_of old queue) where
   module _ (least ended released changed : Least) (waiting : AreWaiting old least) (parked : IsPlacedIf new ended released spot.parked)
       (own : IsPlacedIf new released changed spot.queue) where
@@ -79,7 +79,7 @@ module _ (old new : Accounts) (note : Note ℕ) (spot : Spot) (before : Journal 
         by_own (inl apart) = by_parked apart.0 apart.1 (placed_cases new ended released queue spot.parked parked)
         by_own (inr placed) = waits_here new queue (key_of changed queue) placed
 
-module _ (accounts : Accounts) (least : Least) (before : Journal ℕ) (knows : KnowsAccounts accounts before) (waiting : AreWaiting accounts least) where
+module _ (burst : ℕ) (accounts : Accounts) (least : Least) (before : Journal ℕ) (knows : KnowsAccounts burst accounts before) (waiting : AreWaiting accounts least) where
   has_account : (queue : ℕ) → length accounts.queues ≤ 256 → has_work queue before ≡ true → (queue < 256) ⊎ (256 ≤ queue) → queue < 256
   has_account queue few work (inl within) = within
   has_account queue few work (inr past) =
@@ -87,11 +87,11 @@ module _ (accounts : Accounts) (least : Least) (before : Journal ℕ) (knows : K
       absurd (true≢false (sym work ∙ (sym (works queue (account_of accounts queue) before (knows.each queue)) ∙ idle)))
 
   -- each queue with work stands at its virtual runtime
-  pub least_known : length accounts.queues ≤ 256 → KnowsLeast least before
+  pub least_known : length accounts.queues ≤ 256 → KnowsLeast burst least before
   least_known few queue work =
       let waits = waiting queue (has_account queue few work (cases_lt queue 256)) in
       let jobs : has_jobs (account_of accounts queue) ≡ true = works queue (account_of accounts queue) before (knows.each queue) ∙ work in
-      let runtime : (key_of least queue).vr ≡ min (virtual_runtime queue before) greatest_runtime =
+      let runtime : (key_of least queue).vr ≡ min (virtual_runtime burst queue before) greatest_runtime =
       waits.runtime ∙ (ap (λ test. cond test (account_of accounts queue).virtual_runtime greatest_runtime) jobs ∙ (knows.each queue).runtime) in
       λ i. record { vr = runtime i; queue = waits.number jobs i }
 
@@ -103,9 +103,9 @@ module _ (accounts : Accounts) (least : Least) (before : Journal ℕ) (knows : K
       (works queue (account_of accounts queue) before (knows.each queue) ∙ work)
 
 -- no queue has work before the first note
-pub fresh_waiting : (accounts : Accounts) (least : Least) → KnowsAccounts {T = ℕ} accounts [] → (queue : ℕ) → key_of least queue ≡ last_key →
+pub fresh_waiting : (burst : ℕ) (accounts : Accounts) (least : Least) → KnowsAccounts {T = ℕ} burst accounts [] → (queue : ℕ) → key_of least queue ≡ last_key →
     IsWaiting (account_of accounts queue) queue (key_of least queue)
-fresh_waiting accounts least knows queue last =
+fresh_waiting burst accounts least knows queue last =
     let idle : has_jobs (account_of accounts queue) ≡ false = works {T = ℕ} queue (account_of accounts queue) [] (knows.each queue) in
     record {
       runtime = ap (λ (key : Key). key.vr) last ∙ sym (ap (λ test. cond test (account_of accounts queue).virtual_runtime greatest_runtime) idle);

@@ -1,3 +1,4 @@
+pub mod OpenTurns
 pub mod PickFaults
 pub mod Picks
 pub mod Waiting

@@ -15,6 +15,7 @@ use Rattle.rt_journal_facts.specs.declared.accounts.Account.{Account}
 use Rattle.rt_journal_facts.specs.Accounts.{has_jobs, greatest_runtime}
 use Rattle.rt_journal_facts.specs.AllAccounts.{KnowsAccounts}
 use Rattle.rt_audit_picks.specs.declared.least.Least.{Least}
+use Rattle.rt_audit_picks.specs.OpenTurns.{KnowsTurn}
 use Rattle.rt_audit_picks.specs.Waiting.{AreWaiting}
 use Rattle.rt_audit_picks.specs.Winners.{IsTree, key_of}
 use Rattle.rt_audit_picks.specs.declared.picks.Turns.{Turns}
@@ -53,17 +54,17 @@ FitsParks (Returned name reason) before = is_parked name before ≡ false
 FitsParks _ before = Unit {0}
 
 -- behind a pick, and nowhere else, stands a note that takes a turn, of a job of that queue
-pub record Follows {T : Type 0} (note : Note T) (before : Journal T) : Type 0 where
-  pub turn : is_some (queue_just_picked before) ≡ takes_turn note
-  pub followed : queue_just_picked before ≡ queue_served note before
+pub record Follows {T : Type 0} (burst : ℕ) (note : Note T) (before : Journal T) : Type 0 where
+  pub turn : is_some (queue_just_picked before) ≡ takes_turn burst note before
+  pub followed : queue_just_picked before ≡ queue_served burst note before
 
 -- no queue has a lesser pair
 abbrev pub IsBelowAll : ℕ → ℕ → Least → Type 0
 IsBelowAll runtime queue least = (other : ℕ) → other < 256 → KeyAtMost runtime queue (key_of least other).vr (key_of least other).queue
 
 -- each virtual runtime is below this
-abbrev pub AreBelow : ℕ → Journal ℕ → Type 0
-AreBelow bound before = (queue : ℕ) → virtual_runtime queue before < bound
+abbrev pub AreBelow : ℕ → ℕ → Journal ℕ → Type 0
+AreBelow burst bound before = (queue : ℕ) → virtual_runtime burst queue before < bound
 
 -- a queue that has work stands at this virtual runtime, which its type doesn't cut off
 pub record IsAt (account : Account) (runtime : ℕ) : Type 0 where
@@ -71,15 +72,16 @@ pub record IsAt (account : Account) (runtime : ℕ) : Type 0 where
   pub at : account.virtual_runtime ≡ runtime
   pub below : runtime < greatest_runtime
 
--- queues, the job out and the last pick are known as these notes tell them
-pub record KnowsTurns (turns : Turns) (before : Journal ℕ) : Type 0 where
-  pub accounts : KnowsAccounts turns.accounts before
+-- queues, the job out, the last pick and the open turn are known as these notes tell them
+pub record KnowsTurns (burst : ℕ) (turns : Turns) (before : Journal ℕ) : Type 0 where
+  pub accounts : KnowsAccounts burst turns.accounts before
   pub tree : IsTree turns.least
   pub waiting : AreWaiting turns.accounts turns.least
   pub out : jobs_out before ≡ out_list turns.out
   pub picked : queue_just_picked before ≡ turns.picked
+  pub turn : KnowsTurn burst turns.turn before
 
 -- the turns are known, and each note was right
-pub record PicksSoFar (turns : Turns) (before : Journal ℕ) : Type 0 where
-  pub known : KnowsTurns turns before
-  pub right : EachNote PicksRight before
+pub record PicksSoFar (burst : ℕ) (turns : Turns) (before : Journal ℕ) : Type 0 where
+  pub known : KnowsTurns burst turns before
+  pub right : EachNote (PicksRight burst) before

@@ -46,9 +46,9 @@ abbrev pub AreWaiting : Accounts → Least → Type 0
 AreWaiting accounts least = (queue : ℕ) → queue < 256 → IsWaiting (account_of accounts queue) queue (key_of least queue)
 
 -- each queue with work stands at its virtual runtime
-abbrev pub KnowsLeast : Least → Journal ℕ → Type 0
-KnowsLeast least before =
-    (queue : ℕ) → IsTrue (has_work queue before) → key_of least queue ≡ record { vr = min (virtual_runtime queue before) greatest_runtime; queue = queue }
+abbrev pub KnowsLeast : ℕ → Least → Journal ℕ → Type 0
+KnowsLeast burst least before =
+    (queue : ℕ) → IsTrue (has_work queue before) → key_of least queue ≡ record { vr = min (virtual_runtime burst queue before) greatest_runtime; queue = queue }
 
 -- each queue without work waits behind all others
 abbrev pub KnowsIdle : Least → Journal ℕ → Type 0

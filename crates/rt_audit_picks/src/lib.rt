@@ -4,5 +4,6 @@
 mod least;
 mod picks;
 mod placing;
+mod turns;
 
 pub use picks::picks_fault;

@@ -1,11 +1,14 @@
 //! What an audit finds in each text.
 
+use crate::bursts::{TURNED, TURNS};
 use crate::parks::{PARKED, PARKS};
 use crate::rows::{CLOSES, ORDER, OUTCOMES, PICKS, Row, SOUND, STARTS};
 use rt_audit::{Verdict, audit};
-use rt_ids::ActorNo;
+use rt_ids::{ActorNo, Note, QueueNo};
+use rt_journal_notes::{Assembly, Journal};
 use rt_journal_read::read_journal;
-use std::alloc::Global;
+use std::alloc::{AllocError, Global};
+use std::test::Fail;
 
 /// The verdict on the journals of a text, if the text is read.
 fn verdict_on(alloc: Global, text: &str) -> Option<Verdict> {
@@ -78,4 +81,51 @@ fn sound_journals_with_parks_are_found_sound(rt: HostRuntime) {
 #[test]
 fn each_fault_of_parks_is_named(rt: HostRuntime) {
     assert_eq!(rt; first_unnamed(rt.alloc(), 5, &PARKS), None);
+}
+
+#[test]
+fn sound_journals_with_bursts_are_found_sound(rt: HostRuntime) {
+    for text in TURNED.iter() {
+        assert!(rt; verdict_on(rt.alloc(), *text) == Some(Verdict::Sound));
+    }
+}
+
+#[test]
+fn each_fault_of_turns_is_named(rt: HostRuntime) {
+    assert_eq!(rt; first_unnamed(rt.alloc(), 5, &TURNS), None);
+}
+
+/// The journals of a core with this note and of the outside actor without notes, where a turn may have so many polls.
+fn one_note(alloc: Global, burst: u8, note: Note<u64>) -> Result<Assembly, AllocError> {
+    let mut journal = Journal::try_with_room(alloc, 1)?;
+    journal.push(note);
+    let outside = Journal::try_with_room(alloc, 0)?;
+    let journals = vec![in alloc; journal, outside]?;
+    Ok(Assembly::of_burst(1, 4, burst, journals))
+}
+
+/// Whether these journals aren't spelled.
+fn is_unspelled(alloc: Global, journals: &Assembly) -> bool {
+    let fault = Verdict::Fault {
+        actor: ActorNo(0),
+        line: 0,
+        rule: 1,
+    };
+    audit(alloc, journals).ok() == Some(fault)
+}
+
+#[test]
+fn turns_end_by_a_note_only_where_they_have_several_polls(rt: HostRuntime) -> Result<(), Fail> {
+    let journals = one_note(rt.alloc(), 1, Note::Turned(QueueNo(0), 1))?;
+    assert!(rt; is_unspelled(rt.alloc(), &journals));
+    Ok(())
+}
+
+#[test]
+fn a_turn_has_from_1_to_64_polls(rt: HostRuntime) -> Result<(), Fail> {
+    let none = one_note(rt.alloc(), 0, Note::Pick(QueueNo(0), 0))?;
+    assert!(rt; is_unspelled(rt.alloc(), &none));
+    let many = one_note(rt.alloc(), 65, Note::Pick(QueueNo(0), 0))?;
+    assert!(rt; is_unspelled(rt.alloc(), &many));
+    Ok(())
 }

@@ -7,9 +7,12 @@ use Rattle.std.proofs.lemmas.List.Sums.{sum_by-set}
 use Rattle.rt_ids.specs.declared.names.JobId.{JobId}
 use Rattle.rt_taskqueue.specs.Queues.{Line, QueueView, QueuesView, no_queue, held_in, queue_count, waiting_of, parked_of, shares_of, mode_of, ChangesLine}
 use Rattle.rt_core.specs.State.{CoreView, tally_of, runtime_of}
+use Rattle.rt_core.specs.Bursts.{begun, polled_again}
+use Rattle.rt_core.specs.Further.{Follows, IsAheadInTurn, follow_notes}
 use Rattle.rt_core.specs.Turns.{TakesOut, Picks}
 use Rattle.rt_core.specs.Whole.{IsAhead, goes_out, pick_notes}
 use Rattle.rt_core.proofs.Entries.{is_any-from_some}
+use Rattle.rt_core.proofs.FurtherTurn.{follows_ahead}
 use Rattle.rt_core.proofs.Picking.{exists_if_waiting}
 use Rattle.rt_core.proofs.Turned.{some_front, picks_ahead}
 
@@ -62,6 +65,7 @@ module _ {J : Type 0} where
         floor = max view.floor (runtime_of queue view);
         turns = view.turns + 1;
         out = Some (record { name = name; queue = queue; woken = woken; job = front.0 });
+        bursts = begun queue view.bursts;
       } in (
         front.0,
         mid,
@@ -75,3 +79,29 @@ module _ {J : Type 0} (T : Type 0) where
   ahead_picks view queue vr name started woken is_ahead =
       let taken = takes_ahead view queue vr name started woken is_ahead in
       (taken.0, taken.1, picks_ahead T view taken.1 queue vr name started taken.0 taken.2 is_ahead.kept is_ahead.stands)
+
+module _ {J : Type 0} (T : Type 0) where
+  -- the further poll of the job that is told ahead in the open turn, with its note
+  pub ahead_follows : (view : CoreView J) (queue vr : ℕ) (name : JobId) (started woken : Bool) → IsAheadInTurn view queue vr name started woken →
+      (job : J) × (mid : CoreView J) × Follows {T = T} view (Some (goes_out name queue started job)) mid (follow_notes name started)
+  ahead_follows view queue vr name started woken is_ahead =
+      let front = is_ahead.front in
+      let any = is_any-from_some (waiting_of queue view.queues) (some_front (waiting_of queue view.queues) (name, record { started = started; woken = woken }, front.0) front.1 front.2) in
+      let mid : CoreView J = record view {
+        queues = queues_with view.queues queue front.1;
+        out = Some (record { name = name; queue = queue; woken = woken; job = front.0 });
+        bursts = record (view.bursts) { «open» = Some (polled_again is_ahead.turn) };
+      } in (
+        front.0,
+        mid,
+        follows_ahead T view mid queue name started front.0 (record {
+          turn = is_ahead.turn;
+          goes = is_ahead.goes;
+          its_queue = is_ahead.its_queue;
+          was_woken = woken;
+          others = front.1;
+          first = front.2;
+          line = ChangesLine-with view.queues queue front.1 (exists_if_waiting view.queues queue any);
+          rest = refl;
+        }),
+      )

@@ -16,15 +16,16 @@ use Rattle.rt_taskqueue.specs.Queues.{queue_count, mode_of, waiting_of, held_cou
 use Rattle.rt_taskqueue.proofs.QueuesLemmas.{waiting_of_none_held, parked_of_none_held, held_count_all_empty}
 use Rattle.rt_core.specs.declared.tally.Tally.{Tally}
 use Rattle.rt_core.specs.Senders.{AreThrough}
-use Rattle.rt_core.specs.State.{CoreView, JobOut, no_tally, tally_of, is_any, queue_out, is_working, runtime_of}
+use Rattle.rt_core.specs.State.{CoreView, JobOut, no_tally, tally_of, is_any, queue_out, is_working, runtime_of, out_count}
 use Rattle.rt_core.specs.Closing.{refusal, return_reason, IsDrained}
 use Rattle.rt_core.specs.Settling.{stays}
 use Rattle.rt_core.specs.Turns.{TakesOut, HandsBack}
 use Rattle.rt_core.specs.Steps.{ReturnsOut}
-use Rattle.rt_core.specs.Inside.{IsCore, KeepsCounts, unsettled_count}
+use Rattle.rt_core.specs.Inside.{IsCore, KeepsCounts}
 use Rattle.rt_core.proofs.Entries.{none_from_is_any}
 use Rattle.rt_core.proofs.Listed.{eqb-self}
 use Rattle.rt_core.proofs.Parts.{both_false}
+use Rattle.rt_core.proofs.Turning.{KeepsTurn-same}
 use Rattle.rt_jobs.specs.Meanings.{Meaning}
 
 set-again : {X : Type 0} (items : List X) (place : ℕ) (first last : X) → slice_set (slice_set items place first) place last ≡ slice_set items place last
@@ -32,10 +33,10 @@ set-again [] place first last = refl
 set-again (item ∷ items) zero first last = refl
 set-again (item ∷ items) (suc place) first last = ap (λ rest. item ∷ rest) (set-again items place first last)
 
-some_is : {X : Type 0} {one other : X} → Some one ≡ Some other → one ≡ other
+pub some_is : {X : Type 0} {one other : X} → Some one ≡ Some other → one ≡ other
 some_is same = cc
 
-or_false : (test : Bool) → (test || false) ≡ test
+pub or_false : (test : Bool) → (test || false) ≡ test
 or_false true = refl
 or_false false = refl
 
@@ -79,7 +80,7 @@ module _ {J : Type 0} where
       ∙ ap (λ (reason : Option Reason). takes.was_woken || is_some reason) (return_reason-taken old mid name queue started job takes ∙ kept) ∙ or_false takes.was_woken
 
   abbrev sent_back : CoreView J → ℕ → CoreView J
-  sent_back view queue = record view { tallies = slice_set view.tallies queue (record (tally_of queue view) { returned = (tally_of queue view).returned + 1 }); out = None }
+  sent_back view queue = record view { tallies = slice_set view.tallies queue (record (tally_of queue view) { returned = (tally_of queue view).returned + 1 }); out = None; bursts = record (view.bursts) { «open» = None } }
 
   -- a job that goes out and is handed back
   pub hands_back : (old mid new : CoreView J) (name : JobId) (queue : ℕ) (started : Bool) (job : J) → queue < length old.tallies → TakesOut old name queue started job mid → ReturnsOut mid new →
@@ -91,7 +92,7 @@ module _ {J : Type 0} where
     first = takes.first;
     line = subst (λ queues. ChangesLine old.queues queues queue takes.others) queues takes.line;
     rest = returns.rest ∙ ap (sent_back mid) here ∙ ap (λ view. sent_back view queue) takes.rest
-        ∙ (λ i. record old { queues = queues i; tallies = tallies i; floor = max old.floor (runtime_of queue old); turns = old.turns + 1; out = sym takes.next.free i });
+        ∙ (λ i. record old { queues = queues i; tallies = tallies i; floor = max old.floor (runtime_of queue old); turns = old.turns + 1; out = sym takes.next.free i; bursts = record (old.bursts) { «open» = sym takes.next.no_turn i } });
   }
     where
       here : returns.out.queue ≡ queue
@@ -121,7 +122,7 @@ module _ {J : Type 0} where
   pub drained_if : (view : CoreView J) (inside room places : ℕ) → KeepsCounts view inside room places → AreThrough view.delivered view.gates → inside ≡ 0 → IsDrained view
   drained_if view inside room places counted through none =
       let held : held_count view.queues ≡ 0 = omega (arith, counted.all_inside, none) in
-      let polls : unsettled_count view ≡ 0 = omega (arith, counted.all_inside, none) in
+      let polls : out_count view ≡ 0 = omega (arith, counted.all_inside, none) in
       record {
         delivered_all = λ sender known. through sender (omega (arith, counted.senders, known));
         idle = λ queue. idle_at view queue (none_out view.out polls) (waiting_of_none_held view.queues held queue);
@@ -143,7 +144,7 @@ module _ {J : Type 0} where
   none_if_drained view inside room places counted drained =
       let lines : (queue : ℕ) → waiting_of queue view.queues ≡ [] =
       λ queue. none_from_is_any (waiting_of queue view.queues) (both_false (is_any (waiting_of queue view.queues)) (is_number queue (queue_out view.out)) (drained.idle queue)).0 in
-      let polls : unsettled_count view ≡ 0 = ap (λ (held : Option (JobOut J)). number_if (is_some held)) (free_if_drained view drained) in
+      let polls : out_count view ≡ 0 = ap (λ (held : Option (JobOut J)). number_if (is_some held)) (free_if_drained view drained) in
       omega (arith, counted.all_inside, held_count_all_empty view.queues lines drained.nobody_parked, polls)
 
   -- a mode, or a gate, is nothing that the core keeps its counts by
@@ -164,4 +165,5 @@ module _ {J : Type 0} where
     slipped = core.slipped;
     pollable = record { at = core.pollable.at; parked = core.pollable.parked };
     turns = record { tallies = core.turns.tallies; floor = core.turns.floor };
+    turning = KeepsTurn-same view (record view { gates = gates; mode = mode }) refl refl (omega arith) core.turning;
   }

@@ -7,8 +7,9 @@ use Rattle.rt_ids.specs.declared.order.Mode.{Mode}
 use Rattle.rt_ids.specs.Work.{number_if}
 use Rattle.rt_taskqueue.specs.Queues.{Line, Marks, QueuesView, waiting_of, parked_of, queue_count, held_count, ChangesLine, ChangesShares, ChangesMode, AddsQueue, IsWithinLimits}
 use Rattle.rt_taskqueue.specs.Parks.{ChangesParks}
-use Rattle.rt_core.specs.State.{CoreView, JobOut, runtime_of}
-use Rattle.rt_core.specs.Inside.{job_out, unsettled_count, KeepsCounts, IsListed}
+use Rattle.rt_core.specs.State.{CoreView, JobOut, runtime_of, out_count}
+use Rattle.rt_core.specs.Bursts.{queue_held}
+use Rattle.rt_core.specs.Inside.{job_out, KeepsCounts, IsListed}
 use Rattle.rt_core.specs.declared.out.Out.{Out}
 use Rattle.rt_core.proofs.Entries.{may_run-same, entry_of-same, IsListed-kept}
 
@@ -50,7 +51,7 @@ module _ {J : Type 0} where
     limits = limits;
     tallies = tallies ∙ ap (λ n. n + 1) counted.tallies ∙ sym adds.count;
     senders = ap length delivered ∙ counted.senders ∙ ap (λ n. n + 1) (sym cores);
-    all_inside = let polls : unsettled_count new ≡ unsettled_count old = ap polls_of out in omega (arith, adds.same_held, counted.all_inside);
+    all_inside = let polls : out_count new ≡ out_count old = ap polls_of out in omega (arith, adds.same_held, counted.all_inside);
     within_room = counted.within_room;
     same_room = counted.same_room ∙ sym adds.same_room;
     reserved = counted.reserved;
@@ -64,7 +65,7 @@ module _ {J : Type 0} where
     limits = limits;
     tallies = ap length tallies ∙ counted.tallies ∙ sym changes.same_count;
     senders = delivered ∙ counted.senders ∙ ap (λ n. n + 1) (sym cores);
-    all_inside = let polls : unsettled_count new ≡ unsettled_count old = ap polls_of out in omega (arith, changes.same_held, counted.all_inside);
+    all_inside = let polls : out_count new ≡ out_count old = ap polls_of out in omega (arith, changes.same_held, counted.all_inside);
     within_room = counted.within_room;
     same_room = counted.same_room ∙ sym changes.same_room;
     reserved = counted.reserved;
@@ -79,7 +80,7 @@ module _ {J : Type 0} where
     limits = limits;
     tallies = ap length tallies ∙ counted.tallies ∙ sym changes.same_count;
     senders = ap length delivered ∙ counted.senders ∙ ap (λ n. n + 1) (sym cores);
-    all_inside = let polls : unsettled_count new ≡ unsettled_count old = ap polls_of out in omega (arith, changes.same_held, counted.all_inside);
+    all_inside = let polls : out_count new ≡ out_count old = ap polls_of out in omega (arith, changes.same_held, counted.all_inside);
     within_room = counted.within_room;
     same_room = counted.same_room ∙ sym changes.same_room;
     reserved = counted.reserved;
@@ -96,8 +97,8 @@ module _ {J : Type 0} where
     tallies = tallies ∙ counted.tallies ∙ sym changes.same_count;
     senders = ap length delivered ∙ counted.senders ∙ ap (λ n. n + 1) (sym cores);
     all_inside =
-        let polls : unsettled_count new ≡ 1 = ap polls_of is_out in
-        let none : unsettled_count old ≡ 0 = ap polls_of free in
+        let polls : out_count new ≡ 1 = ap polls_of is_out in
+        let none : out_count old ≡ 0 = ap polls_of free in
         let long : length (waiting_of out.queue old.queues) ≡ suc (length others) = ap length head in
         omega (arith, changes.held, counted.all_inside);
     within_room = counted.within_room;
@@ -116,8 +117,8 @@ module _ {J : Type 0} where
     tallies = tallies ∙ counted.tallies ∙ sym changes.same_count;
     senders = ap length delivered ∙ counted.senders ∙ ap (λ n. n + 1) (sym cores);
     all_inside =
-        let polls : unsettled_count new ≡ 0 = ap polls_of free in
-        let one : unsettled_count old ≡ 1 = ap polls_of was_out in
+        let polls : out_count new ≡ 0 = ap polls_of free in
+        let one : out_count old ≡ 1 = ap polls_of was_out in
         let long : length (waiting_of out.queue old.queues ++ (name, marks, job) ∷ []) ≡ length (waiting_of out.queue old.queues) + 1 = length-append (waiting_of out.queue old.queues) ((name, marks, job) ∷ []) in
         omega (arith, changes.held, counted.all_inside);
     within_room = counted.within_room;
@@ -136,8 +137,8 @@ module _ {J : Type 0} where
     tallies = tallies ∙ counted.tallies ∙ sym changes.same_count;
     senders = ap length delivered ∙ counted.senders ∙ ap (λ n. n + 1) (sym cores);
     all_inside =
-        let polls : unsettled_count new ≡ 0 = ap polls_of free in
-        let one : unsettled_count old ≡ 1 = ap polls_of was_out in
+        let polls : out_count new ≡ 0 = ap polls_of free in
+        let one : out_count old ≡ 1 = ap polls_of was_out in
         let long : length (parked_of out.queue old.queues ++ (name, job) ∷ []) ≡ length (parked_of out.queue old.queues) + 1 = length-append (parked_of out.queue old.queues) ((name, job) ∷ []) in
         omega (arith, changes.held, counted.all_inside);
     within_room = counted.within_room;
@@ -154,7 +155,7 @@ module _ {J : Type 0} where
     limits = limits;
     tallies = tallies ∙ counted.tallies ∙ sym count;
     senders = delivered ∙ counted.senders ∙ ap (λ n. n + 1) (sym cores);
-    all_inside = let same : unsettled_count new ≡ unsettled_count old = ap number_if polls in omega (arith, held, counted.all_inside);
+    all_inside = let same : out_count new ≡ out_count old = ap number_if polls in omega (arith, held, counted.all_inside);
     within_room = counted.within_room;
     same_room = counted.same_room ∙ sym same_room;
     reserved = counted.reserved;
@@ -170,8 +171,8 @@ module _ {J : Type 0} where
     tallies = tallies ∙ counted.tallies ∙ sym (ap queue_count queues);
     senders = ap length delivered ∙ counted.senders ∙ ap (λ n. n + 1) (sym cores);
     all_inside =
-        let polls : unsettled_count new ≡ 0 = ap polls_of free in
-        let one : unsettled_count old ≡ 1 = ap polls_of was_out in
+        let polls : out_count new ≡ 0 = ap polls_of free in
+        let one : out_count old ≡ 1 = ap polls_of was_out in
         let held : held_count new.queues ≡ held_count old.queues = ap held_count queues in
         omega (arith, counted.all_inside);
     within_room = omega (arith, counted.within_room);
@@ -182,11 +183,11 @@ module _ {J : Type 0} where
 
   pub some_inside : (view : CoreView J) (inside room places : ℕ) (out : JobOut J) → view.out ≡ Some out → KeepsCounts view inside room places → (1 ≤ inside) × (out.queue < queue_count view.queues)
   some_inside view inside room places out is counted =
-      let one : unsettled_count view ≡ 1 = ap polls_of is in
+      let one : out_count view ≡ 1 = ap polls_of is in
       (omega (arith, counted.all_inside), subst (λ (held : Option (JobOut J)). IfSome held (λ job. job.queue < queue_count view.queues)) is counted.out)
 
   -- lines and virtual runtimes stay
-  pub IsListed-same : (old new : CoreView J) (keys : List Key) → ((queue : ℕ) → waiting_of queue new.queues ≡ waiting_of queue old.queues) → new.out ≡ old.out →
+  pub IsListed-same : (old new : CoreView J) (keys : List Key) → ((queue : ℕ) → waiting_of queue new.queues ≡ waiting_of queue old.queues) → queue_held new ≡ queue_held old →
       ((queue : ℕ) → runtime_of queue new ≡ runtime_of queue old) → IsListed old keys → IsListed new keys
-  IsListed-same old new keys lines out runtimes listed =
-      IsListed-kept old new keys (λ queue. entry_of-same old new queue (may_run-same old new queue (lines queue) out) (runtimes queue)) listed
+  IsListed-same old new keys lines held runtimes listed =
+      IsListed-kept old new keys (λ queue. entry_of-same old new queue (may_run-same old new queue (lines queue) held) (runtimes queue)) listed

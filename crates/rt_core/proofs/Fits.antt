@@ -1,5 +1,5 @@
 -- No count of a core outgrows its turns.
-use Rattle.std.proofs.Common.{◌≡◌, inl, inr, ℕ, ◌+◌, ◌*◌, ◌^◌, ◌≤◌, Bool, true, false, cond, length, max, arith}
+use Rattle.std.proofs.Common.{◌≡◌, inl, inr, ℕ, ◌+◌, ◌*◌, ◌^◌, ◌<◌, ◌≤◌, Bool, true, false, cond, length, max, arith}
 use Rattle.std.proofs.lemmas.Bool.{cases_lt}
 use Rattle.std.proofs.lemmas.List.{get_or_past}
 use Rattle.std.proofs.lemmas.List.Elements.{All-get_or}
@@ -17,13 +17,13 @@ placed_fits turns unsettled floor tally true fits low = record { runtime = fits.
 placed_fits turns unsettled floor tally false fits low =
     record { runtime = omega (arith, fits.runtime); selected = fits.selected; time = fits.time; finished = fits.finished; returned = fits.returned }
 
--- one more turn is made, and its poll is out
+-- one more turn is made, and isn't charged yet
 pub picked_fits : (turns : ℕ) (tally : Tally) → FitsTurns turns 0 tally → FitsTurns (turns + 1) 1 (record tally { selected = tally.selected + 1 })
 picked_fits turns tally fits = record {
   runtime = omega (arith, fits.runtime);
   selected = omega (arith, fits.selected);
   time = omega (arith, fits.time);
-  finished = omega (arith, fits.finished);
+  finished = fits.finished;
   returned = omega (arith, fits.returned);
 }
 
@@ -32,18 +32,18 @@ other_fits turns tally fits = record {
   runtime = omega (arith, fits.runtime);
   selected = omega (arith, fits.selected);
   time = omega (arith, fits.time);
-  finished = omega (arith, fits.finished);
+  finished = fits.finished;
   returned = omega (arith, fits.returned);
 }
 
--- the poll that is out is settled
+-- the turn is charged
 pub charged_fits : (turns : ℕ) (tally charged : Tally) → FitsTurns turns 1 tally → charged.runtime ≤ tally.runtime + 2 ^ 50 → charged.selected ≡ tally.selected →
-    charged.time ≤ tally.time + 2 ^ 40 → charged.finished ≤ tally.finished + 1 → charged.returned ≡ tally.returned → FitsTurns turns 0 charged
+    charged.time ≤ tally.time + 2 ^ 40 → charged.finished < 2 ^ 64 → charged.returned ≡ tally.returned → FitsTurns turns 0 charged
 charged_fits turns tally charged fits runtime selected time finished returned = record {
   runtime = omega (arith, fits.runtime);
   selected = omega (arith, fits.selected);
   time = omega (arith, fits.time);
-  finished = omega (arith, fits.finished);
+  finished = finished;
   returned = omega (arith, fits.returned);
 }
 
@@ -53,7 +53,7 @@ returned_fits turns tally fits = record {
   runtime = omega (arith, fits.runtime);
   selected = fits.selected;
   time = omega (arith, fits.time);
-  finished = omega (arith, fits.finished);
+  finished = fits.finished;
   returned = omega (arith, fits.returned);
 }
 
@@ -62,7 +62,7 @@ settled_fits turns tally fits = record {
   runtime = omega (arith, fits.runtime);
   selected = fits.selected;
   time = omega (arith, fits.time);
-  finished = omega (arith, fits.finished);
+  finished = fits.finished;
   returned = omega (arith, fits.returned);
 }
 

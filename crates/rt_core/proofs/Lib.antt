@@ -1,4 +1,6 @@
 pub mod Listed
+pub mod Held
+pub mod Turning
 pub mod Entries
 pub mod Fits
 pub mod Parts
@@ -13,9 +15,13 @@ pub mod Opening
 pub mod Awaited
 pub mod Closings
 pub mod Whole
+pub mod InTurn
 pub mod WholeTurn
+pub mod FurtherTurn
+pub mod SettledInTurn
 pub mod Turned
 pub mod AheadTaken
+pub mod Entered
 pub mod Moved
 pub mod Unparked
 pub mod Woken

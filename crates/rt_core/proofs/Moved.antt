@@ -9,17 +9,20 @@ use Rattle.rt_ids.specs.Names.{is_number}
 use Rattle.rt_ids.specs.Work.{number_if}
 use Rattle.rt_jobs.specs.Meanings.{Meaning}
 use Rattle.rt_jobs.specs.Ready.{IsReady}
-use Rattle.rt_timeline.specs.Rising.{inserted}
 use Rattle.rt_taskqueue.specs.Queues.{Line, Marks, Parks, QueuesView, waiting_of, parked_of, queue_count, held_count, awake, ChangesLine, IsWithinLimits}
 use Rattle.rt_taskqueue.specs.Parks.{Moves}
 use Rattle.rt_core.specs.declared.tally.Tally.{Tally}
 use Rattle.rt_core.specs.State.{CoreView, JobOut, is_any, is_working, queue_out}
+use Rattle.rt_core.specs.Bursts.{queue_open, queue_held}
 use Rattle.rt_core.specs.Inside.{IsCore, IsPollable, FitsTurns, may_run, unsettled_count}
 use Rattle.rt_core.proofs.Counting.{KeepsCounts-held, IsListed-same}
-use Rattle.rt_core.proofs.Entries.{may_run-same, entry_of-same, none_from_is_any, IsListed-kept}
+use Rattle.rt_core.proofs.Entries.{may_run-same, entry_of-same, none_from_is_any, runtime_of-set_other, IsListed-kept, IsListed-held}
+use Rattle.rt_core.proofs.Held.{not_held, held_out}
 use Rattle.rt_core.proofs.Listed.{LacksQueue-from_none}
 use Rattle.rt_core.proofs.Parts.{both_false, idle_entry, IsListed-joins, IsListed-activates, IsPollable-moved, IsPollable-changed}
 use Rattle.rt_core.proofs.SlipsKept.{KeepsSlips-same, KeepsSlips-inserted}
+use Rattle.rt_core.proofs.Turning.{KeepsTurn-same, held_in_turn}
+use Rattle.rt_core.specs.Relisted.{keys_after, slips_after}
 
 -- one in the midst of a list
 pub is_any-middle : {A : Type 0} (before : List A) (one : A) (behind : List A) → is_any (before ++ one ∷ behind) ≡ true
@@ -56,23 +59,43 @@ module _ {J T : Type 0} (meaning : Meaning J T) (old : CoreView J) (queues : Que
         slipped = KeepsSlips-same (queue_count old.queues) (queue_count queues) slips slips keys moves.same_count refl core.slipped;
         pollable = IsPollable-moved meaning old new queue line parks moves waits rests core.pollable;
         turns = record { tallies = core.turns.tallies; floor = core.turns.floor };
+        turning = KeepsTurn-same old new refl refl (omega (arith, moves.same_count)) core.turning;
       }
 
-  -- they come to one without work, which is placed
+  -- they come to one without work, which is placed: it is listed, unless its turn is open
   pub IsCore-activated : (key : Key) (tally : Tally) (line : Line J) (parks : Parks J) → Moves old.queues queues key.queue line parks → IsWithinLimits queues → All (λ waiting. IsReady meaning waiting.2) line → All (λ parked. IsReady meaning parked.1) parks →
-      is_any line ≡ true → is_working key.queue old ≡ false → key.queue < queue_count old.queues → tally.runtime ≡ key.vr → FitsTurns old.turns (unsettled_count old) tally →
-      IsCore meaning (record old { queues = queues; tallies = slice_set old.tallies key.queue tally }) (slice_set slips key.queue false) (inserted key keys) inside room places
-  IsCore-activated key tally line parks moves limits waits rests some idle exists runtime fits =
-      let new : CoreView J = record old { queues = queues; tallies = slice_set old.tallies key.queue tally } in
-      let within : key.queue < length old.tallies = omega (arith, core.counted.tallies, exists) in
-      let lacks = LacksQueue-from_none key.queue keys (core.listed.at key.queue ∙ idle_entry old key.queue idle) in
-      record {
+      is_any line ≡ true → is_working key.queue old ≡ false → key.queue < queue_count old.queues → tally.runtime ≡ key.vr → FitsTurns old.turns (unsettled_count old) tally → (in_turn : Bool) → is_number key.queue (queue_open old.bursts.open) ≡ in_turn →
+      IsCore meaning (record old { queues = queues; tallies = slice_set old.tallies key.queue tally }) (slips_after (not in_turn) key.queue slips) (keys_after (not in_turn) key.vr key.queue keys) inside room places
+  IsCore-activated key tally line parks moves limits waits rests some idle exists runtime fits in_turn is = by_turn in_turn is
+    where
+      new : CoreView J
+      new = record old { queues = queues; tallies = slice_set old.tallies key.queue tally }
+
+      within : key.queue < length old.tallies
+      within = omega (arith, core.counted.tallies, exists)
+
+      parts : (is_any (waiting_of key.queue old.queues) ≡ false) × (is_number key.queue (queue_out old.out) ≡ false)
+      parts = both_false (is_any (waiting_of key.queue old.queues)) (is_number key.queue (queue_out old.out)) idle
+
+      by_turn : (in_turn : Bool) → is_number key.queue (queue_open old.bursts.open) ≡ in_turn → IsCore meaning new (slips_after (not in_turn) key.queue slips) (keys_after (not in_turn) key.vr key.queue keys) inside room places
+      by_turn true here = record {
         counted = KeepsCounts-held old new inside room places moves.same_held moves.same_count moves.same_room limits refl refl core.counted.out (length-set old.tallies key.queue tally) refl core.counted;
-        listed = IsListed-activates old new keys key tally moves.others (ap is_any moves.waits ∙ some) refl refl within runtime idle core.listed;
-        slipped = KeepsSlips-inserted (queue_count queues) slips keys key (omega (arith, exists, moves.same_count)) lacks (KeepsSlips-same (queue_count old.queues) (queue_count queues) slips slips keys moves.same_count refl core.slipped);
+        listed = IsListed-held old new keys key.queue (held_in_turn old key.queue core.turning parts.1 here) refl moves.others (λ other apart. runtime_of-set_other old new key.queue other tally refl apart) core.listed;
+        slipped = KeepsSlips-same (queue_count old.queues) (queue_count queues) slips slips keys moves.same_count refl core.slipped;
         pollable = IsPollable-moved meaning old new key.queue line parks moves waits rests core.pollable;
         turns = record { tallies = All-set (FitsTurns old.turns (unsettled_count old)) old.tallies key.queue tally fits core.turns.tallies; floor = core.turns.floor };
+        turning = KeepsTurn-same old new refl refl (omega (arith, moves.same_count)) core.turning;
       }
+      by_turn false apart =
+          let lacks = LacksQueue-from_none key.queue keys (core.listed.at key.queue ∙ idle_entry old key.queue idle) in
+          record {
+            counted = KeepsCounts-held old new inside room places moves.same_held moves.same_count moves.same_room limits refl refl core.counted.out (length-set old.tallies key.queue tally) refl core.counted;
+            listed = IsListed-activates old new keys key tally moves.others (ap is_any moves.waits ∙ some) refl refl within runtime idle (not_held key.queue old.out old.bursts.open parts.1 apart) core.listed;
+            slipped = KeepsSlips-inserted (queue_count queues) slips keys key (omega (arith, exists, moves.same_count)) lacks (KeepsSlips-same (queue_count old.queues) (queue_count queues) slips slips keys moves.same_count refl core.slipped);
+            pollable = IsPollable-moved meaning old new key.queue line parks moves waits rests core.pollable;
+            turns = record { tallies = All-set (FitsTurns old.turns (unsettled_count old)) old.tallies key.queue tally fits core.turns.tallies; floor = core.turns.floor };
+            turning = KeepsTurn-same old new refl refl (omega (arith, moves.same_count)) core.turning;
+          }
 
   -- none was there
   pub IsCore-still : (queue : ℕ) (line : Line J) (parks : Parks J) → Moves old.queues queues queue line parks → IsWithinLimits queues → All (λ waiting. IsReady meaning waiting.2) line → All (λ parked. IsReady meaning parked.1) parks →
@@ -85,6 +108,7 @@ module _ {J T : Type 0} (meaning : Meaning J T) (old : CoreView J) (queues : Que
         slipped = KeepsSlips-same (queue_count old.queues) (queue_count queues) slips slips keys moves.same_count refl core.slipped;
         pollable = IsPollable-moved meaning old new queue line parks moves waits rests core.pollable;
         turns = record { tallies = core.turns.tallies; floor = core.turns.floor };
+        turning = KeepsTurn-same old new refl refl (omega (arith, moves.same_count)) core.turning;
       }
     where
       same : (other : ℕ) → (other ≡ queue) ⊎ (other ≡ queue → ⊥) → waiting_of other queues ≡ waiting_of other old.queues
@@ -109,6 +133,7 @@ module _ {J T : Type 0} (meaning : Meaning J T) (old : CoreView J) (queues : Que
         slipped = KeepsSlips-same (queue_count old.queues) (queue_count queues) slips slips keys changes.same_count refl core.slipped;
         pollable = IsPollable-changed meaning old new queue (before ++ other ∷ behind) changes ready core.pollable;
         turns = record { tallies = core.turns.tallies; floor = core.turns.floor };
+        turning = KeepsTurn-same old new refl refl (omega (arith, changes.same_count)) core.turning;
       }
     where
       same : (at : ℕ) → (at ≡ queue) ⊎ (at ≡ queue → ⊥) → may_run at (record old { queues = queues }) ≡ may_run at old
@@ -116,8 +141,8 @@ module _ {J T : Type 0} (meaning : Meaning J T) (old : CoreView J) (queues : Que
       same at (inl is) =
           let after : is_any (waiting_of queue queues) ≡ true = ap is_any changes.changed ∙ is_any-middle before (name, record marks { woken = true }, job) behind in
           let first : is_any (waiting_of queue old.queues) ≡ true = ap is_any was ∙ is_any-middle before (name, marks, job) behind in
-          ap (λ number. is_any (waiting_of number queues) && not (is_number number (queue_out old.out))) is ∙ ap (λ test. test && not (is_number queue (queue_out old.out))) (after ∙ sym first)
-          ∙ ap (λ number. is_any (waiting_of number old.queues) && not (is_number number (queue_out old.out))) (sym is)
+          ap (λ number. is_any (waiting_of number queues) && not (is_number number (queue_held old))) is ∙ ap (λ test. test && not (is_number queue (queue_held old))) (after ∙ sym first)
+          ∙ ap (λ number. is_any (waiting_of number old.queues) && not (is_number number (queue_held old))) (sym is)
 
 module _ {J T : Type 0} (meaning : Meaning J T) where
   -- the wake of the job that is out is kept
@@ -125,16 +150,22 @@ module _ {J T : Type 0} (meaning : Meaning J T) where
       IsCore meaning (record old { out = Some (record out { woken = true }) }) slips keys inside room places
   IsCore-out_woken old out slips keys inside room places core is =
       let new : CoreView J = record old { out = Some (record out { woken = true }) } in
-      let polls : unsettled_count old ≡ 1 = ap (λ (held : Option (JobOut J)). number_if (is_some held)) is in
+      let held : queue_held old ≡ Some out.queue = held_out old out is in
+      let polls : unsettled_count old ≡ 1 = ap (λ (one : Option ℕ). number_if (is_some one)) held in
       record {
         counted = KeepsCounts-held old new inside room places refl refl refl core.counted.limits refl (sym (ap (λ (held : Option (JobOut J)). is_some held) is))
             (subst (λ (held : Option (JobOut J)). IfSome held (λ job. job.queue < queue_count old.queues)) is core.counted.out) refl refl core.counted;
         listed = IsListed-kept old new keys
-            (λ queue. entry_of-same old new queue (ap (λ (held : Option (JobOut J)). is_any (waiting_of queue old.queues) && not (is_number queue (queue_out held))) (sym is)) refl) core.listed;
+            (λ queue. entry_of-same old new queue (ap (λ (one : Option ℕ). is_any (waiting_of queue old.queues) && not (is_number queue one)) (sym held)) refl) core.listed;
         slipped = core.slipped;
         pollable = record { at = core.pollable.at; parked = core.pollable.parked };
         turns = record {
           tallies = subst (λ count. All (FitsTurns old.turns count) old.tallies) polls core.turns.tallies;
           floor = omega (arith, core.turns.floor, polls);
+        };
+        turning = record {
+          single = core.turning.single;
+          polled = λ has. subst (λ (one : Option (JobOut J)). IfSome one (λ job. queue_open old.bursts.open ≡ Some job.queue)) is (core.turning.polled has);
+          exists = core.turning.exists;
         };
       }

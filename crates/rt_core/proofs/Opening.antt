@@ -15,9 +15,9 @@ use Rattle.rt_core.proofs.Settling.{may_run-free}
 use Rattle.rt_core.proofs.SlipsKept.{KeepsSlips-opened}
 use Rattle.rt_jobs.specs.Meanings.{Meaning}
 
-module _ {J : Type 0} (core cores room turns : ℕ) (senders : SendersView) where
+module _ {J : Type 0} (core cores room turns burst : ℕ) (senders : SendersView) where
   abbrev first_view : List Tally → CoreView J
-  first_view tallies = core_view core cores (first_queue room) tallies 0 turns None senders None
+  first_view tallies = core_view core cores (first_queue room) tallies 0 turns None senders None (record { burst = burst; «open» = None })
 
   -- no job waits
   no_job : (tallies : List Tally) (queue : ℕ) → waiting_of queue (first_view tallies).queues ≡ []
@@ -60,11 +60,12 @@ module _ {J : Type 0} (core cores room turns : ℕ) (senders : SendersView) wher
 
   -- all of it, of values that are equal to those
   pub IsCore-opened : {T : Type 0} (meaning : Meaning J T) (queues : SlippedView J) (tallies : List Tally) (keys : List Key) (places : ℕ) → queues ≡ slipped.first_queue room → tallies ≡ no_tally ∷ [] → keys ≡ [] →
-      length senders.delivered ≡ cores + 1 → 256 ≤ places → IsCore meaning (core_view core cores (queues_alone queues) tallies 0 turns None senders None) queues.slips keys 0 room places
+      length senders.delivered ≡ cores + 1 → 256 ≤ places → IsCore meaning (core_view core cores (queues_alone queues) tallies 0 turns None senders None (record { burst = burst; «open» = None })) queues.slips keys 0 room places
   IsCore-opened meaning queues tallies keys places queues_are tallies_are keys_are known reserved = rw (queues_are, tallies_are, keys_are) (record {
     counted = KeepsCounts-opened places known reserved;
     listed = IsListed-opened (no_tally ∷ []);
     slipped = KeepsSlips-opened;
     pollable = IsPollable-opened meaning (no_tally ∷ []);
     turns = IsWithinTurns-opened;
+    turning = record { single = λ none. refl; polled = λ has. tt; exists = tt };
   })

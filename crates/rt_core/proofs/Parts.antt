@@ -11,10 +11,12 @@ use Rattle.rt_jobs.specs.Ready.{IsReady}
 use Rattle.rt_taskqueue.specs.Queues.{Line, Marks, Parks, waiting_of, parked_of, queue_count, ChangesLine, IsWithinLimits}
 use Rattle.rt_taskqueue.specs.Parks.{ChangesParks, Moves}
 use Rattle.rt_core.specs.declared.tally.Tally.{Tally}
-use Rattle.rt_core.specs.State.{CoreView, JobOut, no_tally, is_any, queue_out, is_working}
+use Rattle.rt_core.specs.State.{CoreView, JobOut, no_tally, is_any, queue_out, is_working, out_count}
+use Rattle.rt_core.specs.Bursts.{queue_held}
 use Rattle.rt_timeline.specs.Rising.{inserted}
-use Rattle.rt_core.specs.Inside.{may_run, unsettled_count, KeepsCounts, IsListed, IsPollable}
+use Rattle.rt_core.specs.Inside.{may_run, KeepsCounts, IsListed, IsPollable}
 use Rattle.rt_core.proofs.Entries.{entry_of, may_run-same, entry_of-same, entry_of-none, entry_of-some, runtime_of-set_other, runtime_of-set_same, IsListed-kept, IsListed-inserted}
+use Rattle.rt_core.proofs.Held.{work_or_held}
 use Rattle.rt_jobs.specs.Meanings.{Meaning}
 
 pub both_false : (any out : Bool) → (any || out) ≡ false → (any ≡ false) × (out ≡ false)
@@ -88,41 +90,38 @@ module _ {J : Type 0} where
   -- jobs come to a queue that has work
   pub IsListed-joins : (old new : CoreView J) (keys : List Key) (queue : ℕ) → ((other : ℕ) → other ≢ queue → waiting_of other new.queues ≡ waiting_of other old.queues) →
       (is_any (waiting_of queue old.queues) ≡ true → is_any (waiting_of queue new.queues) ≡ true) →
-      new.out ≡ old.out → new.tallies ≡ old.tallies → is_working queue old ≡ true → IsListed old keys → IsListed new keys
-  IsListed-joins old new keys queue lines grows out tallies work listed =
+      queue_held new ≡ queue_held old → new.tallies ≡ old.tallies → is_working queue old ≡ true → IsListed old keys → IsListed new keys
+  IsListed-joins old new keys queue lines grows held tallies work listed =
       IsListed-kept old new keys (λ other. entry_of-same old new other (may other (cases_eq other queue)) (λ i. (slice_index_or (tallies i) other no_tally).runtime)) listed
     where
       may : (other : ℕ) → (other ≡ queue) ⊎ (other ≡ queue → ⊥) → may_run other new ≡ may_run other old
-      may other (inr apart) = may_run-same old new other (lines other apart) out
+      may other (inr apart) = may_run-same old new other (lines other apart) held
       may other (inl same) =
-          let here : (is_any (waiting_of queue new.queues) && not (is_number queue (queue_out old.out))) ≡ may_run queue old =
-          and_not_same (is_any (waiting_of queue old.queues)) (is_any (waiting_of queue new.queues)) (is_number queue (queue_out old.out)) work grows in
-          ap (λ number. may_run number new) same ∙ ap (λ (held : Option (JobOut J)). is_any (waiting_of queue new.queues) && not (is_number queue (queue_out held))) out ∙ here ∙ ap (λ number. may_run number old) (sym same)
+          let here : (is_any (waiting_of queue new.queues) && not (is_number queue (queue_held old))) ≡ may_run queue old =
+          and_not_same (is_any (waiting_of queue old.queues)) (is_any (waiting_of queue new.queues)) (is_number queue (queue_held old)) (work_or_held old queue work) grows in
+          ap (λ number. may_run number new) same ∙ ap (λ (number : Option ℕ). is_any (waiting_of queue new.queues) && not (is_number queue number)) held ∙ here ∙ ap (λ number. may_run number old) (sym same)
 
   -- jobs come to a queue without work
   pub idle_entry : (view : CoreView J) (queue : ℕ) → is_working queue view ≡ false → entry_of view queue ≡ None
   idle_entry view queue idle =
       let parts = both_false (is_any (waiting_of queue view.queues)) (is_number queue (queue_out view.out)) idle in
-      entry_of-none view queue (ap (λ test. test && not (is_number queue (queue_out view.out))) parts.0)
+      entry_of-none view queue (ap (λ test. test && not (is_number queue (queue_held view))) parts.0)
 
   pub IsListed-activates : (old new : CoreView J) (keys : List Key) (key : Key) (tally : Tally) → ((other : ℕ) → other ≢ key.queue → waiting_of other new.queues ≡ waiting_of other old.queues) →
-      is_any (waiting_of key.queue new.queues) ≡ true → new.out ≡ old.out → new.tallies ≡ slice_set old.tallies key.queue tally → key.queue < length old.tallies → tally.runtime ≡ key.vr →
-      is_working key.queue old ≡ false → IsListed old keys → IsListed new (inserted key keys)
-  IsListed-activates old new keys key tally lines any out tallies within runtime idle listed =
+      is_any (waiting_of key.queue new.queues) ≡ true → queue_held new ≡ queue_held old → new.tallies ≡ slice_set old.tallies key.queue tally → key.queue < length old.tallies → tally.runtime ≡ key.vr →
+      is_working key.queue old ≡ false → is_number key.queue (queue_held old) ≡ false → IsListed old keys → IsListed new (inserted key keys)
+  IsListed-activates old new keys key tally lines any held tallies within runtime idle apart_from listed =
       IsListed-inserted old new keys key (idle_entry old key.queue idle) here others listed
     where
-      parts : (is_any (waiting_of key.queue old.queues) ≡ false) × (is_number key.queue (queue_out old.out) ≡ false)
-      parts = both_false (is_any (waiting_of key.queue old.queues)) (is_number key.queue (queue_out old.out)) idle
-
       may : may_run key.queue new ≡ true
-      may = (λ i. any i && not (is_number key.queue (queue_out (out i)))) ∙ ap not parts.1
+      may = (λ i. any i && not (is_number key.queue (held i))) ∙ ap not apart_from
 
       here : entry_of new key.queue ≡ Some key.vr
       here = entry_of-some new key.queue may ∙ ap Some (runtime_of-set_same old new key.queue tally tallies within ∙ runtime)
 
       others : (other : ℕ) → other ≢ key.queue → entry_of new other ≡ entry_of old other
       others other apart =
-          entry_of-same old new other (may_run-same old new other (lines other apart) out) (runtime_of-set_other old new key.queue other tally tallies apart)
+          entry_of-same old new other (may_run-same old new other (lines other apart) held) (runtime_of-set_other old new key.queue other tally tallies apart)
 
   -- the counts as a job enters
   pub KeepsCounts-enters : (old new : CoreView J) (inside room places queue : ℕ) (name : JobId) (marks : Marks) (job : J) →
@@ -135,7 +134,7 @@ module _ {J : Type 0} where
     senders = delivered ∙ counted.senders ∙ ap (λ n. n + 1) (sym cores);
     all_inside =
         let one : length (waiting_of queue old.queues ++ (name, marks, job) ∷ []) ≡ length (waiting_of queue old.queues) + 1 = length-append (waiting_of queue old.queues) ((name, marks, job) ∷ []) in
-        let polls : unsettled_count new ≡ unsettled_count old = λ i. unsettled_of (out i) in
+        let polls : out_count new ≡ out_count old = λ i. unsettled_of (out i) in
         omega (arith, changes.held, counted.all_inside);
     within_room = omega arith;
     same_room = counted.same_room ∙ sym changes.same_room;

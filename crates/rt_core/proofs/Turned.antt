@@ -30,7 +30,7 @@ first_of (first ∷ later) key is =
 pub some_front : {X : Type 0} (line : List X) (first : X) (others : List X) → line ≡ first ∷ others → line ≡ [] → ⊥
 some_front line first others is none = cc
 
-head_same : {X : Type 0} {one other : X} {first last : List X} → one ∷ first ≡ other ∷ last → one ≡ other
+pub head_same : {X : Type 0} {one other : X} {first last : List X} → one ∷ first ≡ other ∷ last → one ≡ other
 head_same same = cc
 
 least_same : (one_runtime one other_runtime other : ℕ) → KeyAtMost one_runtime one other_runtime other → KeyAtMost other_runtime other one_runtime one → one ≡ other
@@ -53,7 +53,7 @@ module _ {J : Type 0} (T : Type 0) where
 
 module _ {J T : Type 0} where
   -- its poll is settled in the words of the contract: a park leaves the job in its line exactly where a wake was kept
-  settles_taken : (mid new : CoreView J) (ran : AfterPoll J T) (spent : ℕ) (name : JobId) (time : ℕ) → time ≡ unwrap_or ran.told spent → (step : Step T) (woken : Bool) →
+  pub settles_taken : (mid new : CoreView J) (ran : AfterPoll J T) (spent : ℕ) (name : JobId) (time : ℕ) → time ≡ unwrap_or ran.told spent → (step : Step T) (woken : Bool) →
       ((one : JobOut J) → mid.out ≡ Some one → (one.woken ≡ woken) × (stays one mid ≡ woken)) → ran.step ≡ step → SettlesStep step woken mid name ran.job time new →
       SettlesOut mid ran spent (settled_of step woken) new (settle_notes name time step woken)
   settles_taken mid new ran spent name time counts steps.Yield woken known is settles =

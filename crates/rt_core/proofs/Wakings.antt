@@ -1,16 +1,17 @@
 -- A wake of a job that isn't out: what it came to, and what holds inside then.
 use Rattle.std.proofs.Common.{◌≡◌, inl, inr, ℕ, ◌<◌, Bool, true, false, List, [], ◌∷◌, ◌++◌, length, refl, sym, ap, ◌∙◌, subst, arith}
-use Rattle.std.specs.Prelude.{◌||◌, nat_lt, slice_index_or, slice_set}
+use Rattle.std.specs.Prelude.{◌||◌, not, nat_lt, slice_index_or, slice_set}
 use Rattle.rt_shares.specs.Charge.{placed}
 use Rattle.rt_ids.specs.declared.names.JobId.{JobId}
 use Rattle.rt_ids.specs.declared.names.Key.{Key}
 use Rattle.rt_ids.specs.Names.{is_number}
 use Rattle.rt_jobs.specs.Meanings.{Meaning}
-use Rattle.rt_timeline.specs.Rising.{inserted}
 use Rattle.rt_taskqueue.specs.Queues.{QueuesView, waiting_of, awake, IsWithinLimits}
 use Rattle.rt_taskqueue.specs.Waking.{WakesParked, KeepsWake, HoldsNone}
 use Rattle.rt_core.specs.declared.tally.Tally.{Tally}
 use Rattle.rt_core.specs.State.{CoreView, is_working, queue_out}
+use Rattle.rt_core.specs.Bursts.{queue_open}
+use Rattle.rt_core.specs.Relisted.{keys_after, slips_after}
 use Rattle.rt_core.specs.Inside.{IsCore, FitsTurns, unsettled_count}
 use Rattle.rt_core.specs.Waking.{is_out, Wakes}
 use Rattle.rt_core.proofs.Entries.{is_any-push}
@@ -50,11 +51,12 @@ module _ {J T : Type 0} (meaning : Meaning J T) (old : CoreView J) (queues : Que
               (λ some. is_any-push (waiting_of queue old.queues) (awake (name, wakes.job))) work,
         )
 
-    -- it is parked in one without work, which is placed
+    -- it is parked in one without work, which is placed, and listed unless its turn is open
     pub wakes_idle : (others : Bool) → others ≡ (nat_lt 1 (length (waiting_of queue queues)) || is_number queue (queue_out old.out)) → others ≡ false → (place : ℕ) (was : Tally) (vr : ℕ) → place ≡ queue →
         was ≡ slice_index_or old.tallies place was → vr ≡ placed was.runtime old.floor →
         Wakes old name true (record old { queues = queues; tallies = slice_set old.tallies place (record was { runtime = vr }) })
-        × IsCore meaning (record old { queues = queues; tallies = slice_set old.tallies queue (record was { runtime = vr }) }) (slice_set slips queue false) (inserted (record { vr = vr; queue = queue }) keys) inside room places
+        × IsCore meaning (record old { queues = queues; tallies = slice_set old.tallies queue (record was { runtime = vr }) })
+        (slips_after (not (is_number queue (queue_open old.bursts.open))) queue slips) (keys_after (not (is_number queue (queue_open old.bursts.open))) vr queue keys) inside room places
     wakes_idle others told none place was vr at read is =
         let idle = work_told others told ∙ none in
         let exists = woken_exists old queues queue name wakes in
@@ -66,5 +68,5 @@ module _ {J T : Type 0} (meaning : Meaning J T) (old : CoreView J) (queues : Que
         subst (λ (runtime : ℕ). FitsTurns old.turns (unsettled_count old) (record was { runtime = runtime })) (sym is) (placed_fits old.turns (unsettled_count old) old.floor was false before core.turns.floor) in (
           inr (not_out, inr (EndsPark-idle old queues queue place name was tally wakes idle at within read (ap (λ (runtime : ℕ). record was { runtime = runtime }) is))),
           IsCore-activated meaning old queues slips keys inside room places core (record { vr = vr; queue = queue }) tally (waiting_of queue old.queues ++ awake (name, wakes.job) ∷ []) (wakes.before ++ wakes.behind) wakes.moves limits
-              ready.0 ready.1 (is_any-push (waiting_of queue old.queues) (awake (name, wakes.job))) idle exists refl fits,
+              ready.0 ready.1 (is_any-push (waiting_of queue old.queues) (awake (name, wakes.job))) idle exists refl fits (is_number queue (queue_open old.bursts.open)) refl,
         )

@@ -16,6 +16,7 @@ use Rattle.rt_taskqueue.specs.Parks.{ChangesParks}
 use Rattle.rt_taskqueue.specs.Fronts.{IsFrontReady, JoinsAgain, ParksOrStays}
 use Rattle.rt_core.specs.declared.tally.Tally.{Tally}
 use Rattle.rt_core.specs.State.{CoreView, JobOut, tally_of, runtime_of, is_any}
+use Rattle.rt_core.specs.Bursts.{begun, queue_held}
 use Rattle.rt_core.specs.Settling.{settled_view}
 use Rattle.rt_core.specs.Turns.{TakesOut}
 use Rattle.rt_core.specs.Relisted.{keys_after, slips_after}
@@ -24,10 +25,12 @@ use Rattle.rt_core.specs.Inside.{IsCore, KeepsCounts, KeepsSlips, IsPollable, un
 use Rattle.rt_core.proofs.Counting.{KeepsCounts-picks, KeepsCounts-yields, KeepsCounts-parks, KeepsCounts-finishes, some_inside}
 use Rattle.rt_core.proofs.Entries.{is_any-push}
 use Rattle.rt_core.proofs.Fits.{picked_fits, tally_fits}
+use Rattle.rt_core.proofs.Held.{held_none, held_out}
 use Rattle.rt_core.proofs.Listed.{LacksQueue-from_none}
 use Rattle.rt_core.proofs.Parts.{IsPollable-changed, IsPollable-pushed, IsPollable-parked, IsPollable-same}
 use Rattle.rt_core.proofs.Picking.{exists_if_waiting, first_waits, IsListed-picks, IsWithinTurns-picks}
-use Rattle.rt_core.proofs.Settling.{out_entry, IsListed-again, IsListed-no_more, IsWithinTurns-settles}
+use Rattle.rt_core.proofs.Turning.{KeepsTurn-taken, KeepsTurn-free}
+use Rattle.rt_core.proofs.Settling.{out_entry, held_entry_at, IsListed-again, IsListed-no_more, IsWithinTurns-settles}
 use Rattle.rt_core.proofs.SlipsKept.{KeepsSlips-same, KeepsSlips-taken, KeepsSlips-inserted}
 use Rattle.rt_jobs.specs.Meanings.{Meaning}
 
@@ -44,8 +47,11 @@ module _ {J T : Type 0} (meaning : Meaning J T) where
       let is_out : mid.out ≡ Some out = ap (λ (view : CoreView J). view.out) takes.rest in
       let floor : mid.floor ≡ max old.floor (runtime_of key.queue old) = ap (λ (view : CoreView J). view.floor) takes.rest in
       let turns : mid.turns ≡ old.turns + 1 = ap (λ (view : CoreView J). view.turns) takes.rest in
-      let exists = exists_if_waiting old.queues key.queue (first_waits old keys key later are core.listed takes.next.free) in
-      let none : unsettled_count old ≡ 0 = ap (λ (held : Option (JobOut J)). number_if (is_some held)) takes.next.free in
+      let bursts : mid.bursts ≡ begun key.queue old.bursts = ap (λ (view : CoreView J). view.bursts) takes.rest in
+      let none_held = held_none old takes.next.free takes.next.no_turn in
+      let is_held : queue_held mid ≡ Some key.queue = held_out mid out is_out in
+      let exists = exists_if_waiting old.queues key.queue (first_waits old keys key later are core.listed none_held) in
+      let none : unsettled_count old ≡ 0 = ap (λ (held : Option ℕ). number_if (is_some held)) none_held in
       let before : FitsTurns old.turns 0 (tally_of key.queue old) = subst (λ unsettled. FitsTurns old.turns unsettled (tally_of key.queue old)) none (tally_fits old key.queue core.turns) in
       let low : runtime_of key.queue old ≤ old.turns * 2 ^ 50 = let fits = before.runtime in omega arith in
       let all : All (λ waiting. IsReady meaning waiting.2) ((name, marks, job) ∷ takes.others) =
@@ -53,118 +59,122 @@ module _ {J T : Type 0} (meaning : Meaning J T) where
       record {
         counted = KeepsCounts-picks old mid inside room places out (name, marks, job) takes.others takes.first takes.line limits exists (ap (λ (view : CoreView J). view.cores) takes.rest) takes.next.free is_out
             (ap length tallies ∙ length-set old.tallies key.queue tally) (ap (λ (view : CoreView J). view.delivered) takes.rest) core.counted;
-        listed = IsListed-picks old mid keys key later out tally are absent takes.next.free is_out refl takes.line.others tallies core.listed;
+        listed = IsListed-picks old mid keys key later tally are absent none_held is_held takes.line.others tallies core.listed;
         slipped = KeepsSlips-taken (queue_count mid.queues) slips key later (omega (arith, exists, takes.line.same_count)) absent
             (KeepsSlips-same (queue_count old.queues) (queue_count mid.queues) slips slips (key ∷ later) takes.line.same_count refl (subst (KeepsSlips (queue_count old.queues) slips) are core.slipped));
         pollable = IsPollable-changed meaning old mid key.queue takes.others takes.line (All-tail (λ waiting. IsReady meaning waiting.2) (name, marks, job) takes.others all) core.pollable;
-        turns = IsWithinTurns-picks old mid out key.queue (runtime_of key.queue old) tally takes.next.free is_out turns floor low tallies (picked_fits old.turns (tally_of key.queue old) before) core.turns;
+        turns = IsWithinTurns-picks old mid key.queue key.queue (runtime_of key.queue old) tally none_held is_held turns floor low tallies (picked_fits old.turns (tally_of key.queue old) before) core.turns;
+        turning = KeepsTurn-taken old mid out takes.next.no_turn is_out bursts (omega (arith, exists, takes.line.same_count));
       }
 
   -- the job that is out goes to the tail of its queue, with what is counted of the queue from then on
   pub IsCore-rejoined : (mid new : CoreView J) (slips : List Bool) (keys : List Key) (inside room places : ℕ) (out : JobOut J) (marks : Marks) (job : J) (tally : Tally) →
-      IsCore meaning mid slips keys inside room places → mid.out ≡ Some out → new.out ≡ None → ChangesLine mid.queues new.queues out.queue (waiting_of out.queue mid.queues ++ (out.name, marks, job) ∷ []) →
+      IsCore meaning mid slips keys inside room places → mid.out ≡ Some out → new.out ≡ None → new.bursts.open ≡ None → ChangesLine mid.queues new.queues out.queue (waiting_of out.queue mid.queues ++ (out.name, marks, job) ∷ []) →
       IsWithinLimits new.queues → new.tallies ≡ slice_set mid.tallies out.queue tally → FitsTurns mid.turns 0 tally → new.cores ≡ mid.cores → new.delivered ≡ mid.delivered → new.turns ≡ mid.turns → new.floor ≡ mid.floor →
       IsReady meaning job → IsCore meaning new (slice_set slips out.queue false) (inserted (record { vr = tally.runtime; queue = out.queue }) keys) inside room places
-  IsCore-rejoined mid new slips keys inside room places out marks job tally core was_out free joins limits tallies fits cores delivered turns floor ready =
+  IsCore-rejoined mid new slips keys inside room places out marks job tally core was_out free no_turn joins limits tallies fits cores delivered turns floor ready =
       let exists = some_inside mid inside room places out was_out core.counted in
       let within : out.queue < length mid.tallies = omega (arith, core.counted.tallies, exists.1) in
       let lacks = LacksQueue-from_none out.queue keys (core.listed.at out.queue ∙ out_entry mid out was_out) in
       let any : is_any (waiting_of out.queue new.queues) ≡ true = ap is_any joins.changed ∙ is_any-push (waiting_of out.queue mid.queues) (out.name, marks, job) in
       record {
         counted = KeepsCounts-yields mid new inside room places out out.name marks job joins limits cores was_out free (ap length tallies ∙ length-set mid.tallies out.queue tally) delivered core.counted;
-        listed = IsListed-again mid new keys out tally was_out free joins.others tallies core.listed within any;
+        listed = IsListed-again mid new keys out.queue tally (held_out mid out was_out) (held_none new free no_turn) joins.others tallies core.listed within any;
         slipped = KeepsSlips-inserted (queue_count new.queues) slips keys (record { vr = tally.runtime; queue = out.queue }) (omega (arith, exists.1, joins.same_count)) lacks
             (KeepsSlips-same (queue_count mid.queues) (queue_count new.queues) slips slips keys joins.same_count refl core.slipped);
         pollable = IsPollable-pushed meaning mid new out.queue out.name marks job joins ready core.pollable;
-        turns = IsWithinTurns-settles mid new out out.queue tally was_out free turns floor tallies fits core.turns;
+        turns = IsWithinTurns-settles mid new out.queue out.queue tally (held_out mid out was_out) (held_none new free no_turn) turns floor tallies fits core.turns;
+        turning = KeepsTurn-free new free no_turn;
       }
 
-  -- the job that is out leaves, and the lines stay: the queue is listed again if a job waits in it
-  IsCore-left : (mid new : CoreView J) (slips : List Bool) (keys : List Key) (inside left room places : ℕ) (out : JobOut J) (tally : Tally) (any : Bool) →
-      IsCore meaning mid slips keys inside room places → mid.out ≡ Some out → new.out ≡ None → ((other : ℕ) → waiting_of other new.queues ≡ waiting_of other mid.queues) → queue_count new.queues ≡ queue_count mid.queues →
-      KeepsCounts new left room places → IsPollable meaning new → new.tallies ≡ slice_set mid.tallies out.queue tally → FitsTurns mid.turns 0 tally → new.turns ≡ mid.turns → new.floor ≡ mid.floor →
-      is_any (waiting_of out.queue new.queues) ≡ any → IsCore meaning new (slips_after any out.queue slips) (keys_after any tally.runtime out.queue keys) left room places
-  IsCore-left mid new slips keys inside left room places out tally any core was_out free lines count counted pollable tallies fits turns floor some = by_any any some
+  -- a queue that was held is charged, and the lines stay: it is listed again if a job waits in it
+  pub IsCore-left : (mid new : CoreView J) (slips : List Bool) (keys : List Key) (inside left room places queue : ℕ) (tally : Tally) (any : Bool) →
+      IsCore meaning mid slips keys inside room places → queue_held mid ≡ Some queue → queue < queue_count mid.queues → new.out ≡ None → new.bursts.open ≡ None →
+      ((other : ℕ) → waiting_of other new.queues ≡ waiting_of other mid.queues) → queue_count new.queues ≡ queue_count mid.queues →
+      KeepsCounts new left room places → IsPollable meaning new → new.tallies ≡ slice_set mid.tallies queue tally → FitsTurns mid.turns 0 tally → new.turns ≡ mid.turns → new.floor ≡ mid.floor →
+      is_any (waiting_of queue new.queues) ≡ any → IsCore meaning new (slips_after any queue slips) (keys_after any tally.runtime queue keys) left room places
+  IsCore-left mid new slips keys inside left room places queue tally any core was_held exists free no_turn lines count counted pollable tallies fits turns floor some = by_any any some
     where
       kept : KeepsSlips (queue_count new.queues) slips keys
       kept = KeepsSlips-same (queue_count mid.queues) (queue_count new.queues) slips slips keys count refl core.slipped
 
-      by_any : (any : Bool) → is_any (waiting_of out.queue new.queues) ≡ any → IsCore meaning new (slips_after any out.queue slips) (keys_after any tally.runtime out.queue keys) left room places
+      by_any : (any : Bool) → is_any (waiting_of queue new.queues) ≡ any → IsCore meaning new (slips_after any queue slips) (keys_after any tally.runtime queue keys) left room places
       by_any true some =
-          let exists = some_inside mid inside room places out was_out core.counted in
-          let within : out.queue < length mid.tallies = omega (arith, core.counted.tallies, exists.1) in
-          let lacks = LacksQueue-from_none out.queue keys (core.listed.at out.queue ∙ out_entry mid out was_out) in
+          let within : queue < length mid.tallies = omega (arith, core.counted.tallies, exists) in
+          let lacks = LacksQueue-from_none queue keys (core.listed.at queue ∙ held_entry_at mid queue was_held) in
           record {
             counted = counted;
-            listed = IsListed-again mid new keys out tally was_out free (λ other apart. lines other) tallies core.listed within some;
-            slipped = KeepsSlips-inserted (queue_count new.queues) slips keys (record { vr = tally.runtime; queue = out.queue }) (omega (arith, exists.1, count)) lacks kept;
+            listed = IsListed-again mid new keys queue tally was_held (held_none new free no_turn) (λ other apart. lines other) tallies core.listed within some;
+            slipped = KeepsSlips-inserted (queue_count new.queues) slips keys (record { vr = tally.runtime; queue = queue }) (omega (arith, exists, count)) lacks kept;
             pollable = pollable;
-            turns = IsWithinTurns-settles mid new out out.queue tally was_out free turns floor tallies fits core.turns;
+            turns = IsWithinTurns-settles mid new queue queue tally was_held (held_none new free no_turn) turns floor tallies fits core.turns;
+            turning = KeepsTurn-free new free no_turn;
           }
       by_any false none = record {
         counted = counted;
-        listed = IsListed-no_more mid new keys out tally was_out free (λ other apart. lines other) tallies core.listed none;
+        listed = IsListed-no_more mid new keys queue tally was_held (held_none new free no_turn) (λ other apart. lines other) tallies core.listed none;
         slipped = kept;
         pollable = pollable;
-        turns = IsWithinTurns-settles mid new out out.queue tally was_out free turns floor tallies fits core.turns;
+        turns = IsWithinTurns-settles mid new queue queue tally was_held (held_none new free no_turn) turns floor tallies fits core.turns;
+        turning = KeepsTurn-free new free no_turn;
       }
 
   -- it is done
   pub IsCore-ended : (mid new : CoreView J) (slips : List Bool) (keys : List Key) (inside room places : ℕ) (out : JobOut J) (tally : Tally) (any : Bool) →
-      IsCore meaning mid slips keys inside room places → mid.out ≡ Some out → new.out ≡ None → new.queues ≡ mid.queues →
+      IsCore meaning mid slips keys inside room places → mid.out ≡ Some out → new.out ≡ None → new.bursts.open ≡ None → new.queues ≡ mid.queues →
       new.tallies ≡ slice_set mid.tallies out.queue tally → FitsTurns mid.turns 0 tally → new.cores ≡ mid.cores → new.delivered ≡ mid.delivered → new.turns ≡ mid.turns → new.floor ≡ mid.floor →
       is_any (waiting_of out.queue new.queues) ≡ any → IsCore meaning new (slips_after any out.queue slips) (keys_after any tally.runtime out.queue keys) (inside - 1) room places
-  IsCore-ended mid new slips keys inside room places out tally any core was_out free queues tallies fits cores delivered turns floor some =
-      IsCore-left mid new slips keys inside (inside - 1) room places out tally any core was_out free (λ other. ap (waiting_of other) queues) (ap queue_count queues)
+  IsCore-ended mid new slips keys inside room places out tally any core was_out free no_turn queues tallies fits cores delivered turns floor some =
+      IsCore-left mid new slips keys inside (inside - 1) room places out.queue tally any core (held_out mid out was_out) (some_inside mid inside room places out was_out core.counted).1 free no_turn (λ other. ap (waiting_of other) queues) (ap queue_count queues)
       (KeepsCounts-finishes mid new inside room places out queues cores was_out free (ap length tallies ∙ length-set mid.tallies out.queue tally) delivered core.counted)
       (IsPollable-same meaning mid new (λ other. ap (waiting_of other) queues) (λ other. ap (parked_of other) queues) core.pollable) tallies fits turns floor some
 
   -- it is parked
   pub IsCore-parked : (mid new : CoreView J) (slips : List Bool) (keys : List Key) (inside room places : ℕ) (out : JobOut J) (job : J) (tally : Tally) (any : Bool) →
-      IsCore meaning mid slips keys inside room places → mid.out ≡ Some out → new.out ≡ None → ChangesParks mid.queues new.queues out.queue (parked_of out.queue mid.queues ++ (out.name, job) ∷ []) →
+      IsCore meaning mid slips keys inside room places → mid.out ≡ Some out → new.out ≡ None → new.bursts.open ≡ None → ChangesParks mid.queues new.queues out.queue (parked_of out.queue mid.queues ++ (out.name, job) ∷ []) →
       IsWithinLimits new.queues → new.tallies ≡ slice_set mid.tallies out.queue tally → FitsTurns mid.turns 0 tally → new.cores ≡ mid.cores → new.delivered ≡ mid.delivered → new.turns ≡ mid.turns → new.floor ≡ mid.floor →
       IsReady meaning job → is_any (waiting_of out.queue new.queues) ≡ any → IsCore meaning new (slips_after any out.queue slips) (keys_after any tally.runtime out.queue keys) inside room places
-  IsCore-parked mid new slips keys inside room places out job tally any core was_out free parks limits tallies fits cores delivered turns floor ready some =
-      IsCore-left mid new slips keys inside inside room places out tally any core was_out free parks.same_lines parks.same_count
+  IsCore-parked mid new slips keys inside room places out job tally any core was_out free no_turn parks limits tallies fits cores delivered turns floor ready some =
+      IsCore-left mid new slips keys inside inside room places out.queue tally any core (held_out mid out was_out) (some_inside mid inside room places out was_out core.counted).1 free no_turn parks.same_lines parks.same_count
       (KeepsCounts-parks mid new inside room places out out.name job parks limits cores was_out free (ap length tallies ∙ length-set mid.tallies out.queue tally) delivered core.counted)
       (IsPollable-parked meaning mid new out.queue out.name job parks ready core.pollable) tallies fits turns floor some
 
   -- the same of a job that came back to its line, in which a job waits then
   IsCore-rejoined_any : (mid new : CoreView J) (slips : List Bool) (keys : List Key) (inside room places : ℕ) (out : JobOut J) (marks : Marks) (job : J) (tally : Tally) (any : Bool) →
-      IsCore meaning mid slips keys inside room places → mid.out ≡ Some out → new.out ≡ None → ChangesLine mid.queues new.queues out.queue (waiting_of out.queue mid.queues ++ (out.name, marks, job) ∷ []) →
+      IsCore meaning mid slips keys inside room places → mid.out ≡ Some out → new.out ≡ None → new.bursts.open ≡ None → ChangesLine mid.queues new.queues out.queue (waiting_of out.queue mid.queues ++ (out.name, marks, job) ∷ []) →
       IsWithinLimits new.queues → new.tallies ≡ slice_set mid.tallies out.queue tally → FitsTurns mid.turns 0 tally → new.cores ≡ mid.cores → new.delivered ≡ mid.delivered → new.turns ≡ mid.turns → new.floor ≡ mid.floor →
       IsReady meaning job → is_any (waiting_of out.queue new.queues) ≡ any → IsCore meaning new (slips_after any out.queue slips) (keys_after any tally.runtime out.queue keys) inside room places
-  IsCore-rejoined_any mid new slips keys inside room places out marks job tally true core was_out free joins limits tallies fits cores delivered turns floor ready some =
-      IsCore-rejoined mid new slips keys inside room places out marks job tally core was_out free joins limits tallies fits cores delivered turns floor ready
-  IsCore-rejoined_any mid new slips keys inside room places out marks job tally false core was_out free joins limits tallies fits cores delivered turns floor ready none =
+  IsCore-rejoined_any mid new slips keys inside room places out marks job tally true core was_out free no_turn joins limits tallies fits cores delivered turns floor ready some =
+      IsCore-rejoined mid new slips keys inside room places out marks job tally core was_out free no_turn joins limits tallies fits cores delivered turns floor ready
+  IsCore-rejoined_any mid new slips keys inside room places out marks job tally false core was_out free no_turn joins limits tallies fits cores delivered turns floor ready none =
       absurd (true≢false (sym (ap is_any joins.changed ∙ is_any-push (waiting_of out.queue mid.queues) (out.name, marks, job)) ∙ none))
 
   -- a job that asked to be parked stays, or is parked
   IsCore-rested : (mid new : CoreView J) (slips : List Bool) (keys : List Key) (inside room places : ℕ) (out : JobOut J) (woken : Bool) (job : J) (tally : Tally) (any : Bool) →
-      IsCore meaning mid slips keys inside room places → mid.out ≡ Some out → new.out ≡ None → ParksOrStays woken mid.queues out.queue out.name job new.queues →
+      IsCore meaning mid slips keys inside room places → mid.out ≡ Some out → new.out ≡ None → new.bursts.open ≡ None → ParksOrStays woken mid.queues out.queue out.name job new.queues →
       IsWithinLimits new.queues → new.tallies ≡ slice_set mid.tallies out.queue tally → FitsTurns mid.turns 0 tally → new.cores ≡ mid.cores → new.delivered ≡ mid.delivered → new.turns ≡ mid.turns → new.floor ≡ mid.floor →
       IsReady meaning job → is_any (waiting_of out.queue new.queues) ≡ any → IsCore meaning new (slips_after any out.queue slips) (keys_after any tally.runtime out.queue keys) inside room places
-  IsCore-rested mid new slips keys inside room places out true job tally any core was_out free rests limits tallies fits cores delivered turns floor ready some =
-      IsCore-rejoined_any mid new slips keys inside room places out (record { started = true; woken = false }) job tally any core was_out free rests limits tallies fits cores delivered turns floor ready some
-  IsCore-rested mid new slips keys inside room places out false job tally any core was_out free rests limits tallies fits cores delivered turns floor ready some =
-      IsCore-parked mid new slips keys inside room places out job tally any core was_out free rests limits tallies fits cores delivered turns floor ready some
+  IsCore-rested mid new slips keys inside room places out true job tally any core was_out free no_turn rests limits tallies fits cores delivered turns floor ready some =
+      IsCore-rejoined_any mid new slips keys inside room places out (record { started = true; woken = false }) job tally any core was_out free no_turn rests limits tallies fits cores delivered turns floor ready some
+  IsCore-rested mid new slips keys inside room places out false job tally any core was_out free no_turn rests limits tallies fits cores delivered turns floor ready some =
+      IsCore-parked mid new slips keys inside room places out job tally any core was_out free no_turn rests limits tallies fits cores delivered turns floor ready some
 
   -- the job that was out was polled where it stands, and its poll is settled
   pub IsCore-settled : {T : Type 0} (mid new : CoreView J) (slips : List Bool) (keys : List Key) (inside room places : ℕ) (out : JobOut J) (marks : Marks) (job : J) (tally : Tally) (any : Bool) (step : Step T) →
-      IsCore meaning mid slips keys inside room places → mid.out ≡ Some out → new.out ≡ None → JoinsAgain step mid.queues out.queue out.name marks job new.queues → IsWithinLimits new.queues →
+      IsCore meaning mid slips keys inside room places → mid.out ≡ Some out → new.out ≡ None → new.bursts.open ≡ None → JoinsAgain step mid.queues out.queue out.name marks job new.queues → IsWithinLimits new.queues →
       new.tallies ≡ slice_set mid.tallies out.queue tally → FitsTurns mid.turns 0 tally → new.cores ≡ mid.cores → new.delivered ≡ mid.delivered → new.turns ≡ mid.turns → new.floor ≡ mid.floor →
       meaning.done job ≡ is_done_step step → IfUndone step (meaning.can_poll job) → is_any (waiting_of out.queue new.queues) ≡ any →
       IsCore meaning new (slips_after any out.queue slips) (keys_after any tally.runtime out.queue keys) (inside - number_if (is_done_step step)) room places
-  IsCore-settled mid new slips keys inside room places out marks job tally any steps.Yield core was_out free joins limits tallies fits cores delivered turns floor still ready some =
+  IsCore-settled mid new slips keys inside room places out marks job tally any steps.Yield core was_out free no_turn joins limits tallies fits cores delivered turns floor still ready some =
       let all : inside ≡ inside - 0 = omega arith in
       subst (λ count. IsCore meaning new (slips_after any out.queue slips) (keys_after any tally.runtime out.queue keys) count room places) all
-      (IsCore-rejoined_any mid new slips keys inside room places out (record marks { started = true }) job tally any core was_out free joins limits tallies fits cores delivered turns floor (still, ready) some)
-  IsCore-settled mid new slips keys inside room places out marks job tally any steps.Park core was_out free joins limits tallies fits cores delivered turns floor still ready some =
+      (IsCore-rejoined_any mid new slips keys inside room places out (record marks { started = true }) job tally any core was_out free no_turn joins limits tallies fits cores delivered turns floor (still, ready) some)
+  IsCore-settled mid new slips keys inside room places out marks job tally any steps.Park core was_out free no_turn joins limits tallies fits cores delivered turns floor still ready some =
       let all : inside ≡ inside - 0 = omega arith in
       subst (λ count. IsCore meaning new (slips_after any out.queue slips) (keys_after any tally.runtime out.queue keys) count room places) all
-      (IsCore-rested mid new slips keys inside room places out marks.woken job tally any core was_out free joins limits tallies fits cores delivered turns floor (still, ready) some)
-  IsCore-settled mid new slips keys inside room places out marks job tally any (steps.Done answer) core was_out free joins limits tallies fits cores delivered turns floor ended ready some =
-      IsCore-ended mid new slips keys inside room places out tally any core was_out free joins tallies fits cores delivered turns floor some
+      (IsCore-rested mid new slips keys inside room places out marks.woken job tally any core was_out free no_turn joins limits tallies fits cores delivered turns floor (still, ready) some)
+  IsCore-settled mid new slips keys inside room places out marks job tally any (steps.Done answer) core was_out free no_turn joins limits tallies fits cores delivered turns floor ended ready some =
+      IsCore-ended mid new slips keys inside room places out tally any core was_out free no_turn joins tallies fits cores delivered turns floor some
 
   -- the head of a line that isn't empty may be polled
   pub front_ready : (line : Line J) → is_any line ≡ true → All (λ waiting. IsReady meaning waiting.2) line → IsFrontReady meaning line

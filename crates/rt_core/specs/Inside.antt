@@ -7,10 +7,12 @@ use Rattle.rt_ids.specs.Names.{is_number}
 use Rattle.rt_ids.specs.Work.{number_if}
 use Rattle.rt_jobs.specs.Ready.{IsReady}
 use Rattle.rt_taskqueue.specs.Queues.{QueuesView, waiting_of, parked_of, queue_count, IsWithinLimits}
+use Rattle.rt_core.specs.declared.bursts.Bursts.{Bursts}
 use Rattle.rt_core.specs.declared.out.Out.{Out}
 use Rattle.rt_core.specs.declared.tally.Tally.{Tally}
 use Rattle.rt_core.specs.Senders.{SendersView}
-use Rattle.rt_core.specs.State.{CoreView, JobOut, is_any, queue_out, runtime_of, inside_count}
+use Rattle.rt_core.specs.State.{CoreView, JobOut, is_any, runtime_of, inside_count}
+use Rattle.rt_core.specs.Bursts.{queue_held, KeepsTurn}
 use Rattle.rt_jobs.specs.Meanings.{Meaning}
 
 -- the job that is out, as callers see it
@@ -23,12 +25,12 @@ abbrev pub runtime_listed : ℕ → List Key → Option ℕ
 runtime_listed queue [] = None
 runtime_listed queue (key ∷ later) = if queue == key.queue then Some key.vr else runtime_listed queue later
 
--- what is counted of a queue fits this many turns, of which so many aren't settled yet
+-- what is counted of a queue fits this many turns, of which so many aren't charged yet; the count of done jobs fits a word
 pub record FitsTurns (turns unsettled : ℕ) (tally : Tally) : Type 0 where
   pub runtime : tally.runtime + unsettled * 2 ^ 50 ≤ turns * 2 ^ 50
   pub selected : tally.selected ≤ turns
   pub time : tally.time + unsettled * 2 ^ 40 ≤ turns * 2 ^ 40
-  pub finished : tally.finished + unsettled ≤ turns
+  pub finished : tally.finished < 2 ^ 64
   pub returned : tally.returned + unsettled ≤ turns
 
 -- a queue has its slip exactly where none of these keys is of it
@@ -38,8 +40,8 @@ pub record KeepsSlips (queues : ℕ) (slips : List Bool) (keys : List Key) : Typ
 
 module _ {J : Type 0} where
   -- what callers see of these fields
-  abbrev pub core_view : ℕ → ℕ → QueuesView J → List Tally → ℕ → ℕ → Option (JobOut J) → SendersView → Option Mode → CoreView J
-  core_view core cores queues tallies floor turns out senders mode = record {
+  abbrev pub core_view : ℕ → ℕ → QueuesView J → List Tally → ℕ → ℕ → Option (JobOut J) → SendersView → Option Mode → Bursts → CoreView J
+  core_view core cores queues tallies floor turns out senders mode bursts = record {
     core = core;
     cores = cores;
     queues = queues;
@@ -50,15 +52,16 @@ module _ {J : Type 0} where
     delivered = senders.delivered;
     gates = senders.gates;
     mode = mode;
+    bursts = bursts;
   }
 
-  -- a queue may be picked if a job waits in it and the job that is out isn't of it
+  -- a queue may be picked if a job waits in it and it isn't held
   abbrev pub may_run : ℕ → CoreView J → Bool
-  may_run queue view = is_any (waiting_of queue view.queues) && not (is_number queue (queue_out view.out))
+  may_run queue view = is_any (waiting_of queue view.queues) && not (is_number queue (queue_held view))
 
-  -- how many polls are out
+  -- how many turns aren't charged yet
   abbrev pub unsettled_count : CoreView J → ℕ
-  unsettled_count view = number_if (is_some view.out)
+  unsettled_count view = number_if (is_some (queue_held view))
 
   -- the counts that a core keeps beside what its callers see
   pub record KeepsCounts (view : CoreView J) (inside room tally_places : ℕ) : Type 0 where
@@ -91,3 +94,4 @@ module _ {J : Type 0} where
     pub slipped : KeepsSlips (queue_count view.queues) slips keys
     pub pollable : IsPollable meaning view
     pub turns : IsWithinTurns view
+    pub turning : KeepsTurn view

@@ -1,6 +1,7 @@
 pub mod State
 pub mod Senders
 pub mod Closing
+pub mod Bursts
 pub mod Waking
 pub mod Deliveries
 pub mod Settling
@@ -10,4 +11,5 @@ pub mod Inside
 pub mod Steps
 pub mod Figures
 pub mod Whole
+pub mod Further
 pub mod Relisted

@@ -1,6 +1,5 @@
 -- What settling the poll of the job that was out does, by the poll's step.
-use Rattle.std.specs.Prelude.{◌≡◌, ℕ, ◌+◌, ◌||◌, List, [], ◌∷◌, ◌++◌, slice_set, Bool, true, false, Some, None, is_some, unwrap_or}
-use Rattle.rt_shares.specs.Charge.{charge, clamped}
+use Rattle.std.specs.Prelude.{◌≡◌, ℕ, ◌||◌, List, [], ◌∷◌, ◌++◌, slice_set, Bool, true, false, Some, None, is_some, unwrap_or}
 use Rattle.rt_ids.specs.declared.note.Note.{Note}
 use Rattle.rt_ids.specs.declared.note.Note.TheVariants as notes
 use Rattle.rt_jobs.specs.declared.job.Step.{Step}
@@ -11,6 +10,7 @@ use Rattle.rt_taskqueue.specs.Parks.{ChangesParks}
 use Rattle.rt_core.specs.declared.turn.Settled.{Settled}
 use Rattle.rt_core.specs.declared.turn.Settled.TheVariants.{Yielded, Parked, Stayed, Finished}
 use Rattle.rt_core.specs.State.{CoreView, JobOut, tally_of}
+use Rattle.rt_core.specs.Bursts.{lasted, settled_tally}
 use Rattle.rt_core.specs.Closing.{return_reason}
 
 module _ {J : Type 0} where
@@ -18,16 +18,13 @@ module _ {J : Type 0} where
   abbrev pub stays : JobOut J → CoreView J → Bool
   stays job view = job.woken || is_some (return_reason job.queue view)
 
-  -- the queue of the job that was out is charged for the time, under the shares that it has now
+  -- the queue of the job that was out is charged for the time, under the shares that it has now; in an open turn that waits for the end of the turn
   abbrev pub settled_view : CoreView J → JobOut J → ℕ → ℕ → QueuesView J → CoreView J
   settled_view old job time done queues = record old {
     queues = queues;
-    tallies = slice_set old.tallies job.queue (record (tally_of job.queue old) {
-      runtime = (tally_of job.queue old).runtime + charge time (shares_of job.queue old.queues);
-      time = (tally_of job.queue old).time + clamped time;
-      finished = (tally_of job.queue old).finished + done;
-    });
+    tallies = slice_set old.tallies job.queue (settled_tally old.bursts.open time (shares_of job.queue old.queues) done (tally_of job.queue old));
     out = None;
+    bursts = record (old.bursts) { «open» = lasted time old.bursts.open };
   }
 
 module _ {J T : Type 0} where

@@ -5,6 +5,7 @@ use Rattle.rt_ids.specs.declared.names.JobId.{JobId}
 use Rattle.rt_ids.specs.declared.order.Mode.{Mode}
 use Rattle.rt_ids.specs.Names.{is_number}
 use Rattle.rt_ids.specs.Work.{number_if}
+use Rattle.rt_core.specs.declared.bursts.Bursts.{Bursts}
 use Rattle.rt_core.specs.declared.tally.Tally.{Tally}
 use Rattle.rt_taskqueue.specs.Queues.{QueuesView, waiting_of, held_count}
 
@@ -19,7 +20,8 @@ pub record JobOut (J : Type 0) : Type 0 where
 abbrev pub no_tally : Tally
 no_tally = record { runtime = 0; selected = 0; time = 0; finished = 0; returned = 0 }
 
--- the core's number and how many cores there are, its queues with their tallies, the floor, the turns made, the job that is out, how many submissions of each sender were delivered, the final count of each gate that is shut, and the mode in which it was closed, if it was
+-- the core's number and how many cores there are, its queues with their tallies, the floor, the turns made, the job that is out, how many submissions of each sender were delivered, the final count of each gate that is shut,
+-- the mode in which it was closed, if it was, and how many polls a turn may have, with the turn that is open
 pub record CoreView (J : Type 0) : Type 0 where
   pub core : ℕ
   pub cores : ℕ
@@ -31,6 +33,7 @@ pub record CoreView (J : Type 0) : Type 0 where
   pub delivered : List ℕ
   pub gates : List (Option ℕ)
   pub mode : Option Mode
+  pub bursts : Bursts
 
 -- whether there is any
 abbrev pub is_any : {A : Type 0} → List A → Bool
@@ -61,22 +64,26 @@ module _ {J : Type 0} where
   abbrev pub is_working : ℕ → CoreView J → Bool
   is_working queue view = is_any (waiting_of queue view.queues) || is_number queue (queue_out view.out)
 
+  -- how many jobs are out
+  abbrev pub out_count : CoreView J → ℕ
+  out_count view = number_if (is_some view.out)
+
   -- how many jobs are inside: those that wait or are parked, and the one that is out
   abbrev pub inside_count : CoreView J → ℕ
-  inside_count view = held_count view.queues + number_if (is_some view.out)
+  inside_count view = held_count view.queues + out_count view
 
   -- where a queue stands as a job enters it: at the floor, if it had no work
   abbrev pub entry_runtime : ℕ → CoreView J → ℕ
   entry_runtime queue view =
       if is_working queue view then runtime_of queue view else placed (runtime_of queue view) view.floor
 
-  -- no virtual runtime wraps: each settled turn added at most 2^50
+  -- no virtual runtime wraps: each turn that was charged added at most 2^50
   abbrev pub IsBounded : CoreView J → Type 0
   IsBounded view = (queue : ℕ) → runtime_of queue view ≤ view.turns * 2 ^ 50
 
-  -- a core as it opens: queue 0 alone, with no job, nothing delivered, and nothing closed
-  abbrev pub opened : ℕ → ℕ → ℕ → ℕ → CoreView J
-  opened core cores room turns = record {
+  -- a core as it opens: queue 0 alone, with no job, nothing delivered, nothing closed, and no open turn
+  abbrev pub opened : ℕ → ℕ → ℕ → ℕ → ℕ → CoreView J
+  opened core cores room turns burst = record {
     core = core;
     cores = cores;
     queues = record { queues = record { shares = 1000; mode = None; waiting = []; parked = [] } ∷ []; room = room };
@@ -87,4 +94,5 @@ module _ {J : Type 0} where
     delivered = replicate (cores + 1) 0;
     gates = replicate (cores + 1) None;
     mode = None;
+    bursts = record { burst = burst; «open» = None };
   }

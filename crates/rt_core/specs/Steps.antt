@@ -36,17 +36,19 @@ module _ {J : Type 0} where
   abbrev pub IsOutOf : CoreView J → ℕ → Type 0
   IsOutOf view queue = (out : JobOut J) × (view.out ≡ Some out) × (queue ≡ out.queue)
 
-  -- the job that was out leaves for good, and this is counted of its queue from then on
+  -- the job that was out leaves for good, this is counted of its queue from then on, and no turn is open
   abbrev pub LeavesOut : CoreView J → ℕ → Tally → CoreView J → Type 0
-  LeavesOut old queue tally new = new ≡ record old { tallies = slice_set old.tallies queue tally; out = None }
+  LeavesOut old queue tally new =
+      new ≡ record old { tallies = slice_set old.tallies queue tally; out = None; bursts = record (old.bursts) { «open» = None } }
 
-  -- the job that was out is handed back, and nothing is charged
+  -- the job that was out is handed back, nothing is charged, and no turn is open
   pub record ReturnsOut (old : CoreView J) (new : CoreView J) : Type 0 where
     pub out : JobOut J
     pub was_out : old.out ≡ Some out
     pub rest : new ≡ record old {
       tallies = slice_set old.tallies out.queue (record (tally_of out.queue old) { returned = (tally_of out.queue old).returned + 1 });
       out = None;
+      bursts = record (old.bursts) { «open» = None };
     }
 
   -- the job that was out is done, and its poll is charged

@@ -1,5 +1,5 @@
 -- What a pick does: it takes the first job of the right queue out, or hands it back.
-use Rattle.std.specs.Prelude.{◌≡◌, ℕ, ◌+◌, ◌-◌, ◌^◌, max, List, [], ◌∷◌, slice_set, Bool, true, false, Some, None, Result, Ok, Err}
+use Rattle.std.specs.Prelude.{◌≡◌, ◌⊎◌, ℕ, ◌+◌, ◌-◌, ◌^◌, max, List, [], ◌∷◌, slice_set, Bool, true, false, Some, None, Result, Ok, Err}
 use Rattle.rt_ids.specs.declared.names.JobId.{JobId}
 use Rattle.rt_ids.specs.declared.note.Note.{Note}
 use Rattle.rt_ids.specs.declared.note.Note.TheVariants as notes
@@ -11,15 +11,17 @@ use Rattle.rt_core.specs.declared.turn.Turn.TheVariants.{Start, Resume, Back, Id
 use Rattle.rt_core.specs.declared.turn.PickError.{PickError}
 use Rattle.rt_core.specs.declared.turn.PickError.TheVariants.{Busy, Spent}
 use Rattle.rt_core.specs.State.{CoreView, tally_of, runtime_of}
+use Rattle.rt_core.specs.Bursts.{begun}
 use Rattle.rt_core.specs.Closing.{return_reason}
 
 module _ {J : Type 0} where
   -- the queue has a job at the head, and no queue with a job has a lesser pair (virtual runtime, number)
   pub record IsNext (view : CoreView J) (queue : ℕ) : Type 0 where
     pub free : view.out ≡ None
+    pub no_turn : view.bursts.open ≡ None
     pub least : (other : ℕ) → (waiting_of other view.queues ≡ [] → ⊥) → KeyAtMost (runtime_of queue view) queue (runtime_of other view) other
 
-  -- the head of the next queue goes out, with the wake that is kept
+  -- the head of the next queue goes out, with the wake that is kept, and its turn opens where a note of its own ends it
   pub record TakesOut (old : CoreView J) (name : JobId) (queue : ℕ) (was_started : Bool) (job : J) (new : CoreView J) : Type 0 where
     pub next : IsNext old queue
     pub was_woken : Bool
@@ -32,9 +34,10 @@ module _ {J : Type 0} where
       floor = max old.floor (runtime_of queue old);
       turns = old.turns + 1;
       out = Some (record { name = name; queue = queue; woken = was_woken; job = job });
+      bursts = begun queue old.bursts;
     }
 
-  -- the head of the next queue is handed back; that is a turn, and nothing is charged
+  -- the head of the next queue is handed back; that is a turn, nothing is charged, and no turn opens
   pub record HandsBack (old : CoreView J) (name : JobId) (queue : ℕ) (job : J) (new : CoreView J) : Type 0 where
     pub next : IsNext old queue
     pub marks : Marks
@@ -63,8 +66,8 @@ module _ {J T : Type 0} where
       × (written ≡ notes.Pick queue (runtime_of queue old) ∷ notes.Returned name reason ∷ [])
   Picks old (Ok (Back name reason order)) new written = ⊥
   Picks old (Ok Idle) new written =
-      (old.out ≡ None) × ((queue : ℕ) → waiting_of queue old.queues ≡ []) × (new ≡ old) × (written ≡ [])
-  -- a job that is out comes before turns that are used up
-  Picks old (Err Busy) new written = (old.out ≡ None → ⊥) × (new ≡ old) × (written ≡ [])
+      (old.out ≡ None) × (old.bursts.open ≡ None) × ((queue : ℕ) → waiting_of queue old.queues ≡ []) × (new ≡ old) × (written ≡ [])
+  -- a job that is out, or an open turn, comes before turns that are used up
+  Picks old (Err Busy) new written = ((old.out ≡ None → ⊥) ⊎ (old.bursts.open ≡ None → ⊥)) × (new ≡ old) × (written ≡ [])
   Picks old (Err Spent) new written =
-      (old.out ≡ None) × (old.turns ≡ 2 ^ 64 - 1) × ((queue : ℕ) × (waiting_of queue old.queues ≡ [] → ⊥)) × (new ≡ old) × (written ≡ [])
+      (old.out ≡ None) × (old.bursts.open ≡ None) × (old.turns ≡ 2 ^ 64 - 1) × ((queue : ℕ) × (waiting_of queue old.queues ≡ [] → ⊥)) × (new ≡ old) × (written ≡ [])

@@ -1,5 +1,5 @@
--- A whole turn with the job in its place: it does what a pick of the job, one poll of it and the settling of that poll do.
-use Rattle.std.specs.Prelude.{◌≡◌, ℕ, ◌-◌, ◌^◌, ◌<◌, Bool, true, false, unwrap_or, None, Result, Ok, Err, List, [], ◌∷◌}
+-- The first poll of a turn with the job in its place: it does what a pick of the job, one poll of it and the settling of that poll do.
+use Rattle.std.specs.Prelude.{◌≡◌, ◌⊎◌, ℕ, ◌-◌, ◌^◌, ◌<◌, Bool, true, false, unwrap_or, None, Result, Ok, Err, List, [], ◌∷◌}
 use Rattle.rt_ids.specs.declared.names.JobId.{JobId}
 use Rattle.rt_ids.specs.declared.note.Note.{Note}
 use Rattle.rt_ids.specs.declared.note.Note.TheVariants as notes
@@ -38,13 +38,13 @@ module _ {J : Type 0} where
     pub kept : return_reason queue view ≡ None
     pub left : view.turns < 2 ^ 64 - 1
 
-  -- what the next pick would come to, told before it is made; a job that is out comes before turns that are used up
+  -- what the next pick would come to, told before it is made; a job that is out, or an open turn, comes before turns that are used up
   abbrev pub TellsAhead : CoreView J → Result Ahead PickError → Type 0
   TellsAhead view (Ok (ahead.Job next)) = IsAhead view next.queue next.vr next.name next.started next.woken
   TellsAhead view (Ok ahead.Back) = (queue : ℕ) × IsNext view queue × (waiting_of queue view.queues ≡ [] → ⊥) × (return_reason queue view ≡ None → ⊥) × (view.turns < 2 ^ 64 - 1)
-  TellsAhead view (Ok ahead.Idle) = (view.out ≡ None) × ((queue : ℕ) → waiting_of queue view.queues ≡ [])
-  TellsAhead view (Err Busy) = view.out ≡ None → ⊥
-  TellsAhead view (Err Spent) = (view.out ≡ None) × (view.turns ≡ 2 ^ 64 - 1) × ((queue : ℕ) × (waiting_of queue view.queues ≡ [] → ⊥))
+  TellsAhead view (Ok ahead.Idle) = (view.out ≡ None) × (view.bursts.open ≡ None) × ((queue : ℕ) → waiting_of queue view.queues ≡ [])
+  TellsAhead view (Err Busy) = (view.out ≡ None → ⊥) ⊎ (view.bursts.open ≡ None → ⊥)
+  TellsAhead view (Err Spent) = (view.out ≡ None) × (view.bursts.open ≡ None) × (view.turns ≡ 2 ^ 64 - 1) × ((queue : ℕ) × (waiting_of queue view.queues ≡ [] → ⊥))
 
 module _ {T : Type 0} where
   -- the notes of the pick of a job

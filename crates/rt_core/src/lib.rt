@@ -1,6 +1,8 @@
 //! One core: its task queues, which of them runs next, and what each poll costs.
 #![tactic(auto)]
 
+#[doc(hidden)]
+pub mod bursts;
 pub mod delivery;
 pub mod notes;
 pub mod one_core;

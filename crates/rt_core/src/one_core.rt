@@ -11,9 +11,10 @@ ghost use Rattle.rt_core.specs.Settling.{SettlesOut};
 ghost use Rattle.rt_core.specs.Answers.{IsReadyTurn, IsTaskOut, AnswersOut};
 ghost use Rattle.rt_core.specs.Figures.{core_stats, queue_stats};
 
+use crate::bursts::Bursts;
 use crate::delivery::Delivered;
 use crate::notes::{Notes, one_note};
-use crate::out::Out;
+use crate::out::{Out, is_busy};
 use crate::senders::Senders;
 use crate::tally::Tally;
 use crate::turn::{PickError, Settled, Turn};
@@ -29,13 +30,16 @@ use rt_timeline::Timeline;
 use std::alloc::{AllocError, Allocator, Global};
 use std::marker::Model;
 
+mod bursts;
 mod closings;
 mod deliveries;
 mod figures;
+mod further;
 mod parks;
 mod picks;
 mod polls;
 mod rests;
+mod settles;
 mod wakes;
 mod whole;
 
@@ -45,8 +49,8 @@ pub struct Core<J: Task, A: Allocator + Clone = Global> {
     core: CoreNo,
     cores: u8,
     queues: Queues<J, A>,
-    // The queues in which a job waits, except that of the job that is out. A queue's slip is here while it is among them. At all other
-    // times it is with its queue.
+    // The queues in which a job waits, except that of the job that is out and that of the open turn. A queue's slip is here while it is
+    // among them. At all other times it is with its queue.
     ready: Timeline<A>,
     tallies: SealedVec<Tally, A>,
     senders: Senders<A>,
@@ -58,6 +62,8 @@ pub struct Core<J: Task, A: Allocator + Clone = Global> {
     out: Option<Out<J>>,
     // How the core was closed, if it was.
     mode: Option<Mode>,
+    // How many polls a turn may have, and the turn that is open.
+    bursts: Bursts,
 }
 
 impl<J: Task, A: Allocator + Clone> Model for Core<J, A> {
@@ -68,21 +74,34 @@ impl<J: Task, A: Allocator + Clone> Model for Core<J, A> {
     ghost use Rattle.rt_taskqueue.specs.Slips.{queues_alone};
     ghost use Rattle.rt_core.specs.Inside.{job_out, core_view, IsCore};
 
-    ghost view = { λ c. core_view c.core c.cores (queues_alone c.queues) c.tallies.items c.floor c.turns (job_out c.out) c.senders c.mode };
+    ghost view = { λ c. core_view c.core c.cores (queues_alone c.queues) c.tallies.items c.floor c.turns (job_out c.out) c.senders c.mode c.bursts };
 
-    ghost invariant = { λ c. IsCore J.meaning (core_view c.core c.cores (queues_alone c.queues) c.tallies.items c.floor c.turns (job_out c.out) c.senders c.mode) c.queues.slips c.ready.keys c.inside c.room c.tallies.cap };
+    ghost invariant = { λ c. IsCore J.meaning (core_view c.core c.cores (queues_alone c.queues) c.tallies.items c.floor c.turns (job_out c.out) c.senders c.mode c.bursts) c.queues.slips c.ready.keys c.inside c.room c.tallies.cap };
 }
 
 impl<J: Task, A: Allocator + Clone> Core<J, A> {
     /// Opens a core with queue 0 alone, and with room for all that `cores` cores and the outside actor may have outstanding on
-    /// links of capacity `cap`.
+    /// links of capacity `cap`. A turn is one poll.
     pub fn open(alloc: A, core: CoreNo, cores: u8, cap: u16) -> Result<Self, AllocError>
-        ensures { IfOk result (λ c. c ≡ opened core cores ((cores + 1) * cap) 0) }
+        ensures { IfOk result (λ c. c ≡ opened core cores ((cores + 1) * cap) 0 1) }
     {
-        Core::open_at_turn(alloc, core, cores, cap, 0)
+        Core::open_at(alloc, core, cores, cap, 0, 1)
     }
 
-    /// The same, as if that many turns had been made.
+    /// The same, with turns of so many polls. 0 acts as 1.
+    pub fn open_burst(
+        alloc: A,
+        core: CoreNo,
+        cores: u8,
+        cap: u16,
+        burst: u8,
+    ) -> Result<Self, AllocError>
+        ensures { IfOk result (λ c. c ≡ opened core cores ((cores + 1) * cap) 0 burst) }
+    {
+        Core::open_at(alloc, core, cores, cap, 0, burst)
+    }
+
+    /// The same as `open`, as if that many turns had been made.
     pub fn open_at_turn(
         alloc: A,
         core: CoreNo,
@@ -90,7 +109,21 @@ impl<J: Task, A: Allocator + Clone> Core<J, A> {
         cap: u16,
         turns: u64,
     ) -> Result<Self, AllocError>
-        ensures { IfOk result (λ c. c ≡ opened core cores ((cores + 1) * cap) turns) }
+        ensures { IfOk result (λ c. c ≡ opened core cores ((cores + 1) * cap) turns 1) }
+    {
+        Core::open_at(alloc, core, cores, cap, turns, 1)
+    }
+
+    /// Opens a core after so many turns, each of so many polls.
+    fn open_at(
+        alloc: A,
+        core: CoreNo,
+        cores: u8,
+        cap: u16,
+        turns: u64,
+        burst: u8,
+    ) -> Result<Self, AllocError>
+        ensures { IfOk result (λ c. c ≡ opened core cores ((cores + 1) * cap) turns burst) }
     {
         let count = usize::from(cores) + 1;
         let room = count * usize::from(cap);
@@ -110,6 +143,7 @@ impl<J: Task, A: Allocator + Clone> Core<J, A> {
             room,
             out: None,
             mode: None,
+            bursts: Bursts { burst, open: None },
         })
     }
 
@@ -171,7 +205,7 @@ impl<J: Task, A: Allocator + Clone> Core<J, A> {
     }
 
     /// Picks the queue of least virtual runtime, then least number, and takes its first job out, or hands it back if the queue or the
-    /// core is closed so.
+    /// core is closed so. Where a turn may have several polls, a pick for a poll opens the turn of its queue.
     pub fn pick(&mut self) -> (Result<Turn<J>, PickError>, Notes<J::Out>)
     where
         J::Out: Copy,
@@ -179,7 +213,7 @@ impl<J: Task, A: Allocator + Clone> Core<J, A> {
         ensures ready { IsReadyTurn J.meaning result.0 }
         ensures bounded { IsBounded self.new }
     {
-        if self.out.is_some() {
+        if is_busy(&self.out, &self.bursts) {
             return (Err(PickError::Busy), ArrayVec::new());
         }
         if self.ready.is_empty() {
@@ -193,7 +227,8 @@ impl<J: Task, A: Allocator + Clone> Core<J, A> {
     }
 
     /// Settles the poll of the job that is out. If the job told no time of its own, `spent` nanoseconds count. A job that asks to be
-    /// parked is, unless a wake of it is kept or its queue or the core hands back what is inside.
+    /// parked is, unless a wake of it is kept or its queue or the core hands back what is inside. The queue is charged, unless a turn is
+    /// open: the end of the turn charges it.
     pub fn settle(&mut self, ran: Ran<J>, spent: u64) -> (Settled<J::Out>, Notes<J::Out>)
     where
         J::Out: Copy,

@@ -1,9 +1,11 @@
 //! The job that is out.
-ghost use Rattle.std.specs.Prelude.{◌≡◌};
+ghost use Rattle.std.specs.Prelude.{◌≡◌, is_some};
 ghost use Rattle.rt_ids.specs.Names.{is_number};
 ghost use Rattle.rt_core.specs.State.{queue_out};
+ghost use Rattle.rt_core.specs.Bursts.{held_by};
 ghost use Rattle.rt_core.specs.Inside.{job_out};
 
+use crate::bursts::Bursts;
 use rt_ids::{JobId, QueueNo};
 use std::snapshot::Snapshot;
 
@@ -24,4 +26,11 @@ pub(crate) fn is_of_queue<J>(out: &Option<Out<J>>, queue: QueueNo) -> bool
         Some(out) => queue == out.queue,
         None => false,
     }
+}
+
+/// Whether a job is out, or a turn is open.
+pub(crate) fn is_busy<J>(out: &Option<Out<J>>, bursts: &Bursts) -> bool
+    ensures { result ≡ is_some (held_by (job_out out.now) bursts.now.open) }
+{
+    out.is_some() || bursts.open.is_some()
 }

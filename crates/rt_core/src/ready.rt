@@ -1,10 +1,13 @@
 //! How a queue comes among those that may be picked.
-ghost use Rattle.std.specs.Prelude.{◌≡◌, ◌<◌, true, false};
+ghost use Rattle.std.specs.Prelude.{◌≡◌, ◌<◌, not, true, false};
+ghost use Rattle.rt_ids.specs.Names.{is_number};
 ghost use Rattle.rt_timeline.specs.Rising.{inserted, LacksQueue};
 ghost use Rattle.rt_taskqueue.specs.Slips.{queue_count, waiting_of, has_slip, without_slip};
 ghost use Rattle.rt_core.specs.State.{is_any};
-ghost use Rattle.rt_core.specs.Relisted.{keys_after, relisted};
+ghost use Rattle.rt_core.specs.Bursts.{queue_open};
+ghost use Rattle.rt_core.specs.Relisted.{keys_after, slips_after, relisted};
 
+use crate::bursts::Bursts;
 use rt_ids::QueueNo;
 use rt_taskqueue::Queues;
 use rt_timeline::{Slip, Timeline};
@@ -27,6 +30,25 @@ pub(crate) fn enter<J: Drop, A: Allocator + Clone>(
         unreachable!()
     };
     ready.insert(slip, vr);
+}
+
+/// Puts a queue that was placed into the timeline at this virtual runtime, unless its turn is open: the end of the turn does that.
+pub(crate) fn enter_placed<J: Drop, A: Allocator + Clone>(
+    queues: &mut Queues<J, A>,
+    ready: &mut Timeline<A>,
+    bursts: &Bursts,
+    queue: QueueNo,
+    vr: u128,
+)
+    requires exists { queue < queue_count queues.old }
+    requires slip { has_slip queue queues.old ≡ true }
+    requires absent { LacksQueue queue ready.old.keys }
+    ensures keys { ready.new.keys ≡ keys_after (not (is_number queue (queue_open bursts.now.open))) vr queue ready.old.keys }
+    ensures given { queues.new ≡ record queues.old { slips = slips_after (not (is_number queue (queue_open bursts.now.open))) queue queues.old.slips } }
+{
+    if !bursts.is_turn_of(queue) {
+        enter(queues, ready, queue, vr);
+    }
 }
 
 /// Puts the slip of a queue into the timeline at this virtual runtime if a job waits in the queue, else back to the queue. The head of

@@ -2,6 +2,8 @@
 #![tactic(auto)]
 
 #[cfg(test)]
+mod bursts;
+#[cfg(test)]
 mod closings;
 #[cfg(test)]
 mod deliveries;

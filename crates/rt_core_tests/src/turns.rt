@@ -14,7 +14,7 @@ pub(crate) fn is_turn(core: &mut OneCore<'_>, picked: [Note<u64>; 2], settled: N
 }
 
 /// A pick takes no job out, as was told ahead: it comes to this error, or else there is no work.
-fn picks_none(core: &mut OneCore<'_>, error: Option<PickError>) -> bool {
+pub(crate) fn picks_none(core: &mut OneCore<'_>, error: Option<PickError>) -> bool {
     let told = tells_none(core, &error);
     let (picked, notes) = core.pick();
     let same = match picked {

@@ -8,7 +8,7 @@ use rt_ids::{Mode, QueueNo};
 use rt_jobs::{NoPost, Step};
 
 /// A turn: its queue and virtual runtime, the number of its job, whether that was started, and its answer if it is done.
-type Row = (QueueNo, u128, u64, bool, Option<u64>);
+pub(crate) type Row = (QueueNo, u128, u64, bool, Option<u64>);
 
 /// The job that the next pick takes out, if it takes one.
 fn next_of(core: &OneCore<'_>) -> Option<Next>
@@ -20,11 +20,11 @@ fn next_of(core: &OneCore<'_>) -> Option<Next>
     }
 }
 
-fn is_told(next: &Next, row: &Row) -> bool {
+pub(crate) fn is_told(next: &Next, row: &Row) -> bool {
     next.queue == row.0 && next.vr == row.1 && next.name == name(row.2) && next.started == row.3
 }
 
-fn came_to(step: &Step<u64>, want: Option<u64>) -> bool {
+pub(crate) fn came_to(step: &Step<u64>, want: Option<u64>) -> bool {
     match step {
         Step::Yield | Step::Park => want.is_none(),
         Step::Done(answer) => want == Some(*answer),
@@ -32,7 +32,7 @@ fn came_to(step: &Step<u64>, want: Option<u64>) -> bool {
 }
 
 /// The next turn is told so, and comes to this. The job tells 30 nanoseconds.
-fn turns_so(core: &mut OneCore<'_>, row: &Row) -> bool {
+pub(crate) fn turns_so(core: &mut OneCore<'_>, row: &Row) -> bool {
     let Some(next) = next_of(core) else {
         return false;
     };

@@ -50,8 +50,8 @@ wakes_refused = record {
   beside = λ sound. let at = (sound.notes 0 (omega arith)).1.0.right.at in cc;
   closed_queue = λ sound. let at = (sound.notes 0 (omega arith)).1.0.right.at in cc;
   closed_core = λ sound. let at = (sound.notes 0 (omega arith)).1.0.right.at in cc;
-  left_by_queue = λ sound. not_least 20 0 10 1 (omega arith) ((sound.notes 0 (omega arith)).1.0.right.least 1 (record { work = refl; nobody_out = refl }));
-  left_by_core = λ sound. not_least 20 0 10 1 (omega arith) ((sound.notes 0 (omega arith)).1.0.right.least 1 (record { work = refl; nobody_out = refl }));
+  left_by_queue = λ sound. not_least 20 0 10 1 (omega arith) ((sound.notes 0 (omega arith)).1.0.right.least 1 (record { work = refl; nobody_out = refl; no_turn = refl }));
+  left_by_core = λ sound. not_least 20 0 10 1 (omega arith) ((sound.notes 0 (omega arith)).1.0.right.least 1 (record { work = refl; nobody_out = refl; no_turn = refl }));
   finish = λ sound. let work = (sound.notes 0 (omega arith)).1.0.right.eligible.work in cc;
   unasked = λ law. law.0.effect;
   missing = λ law. law.0.effect;

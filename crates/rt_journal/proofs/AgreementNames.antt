@@ -73,3 +73,16 @@ pub use Rattle.rt_ids.specs.declared.order.Reason.{Reason}
 pub use Rattle.rt_shares.specs.Charge.{InRange, charge, clamped}
 pub use Rattle.rt_taskqueue.specs.Queues.{ChangesLine, ChangesParks, Line, Marks, Moves, Parks, QueuesView, awake}
 pub use Rattle.rt_taskqueue.specs.Queues.{held_count, mode_of, no_queue, parked_of, queue_count, shares_of, waiting_of}
+pub use Rattle.std.specs.Prelude.{min, ◌-◌, ◌^◌}
+pub use Rattle.rt_journal.specs.Agreement.{IsOpenTurn}
+pub use Rattle.rt_journal.specs.Figures.{counted_up}
+pub use Rattle.rt_core.specs.Bursts.{FollowsOut, added_now, begun, lasted, longer, polled_again, settled_tally}
+pub use Rattle.rt_core.specs.declared.bursts.Bursts.{Bursts}
+pub use Rattle.rt_core.specs.declared.bursts.OpenTurn.{OpenTurn}
+pub use Rattle.rt_ids.proofs.OpenTurns.{none_either}
+pub use Rattle.rt_ids.proofs.RuntimeSteps.{virtual_runtime-in_turn, virtual_runtime-turned, virtual_runtime-turned_elsewhere}
+pub use Rattle.rt_ids.proofs.TurnsOut.{begun_if_open, open_if_begun, turn_of_out}
+pub use Rattle.rt_ids.specs.Bursts.{has_bursts, parts_turns, poll_count, polls_in_turn, queue_begun, queue_begun_last, queue_in_turn}
+pub use Rattle.rt_ids.specs.Bursts.{time_in_turn, time_of_poll, time_summed, turn_told}
+pub use Rattle.rt_ids.specs.Polls.{poll_settled}
+pub use Rattle.rt_ids.specs.Lawful.{may_go_on}

@@ -1,27 +1,25 @@
 -- What a core tells ahead of a pick is what its journal says; and a core picks: the right pick takes a job out, or hands it back, or the core says why there is none.
 use Rattle.rt_journal.proofs.Names.{◌≡◌, ℕ, ◌-◌, ◌^◌, Bool, true, false, List, [], ◌∷◌, refl, sym, ◌∙◌, ap, subst}
-use Rattle.rt_journal.proofs.Names.{arith, None, Result, Ok, Err, JobId, Note, KeyAtMost, turns, has_work}
+use Rattle.rt_journal.proofs.Names.{inl, inr, ⊎_elim, Option, IsSome, arith, None, Result, Ok, Err, JobId, Note, KeyAtMost, turns, has_work}
 use Rattle.rt_journal.proofs.Names.{no_work, work_of_line, Meaning, waiting_of, Turn, Start, Resume, Idle, PickError}
 use Rattle.rt_journal.proofs.Names.{Busy, CoreView, runtime_of, TakesOut, TellsAhead, some_front, IsJobOut}
 use Rattle.rt_journal.proofs.Names.{RecordedView, IsRecorded, terms_at, IsBack, ◌+◌, ◌<◌, ◌≤◌, ◌++◌, length, add-zero}
-use Rattle.rt_journal.proofs.Names.{◌==◌, Some, All, is_some, same_Some, All-head, All-tail, most_turns, Pick, Job}
+use Rattle.rt_journal.proofs.Names.{◌==◌, Some, is_some, same_Some, most_turns, Pick, Job}
 use Rattle.rt_journal.proofs.Names.{Reason, Journal, is_told, pick_count, number_if, length-with_last_if, if_from}
 use Rattle.rt_journal.proofs.Names.{name_ended, given_outcomes, held_count, inside_count, HandsBack, polls_made}
 use Rattle.rt_journal.proofs.Names.{poll_note, HasTask, note_taken, sum_upto, given_count, IsPick, IsHandBack}
 use Rattle.rt_journal.proofs.Names.{owed_back, known_of, among, same_as_itself, without_job, option_map, QueuesView}
-use Rattle.rt_journal.proofs.Names.{HaveTasks, Line, Marks, parked_of, none-some, JobOut, CorePicks, names_of, Returned, Picks}
+use Rattle.rt_journal.proofs.Names.{Line, Marks, none-some, JobOut, CorePicks, names_of, Returned, Picks}
 use Rattle.rt_core.specs.declared.turn.Ahead.TheVariants as ahead
 use Rattle.rt_core.specs.declared.turn.Turn.TheVariants.{Back}
 use Rattle.rt_core.specs.declared.turn.PickError.TheVariants.{Spent}
 use Rattle.rt_core.specs.Closing.{return_reason}
 use Rattle.rt_core.specs.Closing as core_says
-use Rattle.rt_journal.proofs.Places.{each_line}
 use Rattle.rt_journal.proofs.Sums.{sum_upto-at_most_one, sum_upto-same}
-use Rattle.rt_journal.proofs.KeptPicks.{LeavesFront, first_in_line, kept-picked, kept-returned, picked_view}
-use Rattle.rt_journal.proofs.KeptPicks.{reason_told, returned_view}
-use Rattle.rt_journal.proofs.KeptPicks.{right_pick, start_told, wake_is}
-use Rattle.rt_journal.proofs.Inside.{HoldsOfAll}
-use Rattle.rt_journal.proofs.Received.{tasks_stay}
+use Rattle.rt_journal.proofs.AgreementNames.{IsNext, IsOpenTurn, OpenTurn, queue_in_turn}
+use Rattle.rt_journal.proofs.FrontLeft.{KnowsFront, LeavesFront, knows_front}
+use Rattle.rt_journal.proofs.FrontTasks.{its_task, one_fewer, still_tasks}
+use Rattle.rt_journal.proofs.KeptPicks.{kept-picked, kept-returned, picked_view, returned_view, right_pick}
 use Rattle.rt_journal.proofs.EndsKept.{ungiven_if, not_given}
 use Rattle.rt_ids.specs.declared.note.OutcomeNote.TheVariants as outcomes
 use Rattle.rt_journal.proofs.QuietSteps.{nobody, quiet-picked, stepped, IsQuietStep}
@@ -43,9 +41,9 @@ module _ {J : Type 0} (view core : CoreView J) (told : TellsAhead view (Ok ahead
   is_back (Ok (Start name queue job)) notes picks = absurd (no_job name queue false job picks.0 picks.1)
   is_back (Ok (Resume name queue job)) notes picks = absurd (no_job name queue true job picks.0 picks.1)
   is_back (Ok (Back name reason order)) notes picks = tt
-  is_back (Ok Idle) notes picks = absurd (told.2 (picks.1 told.0))
-  is_back (Err Busy) notes picks = absurd (picks.0 told.1.free)
-  is_back (Err Spent) notes picks = absurd (omega (arith, picks.1, told.4))
+  is_back (Ok Idle) notes picks = absurd (told.2 (picks.2 told.0))
+  is_back (Err Busy) notes picks = absurd (⊎_elim (λ out. out told.1.free) (λ turn. turn told.1.no_turn) picks.0)
+  is_back (Err Spent) notes picks = absurd (omega (arith, picks.2, told.4))
 
 module _ {J T : Type 0} {meaning : Meaning J T} (view : RecordedView J T) (recorded : IsRecorded meaning view) where
   -- no queue has work where none has a line
@@ -64,7 +62,15 @@ module _ {J T : Type 0} {meaning : Meaning J T} (view : RecordedView J T) (recor
 
   -- where all turns are used, a queue has work
   pub all_used : TellsAhead view.core (Err Spent) → (turns view.journal.notes ≡ 2 ^ 64 - 1) × ((queue : ℕ) × (has_work queue view.journal.notes ≡ true))
-  all_used told = (sym recorded.kept.agrees.turns ∙ told.1, (told.2.0, works told.2.0 told.2.1))
+  all_used told = (sym recorded.kept.agrees.turns ∙ told.2, (told.3.0, works told.3.0 told.3.1))
+
+  -- a turn that is open in the core is open in the journal
+  pub open_told : (view.core.bursts.open ≡ None → ⊥) → IsSome (queue_in_turn view.core.bursts.burst view.journal.notes)
+  open_told some = by_turn view.core.bursts.open refl recorded.kept.agrees.turn
+    where
+      by_turn : (turn : Option OpenTurn) → view.core.bursts.open ≡ turn → IsOpenTurn view.core.bursts.burst turn view.journal.notes → IsSome (queue_in_turn view.core.bursts.burst view.journal.notes)
+      by_turn None none is = absurd (some none)
+      by_turn (Some turn) at is = subst IsSome (sym is.0) refl
 
 pick_at_most_one : {T : Type 0} (note : Note T) → pick_count note ≤ 1
 pick_at_most_one note = grind arith
@@ -84,39 +90,16 @@ module _ {J T : Type 0} {meaning : Meaning J T}
   abbrev notes : Journal T
   notes = old.journal.notes
 
-  -- the first job of a line leaves it
-  module _ (name : JobId) (queue : ℕ) (marks : Marks) (job : J) (queues : QueuesView J) (front : LeavesFront old.core name queue marks job queues) where
+  -- the head of the next queue leaves its line
+  module _ (name : JobId) (queue : ℕ) (marks : Marks) (job : J) (queues : QueuesView J) (front : LeavesFront old.core name queue marks job queues) (next : IsNext old.core queue) where
     abbrev runtime : ℕ
     runtime = runtime_of queue old.core
 
-    one_fewer : held_count queues + 1 ≡ inside_count old.core
-    one_fewer =
-        let line : length (waiting_of queue old.core.queues) ≡ length front.others + 1 = ap length front.first ∙ omega arith in
-        let inside : inside_count old.core ≡ held_count old.core.queues + 0 = ap (λ out. held_count old.core.queues + number_if (is_some out)) front.next.free in
-        omega (arith, line, inside, front.line.held)
+    abbrev is : KnowsFront (terms_at old) old.core name queue marks job queues front.others notes
+    is = knows_front (terms_at old) old.core name queue marks job queues notes recorded.kept front
 
-    -- and no poll is settled by these notes
-    module _ (written : List (Note T)) (unpolled : (which : JobId) → polls_made which (written ++ notes) ≡ polls_made which notes) where
-      abbrev Task : ℕ → JobId × Marks × J → Type 0
-      Task other entry = HasTask meaning old.took (written ++ notes) other entry.0 entry.2
-
-      stay : HoldsOfAll (λ other which job. HasTask meaning old.took (written ++ notes) other which job) old.core.queues
-      stay = tasks_stay old recorded written unpolled
-
-      all_first : All (Task queue) ((name, marks, job) ∷ front.others)
-      all_first = subst (All (Task queue)) front.first (stay.waiting queue)
-
-      its_task : Task queue (name, marks, job)
-      its_task = All-head (Task queue) (name, marks, job) front.others all_first
-
-      still_waiting : (other : ℕ) → All (Task other) (waiting_of other queues)
-      still_waiting = each_line (λ at. All (Task at)) front.line (All-tail (Task queue) (name, marks, job) front.others all_first) stay.waiting
-
-      still_tasks : (core : CoreView J) → core.queues ≡ queues → HaveTasks meaning (stepped old core written)
-      still_tasks core is = record {
-        waiting = subst (λ queues. (other : ℕ) → All (Task other) (waiting_of other queues)) (sym is) still_waiting;
-        parked = λ other. subst (All (λ entry. HasTask meaning old.took (written ++ notes) other entry.0 entry.1)) (sym (ap (parked_of other) is ∙ front.line.same_parks other)) (stay.parked other);
-      }
+    one_less : held_count queues + 1 ≡ inside_count old.core
+    one_less = one_fewer old name queue marks job queues front
 
     abbrev written : List (Note T)
     written = poll_note name marks.started ∷ Pick queue runtime ∷ []
@@ -127,29 +110,29 @@ module _ {J T : Type 0} {meaning : Meaning J T}
     picked : core_says.return_reason queue old.core ≡ None → IsQuietStep old its_view written meaning everyone nobody
     picked keeps =
         let unpolled = λ (which : JobId). no_polls which name queue runtime marks.started notes in
-        let task = its_task written unpolled in
+        let task = its_task old recorded name queue marks job queues front written unpolled in
         let quiet = quiet-picked notes name queue runtime marks.started in
         let given = sum_upto-same (given_count (written ++ notes)) (given_count notes) old.core.cores (λ sender. ap length (quiet.given sender)) in
-        let fewer : held_count queues + 1 + sum_upto (given_count (written ++ notes)) old.core.cores ≤ inside_count old.core + sum_upto (given_count notes) old.core.cores = omega (arith, one_fewer, given) in
+        let fewer : held_count queues + 1 + sum_upto (given_count (written ++ notes)) old.core.cores ≤ inside_count old.core + sum_upto (given_count notes) old.core.cores = omega (arith, one_less, given) in
         assumption (
-          kept-picked (terms_at old) old.core name queue marks job queues notes recorded.kept front keeps left,
+          kept-picked (terms_at old) old.core name queue marks job queues notes recorded.kept front next keeps left,
           front.line.same_room,
-          still_tasks written unpolled its_view refl,
+          still_tasks old recorded name queue marks job queues front written unpolled its_view refl,
           λ (out : JobOut J) (at : Some (record { name = name; queue = queue; woken = marks.woken; job = job }) ≡ Some out). subst (λ out. HasTask meaning old.took (written ++ notes) out.queue out.name out.job) (same_Some _ out at) task,
         )
 
     pick_is : core_says.return_reason queue old.core ≡ None → IsPick old name queue marks.started job (stepped old its_view written)
     pick_is keeps = record {
-      nobody_out = front.next.free;
+      nobody_out = front.free;
       turn_left = left;
       runtime = runtime;
-      right = right_pick (terms_at old) old.core name queue marks job queues notes recorded.kept front;
+      right = right_pick (terms_at old) old.core name queue marks job queues notes recorded.kept front next;
       others = names_of front.others;
-      first = first_in_line (terms_at old) old.core name queue marks job queues notes recorded.kept front;
-      kept = reason_told (terms_at old) old.core name queue marks job queues notes recorded.kept front ∙ keeps;
-      started = start_told (terms_at old) old.core name queue marks job queues notes recorded.kept front;
+      first = is.first_in_line;
+      kept = is.reason_told ∙ keeps;
+      started = is.start_told;
       journal = refl;
-      out = λ i. Some (record { name = name; queue = queue; woken = wake_is (terms_at old) old.core name queue marks job queues notes recorded.kept front i; job = job });
+      out = λ i. Some (record { name = name; queue = queue; woken = is.wake_is i; job = job });
       took = refl;
     }
 
@@ -161,48 +144,49 @@ module _ {J T : Type 0} {meaning : Meaning J T}
 
     going_on : is_told name_ended name notes ≡ false
     going_on = ((known_of (terms_at old) notes recorded.kept.notes).line_inside queue name
-        (ap (among name) (first_in_line (terms_at old) old.core name queue marks job queues notes recorded.kept front) ∙ rw (same_as_itself name) refl)).going_on
+        (ap (among name) (is.first_in_line) ∙ rw (same_as_itself name) refl)).going_on
 
     handed : (reason : Reason) → core_says.return_reason queue old.core ≡ Some reason →
         IsQuietStep old (returned_view old.core queue queues) (back reason) meaning everyone (λ sender. if_from sender name (name, outcomes.Returned reason))
     handed reason returns = record {
-      kept = kept-returned (terms_at old) old.core name queue marks job queues notes recorded.kept front reason returns left;
+      kept = kept-returned (terms_at old) old.core name queue marks job queues notes recorded.kept front next reason returns left;
       number = refl;
       cores = refl;
+      burst = refl;
       room = front.line.same_room;
       quiet = assumption;
       ungiven = λ sender inward is.
-          let task = its_task (back reason) (unpolled_back reason) in
+          let task = its_task old recorded name queue marks job queues front (back reason) (unpolled_back reason) in
           ungiven_if old sender inward is name (Job queue task.sent) task.task
           (not_given (note_taken old.took) name queue (ap (option_map without_job) task.task) sender notes recorded.as_sent going_on) (outcomes.Returned reason);
       fewer =
           let given_more : sum_upto (given_count (back reason ++ notes)) old.core.cores ≤ sum_upto (given_count notes) old.core.cores + 1 =
           sum_upto-at_most_one (given_count notes) (given_count (back reason ++ notes)) name.from (λ from. length-with_last_if (given_outcomes from notes) _ (name.from == from)) old.core.cores in
-          let now : inside_count (returned_view old.core queue queues) ≡ held_count queues + 0 = ap (λ out. held_count queues + number_if (is_some out)) front.next.free in
-          omega (arith, given_more, now, one_fewer);
-      tasks = still_tasks (back reason) (unpolled_back reason) (returned_view old.core queue queues) refl;
-      out = λ out at. absurd (none-some out (sym front.next.free ∙ at));
+          let now : inside_count (returned_view old.core queue queues) ≡ held_count queues + 0 = ap (λ out. held_count queues + number_if (is_some out)) front.free in
+          omega (arith, given_more, now, one_less);
+      tasks = still_tasks old recorded name queue marks job queues front (back reason) (unpolled_back reason) (returned_view old.core queue queues) refl;
+      out = λ out at. absurd (none-some out (sym front.free ∙ at));
     }
 
     handed_is : (reason : Reason) → core_says.return_reason queue old.core ≡ Some reason → IsHandBack meaning old name reason (Job queue job) (stepped old (returned_view old.core queue queues) (back reason))
     handed_is reason returns =
-        let task = its_task (back reason) (unpolled_back reason) in
+        let task = its_task old recorded name queue marks job queues front (back reason) (unpolled_back reason) in
         record {
-          nobody_out = front.next.free;
+          nobody_out = front.free;
           turn_left = left;
           queue = queue;
           runtime = runtime;
-          right = right_pick (terms_at old) old.core name queue marks job queues notes recorded.kept front;
+          right = right_pick (terms_at old) old.core name queue marks job queues notes recorded.kept front next;
           others = names_of front.others;
-          first = first_in_line (terms_at old) old.core name queue marks job queues notes recorded.kept front;
-          returns = reason_told (terms_at old) old.core name queue marks job queues notes recorded.kept front ∙ returns;
+          first = is.first_in_line;
+          returns = is.reason_told ∙ returns;
           sent = task.sent;
           task = task.task;
           job = job;
           back = refl;
           same_task = task.same_task;
           journal = refl;
-          out = front.next.free;
+          out = front.free;
           took = refl;
         }
 
@@ -214,20 +198,20 @@ module _ {J T : Type 0} {meaning : Meaning J T}
     marks_of started woken = record { started = started; woken = woken }
 
     taken : {name : JobId} {queue : ℕ} {was_started : Bool} {job : J} (takes : TakesOut old.core name queue was_started job core) → LeavesFront old.core name queue (marks_of was_started takes.was_woken) job core.queues
-    taken takes = record { next = takes.next; others = takes.others; first = takes.first; line = takes.line }
+    taken takes = record { free = takes.next.free; others = takes.others; first = takes.first; line = takes.line }
 
     given_back : {name : JobId} {queue : ℕ} {job : J} (hands : HandsBack old.core name queue job core) → LeavesFront old.core name queue hands.marks job core.queues
-    given_back hands = record { next = hands.next; others = hands.others; first = hands.first; line = hands.line }
+    given_back hands = record { free = hands.next.free; others = hands.others; first = hands.first; line = hands.line }
 
     -- whatever the pick answers
     pub picked_did : (answer : Result (Turn J) PickError) (told : List (Note T)) → CorePicks old.core answer core told → Did answer told core
     picked_did (Ok (Start name queue job)) told does = subst (Did (Ok (Start name queue job)) told) (sym does.0.rest)
-        (done_so does.2 (picked name queue (marks_of false does.0.was_woken) job core.queues (taken does.0) does.1) (omega arith) (pick_is name queue (marks_of false does.0.was_woken) job core.queues (taken does.0) does.1))
+        (done_so does.2 (picked name queue (marks_of false does.0.was_woken) job core.queues (taken does.0) does.0.next does.1) (omega arith) (pick_is name queue (marks_of false does.0.was_woken) job core.queues (taken does.0) does.0.next does.1))
     picked_did (Ok (Resume name queue job)) told does = subst (Did (Ok (Resume name queue job)) told) (sym does.0.rest)
-        (done_so does.2 (picked name queue (marks_of true does.0.was_woken) job core.queues (taken does.0) does.1) (omega arith) (pick_is name queue (marks_of true does.0.was_woken) job core.queues (taken does.0) does.1))
+        (done_so does.2 (picked name queue (marks_of true does.0.was_woken) job core.queues (taken does.0) does.0.next does.1) (omega arith) (pick_is name queue (marks_of true does.0.was_woken) job core.queues (taken does.0) does.0.next does.1))
     picked_did (Ok (Back name reason (Job queue job))) told does = subst (Did (Ok (Back name reason (Job queue job))) told) (sym does.0.rest)
-        (done_so does.2 (handed name queue does.0.marks job core.queues (given_back does.0) reason does.1) (omega arith) (handed_is name queue does.0.marks job core.queues (given_back does.0) reason does.1))
+        (done_so does.2 (handed name queue does.0.marks job core.queues (given_back does.0) does.0.next reason does.1) (omega arith) (handed_is name queue does.0.marks job core.queues (given_back does.0) does.0.next reason does.1))
     picked_did (Ok (Back name reason _)) told does = absurd does
-    picked_did (Ok Idle) told does = nothing_did recorded does.2 does.3 (idle old recorded does.0 does.1, refl)
-    picked_did (Err Busy) told does = nothing_did recorded does.1 does.2 (does.0, refl)
-    picked_did (Err Spent) told does = nothing_did recorded does.3 does.4 (sym recorded.kept.agrees.turns ∙ does.1, (does.2.0, works old recorded does.2.0 does.2.1), refl)
+    picked_did (Ok Idle) told does = nothing_did recorded does.3 does.4 (idle old recorded does.0 does.2, refl)
+    picked_did (Err Busy) told does = nothing_did recorded does.1 does.2 (⊎_elim (λ out. inl out) (λ turn. inr (open_told old recorded turn)) does.0, refl)
+    picked_did (Err Spent) told does = nothing_did recorded does.4 does.5 (sym recorded.kept.agrees.turns ∙ does.2, (does.3.0, works old recorded does.3.0 does.3.1), refl)

@@ -43,6 +43,7 @@ pub record IsCarriedOut {J T : Type 0} (old : RecordedView J T) (name : JobId) (
   pub kept : IsKept (terms_at old) core (written ++ old.journal.notes)
   pub number : core.core ≡ old.core.core
   pub cores : core.cores ≡ old.core.cores
+  pub burst : core.bursts.burst ≡ old.core.bursts.burst
   pub room : core.queues.room ≡ old.core.queues.room
   pub out : core.out ≡ out_told (written ++ old.journal.notes) old.core.out
   pub same_out : SameOut old.core.out core.out
@@ -96,6 +97,7 @@ module _ {J T : Type 0} (old : RecordedView J T) (name : JobId)
         same_out-told (writes.Took name queue ∷ journal) old.core.out core.out stays kept_now.agrees.out,
         ap (λ core. core.core) enters.rest,
         ap (λ core. core.cores) enters.rest,
+        ap (λ core. core.bursts.burst) enters.rest,
         enters.line.same_room,
         counted_one,
         unpolled,
@@ -123,7 +125,7 @@ module _ {J T : Type 0} (old : RecordedView J T) (name : JobId)
 
   -- the core that has counted the delivery holds the same jobs as before
   holds_middle : HoldsSame old.core middle
-  holds_middle = record { number = refl; cores = refl; room = refl; same_held = refl; carries = λ P was. was; out = same_out old.core.out }
+  holds_middle = record { number = refl; cores = refl; burst = refl; room = refl; same_held = refl; carries = λ P was. was; out = same_out old.core.out }
 
   -- a job that is refused goes back
   goes_back : (queue : ℕ) (job : J) (reason : Reason) → refusal queue journal ≡ Some reason → IsCarriedOut old name (Job queue job) (Some (outcome.Returned reason)) middle (writes.Back name reason ∷ [])
@@ -147,6 +149,7 @@ module _ {J T : Type 0} (old : RecordedView J T) (name : JobId)
         let holds : HoldsSame old.core core = record {
           number = ap (λ core. core.core) creates.rest;
           cores = ap (λ core. core.cores) creates.rest;
+          burst = ap (λ core. core.bursts.burst) creates.rest;
           room = creates.added.same_room;
           same_held = creates.added.same_held;
           carries = carries-same creates.added.same_lines creates.added.same_parks;
@@ -163,6 +166,7 @@ module _ {J T : Type 0} (old : RecordedView J T) (name : JobId)
         let holds : HoldsSame old.core core = record {
           number = ap (λ core. core.core) weighs.rest;
           cores = ap (λ core. core.cores) weighs.rest;
+          burst = ap (λ core. core.bursts.burst) weighs.rest;
           room = weighs.shares.same_room;
           same_held = weighs.shares.same_held;
           carries = carries-same weighs.shares.same_lines weighs.shares.same_parks;
@@ -172,14 +176,14 @@ module _ {J T : Type 0} (old : RecordedView J T) (name : JobId)
         (λ from. refl) counted_one unpolled_twice (answers.SharesSet, answered.0, refl) (λ under at before. (λ has. (SetShares queue weight, at, refl), ((SetShares queue weight, at, answered.0), before))) (omega arith)
 
   from_middle : (core : CoreView J) → HoldsSame middle core → HoldsSame old.core core
-  from_middle core holds = record { number = holds.number; cores = holds.cores; room = holds.room; same_held = holds.same_held; carries = holds.carries; out = holds.out }
+  from_middle core holds = record { number = holds.number; cores = holds.cores; burst = holds.burst; room = holds.room; same_held = holds.same_held; carries = holds.carries; out = holds.out }
 
   -- the answer to a command, which may stand
   module _ (order : Order (Unit {0})) (answer : Answer) (right : IsAnswer name.to order answer journal) where
     answered_notes : EachNote (MayStand (terms_at old)) (writes.Answered name answer ∷ journal)
     answered_notes = (stands_behind (terms_at old) (writes.Answered name answer) kept kept.is_core (next, (order, right)) refl tt, kept.notes)
 
-  answered_agrees : (answer : Answer) → Agrees middle (writes.Answered name answer ∷ journal)
+  answered_agrees : (answer : Answer) → Agrees old.core.bursts.burst middle (writes.Answered name answer ∷ journal)
   answered_agrees answer = agrees-answered (terms_at old) old.core middle name journal kept next sender refl answer
 
   -- a queue is closed, and its parks may end
@@ -218,7 +222,7 @@ module _ {J T : Type 0} (old : RecordedView J T) (name : JobId)
     abbrev job : JobId
     job = job_at name.to actor number
 
-    wakes_job : (core : CoreView J) → HoldsSame old.core core → Agrees core (writes.Woken job ∷ writes.Answered name answers.Woken ∷ journal) → is_inside job journal ≡ true →
+    wakes_job : (core : CoreView J) → HoldsSame old.core core → Agrees old.core.bursts.burst core (writes.Woken job ∷ writes.Answered name answers.Woken ∷ journal) → is_inside job journal ≡ true →
         IsCarriedOut old name (Wake actor number) (Some (outcome.Answered answers.Woken)) core (writes.Woken job ∷ writes.Answered name answers.Woken ∷ [])
     wakes_job core holds agrees inside =
         let right : IsAnswer name.to (Wake actor number) answers.Woken journal = ap (λ test. cond test answers.Woken answers.NoJob) (sym inside) in
@@ -237,6 +241,7 @@ module _ {J T : Type 0} (old : RecordedView J T) (name : JobId)
         let holds : HoldsSame old.core core = record {
           number = ap (λ core. core.core) keeps.rest;
           cores = ap (λ core. core.cores) keeps.rest;
+          burst = ap (λ core. core.bursts.burst) keeps.rest;
           room = ap (λ core. core.queues.room) keeps.rest;
           same_held = ap (λ core. held_count core.queues) keeps.rest;
           carries = carries-same (λ queue. ap (λ core. waiting_of queue core.queues) keeps.rest) (λ queue. ap (λ core. parked_of queue core.queues) keeps.rest);
@@ -250,6 +255,7 @@ module _ {J T : Type 0} (old : RecordedView J T) (name : JobId)
         let holds : HoldsSame old.core core = record {
           number = ap (λ core. core.core) wakes.rest;
           cores = ap (λ core. core.cores) wakes.rest;
+          burst = ap (λ core. core.bursts.burst) wakes.rest;
           room = wakes.keeps.line.same_room;
           same_held = omega (arith, wakes.keeps.line.held, ap length wakes.keeps.was, same_length wakes.keeps.before wakes.keeps.marks (record wakes.keeps.marks { woken = true }) wakes.keeps.job wakes.keeps.behind);
           carries = carries-kept_wake job wakes.keeps;
@@ -267,6 +273,7 @@ module _ {J T : Type 0} (old : RecordedView J T) (name : JobId)
         let holds : HoldsSame old.core core = record {
           number = ap (λ core. core.core) ends.rest;
           cores = ap (λ core. core.cores) ends.rest;
+          burst = ap (λ core. core.bursts.burst) ends.rest;
           room = ends.wakes.moves.same_room;
           same_held = ends.wakes.moves.same_held;
           carries = carries-woken job ends.queue ends.wakes;

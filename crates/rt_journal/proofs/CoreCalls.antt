@@ -51,6 +51,7 @@ module _ {J T : Type 0} {meaning : Meaning J T}
         let holds : HoldsSame old.core core = record {
           number = ap (λ core. core.core) creates.rest;
           cores = ap (λ core. core.cores) creates.rest;
+          burst = ap (λ core. core.bursts.burst) creates.rest;
           room = creates.added.same_room;
           same_held = creates.added.same_held;
           carries = carries-same creates.added.same_lines creates.added.same_parks;
@@ -108,6 +109,7 @@ module _ {J T : Type 0} (old : RecordedView J T) (from count : ℕ) (core : Core
       let holds : HoldsSame old.core core = record {
         number = ap (λ core. core.core) is;
         cores = ap (λ core. core.cores) is;
+        burst = ap (λ core. core.bursts.burst) is;
         room = ap (λ core. core.queues.room) is;
         same_held = ap (λ core. held_count core.queues) is;
         carries = carries-same (λ queue. ap (λ core. waiting_of queue core.queues) is) (λ queue. ap (λ core. parked_of queue core.queues) is);

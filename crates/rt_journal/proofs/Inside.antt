@@ -120,6 +120,7 @@ module _ {J : Type 0} where
 pub record HoldsSame {J : Type 0} (old core : CoreView J) : Type 1 where
   pub number : core.core ≡ old.core
   pub cores : core.cores ≡ old.cores
+  pub burst : core.bursts.burst ≡ old.bursts.burst
   pub room : core.queues.room ≡ old.queues.room
   pub same_held : held_count core.queues ≡ held_count old.queues
   pub carries : Carries old.queues core.queues
@@ -132,6 +133,7 @@ pub holds-closed : {J : Type 0} (old closed new : CoreView J) (ends : ℕ → Bo
 holds-closed old closed new ends is lines parks room held ended = record {
   number = ap (λ core. core.core) new_is;
   cores = ap (λ core. core.cores) new_is;
+  burst = ap (λ core. core.bursts.burst) new_is;
   room = ended.same_room ∙ room;
   same_held = ended.same_held ∙ held;
   carries = λ P was. carries-ended closed new ends ended P (carries-same lines parks P was);

@@ -16,11 +16,12 @@ use Rattle.rt_journal.proofs.AgreementNames.{EachNote, IsEffectDue, JobId, Journ
 use Rattle.rt_journal.proofs.AgreementNames.{None, Note, Option, Some, Terms, [], ap, arith, effect_awaited, false, is_told}
 use Rattle.rt_journal.proofs.AgreementNames.{length, queue_just_picked, refl, subst, sym, takes_turn, ℕ, ◌++◌, ◌+◌, ◌<◌}
 use Rattle.rt_journal.proofs.AgreementNames.{◌||◌, ◌∙◌, ◌∷◌, ◌≡◌, ◌≤◌, QueuesView, mode_of, queue_count}
-use Rattle.rt_journal.proofs.AgreementNames.{shares_of, waiting_of}
+use Rattle.rt_journal.proofs.AgreementNames.{parts_turns, shares_of, waiting_of}
 use Rattle.rt_core.specs.State as state
 use Rattle.rt_core.specs.Closing as core_says
 use Rattle.rt_journal.proofs.Marks.{marks-stay}
 use Rattle.rt_journal.proofs.Figures.{figures-stays}
+use Rattle.rt_journal.proofs.Turning.{open-stays}
 
 module _ {J : Type 0} where
   -- something is there where a job waits or is out
@@ -33,7 +34,7 @@ module _ {J T : Type 0} (core : CoreView J) (journal : Journal T) where
   queue_out-agrees out = grind (arith, queue_out-nobody journal, queue_out-alone)
 
   -- a queue works in the core where it has work in the journal
-  pub working : (terms : Terms) (queue : ℕ) → EachNote (MayStand terms) journal → Agrees core journal → is_working queue core ≡ has_work queue journal
+  pub working : {burst : ℕ} (terms : Terms) (queue : ℕ) → EachNote (MayStand terms) journal → Agrees burst core journal → is_working queue core ≡ has_work queue journal
   working terms queue notes agrees =
       rw (has_work-line terms queue journal notes, ← queue_out-agrees agrees.out, ← agrees.lines queue)
       (sym (nat_lt-line (waiting_of queue core.queues) (is_number queue (state.queue_out core.out))))
@@ -47,10 +48,11 @@ pub record IsCalm {T : Type 0} (note : Note T) (before : Journal T) : Type 0 whe
   pub starts : name_started note ≡ None
   pub brings : (queue : ℕ) → brings_work queue note before ≡ false
   pub takes : (name : JobId) → queue_entered name note ≡ None
-  pub costs : (queue : ℕ) → charge_noted queue note before ≡ 0
+  pub costs : (burst queue : ℕ) → charge_noted burst queue note before ≡ 0
   pub picks : runtime_picked note ≡ 0
   pub turns_made : pick_count note ≡ 0
-  pub counts : (queue : ℕ) → figures_noted queue note before ≡ no_figures
+  pub goes_on : parts_turns note ≡ false
+  pub counts : (burst queue : ℕ) → figures_noted burst queue note before ≡ no_figures
   pub ends : (queue : ℕ) → unparked queue note (parked queue before) ≡ []
   pub still : (queue : ℕ) → still_parked queue note (parked queue before) ≡ parked queue before
   pub parks : name_parked note ≡ None
@@ -70,55 +72,57 @@ module _ {J T : Type 0} (note : Note T) (before : Journal T) (calm : IsCalm note
   out-calm None nobody = rw (calm.settles, calm.polls) nobody
   out-calm (Some job) alone = (rw (calm.settles, calm.polls) alone.0, rw (calm.takes job.name) alone.1, alone.2 ∙ sym (ap (λ told. unwrap_or told (is_wake_kept job.name before)) (calm.wakes job.name)))
 
+module _ {J T : Type 0} {burst : ℕ} (note : Note T) (before : Journal T) (calm : IsCalm note before) where
   -- a core whose queues hold the same jobs and count the same of them agrees with a calm note
-  agrees_calm : (old : CoreView J) → Agrees old before → (queues : QueuesView J) (tallies : List Tally) (delivered : List ℕ) (gates : List (Option ℕ)) (mode : Option Mode) →
+  agrees_calm : (old : CoreView J) → Agrees burst old before → (queues : QueuesView J) (tallies : List Tally) (delivered : List ℕ) (gates : List (Option ℕ)) (mode : Option Mode) →
       ((queue : ℕ) → waiting_of queue queues ≡ waiting_of queue old.queues) → ((queue : ℕ) → parked_of queue queues ≡ parked_of queue old.queues) →
       ((queue : ℕ) → tally_of queue (record old { tallies = tallies }) ≡ tally_of queue old) → length tallies ≡ queue_count queues → queue_count queues ≡ created_count (note ∷ before) + 1 → queue_count old.queues ≤ queue_count queues →
       ((queue : ℕ) → queue < queue_count queues → shares_of queue queues ≡ shares queue (note ∷ before)) → length delivered ≡ old.cores + 1 →
       ((sender : ℕ) → sender ≤ old.cores → slice_index_or delivered sender 0 ≡ length (delivered_names sender (note ∷ before))) →
       AgreesOnClosing (record old { queues = queues; tallies = tallies; delivered = delivered; gates = gates; mode = mode }) (note ∷ before) →
-      Agrees (record old { queues = queues; tallies = tallies; delivered = delivered; gates = gates; mode = mode }) (note ∷ before)
+      Agrees burst (record old { queues = queues; tallies = tallies; delivered = delivered; gates = gates; mode = mode }) (note ∷ before)
   agrees_calm old agrees queues tallies delivered gates mode same_lines same_parks same tallied last more weights senders counted closing =
       let lines = λ (queue : ℕ). ap names_of (same_lines queue) ∙ (agrees.lines queue ∙ sym (line-stays queue note before calm.leaves (calm.joins queue) (calm.ends queue))) in
       let parks = λ (queue : ℕ). ap names_parked (same_parks queue) ∙ (agrees.parks queue ∙ sym (parked-stays queue note before (calm.still queue) calm.parks (calm.parks_here queue))) in
       let marks = λ (queue : ℕ). subst (AreMarked (note ∷ before)) (sym (same_lines queue)) (marks-stay note before (marks-calm note before calm) (waiting_of queue old.queues) (agrees.marks queue)) in
-      let runtimes = λ (queue : ℕ). ap (λ tally. tally.runtime) (same queue) ∙ (agrees.runtimes queue ∙ sym (virtual_runtime-stays queue before note (calm.brings queue) (calm.costs queue))) in
+      let runtimes = λ (queue : ℕ). ap (λ tally. tally.runtime) (same queue) ∙ (agrees.runtimes queue ∙ sym (virtual_runtime-stays burst queue before note (calm.brings queue) (calm.costs burst queue))) in
       let floor_now = agrees.the_floor ∙ sym (floor-stays note before calm.picks) in
       let turns_now = agrees.turns ∙ sym (turns-stays note before calm.turns_made) in
-      let figures = λ (queue : ℕ). ap figures_in (same queue) ∙ (agrees.figures queue ∙ sym (figures-stays queue note before (calm.counts queue))) in
+      let figures = λ (queue : ℕ). ap figures_in (same queue) ∙ (agrees.figures queue ∙ sym (figures-stays burst queue note before (calm.counts burst queue))) in
       let out_exists : (job : JobOut J) → old.out ≡ Some job → job.queue < queue_count queues = λ job at. omega (arith, more, agrees.out_exists job at) in
-      assumption (out-calm old.out agrees.out)
+      let turn = open-stays before burst note calm.goes_on calm.polls calm.settles old.bursts.open agrees.turn in
+      assumption (out-calm note before calm old.out agrees.out, agrees.burst_is)
 
 -- so does one that has only counted a delivery, shut a gate or closed, with a note that creates nothing and sets no shares
-pub agrees_unmoved : {J T : Type 0} (old : CoreView J) (journal : Journal T) (note : Note T) → Agrees old journal → IsCalm note journal →
+pub agrees_unmoved : {J T : Type 0} {burst : ℕ} (old : CoreView J) (journal : Journal T) (note : Note T) → Agrees burst old journal → IsCalm note journal →
     created_count (note ∷ journal) ≡ created_count journal → ((queue : ℕ) → shares queue (note ∷ journal) ≡ shares queue journal) →
     (delivered : List ℕ) → length delivered ≡ old.cores + 1 → ((sender : ℕ) → sender ≤ old.cores → slice_index_or delivered sender 0 ≡ length (delivered_names sender (note ∷ journal))) →
     (gates : List (Option ℕ)) (mode : Option Mode) → AgreesOnClosing (record old { delivered = delivered; gates = gates; mode = mode }) (note ∷ journal) →
-    Agrees (record old { delivered = delivered; gates = gates; mode = mode }) (note ∷ journal)
+    Agrees burst (record old { delivered = delivered; gates = gates; mode = mode }) (note ∷ journal)
 agrees_unmoved old journal note agrees calm creates weighs delivered senders counted gates mode closing =
     agrees_calm note journal calm old agrees old.queues old.tallies delivered gates mode (λ queue. refl) (λ queue. refl) (λ queue. refl) agrees.tallied (agrees.last ∙ ap (λ count. count + 1) (sym creates)) (omega arith)
     (λ queue there. agrees.weights queue there ∙ sym (weighs queue)) senders counted closing
 
 -- and one that has delivered nothing
-pub agrees_steady : {J T : Type 0} (old new : CoreView J) (journal : Journal T) (note : Note T) → Agrees old journal → IsCalm note journal → (queues : QueuesView J) (tallies : List Tally) →
+pub agrees_steady : {J T : Type 0} {burst : ℕ} (old new : CoreView J) (journal : Journal T) (note : Note T) → Agrees burst old journal → IsCalm note journal → (queues : QueuesView J) (tallies : List Tally) →
     new ≡ record old { queues = queues; tallies = tallies } → ((queue : ℕ) → waiting_of queue queues ≡ waiting_of queue old.queues) →
     ((queue : ℕ) → parked_of queue queues ≡ parked_of queue old.queues) → ((queue : ℕ) → tally_of queue (record old { tallies = tallies }) ≡ tally_of queue old) → length tallies ≡ queue_count queues →
     queue_count queues ≡ created_count (note ∷ journal) + 1 → queue_count old.queues ≤ queue_count queues →
     ((queue : ℕ) → queue < queue_count queues → shares_of queue queues ≡ shares queue (note ∷ journal)) → ((sender : ℕ) → delivered_names sender (note ∷ journal) ≡ delivered_names sender journal) →
-    AgreesOnClosing (record old { queues = queues; tallies = tallies }) (note ∷ journal) → Agrees new (note ∷ journal)
-agrees_steady old new journal note agrees calm queues tallies is lines parks same tallied last more weights delivers closing =
-    subst (λ core. Agrees core (note ∷ journal)) (sym is)
+    AgreesOnClosing (record old { queues = queues; tallies = tallies }) (note ∷ journal) → Agrees burst new (note ∷ journal)
+agrees_steady {burst = burst} old new journal note agrees calm queues tallies is lines parks same tallied last more weights delivers closing =
+    subst (λ core. Agrees burst core (note ∷ journal)) (sym is)
     (agrees_calm note journal calm old agrees queues tallies old.delivered old.gates old.mode lines parks same tallied last more weights agrees.senders
     (λ sender known. agrees.delivered sender known ∙ ap length (sym (delivers sender))) closing)
 
 -- a note that takes no turn and is no effect may stand behind those of a kept core
 pub stands_behind : {J T : Type 0} (terms : Terms) (note : Note T) {core : CoreView J} {before : Journal T} → IsKept terms core before → MayWrite terms note → MayFollow terms note before →
-    takes_turn note ≡ false → IsEffectDue None note before → MayStand terms note before
+    takes_turn terms.burst note before ≡ false → IsEffectDue None note before → MayStand terms note before
 stands_behind terms note kept writer law plain free = record { may_follow = law; turn = rw (kept.no_pick, plain); effect = rw kept.no_answer free; writer = writer }
 
 -- so it follows, and the core agrees with it
-pub kept_after : {J T : Type 0} (terms : Terms) (note : Note T) {old new : CoreView J} {before : Journal T} → IsKept terms old before → Agrees new (note ∷ before) → MayWrite terms note →
-    MayFollow terms note before → takes_turn note ≡ false → IsEffectDue None note before → queue_just_picked (note ∷ before) ≡ None → effect_awaited (note ∷ before) ≡ None →
+pub kept_after : {J T : Type 0} (terms : Terms) (note : Note T) {old new : CoreView J} {before : Journal T} → IsKept terms old before → Agrees terms.burst new (note ∷ before) → MayWrite terms note →
+    MayFollow terms note before → takes_turn terms.burst note before ≡ false → IsEffectDue None note before → queue_just_picked (note ∷ before) ≡ None → effect_awaited (note ∷ before) ≡ None →
     IsKept terms new (note ∷ before)
 kept_after terms note kept agrees writer law plain free no_pick no_answer =
     assumption (stands_behind terms note kept writer law plain free)
@@ -161,7 +165,7 @@ module _ {J T : Type 0} (view : CoreView J) (journal : Journal T) (agrees : Agre
   return_reason-agrees queue = λ i. or_else (reason_if_returning (agrees.modes queue i) why.QueueReturned) (reason_if_returning (agrees.mode i) why.CoreReturned)
 
 -- the job that is out stays in its line where the journal says so, if it asks to be parked
-pub stays-agrees : {J T : Type 0} (core : CoreView J) (journal : Journal T) → Agrees core journal → (job : JobOut J) → core.out ≡ Some job → stays job core ≡ stays_in_line job.name journal
+pub stays-agrees : {J T : Type 0} {burst : ℕ} (core : CoreView J) (journal : Journal T) → Agrees burst core journal → (job : JobOut J) → core.out ≡ Some job → stays job core ≡ stays_in_line job.name journal
 stays-agrees core journal agrees job at =
     let is = subst (λ out. IsJobOut out journal) at agrees.out in
     ap (λ kept. kept || is_some (core_says.return_reason job.queue core)) is.2

@@ -43,7 +43,7 @@ out-still note before still marks None nobody = rw (still.settles, still.polls) 
 out-still note before still marks (Some job) is = (rw (still.settles, still.polls) is.0, rw (still.takes job.name) is.1, is.2 ∙ sym (ap (λ marks. marks.woken) (marks job.name)))
 
 -- a queue or the core is closed, and then the parks of these queues end
-module _ {J T : Type 0} (terms : Terms) (old closed new : CoreView J) (note : Note T) (before : Journal T) (notes : EachNote (MayStand terms) before) (agrees : Agrees old before)
+module _ {J T : Type 0} {burst : ℕ} (terms : Terms) (old closed new : CoreView J) (note : Note T) (before : Journal T) (notes : EachNote (MayStand terms) before) (agrees : Agrees burst old before)
     (still : IsStill note before) (same_marks : (name : JobId) → marks_told name (note ∷ before) ≡ marks_told name before) (ends : ℕ → Bool)
     (line_is : (queue : ℕ) → line queue (note ∷ before) ≡ with_all (line queue before) (cond (ends queue) (parked queue before) []))
     (parked_is : (queue : ℕ) → parked queue (note ∷ before) ≡ cond (ends queue) [] (parked queue before))
@@ -116,10 +116,10 @@ module _ {J T : Type 0} (terms : Terms) (old closed new : CoreView J) (note : No
   any_brings : (queue : ℕ) → brings_work queue note before ≡ is_any (woken queue)
   any_brings queue = brings_is queue ∙ sym (any_named (woken queue) ∙ ap (λ names. nat_lt 0 (length names)) (woken_names queue))
 
-  runtimes : (queue : ℕ) → (tally_of queue new).runtime ≡ virtual_runtime queue (note ∷ before)
+  runtimes : (queue : ℕ) → (tally_of queue new).runtime ≡ virtual_runtime burst queue (note ∷ before)
   runtimes queue = ap (λ tally. tally.runtime) (ended.tallies queue) ∙ by_test (is_any (woken queue)) (any_brings queue)
     where
-      by_test : (test : Bool) → brings_work queue note before ≡ test → (core_says.tally_woken test queue closed).runtime ≡ virtual_runtime queue (note ∷ before)
+      by_test : (test : Bool) → brings_work queue note before ≡ test → (core_says.tally_woken test queue closed).runtime ≡ virtual_runtime burst queue (note ∷ before)
       by_test true brings = same_entry queue ∙ runtime-brought old before agrees note still terms notes queue brings
       by_test false brings = ap (λ tally. tally.runtime) (same_tally queue) ∙ runtime-still old before agrees note still queue brings
 
@@ -131,9 +131,9 @@ module _ {J T : Type 0} (terms : Terms) (old closed new : CoreView J) (note : No
       by_test false = ap figures_in (same_tally queue)
 
   agrees-closed : queue_count closed.queues ≡ queue_count old.queues → ((queue : ℕ) → shares_of queue closed.queues ≡ shares_of queue old.queues) →
-      ((queue : ℕ) → mode_of queue closed.queues ≡ queue_mode queue (note ∷ before)) → closed.mode ≡ core_mode (note ∷ before) → Agrees new (note ∷ before)
+      ((queue : ℕ) → mode_of queue closed.queues ≡ queue_mode queue (note ∷ before)) → closed.mode ≡ core_mode (note ∷ before) → Agrees burst new (note ∷ before)
   agrees-closed same_count same_shares modes mode =
-      subst (λ core. Agrees core (note ∷ before)) (sym (ended.rest ∙ ap (λ (core : CoreView J). record core { queues = new.queues; tallies = new.tallies }) is))
+      subst (λ core. Agrees burst core (note ∷ before)) (sym (ended.rest ∙ ap (λ (core : CoreView J). record core { queues = new.queues; tallies = new.tallies }) is))
       (agrees_rearranged old before agrees note still new.queues new.tallies old.out closed.mode lines parks marks runtimes figures (ended.same_tallies ∙ ap (λ core. length core.tallies) is)
       (ended.same_count ∙ same_count) (λ queue. ended.same_shares queue ∙ same_shares queue) (out-still note before still same_marks old.out agrees.out) agrees.out_exists (record {
         modes = λ queue. ended.same_modes queue ∙ modes queue;
@@ -150,9 +150,9 @@ core_ends Return = refl
 queue_ends : (queue other : ℕ) (mode : Mode) → (other == queue && is_return mode) ≡ (is_return mode && (queue == other))
 queue_ends queue other mode = grind arith
 
-module _ {J T : Type 0} (terms : Terms) (old new : CoreView J) (before : Journal T) (notes : EachNote (MayStand terms) before) (agrees : Agrees old before) where
+module _ {J T : Type 0} {burst : ℕ} (terms : Terms) (old new : CoreView J) (before : Journal T) (notes : EachNote (MayStand terms) before) (agrees : Agrees burst old before) where
   -- the core is closed
-  pub agrees-core_closed : (mode : Mode) → core_says.EndsParksIf (is_return mode) (record old { mode = Some mode }) (λ queue. true) new → Agrees new (writes.CoreClosed mode ∷ before)
+  pub agrees-core_closed : (mode : Mode) → core_says.EndsParksIf (is_return mode) (record old { mode = Some mode }) (λ queue. true) new → Agrees burst new (writes.CoreClosed mode ∷ before)
   agrees-core_closed mode ended =
       agrees-closed terms old (record old { mode = Some mode }) new (writes.CoreClosed mode) before notes agrees (assumption) (λ name. refl) (λ queue. is_return mode && true)
       (λ queue. ap (λ test. with_all (line queue before) (cond test (parked queue before) [])) (core_ends mode)) (λ queue. ap (λ test. cond {A = List JobId} test [] (parked queue before)) (core_ends mode))
@@ -161,7 +161,7 @@ module _ {J T : Type 0} (terms : Terms) (old new : CoreView J) (before : Journal
 
   -- a queue is closed
   pub agrees-queue_closed : (queue : ℕ) (mode : Mode) (closed : CoreView J) → HasClosed old queue mode closed → core_says.EndsParksIf (is_return mode) closed (λ other. queue == other) new →
-      Agrees new (writes.QueueClosed queue mode ∷ before)
+      Agrees burst new (writes.QueueClosed queue mode ∷ before)
   agrees-queue_closed queue mode closed has ended =
       agrees-closed terms old closed new (writes.QueueClosed queue mode) before notes agrees (assumption) (λ name. refl) (λ other. is_return mode && (queue == other))
       (λ other. ap (λ test. with_all (line other before) (cond test (parked other before) [])) (queue_ends queue other mode)) (λ other. ap (λ test. cond {A = List JobId} test [] (parked other before)) (queue_ends queue other mode))

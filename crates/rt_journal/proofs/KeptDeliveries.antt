@@ -24,9 +24,10 @@ use Rattle.rt_journal.proofs.Kept.{IsCalm, IsOpenNote, agrees_steady, agrees_unm
 use Rattle.rt_journal.proofs.Kept.{stands_behind, turns-stays, working}
 use Rattle.rt_journal.proofs.KeptParks.{entering}
 use Rattle.rt_journal.proofs.Marks.{marks_longer, unmarked}
+use Rattle.rt_journal.proofs.Turning.{open-stays}
 
 -- the next name from its sender is counted
-module _ {J T : Type 0} (terms : Terms) (old : CoreView J) (name : JobId) (journal : Journal T) (known : name.from ≤ old.cores) (next : IsNextDelivered terms name journal) (agrees : Agrees old journal) where
+module _ {J T : Type 0} {burst : ℕ} (terms : Terms) (old : CoreView J) (name : JobId) (journal : Journal T) (known : name.from ≤ old.cores) (next : IsNextDelivered terms name journal) (agrees : Agrees burst old journal) where
   senders_counted : length (counted name old) ≡ old.cores + 1
   senders_counted = length-set old.delivered name.from name.number ∙ agrees.senders
 
@@ -66,14 +67,14 @@ module _ {J T : Type 0} (terms : Terms) (old : CoreView J) (name : JobId) (queue
   there : queue < length old.tallies
   there = omega (arith, exists, kept.agrees.tallied)
 
-  entry_is : entry_runtime queue old ≡ virtual_runtime queue (writes.Took name queue ∷ journal)
+  entry_is : entry_runtime queue old ≡ virtual_runtime terms.burst queue (writes.Took name queue ∷ journal)
   entry_is =
       entering (is_working queue old) (has_work queue journal) _ _ _ _ _ (working old journal terms queue kept.notes kept.agrees) (kept.agrees.runtimes queue) kept.agrees.the_floor
-      (virtual_runtime-took_busy queue journal name) (virtual_runtime-took_idle queue journal name)
+      (virtual_runtime-took_busy terms.burst queue journal name) (virtual_runtime-took_idle terms.burst queue journal name)
 
-  took_runtimes : (other : ℕ) → runtime_of other entered ≡ virtual_runtime other (writes.Took name queue ∷ journal)
+  took_runtimes : (other : ℕ) → runtime_of other entered ≡ virtual_runtime terms.burst other (writes.Took name queue ∷ journal)
   took_runtimes other =
-      grind (arith, get_or-set_same old.tallies queue, get_or-set_other old.tallies queue other, kept.agrees.runtimes other, virtual_runtime-took_elsewhere other journal name queue, entry_is, there)
+      grind (arith, get_or-set_same old.tallies queue, get_or-set_other old.tallies queue other, kept.agrees.runtimes other, virtual_runtime-took_elsewhere terms.burst other journal name queue, entry_is, there)
 
   took_out : (out : Option (JobOut J)) → IsJobOut out journal → IsJobOut out (writes.Took name queue ∷ journal)
   took_out None nobody = nobody
@@ -87,9 +88,10 @@ module _ {J T : Type 0} (terms : Terms) (old : CoreView J) (name : JobId) (queue
       let floor_now = kept.agrees.the_floor ∙ sym (floor-stays (writes.Took name queue) journal refl) in
       let turns_now = kept.agrees.turns ∙ sym (turns-stays (writes.Took name queue) journal refl) in
       let out_exists : (out : JobOut J) → old.out ≡ Some out → out.queue < queue_count queues = λ out at. rw changes.same_count (kept.agrees.out_exists out at) in
-      let figures = λ (other : ℕ). figures-same old entered queue its_tally there refl refl other ∙ (kept.agrees.figures other ∙ sym (figures-stays other (writes.Took name queue) journal refl)) in
+      let figures = λ (other : ℕ). figures-same old entered queue its_tally there refl refl other ∙ (kept.agrees.figures other ∙ sym (figures-stays terms.burst other (writes.Took name queue) journal refl)) in
       let modes = λ (other : ℕ). changes.same_modes other ∙ kept.agrees.closing.modes other in
-      let agrees : Agrees entered (writes.Took name queue ∷ journal) = assumption (
+      let turn = open-stays journal terms.burst (writes.Took name queue) refl refl refl old.bursts.open kept.agrees.turn in
+      let agrees : Agrees terms.burst entered (writes.Took name queue ∷ journal) = assumption (
         senders_counted terms old name journal sender next kept.agrees,
         took_lines,
         (λ (other : ℕ). ap names_parked (changes.same_parks other) ∙ kept.agrees.parks other),
@@ -105,15 +107,15 @@ module _ {J T : Type 0} (terms : Terms) (old new : CoreView J) (name : JobId) (j
     (next : IsNextDelivered terms name journal) (sender : name.from ≤ old.cores) (counts : CountsAlone old name new) where
   -- a calm note by which the next name is delivered, and nothing is created, weighed or closed
   agrees-counted : (note : Note T) → IsCalm note journal → created_count (note ∷ journal) ≡ created_count journal → ((queue : ℕ) → shares queue (note ∷ journal) ≡ shares queue journal) → IsOpenNote note →
-      ((sender : ℕ) → delivered_names sender (note ∷ journal) ≡ with_last (delivered_names sender journal) (if_from sender name name)) → Agrees new (note ∷ journal)
+      ((sender : ℕ) → delivered_names sender (note ∷ journal) ≡ with_last (delivered_names sender journal) (if_from sender name name)) → Agrees terms.burst new (note ∷ journal)
   agrees-counted note calm creates weighs opens delivers =
-      subst (λ core. Agrees core (note ∷ journal)) (sym counts)
+      subst (λ core. Agrees terms.burst core (note ∷ journal)) (sym counts)
       (agrees_unmoved old journal note kept.agrees calm creates weighs (counted name old)
       (senders_counted terms old name journal sender next kept.agrees)
       (λ from known. delivered_counted terms old name journal sender next kept.agrees from known ∙ ap length (sym (delivers from))) old.gates old.mode
       (closing-stays old (record old { delivered = counted name old }) note journal (λ queue. refl) refl refl refl opens kept.agrees.closing))
 
-  pub agrees-answered : (answer : Answer) → Agrees new (writes.Answered name answer ∷ journal)
+  pub agrees-answered : (answer : Answer) → Agrees terms.burst new (writes.Answered name answer ∷ journal)
   agrees-answered answer = agrees-counted (writes.Answered name answer) (assumption) refl (λ queue. refl) (assumption) (λ sender. refl)
 
   -- a job that is refused goes back
@@ -123,7 +125,7 @@ module _ {J T : Type 0} (terms : Terms) (old new : CoreView J) (name : JobId) (j
       kept_after terms (writes.Back name reason) kept agrees kept.is_core (next, (queue, refused)) refl tt refl refl
 
   -- a command is answered, and the note of its effect follows
-  pub kept-effect : (order : Order (Unit {0})) (answer : Answer) → IsAnswer name.to order answer journal → (note : Note T) {core : CoreView J} → Agrees core (note ∷ writes.Answered name answer ∷ journal) →
+  pub kept-effect : (order : Order (Unit {0})) (answer : Answer) → IsAnswer name.to order answer journal → (note : Note T) {core : CoreView J} → Agrees terms.burst core (note ∷ writes.Answered name answer ∷ journal) →
       MayStand terms note (writes.Answered name answer ∷ journal) → queue_just_picked (note ∷ writes.Answered name answer ∷ journal) ≡ None → effect_awaited (note ∷ writes.Answered name answer ∷ journal) ≡ None →
       IsKept terms core (note ∷ writes.Answered name answer ∷ journal)
   kept-effect order answer right note agrees stands no_pick no_answer =
@@ -139,9 +141,9 @@ get_or-append_default : {A : Type 0} (items : List A) (default : A) (place : ℕ
 get_or-append_default [] default place = grind arith
 get_or-append_default (item ∷ items) default place = grind (arith, get_or-append_default items default)
 
-module _ {J T : Type 0} (old new : CoreView J) (queue weight : ℕ) (journal : Journal T) (agrees : Agrees old journal) where
+module _ {J T : Type 0} {burst : ℕ} (old new : CoreView J) (queue weight : ℕ) (journal : Journal T) (agrees : Agrees burst old journal) where
   -- a queue is created
-  pub agrees-created : queue ≡ queue_count old.queues → Creates old weight new → new.delivered ≡ old.delivered → Agrees new (writes.Created queue weight ∷ journal)
+  pub agrees-created : queue ≡ queue_count old.queues → Creates old weight new → new.delivered ≡ old.delivered → Agrees burst new (writes.Created queue weight ∷ journal)
   agrees-created next creates same =
       agrees_steady old new journal (writes.Created queue weight) agrees (assumption) new.queues (old.tallies ++ no_tally ∷ [])
       (creates.rest ∙ ap (λ delivered. record old { queues = new.queues; tallies = old.tallies ++ no_tally ∷ []; delivered = delivered }) same)
@@ -154,7 +156,7 @@ module _ {J T : Type 0} (old new : CoreView J) (queue weight : ℕ) (journal : J
           grind (arith, shares-created queue journal weight, shares-created_elsewhere other journal queue weight, creates.added.others other, creates.added.given, agrees.weights other, creates.added.count)
 
   -- a queue gets shares
-  pub agrees-weighed : Weighs old queue weight new → new.delivered ≡ old.delivered → Agrees new (writes.SharesSet queue weight ∷ journal)
+  pub agrees-weighed : Weighs old queue weight new → new.delivered ≡ old.delivered → Agrees burst new (writes.SharesSet queue weight ∷ journal)
   agrees-weighed weighs same =
       agrees_steady old new journal (writes.SharesSet queue weight) agrees (assumption) new.queues old.tallies (weighs.rest ∙ ap (λ delivered. record old { queues = new.queues; delivered = delivered }) same)
       weighs.shares.same_lines weighs.shares.same_parks (λ other. refl) (agrees.tallied ∙ sym weighs.shares.same_count) (weighs.shares.same_count ∙ agrees.last) (omega (arith, weighs.shares.same_count)) weights (λ sender. refl)
@@ -197,13 +199,13 @@ module _ {J T : Type 0} (terms : Terms) (old new : CoreView J) (name : JobId) (q
             (record { may_follow = (exists, in_range); turn = refl; effect = refl; writer = kept.is_core }) refl refl,
       )
 
-module _ {J T : Type 0} (old new : CoreView J) (journal : Journal T) (agrees : Agrees old journal) where
+module _ {J T : Type 0} {burst : ℕ} (old new : CoreView J) (journal : Journal T) (agrees : Agrees burst old journal) where
   -- a gate is shut
-  pub agrees-shut : (from count : ℕ) → from ≤ old.cores → new ≡ record old { gates = slice_set old.gates from (Some count) } → Agrees new (writes.Shut from count ∷ journal)
+  pub agrees-shut : (from count : ℕ) → from ≤ old.cores → new ≡ record old { gates = slice_set old.gates from (Some count) } → Agrees burst new (writes.Shut from count ∷ journal)
   agrees-shut from count known is =
       let places = length-set old.gates from (Some count) ∙ agrees.closing.gate_places in
       let gates : (sender : ℕ) → get_or (slice_set old.gates from (Some count)) sender None ≡ or_else (cond (sender == from) (Some count) None) (final_count sender journal) =
       λ sender. grind (arith, get_or-set_same old.gates from (Some count) None, get_or-set_other old.gates from sender (Some count) None, agrees.closing.gates sender) in
-      subst (λ core. Agrees core (writes.Shut from count ∷ journal)) (sym is)
+      subst (λ core. Agrees burst core (writes.Shut from count ∷ journal)) (sym is)
       (agrees_unmoved old journal (writes.Shut from count) agrees (assumption) refl (λ queue. refl) old.delivered agrees.senders agrees.delivered
       (slice_set old.gates from (Some count)) old.mode (assumption (places, gates)))

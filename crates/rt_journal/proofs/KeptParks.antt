@@ -9,7 +9,7 @@ use Rattle.rt_journal.proofs.AgreementNames.{is_wake_kept-ended, is_wake_kept-wo
 use Rattle.rt_journal.proofs.AgreementNames.{length-set, line, line-woken, line_not_parked, map-append, marks_told, max, mode_of, name_polled}
 use Rattle.rt_journal.proofs.AgreementNames.{name_settled, name_started, names_but, names_like-none, names_like-one, names_of, name_ended, no_tally, not, names_parked, nat_lt, no_figures}
 use Rattle.rt_journal.proofs.AgreementNames.{one_name, parked, parked_of, pick_count, queue_count, queue_entered, queue_of, refl, runtime_of}
-use Rattle.rt_journal.proofs.AgreementNames.{and_parts, entered_somewhere, is_name, is_some, ⊎_elim, ◌||◌}
+use Rattle.rt_journal.proofs.AgreementNames.{and_parts, parts_turns, entered_somewhere, is_name, is_some, ⊎_elim, ◌||◌}
 use Rattle.rt_journal.proofs.AgreementNames.{runtime_picked, same_Some, same_name, set, shares, shares_of, started_of, subst, sym, tally_of}
 use Rattle.rt_journal.proofs.AgreementNames.{true, true≢false, virtual_runtime, virtual_runtime-brought, virtual_runtime-busy}
 use Rattle.rt_journal.proofs.AgreementNames.{virtual_runtime-stays, waiting_of, woken_elsewhere, ℕ, ◌&&◌, ◌++◌, ◌+◌, ◌<◌, ◌∙◌, ◌∷◌, ◌≡◌}
@@ -20,6 +20,7 @@ use Rattle.rt_journal.proofs.Figures.{figures-same, figures-stays}
 use Rattle.rt_journal.proofs.Kept.{closing-stays, turns-stays, working}
 use Rattle.rt_journal.proofs.Marks.{among-middle, is_marked, marks-elsewhere, marks-middle, names_but-middle, parked-middle}
 use Rattle.rt_journal.proofs.Places.{each_line, everywhere}
+use Rattle.rt_journal.proofs.Turning.{open-stays}
 
 -- a queue that works keeps its runtime, and one that doesn't is placed at the floor at least
 pub entering : (works busy : Bool) (runtime told floor_now floor_told entered : ℕ) → works ≡ busy → runtime ≡ told → floor_now ≡ floor_told →
@@ -31,34 +32,36 @@ pub record IsStill {T : Type 0} (note : Note T) (before : Journal T) : Type 0 wh
   pub polls : name_polled note ≡ None
   pub settles : name_settled note ≡ None
   pub takes : (name : JobId) → queue_entered name note ≡ None
-  pub costs : (queue : ℕ) → charge_noted queue note before ≡ 0
-  pub counts : (queue : ℕ) → figures_noted queue note before ≡ no_figures
+  pub costs : (burst queue : ℕ) → charge_noted burst queue note before ≡ 0
+  pub counts : (burst queue : ℕ) → figures_noted burst queue note before ≡ no_figures
   pub picks : runtime_picked note ≡ 0
   pub turns_made : pick_count note ≡ 0
+  pub goes_on : parts_turns note ≡ false
   pub created : created_count (note ∷ before) ≡ created_count before
   pub weighs : (queue : ℕ) → shares queue (note ∷ before) ≡ shares queue before
   pub delivered : (sender : ℕ) → delivered_names sender (note ∷ before) ≡ delivered_names sender before
 
-module _ {J T : Type 0} (old : CoreView J) (before : Journal T) (agrees : Agrees old before) (note : Note T) (still : IsStill note before) where
+module _ {J T : Type 0} {burst : ℕ} (old : CoreView J) (before : Journal T) (agrees : Agrees burst old before) (note : Note T) (still : IsStill note before) where
   -- a queue to which no work comes stands where it stood
-  pub runtime-still : (queue : ℕ) → brings_work queue note before ≡ false → runtime_of queue old ≡ virtual_runtime queue (note ∷ before)
-  runtime-still queue nothing = agrees.runtimes queue ∙ sym (virtual_runtime-stays queue before note nothing (still.costs queue))
+  pub runtime-still : (queue : ℕ) → brings_work queue note before ≡ false → runtime_of queue old ≡ virtual_runtime burst queue (note ∷ before)
+  runtime-still queue nothing = agrees.runtimes queue ∙ sym (virtual_runtime-stays burst queue before note nothing (still.costs burst queue))
 
   -- and one to which work comes, where its core places it
-  pub runtime-brought : (terms : Terms) → EachNote (MayStand terms) before → (queue : ℕ) → brings_work queue note before ≡ true → entry_runtime queue old ≡ virtual_runtime queue (note ∷ before)
+  pub runtime-brought : (terms : Terms) → EachNote (MayStand terms) before → (queue : ℕ) → brings_work queue note before ≡ true → entry_runtime queue old ≡ virtual_runtime burst queue (note ∷ before)
   runtime-brought terms notes queue brings =
       entering (is_working queue old) (has_work queue before) _ _ _ _ _ (working old before terms queue notes agrees) (agrees.runtimes queue) agrees.the_floor
-      (λ busy. virtual_runtime-busy queue before note busy ∙ (ap (λ cost. virtual_runtime queue before + cost) (still.costs queue) ∙ add-zero (virtual_runtime queue before)))
-      (λ idle. virtual_runtime-brought queue before note brings (still.costs queue) idle)
+      (λ busy. virtual_runtime-busy burst queue before note busy ∙ (ap (λ cost. virtual_runtime burst queue before + cost) (still.costs burst queue) ∙ add-zero (virtual_runtime burst queue before)))
+      (λ idle. virtual_runtime-brought burst queue before note brings (still.costs burst queue) idle)
 
   -- a core that holds the same jobs, at other places or with other marks, agrees with a still note
   pub agrees_rearranged : (queues : QueuesView J) (tallies : List Tally) (out : Option (JobOut J)) (mode : Option Mode) →
       ((queue : ℕ) → names_of (waiting_of queue queues) ≡ line queue (note ∷ before)) → ((queue : ℕ) → names_parked (parked_of queue queues) ≡ parked queue (note ∷ before)) →
-      ((queue : ℕ) → AreMarked (note ∷ before) (waiting_of queue queues)) → ((queue : ℕ) → runtime_of queue (record old { tallies = tallies }) ≡ virtual_runtime queue (note ∷ before)) →
+      ((queue : ℕ) → AreMarked (note ∷ before) (waiting_of queue queues)) → ((queue : ℕ) → runtime_of queue (record old { tallies = tallies }) ≡ virtual_runtime burst queue (note ∷ before)) →
       ((queue : ℕ) → figures_of queue (record old { tallies = tallies }) ≡ figures_of queue old) → length tallies ≡ length old.tallies → queue_count queues ≡ queue_count old.queues →
       ((queue : ℕ) → shares_of queue queues ≡ shares_of queue old.queues) → IsJobOut out (note ∷ before) → ((job : JobOut J) → out ≡ Some job → job.queue < queue_count old.queues) →
-      AgreesOnClosing (record old { queues = queues; tallies = tallies; out = out; mode = mode }) (note ∷ before) → Agrees (record old { queues = queues; tallies = tallies; out = out; mode = mode }) (note ∷ before)
+      AgreesOnClosing (record old { queues = queues; tallies = tallies; out = out; mode = mode }) (note ∷ before) → Agrees burst (record old { queues = queues; tallies = tallies; out = out; mode = mode }) (note ∷ before)
   agrees_rearranged queues tallies out mode lines parks marks runtimes figures tallied count weights out_is there closing = record {
+    burst_is = agrees.burst_is;
     tallied = tallied ∙ (agrees.tallied ∙ sym count);
     senders = agrees.senders;
     last = count ∙ (agrees.last ∙ ap (λ number. number + 1) (sym still.created));
@@ -70,13 +73,14 @@ module _ {J T : Type 0} (old : CoreView J) (before : Journal T) (agrees : Agrees
     the_floor = agrees.the_floor ∙ sym (floor-stays note before still.picks);
     turns = agrees.turns ∙ sym (turns-stays note before still.turns_made);
     out = out_is;
+    turn = open-stays before burst note still.goes_on still.polls still.settles old.bursts.open agrees.turn;
     out_exists = λ job at. subst (λ number. job.queue < number) (sym count) (there job at);
     delivered = λ sender known. agrees.delivered sender known ∙ ap length (sym (still.delivered sender));
-    figures = λ queue. figures queue ∙ (agrees.figures queue ∙ sym (figures-stays queue note before (still.counts queue)));
+    figures = λ queue. figures queue ∙ (agrees.figures queue ∙ sym (figures-stays burst queue note before (still.counts burst queue)));
     closing = closing;
   }
 
-module _ {J T : Type 0} (terms : Terms) (old : CoreView J) (name : JobId) (before : Journal T) (notes : EachNote (MayStand terms) before) (agrees : Agrees old before) where
+module _ {J T : Type 0} {burst : ℕ} (terms : Terms) (old : CoreView J) (name : JobId) (before : Journal T) (notes : EachNote (MayStand terms) before) (agrees : Agrees burst old before) where
   abbrev longer : Journal T
   longer = writes.Woken name ∷ before
 
@@ -156,9 +160,9 @@ module _ {J T : Type 0} (terms : Terms) (old : CoreView J) (name : JobId) (befor
     out_sleeps : (queue : ℕ) → Sleeps queue longer before
     out_sleeps queue = woken_elsewhere terms before notes queue name (out_unparked queue)
 
-    pub agrees-out_woken : Agrees new longer
+    pub agrees-out_woken : Agrees burst new longer
     agrees-out_woken =
-        subst (λ core. Agrees core longer) (sym keeps.rest)
+        subst (λ core. Agrees burst core longer) (sym keeps.rest)
         (agrees_rearranged old before agrees (writes.Woken name) is_still old.queues old.tallies (Some (record keeps.out { woken = true })) old.mode
         (λ queue. agrees.lines queue ∙ sym (out_sleeps queue).line) (λ queue. agrees.parks queue ∙ sym (out_sleeps queue).parked)
         (λ queue. marks-elsewhere (writes.Woken name) before name others_told (waiting_of queue old.queues) (ap (among name) (agrees.lines queue) ∙ out_unwaiting queue) (agrees.marks queue))
@@ -216,9 +220,9 @@ module _ {J T : Type 0} (terms : Terms) (old : CoreView J) (name : JobId) (befor
         (ap (among name) (agrees.lines other)
         ∙ false_from_ne_true _ (λ there. away (same_Some other held.queue (sym (known.line_queue other name there) ∙ known.line_queue held.queue name waits_there)))) (agrees.marks other)))
 
-    pub agrees-line_woken : Agrees new longer
+    pub agrees-line_woken : Agrees burst new longer
     agrees-line_woken =
-        subst (λ core. Agrees core longer) (sym wakes.rest)
+        subst (λ core. Agrees burst core longer) (sym wakes.rest)
         (agrees_rearranged old before agrees (writes.Woken name) is_still new.queues old.tallies old.out old.mode
         (each_line (λ at entries. names_of entries ≡ line at longer) held.line line_here (λ queue. agrees.lines queue ∙ sym (waits_sleep queue).line))
         (λ queue. ap names_parked (held.line.same_parks queue) ∙ (agrees.parks queue ∙ sym (waits_sleep queue).parked)) marks_there
@@ -288,15 +292,15 @@ module _ {J T : Type 0} (terms : Terms) (old : CoreView J) (name : JobId) (befor
     brings_here : brings_work at_queue (writes.Woken name) before ≡ true
     brings_here = ap (λ names. nat_lt 0 (length names)) (names_like-one name (parked at_queue before) ((apart_of terms before notes).parked_distinct at_queue) is_asleep)
 
-    runtimes_then : (other : ℕ) → runtime_of other (record old { tallies = set old.tallies at_queue placed_tally }) ≡ virtual_runtime other longer
-    runtimes_then = everywhere (λ at. runtime_of at (record old { tallies = set old.tallies at_queue placed_tally }) ≡ virtual_runtime at longer) at_queue
+    runtimes_then : (other : ℕ) → runtime_of other (record old { tallies = set old.tallies at_queue placed_tally }) ≡ virtual_runtime burst other longer
+    runtimes_then = everywhere (λ at. runtime_of at (record old { tallies = set old.tallies at_queue placed_tally }) ≡ virtual_runtime burst at longer) at_queue
         (ap (λ tally. tally.runtime) (get_or-set_same old.tallies at_queue placed_tally no_tally tally_there) ∙ runtime-brought old before agrees (writes.Woken name) is_still terms notes at_queue brings_here)
         (λ other away. ap (λ tally. tally.runtime) (get_or-set_other old.tallies at_queue other placed_tally no_tally away)
         ∙ runtime-still old before agrees (writes.Woken name) is_still other (brings_nothing other (not_elsewhere other away)))
 
-    pub agrees-park_ended : Agrees new longer
+    pub agrees-park_ended : Agrees burst new longer
     agrees-park_ended =
-        subst (λ core. Agrees core longer) (sym ends.rest)
+        subst (λ core. Agrees burst core longer) (sym ends.rest)
         (agrees_rearranged old before agrees (writes.Woken name) is_still new.queues (set old.tallies at_queue placed_tally) old.out old.mode lines_then parks_then marks_then runtimes_then
         (figures-same old (record old { tallies = set old.tallies at_queue placed_tally }) at_queue placed_tally tally_there refl refl) (length-set old.tallies at_queue placed_tally) moves.same_count moves.same_shares
         (other_out (λ out. known.out_not_parked at_queue name out is_asleep) old.out agrees.out) agrees.out_exists (closing_now new.queues (set old.tallies at_queue placed_tally) old.out moves.same_modes))

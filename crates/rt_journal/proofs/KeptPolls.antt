@@ -14,10 +14,14 @@ use Rattle.rt_journal.proofs.AgreementNames.{figures_told, JobId, Journal, None,
 use Rattle.rt_journal.proofs.AgreementNames.{cond, get_or-set_same, length, map-append, refl, subst, sym, true, ℕ, ◌++◌, ◌+◌}
 use Rattle.rt_journal.proofs.AgreementNames.{◌<◌, ◌==◌, ◌∙◌, ◌∷◌, ◌≡◌, ◌≤◌, charge, clamped, ChangesLine, QueuesView}
 use Rattle.rt_journal.proofs.AgreementNames.{mode_of, line, queue_count, shares_of, waiting_of}
+use Rattle.rt_journal.proofs.AgreementNames.{Bool, IsOpenTurn, OpenTurn, Option, add-zero, added_now, brings_work, figures_in, figures_of, has_bursts, name_polled, no_tally}
+use Rattle.rt_journal.proofs.AgreementNames.{open_if_begun, parts_turns, poll_settled, queue_begun_last, settled_tally, turn_of_out, turn_told, virtual_runtime-in_turn}
+use Rattle.rt_core.specs.State as state
 use Rattle.rt_ids.specs.declared.note.Note.TheVariants as writes
 use Rattle.rt_journal.proofs.Places.{everywhere}
 use Rattle.rt_journal.proofs.Figures.{figures-grow, one_poll, told-done, told-park, told-stayed, told-yield}
-use Rattle.rt_journal.proofs.Kept.{IsPlain, closing-stays, kept_after, stays-agrees, turns-stays}
+use Rattle.rt_journal.proofs.Kept.{IsPlain, closing-stays, kept_after, queue_out-agrees, stays-agrees, turns-stays}
+use Rattle.rt_journal.proofs.Turning.{open-lasted}
 use Rattle.rt_journal.proofs.Marks.{marks-elsewhere, marks_longer}
 
 module _ {J T : Type 0} (terms : Terms) (old : CoreView J) (job : JobOut J) (time : ℕ) (journal : Journal T) (kept : IsKept terms old journal) (at : old.out ≡ Some job) where
@@ -43,54 +47,95 @@ module _ {J T : Type 0} (terms : Terms) (old : CoreView J) (job : JobOut J) (tim
       ap (among job.name) (kept.agrees.lines queue)
       ∙ false_from_ne_true _ ((known_of terms journal kept.notes).not_waiting queue job.name (alone_out job.name journal is_out.0))
 
+  -- where turns may have several polls, the job that is out is of the open turn; so no turn is open exactly where its poll ends its turn
+  added_is : (cost : ℕ) → added_now old.bursts.open cost ≡ cond (has_bursts terms.burst) 0 cost
+  added_is cost = by_turn old.bursts.open kept.agrees.turn (has_bursts terms.burst) refl
+    where
+      begun_is : queue_begun_last journal ≡ Some job.queue
+      begun_is = turn_of_out terms journal kept.notes job.queue (sym (queue_out-agrees old journal kept.agrees.out) ∙ ap state.queue_out at)
+
+      by_turn : (turn : Option OpenTurn) → IsOpenTurn terms.burst turn journal → (form : Bool) → has_bursts terms.burst ≡ form → added_now turn cost ≡ cond form 0 cost
+      by_turn None none true form = absurd (none-some job.queue (sym none ∙ (open_if_begun terms.burst journal form ∙ begun_is)))
+      by_turn None none false form = refl
+      by_turn (Some turn) is true form = refl
+      by_turn (Some turn) is false form = absurd (none-some turn.queue (sym (ap (λ form. cond form (queue_begun_last journal) None) form) ∙ is.0))
+
+  -- a note that settles a poll charges its queue where the poll ends its turn
+  charged_by_form : (note : Note T) (cost : ℕ) → turn_told note ≡ None → brings_work job.queue note journal ≡ false →
+      (has_bursts terms.burst ≡ false → virtual_runtime terms.burst job.queue (note ∷ journal) ≡ virtual_runtime terms.burst job.queue journal + cost) →
+      virtual_runtime terms.burst job.queue (note ∷ journal) ≡ virtual_runtime terms.burst job.queue journal + cond (has_bursts terms.burst) 0 cost
+  charged_by_form note cost goes_on nothing single = by_form (has_bursts terms.burst) refl
+    where
+      by_form : (form : Bool) → has_bursts terms.burst ≡ form → virtual_runtime terms.burst job.queue (note ∷ journal) ≡ virtual_runtime terms.burst job.queue journal + cond form 0 cost
+      by_form true form = virtual_runtime-in_turn terms.burst job.queue journal note form goes_on nothing ∙ sym (add-zero (virtual_runtime terms.burst job.queue journal))
+      by_form false form = single form
+
+  -- and no other queue
+  elsewhere_by_form : (other : ℕ) (note : Note T) → turn_told note ≡ None → brings_work other note journal ≡ false →
+      (has_bursts terms.burst ≡ false → virtual_runtime terms.burst other (note ∷ journal) ≡ virtual_runtime terms.burst other journal) →
+      virtual_runtime terms.burst other (note ∷ journal) ≡ virtual_runtime terms.burst other journal
+  elsewhere_by_form other note goes_on nothing single = by_form (has_bursts terms.burst) refl
+    where
+      by_form : (form : Bool) → has_bursts terms.burst ≡ form → virtual_runtime terms.burst other (note ∷ journal) ≡ virtual_runtime terms.burst other journal
+      by_form true form = virtual_runtime-in_turn terms.burst other journal note form goes_on nothing
+      by_form false form = single form
+
   -- the core with its poll settled, by which so many jobs are done
   module _ (done : ℕ) (queues : QueuesView J) where
     abbrev new : CoreView J
     new = settled_view old job time done queues
 
-    abbrev settled_tally : Tally
-    settled_tally = record (tally_of job.queue old) {
-      runtime = (tally_of job.queue old).runtime + charge time (shares_of job.queue old.queues);
-      time = (tally_of job.queue old).time + clamped time;
-      finished = (tally_of job.queue old).finished + done;
-    }
+    abbrev tally_now : Tally
+    tally_now = settled_tally old.bursts.open time (shares_of job.queue old.queues) done (tally_of job.queue old)
 
-    -- the queue of the job is charged, and no other
-    runtime_charged : runtime_of job.queue new ≡ virtual_runtime job.queue journal + charge time (shares job.queue journal)
-    runtime_charged = grind (arith, get_or-set_same old.tallies job.queue, kept.agrees.runtimes job.queue, kept.agrees.weights job.queue exists, exists, kept.agrees.tallied)
+    within : job.queue < length old.tallies
+    within = omega (arith, exists, kept.agrees.tallied)
 
-    runtime_same : (other : ℕ) → (other ≡ job.queue → ⊥) → runtime_of other new ≡ virtual_runtime other journal
-    runtime_same other away = grind (arith, get_or-set_other old.tallies job.queue other, kept.agrees.runtimes other)
+    -- the queue of the job is charged where the poll ends its turn, and no other queue is
+    runtime_charged : runtime_of job.queue new ≡ virtual_runtime terms.burst job.queue journal + cond (has_bursts terms.burst) 0 (charge time (shares job.queue journal))
+    runtime_charged =
+        ap (λ tally. tally.runtime) (get_or-set_same old.tallies job.queue tally_now no_tally within)
+        ∙ (λ i. kept.agrees.runtimes job.queue i + (added_is (charge time (shares_of job.queue old.queues)) ∙ ap (λ weight. cond (has_bursts terms.burst) 0 (charge time weight)) (kept.agrees.weights job.queue exists)) i)
+
+    runtime_same : (other : ℕ) → (other ≡ job.queue → ⊥) → runtime_of other new ≡ virtual_runtime terms.burst other journal
+    runtime_same other away = ap (λ tally. tally.runtime) (get_or-set_other old.tallies job.queue other tally_now no_tally away) ∙ kept.agrees.runtimes other
+
+    -- its time is counted there too, and the jobs that are done
+    counts_now : figures_in tally_now ≡ one_poll (cond (has_bursts terms.burst) 0 (clamped time)) done (figures_of job.queue old)
+    counts_now = ap (λ added. one_poll added done (figures_of job.queue old)) (added_is (clamped time))
 
     -- it agrees with the note of that
     agrees_settled : (note : Note T) (plain : IsPlain note journal) →
-        ((other : ℕ) → figures_told other (note ∷ journal) ≡ cond (other == job.queue) (one_poll time done (figures_told other journal)) (figures_told other journal)) →
+        ((other : ℕ) → figures_told terms.burst other (note ∷ journal) ≡ cond (other == job.queue) (one_poll (cond (has_bursts terms.burst) 0 (clamped time)) done (figures_told terms.burst other journal)) (figures_told terms.burst other journal)) →
         queue_count queues ≡ queue_count old.queues → ((other : ℕ) → shares_of other queues ≡ shares_of other old.queues) → ((other : ℕ) → mode_of other queues ≡ mode_of other old.queues) →
         ((other : ℕ) → names_of (waiting_of other queues) ≡ line other (note ∷ journal)) → ((other : ℕ) → names_parked (parked_of other queues) ≡ parked other (note ∷ journal)) → ((other : ℕ) → AreMarked (note ∷ journal) (waiting_of other queues)) →
-        virtual_runtime job.queue (note ∷ journal) ≡ virtual_runtime job.queue journal + charge time (shares job.queue journal) →
-        ((other : ℕ) → (other ≡ job.queue → ⊥) → virtual_runtime other (note ∷ journal) ≡ virtual_runtime other journal) → jobs_out (note ∷ journal) ≡ [] → Agrees new (note ∷ journal)
-    agrees_settled note plain told same_count same_shares same_modes lines parks marks charged elsewhere nobody =
-        let tallied = length-set old.tallies job.queue settled_tally ∙ (kept.agrees.tallied ∙ sym same_count) in
+        virtual_runtime terms.burst job.queue (note ∷ journal) ≡ virtual_runtime terms.burst job.queue journal + cond (has_bursts terms.burst) 0 (charge time (shares job.queue journal)) →
+        ((other : ℕ) → (other ≡ job.queue → ⊥) → virtual_runtime terms.burst other (note ∷ journal) ≡ virtual_runtime terms.burst other journal) → jobs_out (note ∷ journal) ≡ [] →
+        parts_turns note ≡ false → name_polled note ≡ None → poll_settled note ≡ Some (job.name, time) → Agrees terms.burst new (note ∷ journal)
+    agrees_settled note plain told same_count same_shares same_modes lines parks marks charged elsewhere nobody goes_on unpolled settles =
+        let tallied = length-set old.tallies job.queue tally_now ∙ (kept.agrees.tallied ∙ sym same_count) in
         let last = same_count ∙ (kept.agrees.last ∙ ap (λ count. count + 1) (sym plain.created)) in
         let weights = λ (other : ℕ) (there : other < queue_count queues).
         same_shares other ∙ (kept.agrees.weights other (subst (λ count. other < count) same_count there) ∙ sym (plain.weighs other)) in
-        let runtimes = everywhere (λ at. runtime_of at new ≡ virtual_runtime at (note ∷ journal)) job.queue (runtime_charged ∙ sym charged) (λ other away. runtime_same other away ∙ sym (elsewhere other away)) in
+        let runtimes = everywhere (λ at. runtime_of at new ≡ virtual_runtime terms.burst at (note ∷ journal)) job.queue (runtime_charged ∙ sym charged) (λ other away. runtime_same other away ∙ sym (elsewhere other away)) in
         let floor_now = kept.agrees.the_floor ∙ sym (floor-stays note journal plain.picks) in
         let turns_now = kept.agrees.turns ∙ sym (turns-stays note journal plain.turns_made) in
         let none : (out : JobOut J) → None ≡ Some out → out.queue < queue_count queues = λ out none. absurd (none-some out none) in
         let delivered = λ (sender : ℕ) (known : sender ≤ old.cores). kept.agrees.delivered sender known ∙ ap length (sym (plain.delivered sender)) in
         let closing = closing-stays old new note journal same_modes refl refl refl plain.opens kept.agrees.closing in
-        let within : job.queue < length old.tallies = omega (arith, exists, kept.agrees.tallied) in
-        assumption (figures-grow old new job.queue settled_tally within refl journal (note ∷ journal) (one_poll time done) refl kept.agrees.figures told, nobody)
+        let turn = open-lasted journal terms.burst note goes_on unpolled job.name time settles old.bursts.open kept.agrees.turn in
+        assumption (figures-grow old new job.queue tally_now within refl terms.burst journal (note ∷ journal) (one_poll (cond (has_bursts terms.burst) 0 (clamped time)) done) counts_now kept.agrees.figures told, nobody, kept.agrees.burst_is)
 
   -- the job goes to the end of its line
   pub kept-yield : (queues : QueuesView J) (back : J) → ChangesLine old.queues queues job.queue (waiting_of job.queue old.queues ++ (job.name, record { started = true; woken = job.woken }, back) ∷ []) →
       IsKept terms (settled_view old job time 0 queues) (writes.Yield job.name time ∷ journal)
   kept-yield queues back changes =
       kept_after terms (writes.Yield job.name time) kept
-      (agrees_settled 0 queues (writes.Yield job.name time) (assumption) (λ other. told-yield other job.queue journal job.name is_out.1 time)
+      (agrees_settled 0 queues (writes.Yield job.name time) (assumption) (λ other. told-yield terms.burst other job.queue journal job.name is_out.1 time)
       changes.same_count changes.same_shares changes.same_modes lines (λ other. ap names_parked (changes.same_parks other) ∙ kept.agrees.parks other) (marks_longer journal job.name its_marks back its_told changes kept.agrees.marks)
-      (virtual_runtime-yield job.queue journal job.name time is_out.1) (λ other away. virtual_runtime-yield_elsewhere other journal job.name time job.queue is_out.1 away) (jobs_out-yield job.name time journal is_out.0)) kept.is_core is_out.0 refl tt refl refl
+      (charged_by_form (writes.Yield job.name time) (charge time (shares job.queue journal)) refl refl (λ form. virtual_runtime-yield terms.burst job.queue journal job.name time form is_out.1))
+      (λ other away. elsewhere_by_form other (writes.Yield job.name time) refl refl (λ form. virtual_runtime-yield_elsewhere terms.burst other journal job.name time job.queue form is_out.1 away))
+      (jobs_out-yield job.name time journal is_out.0) refl refl refl) kept.is_core is_out.0 refl tt refl refl
     where
       lines : (other : ℕ) → names_of (waiting_of other queues) ≡ line other (writes.Yield job.name time ∷ journal)
       lines other =
@@ -103,11 +148,12 @@ module _ {J T : Type 0} (terms : Terms) (old : CoreView J) (job : JobOut J) (tim
       IsKept terms (settled_view old job time 0 queues) (writes.Stayed job.name time ∷ journal)
   kept-stayed queues back staying changes =
       kept_after terms (writes.Stayed job.name time) kept
-      (agrees_settled 0 queues (writes.Stayed job.name time) (assumption) (λ other. told-stayed other job.queue journal job.name is_out.1 time)
+      (agrees_settled 0 queues (writes.Stayed job.name time) (assumption) (λ other. told-stayed terms.burst other job.queue journal job.name is_out.1 time)
       changes.same_count changes.same_shares changes.same_modes lines (λ other. ap names_parked (changes.same_parks other) ∙ kept.agrees.parks other)
       (marks_longer (writes.Stayed job.name time ∷ journal) job.name (record { started = true; woken = false }) back stayed_told changes others_marked)
-      (virtual_runtime-stayed job.queue journal job.name time is_out.1) (λ other away. virtual_runtime-stayed_elsewhere other journal job.name time job.queue is_out.1 away)
-      (jobs_out-stayed job.name time journal is_out.0)) kept.is_core (is_out.0, sym (stays-agrees old journal kept.agrees job at) ∙ staying) refl tt refl refl
+      (charged_by_form (writes.Stayed job.name time) (charge time (shares job.queue journal)) refl refl (λ form. virtual_runtime-stayed terms.burst job.queue journal job.name time form is_out.1))
+      (λ other away. elsewhere_by_form other (writes.Stayed job.name time) refl refl (λ form. virtual_runtime-stayed_elsewhere terms.burst other journal job.name time job.queue form is_out.1 away))
+      (jobs_out-stayed job.name time journal is_out.0) refl refl refl) kept.is_core (is_out.0, sym (stays-agrees old journal kept.agrees job at) ∙ staying) refl tt refl refl
     where
       stayed_told : record { started = true; woken = false } ≡ marks_told job.name (writes.Stayed job.name time ∷ journal)
       stayed_told = λ i. record { started = sym started i; woken = sym (is_wake_kept-stayed job.name journal time) i }
@@ -119,21 +165,23 @@ module _ {J T : Type 0} (terms : Terms) (old : CoreView J) (job : JobOut J) (tim
       others_marked other = marks-elsewhere (writes.Stayed job.name time) journal job.name elsewhere (waiting_of other old.queues) (nowhere other) (kept.agrees.marks other)
 
       lines : (other : ℕ) → names_of (waiting_of other queues) ≡ line other (writes.Stayed job.name time ∷ journal)
-      lines other =
-          let longer = map-append (λ (entry : JobId × Marks × J). entry.0) (waiting_of job.queue old.queues) (awake (job.name, back) ∷ []) in
-          let here = line-stayed job.queue time job.name journal is_out.1 in
-          grind (arith, longer, here, kept.agrees.lines other, changes.others other, line-stayed_elsewhere other job.queue time job.name journal is_out.1)
+      lines = everywhere (λ at. names_of (waiting_of at queues) ≡ line at (writes.Stayed job.name time ∷ journal)) job.queue
+          (ap names_of changes.changed
+          ∙ (map-append (λ (entry : JobId × Marks × J). entry.0) (waiting_of job.queue old.queues) (awake (job.name, back) ∷ [])
+          ∙ (ap (λ names. names ++ job.name ∷ []) (kept.agrees.lines job.queue) ∙ sym (line-stayed job.queue time job.name journal is_out.1))))
+          (λ other away. ap names_of (changes.others other away) ∙ (kept.agrees.lines other ∙ sym (line-stayed_elsewhere other job.queue time job.name journal is_out.1 away)))
 
   -- a job that is parked comes behind those that are
   pub kept-park : (queues : QueuesView J) (back : J) → stays job old ≡ false → ChangesParks old.queues queues job.queue (parked_of job.queue old.queues ++ (job.name, back) ∷ []) →
       IsKept terms (settled_view old job time 0 queues) (writes.Park job.name time ∷ journal)
   kept-park queues back asleep changes =
       kept_after terms (writes.Park job.name time) kept
-      (agrees_settled 0 queues (writes.Park job.name time) (assumption) (λ other. told-park other job.queue journal job.name is_out.1 time)
+      (agrees_settled 0 queues (writes.Park job.name time) (assumption) (λ other. told-park terms.burst other job.queue journal job.name is_out.1 time)
       changes.same_count changes.same_shares changes.same_modes (λ other. ap names_of (changes.same_lines other) ∙ kept.agrees.lines other) parks
       (λ other. subst (AreMarked journal) (sym (changes.same_lines other)) (kept.agrees.marks other))
-      (virtual_runtime-park job.queue journal job.name time is_out.1) (λ other away. virtual_runtime-park_elsewhere other journal job.name time job.queue is_out.1 away)
-      (jobs_out-park job.name time journal is_out.0)) kept.is_core law refl tt refl refl
+      (charged_by_form (writes.Park job.name time) (charge time (shares job.queue journal)) refl refl (λ form. virtual_runtime-park terms.burst job.queue journal job.name time form is_out.1))
+      (λ other away. elsewhere_by_form other (writes.Park job.name time) refl refl (λ form. virtual_runtime-park_elsewhere terms.burst other journal job.name time job.queue form is_out.1 away))
+      (jobs_out-park job.name time journal is_out.0) refl refl refl) kept.is_core law refl tt refl refl
     where
       law : MayFollow terms (writes.Park job.name time) journal
       law = (is_out.0, sym (stays-agrees old journal kept.agrees job at) ∙ asleep)
@@ -150,7 +198,8 @@ module _ {J T : Type 0} (terms : Terms) (old : CoreView J) (job : JobOut J) (tim
   pub kept-done : (value : T) → IsKept terms (settled_view old job time 1 old.queues) (writes.Done job.name time value ∷ journal)
   kept-done value =
       kept_after terms (writes.Done job.name time value) kept
-      (agrees_settled 1 old.queues (writes.Done job.name time value) (assumption) (λ other. told-done other job.queue journal job.name is_out.1 time value) refl (λ other. refl) (λ other. refl)
+      (agrees_settled 1 old.queues (writes.Done job.name time value) (assumption) (λ other. told-done terms.burst other job.queue journal job.name is_out.1 time value) refl (λ other. refl) (λ other. refl)
       (λ other. kept.agrees.lines other ∙ sym (line-done terms journal kept.notes other time value job.name is_out.0)) kept.agrees.parks kept.agrees.marks
-      (virtual_runtime-done job.queue journal job.name time value is_out.1) (λ other away. virtual_runtime-done_elsewhere other journal job.name time value job.queue is_out.1 away)
-      (jobs_out-done job.name time value journal is_out.0)) kept.is_core is_out.0 refl tt refl refl
+      (charged_by_form (writes.Done job.name time value) (charge time (shares job.queue journal)) refl refl (λ form. virtual_runtime-done terms.burst job.queue journal job.name time value form is_out.1))
+      (λ other away. elsewhere_by_form other (writes.Done job.name time value) refl refl (λ form. virtual_runtime-done_elsewhere terms.burst other journal job.name time value job.queue form is_out.1 away))
+      (jobs_out-done job.name time value journal is_out.0) refl refl refl) kept.is_core is_out.0 refl tt refl refl

@@ -1,11 +1,15 @@
 pub mod AgreementNames
 pub mod Ahead
+pub mod Beginnings
 pub mod CarriedOut
 pub mod CoreCalls
 pub mod DeliveredEnds
 pub mod Drained
 pub mod EndsKept
 pub mod Figures
+pub mod Followed
+pub mod FrontLeft
+pub mod FrontTasks
 pub mod GivenEnds
 pub mod Inside
 pub mod Kept
@@ -14,6 +18,7 @@ pub mod KeptDeliveries
 pub mod KeptParks
 pub mod KeptPicks
 pub mod KeptPolls
+pub mod KeptTurns
 pub mod Marks
 pub mod Names
 pub mod OneBeginning
@@ -33,4 +38,6 @@ pub mod SettledPolls
 pub mod StatsTold
 pub mod Sums
 pub mod Together
+pub mod Turning
+pub mod TurnsRefused
 pub mod Words

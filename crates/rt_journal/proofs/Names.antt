@@ -65,6 +65,7 @@ pub use Rattle.rt_journal.specs.Recorded.{terms_at}
 pub use Rattle.rt_journal.specs.Steps.{ClosesItself, CreatesQueue, Delivers, IsNextIn, Receives, TellsShut}
 pub use Rattle.rt_journal.specs.Steps.{opened_beside, out_told, with_notes}
 pub use Rattle.rt_journal.specs.Together.{AreTogether, IsAssemblyOf}
+pub use Rattle.rt_journal.specs.Turns.{EndsTurn, Follows, IsFurther, NothingFollows}
 pub use Rattle.rt_journal.specs.Turns.{IsBack, IsHandBack, IsOut, IsOutUnder, IsPick, IsPolled, Picks, Settles}
 pub use Rattle.rt_journal.specs.Whole.{IsPostingTurn, MayAnswer, StaysPut, TurnsNoted, post_of}
 pub use Rattle.rt_link.specs.Calls.{MayGive, SeesMore, Shuts, Takes, final_of}
@@ -93,3 +94,4 @@ pub use Rattle.rt_journal_desk.specs.Submissions.{desk_with}
 pub use Rattle.rt_journal_desk.specs.Tickets.{AreCollected}
 pub use Rattle.rt_taskqueue.specs.declared.queues.CreateError.{CreateError}
 pub use Rattle.rt_taskqueue.specs.declared.queues.CreateError.TheVariants.{Memory, TooMany}
+pub use Rattle.std.specs.Prelude.{sum_by}

@@ -1,6 +1,9 @@
 -- A poll begins at one place before the note that settles it: what stands between was posted by its calls, and what stands before was there before.
 use Rattle.rt_journal.proofs.Names.{◌≡◌, ℕ, ◌+◌, Bool, true, false, List, [], ◌∷◌, ◌++◌, Option, refl, sym, subst}
 use Rattle.rt_journal.proofs.Names.{JobId, Note, Journal, ArePosts, poll_note, polls_made, Step, Terms, Meaning, Call, IfDone, IfSome, Ok, Err}
+use Rattle.rt_journal.proofs.Names.{Some, ◌⊎◌}
+use Rattle.rt_ids.specs.Bursts.{queue_just_picked}
+use Rattle.rt_ids.specs.Lawful.{GoesOn}
 use Rattle.rt_ids.specs.declared.note.Note.TheVariants as writes
 use Rattle.rt_jobs.specs.Calls.Call.{Submit, Redeem, Detach}
 use Rattle.rt_journal.specs.RightAnswers.{Seen, call_notes, posted_notes, AreRightAnswers}
@@ -57,18 +60,22 @@ module _ {J T : Type 0} where
 
 module _ {J T : Type 0} (meaning : Meaning J T) (terms : Terms) (seen : Seen J) (sent : J) (name : JobId) (time : ℕ) (step : Step T) where
   -- the poll with these posts, which began behind these notes
-  pub record IsPollBehind (posts : List (Note T)) (started : Bool) (queue runtime : ℕ) (earlier : Journal T) : Type 0 where
+  pub record IsPollBehind (posts : List (Note T)) (started : Bool) (earlier : Journal T) : Type 0 where
+    pub queue : ℕ
+    pub due : (queue_just_picked earlier ≡ Some queue) ⊎ GoesOn terms.burst queue earlier
     pub calls : List (Call J T)
     pub told : Option ℕ
     pub wrote : posted_notes calls ≡ posts
-    pub right : AreRightAnswers terms seen calls (poll_note name started ∷ writes.Pick queue runtime ∷ earlier)
+    pub right : AreRightAnswers terms seen calls (poll_note name started ∷ earlier)
     pub owed : meaning.polls sent (meaning.made sent + polls_made name earlier) calls step told
     pub answered : IfDone step (meaning.answers sent)
     pub timed : IfSome told (λ stated. stated ≡ time)
 
-  pub poll_behind : (queue chosen : ℕ) (posts : List (Note T)) (started : Bool) (runtime : ℕ) (earlier : Journal T) → ArePosts posts →
-      IsPollOf meaning terms seen chosen sent name time step (posts ++ poll_note name started ∷ writes.Pick queue runtime ∷ earlier) → IsPollBehind posts started queue runtime earlier
-  poll_behind queue chosen posts started runtime earlier are poll = record {
+  pub poll_behind : (chosen : ℕ) (posts : List (Note T)) (started : Bool) (earlier : Journal T) → ArePosts posts →
+      IsPollOf meaning terms seen chosen sent name time step (posts ++ poll_note name started ∷ earlier) → IsPollBehind posts started earlier
+  poll_behind chosen posts started earlier are poll = record {
+    queue = chosen;
+    due = subst (λ before. (queue_just_picked before ≡ Some chosen) ⊎ GoesOn terms.burst chosen before) before_is poll.due;
     calls = poll.calls;
     told = poll.told;
     wrote = parts.0;
@@ -78,8 +85,8 @@ module _ {J T : Type 0} (meaning : Meaning J T) (terms : Terms) (seen : Seen J) 
     timed = poll.timed;
   }
     where
-      parts : (posted_notes poll.calls ≡ posts) × (poll_note name poll.was_started ∷ writes.Pick chosen poll.runtime ∷ poll.earlier ≡ poll_note name started ∷ writes.Pick queue runtime ∷ earlier)
+      parts : (posted_notes poll.calls ≡ posts) × (poll_note name poll.was_started ∷ poll.earlier ≡ poll_note name started ∷ earlier)
       parts = one_beginning posts (posted_notes poll.calls) name name started poll.was_started _ _ are (calls_post poll.calls) poll.stands
 
       before_is : poll.earlier ≡ earlier
-      before_is = let same : poll_note name poll.was_started ∷ writes.Pick chosen poll.runtime ∷ poll.earlier ≡ poll_note name started ∷ writes.Pick queue runtime ∷ earlier = parts.1 in cc
+      before_is = let same : poll_note name poll.was_started ∷ poll.earlier ≡ poll_note name started ∷ earlier = parts.1 in cc

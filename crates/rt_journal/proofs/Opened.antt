@@ -3,11 +3,12 @@ use Rattle.rt_journal.proofs.Names.{◌≡◌, ℕ, zero, suc, ◌+◌, ◌*◌,
 use Rattle.rt_journal.proofs.Names.{length-replicate, get_or-replicate, All-nil, Meaning, waiting_of, mode_of, CoreView}
 use Rattle.rt_journal.proofs.Names.{runtime_of, opened, Agrees, AreMarked, no_figures, figures_of, IsRecorded}
 use Rattle.rt_journal.proofs.Names.{HasTask, sum_upto, given_count, opened_beside, none-some, names_of, names_parked, parked_of}
+use Rattle.rt_journal.proofs.AgreementNames.{has_bursts, none_either}
 use Rattle.rt_stats.proofs.Tables.{all_alike}
 
-module _ (J : Type 0) (core cores cap : ℕ) where
+module _ (J : Type 0) (core cores cap burst : ℕ) where
   abbrev new_core : CoreView J
-  new_core = opened core cores ((cores + 1) * cap) 0
+  new_core = opened core cores ((cores + 1) * cap) 0 burst
 
   -- no queue has a job, a runtime, a mode or a count
   at_first : (queue : ℕ) → (waiting_of queue new_core.queues ≡ []) × (runtime_of queue new_core ≡ 0) × (mode_of queue new_core.queues ≡ None) × (figures_of queue new_core ≡ no_figures) × (parked_of queue new_core.queues ≡ [])
@@ -16,8 +17,9 @@ module _ (J : Type 0) (core cores cap : ℕ) where
   at_first (suc (suc queue)) = (refl, refl, refl, refl, refl)
 
   -- it agrees with a journal without a note
-  pub agrees-opened : (T : Type 0) → Agrees {J = J} {T = T} new_core []
+  pub agrees-opened : (T : Type 0) → Agrees {J = J} {T = T} burst new_core []
   agrees-opened T = record {
+    burst_is = refl;
     tallied = refl;
     senders = length-replicate (cores + 1) 0;
     last = refl;
@@ -29,6 +31,7 @@ module _ (J : Type 0) (core cores cap : ℕ) where
     the_floor = refl;
     turns = refl;
     out = refl;
+    turn = none_either (has_bursts burst);
     out_exists = λ out none. absurd (none-some out none);
     delivered = λ sender known. get_or-replicate (cores + 1) sender 0 0 (omega (arith, known));
     figures = λ queue. (at_first queue).3;
@@ -40,17 +43,17 @@ no_sum T zero = refl
 no_sum T (suc last) = let rest : sum_upto (given_count {T = T} []) last ≡ 0 = no_sum T last in omega (arith, rest)
 
 -- a core that was just opened is recorded in a journal without a note
-pub recorded-opened : {J T : Type 0} (meaning : Meaning J T) (core cores cap room : ℕ) → core < cores →
-    IsRecorded meaning (opened_beside {J = J} {T = T} core cores cap room)
-recorded-opened {J} {T} meaning core cores cap room there = record {
-  kept = record { is_core = there; agrees = agrees-opened J core cores cap T; notes = tt; no_pick = refl; no_answer = refl };
+pub recorded-opened : {J T : Type 0} (meaning : Meaning J T) (core cores cap room burst : ℕ) → core < cores →
+    IsRecorded meaning (opened_beside {J = J} {T = T} core cores cap room burst)
+recorded-opened {J} {T} meaning core cores cap room burst there = record {
+  kept = record { is_core = there; agrees = agrees-opened J core cores cap burst T; notes = tt; no_pick = refl; no_answer = refl };
   room = refl;
   held = record { each = λ sender known. omega arith; inside = omega (arith, no_sum T cores) };
   taken = λ name order at. absurd (none-some order at);
   as_sent = tt;
   tasks = record {
-    waiting = λ queue. subst (All (λ entry. HasTask meaning [] [] queue entry.0 entry.2)) (sym (at_first J core cores cap queue).0) (All-nil _);
-    parked = λ queue. subst (All (λ entry. HasTask meaning [] [] queue entry.0 entry.1)) (sym (at_first J core cores cap queue).4) (All-nil _);
+    waiting = λ queue. subst (All (λ entry. HasTask meaning [] [] queue entry.0 entry.2)) (sym (at_first J core cores cap burst queue).0) (All-nil _);
+    parked = λ queue. subst (All (λ entry. HasTask meaning [] [] queue entry.0 entry.1)) (sym (at_first J core cores cap burst queue).4) (All-nil _);
   };
   out = λ job at. absurd (none-some job at);
 }

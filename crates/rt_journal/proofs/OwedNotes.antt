@@ -85,8 +85,8 @@ module _ {J T : Type 0} (terms : Terms) (seen now : Seen J) (more : SeesNoLess s
       calls = poll.calls;
       told = poll.told;
       was_started = poll.was_started;
-      runtime = poll.runtime;
       earlier = poll.earlier;
+      due = poll.due;
       stands = poll.stands;
       right = rights_stay poll.calls _ poll.right;
       owed = poll.owed;

@@ -2,7 +2,7 @@
 use Rattle.rt_journal.proofs.Names.{◌≡◌, ℕ, Bool, true, false, List, [], ◌∷◌, ◌++◌, Option, Some, None, Result, Ok, Err, refl, sym, ◌∙◌, ap, subst}
 use Rattle.rt_journal.proofs.Names.{JobId, Note, Envelope, Order, Outcome, Journal, Meaning, RecordedView, terms_at, desk_of, order_taken, IsSameSeat}
 use Rattle.rt_journal.proofs.Names.{SendError, TicketError, Submits, RedeemsTicket, DetachesTicket, CollectsFrom, IsDelivery, Reason, Mode, Turn, PickError}
-use Rattle.rt_journal.proofs.Names.{Receives, Delivers, CreatesQueue, TellsShut, ClosesItself, IsPick, IsHandBack, Picks, Answer, poll_note, entry_note}
+use Rattle.rt_journal.proofs.Names.{Receives, Delivers, CreatesQueue, TellsShut, ClosesItself, IsPick, IsHandBack, Picks, IsFurther, Follows, EndsTurn, Answer, poll_note, entry_note}
 use Rattle.rt_journal.proofs.Names.{CreateError, Inward, DeskView}
 use Rattle.rt_ids.specs.declared.note.Note.TheVariants as writes
 use Rattle.rt_ids.specs.declared.order.Order.TheVariants as order
@@ -23,6 +23,10 @@ module _ (T : Type 0) where
   pub pick_settles_nothing : (name : JobId) (was_started : Bool) (queue runtime : ℕ) → SettleNothing {T = T} (poll_note name was_started ∷ writes.Pick queue runtime ∷ [])
   pick_settles_nothing name false queue runtime = (refl, (refl, tt))
   pick_settles_nothing name true queue runtime = (refl, (refl, tt))
+
+  pub begin_settles_nothing : (name : JobId) (was_started : Bool) → SettleNothing {T = T} (poll_note name was_started ∷ [])
+  begin_settles_nothing name false = (refl, tt)
+  begin_settles_nothing name true = (refl, tt)
 
   effect_settles_nothing : (what : Order (Unit {0})) (answer : Answer) (name : JobId) → SettleNothing {T = T} (with_effect (effect_note name.to what answer) (writes.Answered name answer ∷ []))
   effect_settles_nothing (order.Create weight) (answers.Created queue) name = (refl, (refl, tt))
@@ -63,7 +67,7 @@ module _ {J T : Type 0} (meaning : Meaning J T) (seen : Seen J) (old new : Recor
       (owed_stays (terms_at old) seen seen (record { shut = λ core final saw. saw; sent = λ name what saw. saw }) meaning (order_taken old.took) (order_taken new.took) keeps old.journal.notes owed)))
 
   same_terms : IsSameSeat old new → terms_at new ≡ terms_at old
-  same_terms seat = λ i. record { actor = seat.number i; cores = seat.cores i; cap = seat.cap i }
+  same_terms seat = λ i. record { actor = seat.number i; cores = seat.cores i; cap = seat.cap i; burst = seat.burst i }
 
   -- a step that delivers nothing
   pub quiet_keeps : IsSameSeat old new → new.took ≡ old.took → (notes : List (Note T)) → SettleNothing notes → new.journal.notes ≡ notes ++ old.journal.notes → KeepsOwed
@@ -109,6 +113,20 @@ module _ {J T : Type 0} (meaning : Meaning J T) (seen : Seen J) (old new : Recor
     picks_keep (Ok turn.Idle) did = same_keeps did.1
     picks_keep (Err picking.Busy) did = same_keeps did.1
     picks_keep (Err picking.Spent) did = same_keeps did.2
+
+    further_keeps : (name : JobId) (queue : ℕ) (was_started : Bool) (job : J) → IsFurther old name queue was_started job new → KeepsOwed
+    further_keeps name queue was_started job did =
+        quiet_keeps seat did.took (poll_note name was_started ∷ []) (begin_settles_nothing T name was_started) (ap (λ journal. journal.notes) did.journal)
+
+    pub follows_keep : (followed : Option (Turn J)) → Follows old followed new → KeepsOwed
+    follows_keep (Some (turn.Start name queue job)) did = further_keeps name queue false job did
+    follows_keep (Some (turn.Resume name queue job)) did = further_keeps name queue true job did
+    follows_keep (Some (turn.Back name reason back)) did = absurd did
+    follows_keep (Some turn.Idle) did = absurd did
+    follows_keep None did = same_keeps did.1
+
+    pub ends_keep : (time : ℕ) → EndsTurn old time new → KeepsOwed
+    ends_keep time did = quiet_keeps seat did.took (writes.Turned did.queue time ∷ []) (refl, tt) (ap (λ journal. journal.notes) did.journal)
 
   -- what the desk does while no job is polled
   module _ (rest : new ≡ record old { journal = new.journal; lanes = new.lanes }) where

@@ -1,4 +1,4 @@
--- A whole turn settles a poll that is owed: its calls wrote what stands before the note of the settling, and the ends answered as the notes say.
+-- A whole turn, and a further poll in place, settles a poll that is owed: its calls wrote what stands before the note of the settling, and the ends answered as the notes say.
 use Rattle.rt_journal.proofs.Names.{◌≡◌, ℕ, ◌+◌, ◌<◌, Bool, true, false, List, [], ◌∷◌, ◌++◌, length, Option, Some, None, Result, Ok, Err, refl, sym, ◌∙◌, ap}
 use Rattle.rt_journal.proofs.Names.{subst, arith, inl, inr, JobId, Order, Outcome, Journal, terms_of_desk, terms_at, Meaning, Step, Call, Makes}
 use Rattle.rt_journal.proofs.Names.{slice_get, slice_get_within, Outward, PostView, HasPosted, Does, DeskView, SendError, TicketError, Fits}
@@ -21,6 +21,8 @@ use Rattle.rt_jobs.specs.declared.job.Step.TheVariants as steps
 use Rattle.rt_jobs.specs.Calls.Call.{Submit, Redeem, Detach}
 use Rattle.rt_journal_desk.proofs.Posting.{posted_did, posted_made}
 use Rattle.rt_journal_desk.specs.Calls.{LendsEnd, SubmitsOn}
+use Rattle.rt_journal.specs.Whole.{Begins}
+use Rattle.rt_journal.proofs.Beginnings.{IsBeginning}
 use Rattle.rt_journal.proofs.OwedNotes.{SettleNothing, polls_made-longer, posted_settle_nothing, owed_longer, owed_stays, right_stays}
 use Rattle.rt_journal.specs.RightAnswers.{SeesNoLess, call_notes, posted_notes, IsRightAnswer, AreRightAnswers}
 use Rattle.rt_journal.specs.OwedPolls.{seen_by, IsPollOf, IsOwedPoll, PollIsOwed, PollsAreOwed, HasOwedPolls}
@@ -176,28 +178,29 @@ pub counts_told : (told : Option ℕ) (spent : ℕ) → IfSome told (λ stated. 
 counts_told None spent = tt
 counts_told (Some time) spent = refl
 
-module _ {J T E : Type 0} {meaning : Meaning J T} {out : E → Outward J T} {credited : E → ℕ} {untouched : E → List ℕ} {tells : ℕ → Type 0}
+module _ {J T E : Type 0} {meaning : Meaning J T} {out : E → Outward J T} {credited : E → ℕ} {untouched : E → List ℕ} {tells : ℕ → Type 0} {begins : Begins J T}
     (old : RecordedView J T) (ends : List E) (name : JobId) (queue : ℕ) (started : Bool) (settled : Settled T) (new : RecordedView J T) (later : List E)
-    (turn : IsPostingTurn meaning (Does (Fits meaning) out credited untouched) out untouched tells old ends name queue started settled new later) where
+    (turn : IsPostingTurn meaning begins (Does (Fits meaning) out credited untouched) out untouched tells old ends name queue started settled new later)
+    (begun : IsBeginning old name queue started turn.ran.before turn.picked) where
   abbrev earlier : Journal T
-  earlier = old.journal.notes
+  earlier = begun.before ++ old.journal.notes
 
   abbrev at_poll : Journal T
-  at_poll = poll_note name started ∷ writes.Pick queue turn.picks.runtime ∷ earlier
+  at_poll = poll_note name started ∷ earlier
 
   its_out : turn.settles.out ≡ record { name = name; queue = queue; woken = is_wake_kept name old.journal.notes; job = turn.ran.before }
-  its_out = same_Some _ _ (sym turn.settles.was_out ∙ (ap (λ (view : RecordedView J T). view.core.out) turn.rest ∙ turn.picks.out))
+  its_out = same_Some _ _ (sym turn.settles.was_out ∙ (ap (λ (view : RecordedView J T). view.core.out) turn.rest ∙ begun.out))
 
   same_terms : terms_at turn.picked ≡ terms_at old
-  same_terms = λ i. record { actor = turn.stays.seat.number i; cores = turn.stays.seat.cores i; cap = turn.stays.seat.cap i }
+  same_terms = λ i. record { actor = turn.stays.seat.number i; cores = turn.stays.seat.cores i; cap = turn.stays.seat.cap i; burst = turn.stays.seat.burst i }
 
   left_terms : terms_at new ≡ terms_at old
   left_terms =
-      (λ i. record { actor = turn.stays_settled.seat.number i; cores = turn.stays_settled.seat.cores i; cap = turn.stays_settled.seat.cap i })
+      (λ i. record { actor = turn.stays_settled.seat.number i; cores = turn.stays_settled.seat.cores i; cap = turn.stays_settled.seat.cap i; burst = turn.stays_settled.seat.burst i })
       ∙ (ap terms_at turn.rest ∙ same_terms)
 
   picked_notes : turn.picked.journal.notes ≡ at_poll
-  picked_notes = ap (λ journal. journal.notes) turn.picks.journal
+  picked_notes = begun.notes
 
   made : (turn.left.journal.notes ≡ posted_notes turn.owed.calls ++ turn.picked.journal.notes) × AreRightAnswers (terms_at turn.picked) (seen_by out later) turn.owed.calls turn.picked.journal.notes
   made = made_rightly (Fits meaning) out credited untouched turn.owed.calls (post_of turn.picked ends) (post_of turn.left later) turn.owed.makes
@@ -205,15 +208,15 @@ module _ {J T E : Type 0} {meaning : Meaning J T} {out : E → Outward J T} {cre
   stands : turn.left.journal.notes ≡ posted_notes turn.owed.calls ++ at_poll
   stands = made.0 ∙ ap (λ notes. posted_notes turn.owed.calls ++ notes) picked_notes
 
-  picks_nothing : (started : Bool) → SettleNothing {T = T} (poll_note name started ∷ writes.Pick queue turn.picks.runtime ∷ [])
-  picks_nothing false = (refl, (refl, tt))
-  picks_nothing true = (refl, (refl, tt))
+  begins_nothing : (started : Bool) → SettleNothing {T = T} (poll_note name started ∷ [])
+  begins_nothing false = (refl, tt)
+  begins_nothing true = (refl, tt)
 
   counted : polls_made turn.settles.out.name turn.left.journal.notes ≡ polls_made name earlier
   counted =
       (λ i. polls_made (its_out i).name (stands i))
       ∙ (polls_made-longer name (posted_notes turn.owed.calls) at_poll (posted_settle_nothing turn.owed.calls)
-      ∙ polls_made-longer name (poll_note name started ∷ writes.Pick queue turn.picks.runtime ∷ []) earlier (picks_nothing started))
+      ∙ polls_made-longer name (poll_note name started ∷ []) earlier (begins_nothing started))
 
   -- its poll is one that its job owes
   pub its_poll : IsPollOf meaning (terms_at old) (seen_by out later) queue turn.settles.sent name (unwrap_or turn.ran.told turn.spent) turn.ran.step turn.left.journal.notes
@@ -221,8 +224,8 @@ module _ {J T E : Type 0} {meaning : Meaning J T} {out : E → Outward J T} {cre
     calls = turn.owed.calls;
     told = turn.ran.told;
     was_started = started;
-    runtime = turn.picks.runtime;
     earlier = earlier;
+    due = begun.due;
     stands = stands;
     right = subst (λ terms. AreRightAnswers terms (seen_by out later) turn.owed.calls at_poll) same_terms
         (subst (λ notes. AreRightAnswers (terms_at turn.picked) (seen_by out later) turn.owed.calls notes) picked_notes made.1);
@@ -242,7 +245,7 @@ module _ {J T E : Type 0} {meaning : Meaning J T} {out : E → Outward J T} {cre
   }
     where
       left_took : turn.left.took ≡ old.took
-      left_took = ap (λ (view : RecordedView J T). view.took) turn.rest ∙ turn.picks.took
+      left_took = ap (λ (view : RecordedView J T). view.took) turn.rest ∙ begun.took
 
   settling : (step : Step T) (stays : Bool) → IsOwedPoll meaning (terms_at old) (seen_by out later) (order_taken old.took) name (unwrap_or turn.ran.told turn.spent) step turn.left.journal.notes →
       PollIsOwed meaning (terms_at old) (seen_by out later) (order_taken old.took) (settle_note name (unwrap_or turn.ran.told turn.spent) (settled_of step stays)) turn.left.journal.notes
@@ -266,11 +269,12 @@ module _ {J T E : Type 0} {meaning : Meaning J T} {out : E → Outward J T} {cre
   owed_before : HasOwedPolls meaning (seen_by out ends) old → Owed (posted_notes turn.owed.calls ++ at_poll)
   owed_before owed =
       owed_longer meaning (terms_at old) (seen_by out later) (order_taken old.took) (posted_notes turn.owed.calls) at_poll (posted_settle_nothing turn.owed.calls)
-      (owed_longer meaning (terms_at old) (seen_by out later) (order_taken old.took) (poll_note name started ∷ writes.Pick queue turn.picks.runtime ∷ []) earlier (picks_nothing started)
+      (owed_longer meaning (terms_at old) (seen_by out later) (order_taken old.took) (poll_note name started ∷ []) earlier (begins_nothing started)
+      (owed_longer meaning (terms_at old) (seen_by out later) (order_taken old.took) begun.before old.journal.notes begun.quiet
       (owed_stays (terms_at old) (seen_by out ends) (seen_by out later) (seen_posted (post_of turn.picked ends) (post_of turn.left later) turn.posted) meaning
-      (order_taken old.took) (order_taken old.took) (λ which order at. at) earlier owed))
+      (order_taken old.took) (order_taken old.took) (λ which order at. at) old.journal.notes owed)))
 
-  -- a turn leaves each poll owed
+  -- it leaves each poll owed
   pub turn_keeps : HasOwedPolls meaning (seen_by out ends) old → HasOwedPolls meaning (seen_by out later) new
   turn_keeps owed =
       subst (λ terms. PollsAreOwed meaning terms (seen_by out later) (order_taken new.took) new.journal.notes) (sym left_terms)
@@ -278,4 +282,4 @@ module _ {J T E : Type 0} {meaning : Meaning J T} {out : E → Outward J T} {cre
       (subst Owed (sym settled_notes) (settling turn.ran.step (stays_in_line turn.settles.out.name turn.left.journal.notes) owed_poll, subst Owed (sym stands) (owed_before owed))))
     where
       took_is : new.took ≡ old.took
-      took_is = turn.settles.took ∙ (ap (λ (view : RecordedView J T). view.took) turn.rest ∙ turn.picks.took)
+      took_is = turn.settles.took ∙ (ap (λ (view : RecordedView J T). view.took) turn.rest ∙ begun.took)

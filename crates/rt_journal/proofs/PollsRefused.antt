@@ -1,5 +1,5 @@
 -- Each of the small journals has a poll that isn't owed.
-use Rattle.rt_journal.proofs.Names.{◌≡◌, ℕ, Bool, true, false, List, [], ◌∷◌, ◌++◌, length, Option, Some, Result, Ok, Err, refl, sym, ◌∙◌, ap, subst, arith}
+use Rattle.rt_journal.proofs.Names.{inl, ◌≡◌, ℕ, Bool, true, false, List, [], ◌∷◌, ◌++◌, length, Option, Some, Result, Ok, Err, refl, sym, ◌∙◌, ap, subst, arith}
 use Rattle.rt_journal.proofs.Names.{JobId, Note, Journal, ArePosts, poll_note, Step, SendError, Job, IfSome}
 use Rattle.rt_ids.specs.declared.note.Note.TheVariants as writes
 use Rattle.rt_ids.specs.declared.order.SendError.TheVariants as refused
@@ -19,14 +19,14 @@ abbrev pub script : List Poll → Script
 script polls = record { polls = polls; polled = 0 }
 
 -- the poll of the job of these polls, behind its beginning
-module _ (seen : Seen Script) (polls : List Poll) (time : ℕ) (step : Step ℕ) (posts : List (Note ℕ)) (started : Bool) (queue runtime : ℕ) (earlier : Journal ℕ) (are : ArePosts posts) where
-  pub its_poll : IsOwedPoll script_meaning terms seen (ordered polls) job time step (posts ++ poll_note job started ∷ writes.Pick queue runtime ∷ earlier) →
-      IsPollBehind script_meaning terms seen (script polls) job time step posts started queue runtime earlier
+module _ (seen : Seen Script) (polls : List Poll) (time : ℕ) (step : Step ℕ) (posts : List (Note ℕ)) (started : Bool) (earlier : Journal ℕ) (are : ArePosts posts) where
+  pub its_poll : IsOwedPoll script_meaning terms seen (ordered polls) job time step (posts ++ poll_note job started ∷ earlier) →
+      IsPollBehind script_meaning terms seen (script polls) job time step posts started earlier
   its_poll owed =
       let task : Some (Job 0 (script polls)) ≡ Some (Job owed.queue owed.sent) = owed.task in
       let same : owed.sent ≡ script polls = cc in
-      subst (λ sent. IsPollBehind script_meaning terms seen sent job time step posts started queue runtime earlier) same
-      (poll_behind script_meaning terms seen owed.sent job time step queue owed.queue posts started runtime earlier are owed.poll)
+      subst (λ sent. IsPollBehind script_meaning terms seen sent job time step posts started earlier) same
+      (poll_behind script_meaning terms seen owed.sent job time step owed.queue posts started earlier are owed.poll)
 
 -- If the gate of the core isn't shut before the first order, the link is empty and there is such a core, nothing gives a reason to refuse.
 module _ (seen : Seen Script) (unshut : seen.shut 1 0 → ⊥) where
@@ -76,7 +76,7 @@ another_time told is timed = let same : ◌≡◌ {A = ℕ} 5 6 = subst (λ told
 module _ (posts : List (Note ℕ)) (are : ArePosts posts) where
   submits_once : IsOwedPoll script_meaning terms open_links (ordered submits) job 5 steps.Yield (posts ++ begun) → length posts ≡ 2
   submits_once owed =
-      let its = its_poll open_links submits 5 steps.Yield posts false 0 0 first are owed in
+      let its = its_poll open_links submits 5 steps.Yield posts false (writes.Pick 0 0 ∷ first) are owed in
       ap length (sym its.wrote) ∙ two_notes open_links (λ shut. shut) its.calls its.owed.0 its.right
 
 -- what was accepted is what was sent
@@ -93,22 +93,22 @@ another_job calls sends right two = by_answer sends.answer sends.are
 
 pub polls_refused : PollsAreRefused
 polls_refused = record {
-  yields_for_ever = λ owed. let its = its_poll open_links ends 1 steps.Yield [] false 0 0 first tt owed.0 in absurd (let wrong = its.owed.1 in cc);
-  skips_to_its_value = λ owed. let its = its_poll open_links yields 1 (steps.Done 7) [] false 0 0 first tt owed.0 in absurd (let wrong = its.owed.1 in cc);
-  yields_once_more = λ owed. let its = its_poll open_links yields 5 steps.Yield [] true 0 5 (writes.Yield job 5 ∷ begun) tt owed.0 in absurd (let wrong = its.owed.1 in cc);
-  another_value = λ owed. let its = its_poll open_links ends 1 (steps.Done 8) [] false 0 0 first tt owed.0 in let same : ◌≡◌ {A = ℕ} 8 7 = let wrong = its.owed.1 in cc in absurd (omega arith);
-  another_time = λ owed. let its = its_poll open_links yields 6 steps.Yield [] false 0 0 first tt owed.0 in another_time its.told its.owed.2 its.timed;
+  yields_for_ever = λ owed. let its = its_poll open_links ends 1 steps.Yield [] false (writes.Pick 0 0 ∷ first) tt owed.0 in absurd (let wrong = its.owed.1 in cc);
+  skips_to_its_value = λ owed. let its = its_poll open_links yields 1 (steps.Done 7) [] false (writes.Pick 0 0 ∷ first) tt owed.0 in absurd (let wrong = its.owed.1 in cc);
+  yields_once_more = λ owed. let its = its_poll open_links yields 5 steps.Yield [] true (writes.Pick 0 5 ∷ writes.Yield job 5 ∷ begun) tt owed.0 in absurd (let wrong = its.owed.1 in cc);
+  another_value = λ owed. let its = its_poll open_links ends 1 (steps.Done 8) [] false (writes.Pick 0 0 ∷ first) tt owed.0 in let same : ◌≡◌ {A = ℕ} 8 7 = let wrong = its.owed.1 in cc in absurd (omega arith);
+  another_time = λ owed. let its = its_poll open_links yields 6 steps.Yield [] false (writes.Pick 0 0 ∷ first) tt owed.0 in another_time its.told its.owed.2 its.timed;
   submits_nothing = λ owed. let wrong : ◌≡◌ {A = ℕ} 0 2 = submits_once [] tt owed.0 in absurd (omega arith);
   submits_twice = λ owed.
       let wrong : ◌≡◌ {A = ℕ} 4 2 = submits_once (writes.Detached (sent 2) ∷ writes.Sent (sent 2) (Job 0 tt) ∷ writes.Detached (sent 1) ∷ writes.Sent (sent 1) (Job 0 tt) ∷ []) tt owed.0 in
       absurd (omega arith);
   keeps_its_submission = λ owed. let wrong : ◌≡◌ {A = ℕ} 1 2 = submits_once (writes.Sent (sent 1) (Job 0 tt) ∷ []) tt owed.0 in absurd (omega arith);
-  yields_for_a_park = λ owed. let its = its_poll open_links parks 5 steps.Yield [] false 0 0 first tt owed.0 in absurd (let wrong = its.owed.1 in cc);
-  parks_for_a_yield = λ owed. let its = its_poll open_links yields 5 steps.Park [] false 0 0 first tt owed.0 in absurd (let wrong = its.owed.1 in cc);
-  stays_when_done = λ owed. let its = its_poll open_links ends 1 steps.Park [] false 0 0 first tt owed.0 in absurd (let wrong = its.owed.1 in cc);
-  never_begun = λ owed. let its = owed.0.poll in never_begun (posted_notes its.calls) job its.was_started (writes.Pick owed.0.queue its.runtime ∷ its.earlier) (calls_post its.calls) its.stands;
+  yields_for_a_park = λ owed. let its = its_poll open_links parks 5 steps.Yield [] false (writes.Pick 0 0 ∷ first) tt owed.0 in absurd (let wrong = its.owed.1 in cc);
+  parks_for_a_yield = λ owed. let its = its_poll open_links yields 5 steps.Park [] false (writes.Pick 0 0 ∷ first) tt owed.0 in absurd (let wrong = its.owed.1 in cc);
+  stays_when_done = λ owed. let its = its_poll open_links ends 1 steps.Park [] false (writes.Pick 0 0 ∷ first) tt owed.0 in absurd (let wrong = its.owed.1 in cc);
+  never_begun = λ owed. let its = owed.0.poll in never_begun (posted_notes its.calls) job its.was_started its.earlier (calls_post its.calls) its.stands;
   sends_another_job = λ owed.
-      let its = its_poll other_orders submits 5 steps.Yield (writes.Detached (sent 1) ∷ writes.Sent (sent 1) (Job 0 tt) ∷ []) false 0 0 first tt owed.0 in
+      let its = its_poll other_orders submits 5 steps.Yield (writes.Detached (sent 1) ∷ writes.Sent (sent 1) (Job 0 tt) ∷ []) false (writes.Pick 0 0 ∷ first) tt owed.0 in
       another_job its.calls its.owed.0 its.right (ap length its.wrote);
 }
 
@@ -123,8 +123,8 @@ one_is_owed = (
       calls = [];
       told = Some 1;
       was_started = true;
-      runtime = 5;
-      earlier = writes.Yield job 5 ∷ writes.Detached (sent 1) ∷ writes.Sent (sent 1) (Job 0 tt) ∷ begun;
+      earlier = writes.Pick 0 5 ∷ writes.Yield job 5 ∷ writes.Detached (sent 1) ∷ writes.Sent (sent 1) (Job 0 tt) ∷ begun;
+      due = inl refl;
       stands = refl;
       right = tt;
       owed = (refl, refl, refl);
@@ -145,8 +145,8 @@ one_is_owed = (
             calls = Submit 1 (Job 0 small_job) (Ok (sent 1)) ∷ Detach (sent 1) (Ok tt) ∷ [];
             told = Some 5;
             was_started = false;
-            runtime = 0;
-            earlier = first;
+            earlier = writes.Pick 0 0 ∷ first;
+            due = inl refl;
             stands = refl;
             right = (
               (record { sender = refl; receiver = omega arith; next = refl; in_range = omega arith; credit = omega arith; spelled = omega arith }, refl, tt),

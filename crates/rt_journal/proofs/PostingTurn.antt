@@ -1,4 +1,4 @@
--- A whole turn with posts, beside its journal: the notes of the pick are written behind the old ones, then what is posted, then the note of the settling.
+-- A poll in place with posts, beside its journal: the notes of its beginning are written behind the old ones, then what is posted, then the note of the settling.
 use Rattle.rt_journal.proofs.Names.{Ok, slice_get, ◌≡◌, refl, ℕ, ◌+◌, ◌<◌, Bool, true, false, List, length, reverse}
 use Rattle.rt_journal.proofs.Names.{sym, ◌∙◌, ap, subst, arith, most_turns, JobId, Note, Envelope, Order, Outcome}
 use Rattle.rt_journal.proofs.Names.{turns, Step, Meaning, Start, Resume, CoreView, IsAhead, goes_out, pick_notes}
@@ -9,7 +9,17 @@ use Rattle.rt_journal.proofs.Names.{JobOut, TurnsWhole, settled_of, IsSameSeat, 
 use Rattle.rt_journal.proofs.Names.{is_wake_kept, stays_in_line}
 use Rattle.rt_journal.proofs.Names.{outcome_settled, PostView, HasPosted, lends, Does, IsPolled, Settles, post_of}
 use Rattle.rt_journal.proofs.Names.{Fits, IsPostingTurn, MayAnswer, TurnsNoted, CorePicks, posted_rest}
+use Rattle.rt_journal.proofs.Names.{IsFurther, poll_note, settle_note, unwrap_or, [], ◌∷◌, ◌++◌, length-append, Option, Some, AfterPoll, sum_by}
+use Rattle.rt_core.proofs.AheadTaken.{ahead_follows}
+use Rattle.rt_core.specs.Further.{IsAheadInTurn, follow_notes}
+use Rattle.rt_core.specs.Further.{Follows as CoreFollows}
+use Rattle.rt_core.specs.Settling.{SettlesOut}
+use Rattle.rt_journal_desk.specs.Spending.{left_of}
+use Rattle.rt_taskqueue.specs.Fronts.{IsPolled as IsPolledIn}
+use Rattle.rt_journal.specs.Whole.{Begins, LeavesTurn}
 use Rattle.rt_journal.proofs.Ahead.{picked_did}
+use Rattle.rt_journal.proofs.Beginnings.{IsBeginning, StandsInTurn, leaves_turn}
+use Rattle.rt_journal.proofs.Followed.{followed_did}
 use Rattle.rt_journal.proofs.QuietSteps.{nobody, everyone, HasDone, view_of, quiet_invariant, quiet_now, given_settled}
 use Rattle.rt_journal.proofs.QuietSteps.{HasStepped, MayNote, quiet_noted}
 use Rattle.rt_journal.proofs.SentNotes.{HasSaid, SaysNoMore, all_posted, has_said}
@@ -24,98 +34,115 @@ outs_kept old new stays ends outs = record {
   lanes = λ core end there. let had = outs.lanes core end there in record { lane = had.lane; is = ap (λ lanes. slice_get lanes core) stays.lanes ∙ had.is; lane_of = had.lane_of };
 }
 
--- the notes of the pick of the job that is told ahead, whatever core the pick comes to
+-- the notes that begin a poll may be written, and the ends stay beside the desk that wrote them
 module _ {J T : Type 0} {meaning : Meaning J T}
     (core : CoreView J) (took : List (Envelope J)) (said : DeskView J T)
-    (invariant : IsRecorded meaning (view_of core took said) × (said ≡ desk_of (view_of core took said))) (left : turns said.journal.notes < most_turns)
-    (queue vr : ℕ) (name : JobId) (started : Bool) (job : J) (mid : CoreView J) where
-  abbrev pick_told : List (Note T)
-  pick_told = pick_notes queue vr name started
-
-  did : (marked : Bool) (notes : List (Note T)) → CorePicks core (Ok (goes_out name queue marked job)) mid notes →
-      HasDone meaning (view_of core took said) mid everyone nobody 2 (λ old new. IsPick old name queue marked job new) notes
-  did false notes picks = picked_did (view_of core took said) invariant.0 left mid (Ok (Start name queue job)) notes picks
-  did true notes picks = picked_did (view_of core took said) invariant.0 left mid (Ok (Resume name queue job)) notes picks
-
-  module _ (picks : CorePicks core (Ok (goes_out name queue started job)) mid pick_told) (slice : List (Note T)) (slice_is : slice ≡ pick_told) where
-    module _ (noted : DeskView J T) (wrote : noted ≡ desk_with (reverse slice) said) where
-      pub is_picked : IsRecorded meaning (view_of mid took noted) × (noted ≡ desk_of (view_of mid took noted))
-      is_picked = quiet_invariant core took said invariant slice_is (did started pick_told picks) wrote
-
-      pub has_picked : HasStepped meaning everyone nobody (λ old new. IsPick old name queue started job new) (view_of core took said) (view_of mid took noted)
-      has_picked = quiet_now core took said invariant slice_is (did started pick_told picks) wrote refl
-
--- the same, told before the pick
-module _ {J T : Type 0} {meaning : Meaning J T}
-    (core : CoreView J) (took : List (Envelope J)) (said : DeskView J T)
-    (invariant : IsRecorded meaning (view_of core took said) × (said ≡ desk_of (view_of core took said))) (left : turns said.journal.notes < most_turns)
-    (queue vr : ℕ) (name : JobId) (started woken : Bool) (ahead : IsAhead core queue vr name started woken) (slice : List (Note T)) (slice_is : slice ≡ pick_notes queue vr name started) where
-  pub may_note_pick : {before : RecordedView J T} → view_of core took said ≡ before → length before.journal.notes + 2 ≤ before.journal.room → MayNote said slice
-  may_note_pick =
-      let picks = ahead_picks T core queue vr name started woken ahead in
-      quiet_noted core took said invariant slice_is (did core took said invariant left queue vr name started picks.0 picks.1 started (pick_notes queue vr name started) picks.2)
-
-  pub outs_note_pick : {E : Type 0} {fits : Order J → Outcome J T → Type 0} {out : E → Outward J T} {credited : E → ℕ} (ends : List E) → AreOutsOf fits out credited (desk_of (view_of core took said)) ends →
+    (invariant : IsRecorded meaning (view_of core took said) × (said ≡ desk_of (view_of core took said))) where
+  pub outs_noted : {mid : CoreView J} {most : ℕ} {does : RecordedView J T → RecordedView J T → Type 0} {told slice : List (Note T)} → slice ≡ told → HasDone meaning (view_of core took said) mid everyone nobody most does told →
+      {E : Type 0} {fits : Order J → Outcome J T → Type 0} {out : E → Outward J T} {credited : E → ℕ} (ends : List E) → AreOutsOf fits out credited (desk_of (view_of core took said)) ends →
       (noted : DeskView J T) → noted ≡ desk_with (reverse slice) said → AreOutsOf fits out credited noted ends
-  outs_note_pick {fits = fits} {out = out} {credited = credited} ends outs noted wrote =
-      let picks = ahead_picks T core queue vr name started woken ahead in
-      subst (λ desk. AreOutsOf fits out credited desk ends) (sym (is_picked core took said invariant left queue vr name started picks.0 picks.1 picks.2 slice slice_is noted wrote).1)
-      (outs_kept (view_of core took said) (view_of picks.1 took noted) (assumption (has_picked core took said invariant left queue vr name started picks.0 picks.1 picks.2 slice slice_is noted wrote)) ends outs)
+  outs_noted {mid} slice_is did {fits = fits} {out = out} {credited = credited} ends outs noted wrote =
+      subst (λ desk. AreOutsOf fits out credited desk ends) (sym (quiet_invariant core took said invariant slice_is did wrote).1)
+      (outs_kept (view_of core took said) (view_of mid took noted) (assumption (quiet_now core took said invariant slice_is did wrote refl)) ends outs)
 
--- the notes of a pick are two, and that of a settling is one
+  module _ (queue vr : ℕ) (name : JobId) (started : Bool) where
+    -- the pick of a job, with its notes
+    pub did_pick : turns said.journal.notes < most_turns → (job : J) (mid : CoreView J) → CorePicks {T = T} core (Ok (goes_out name queue started job)) mid (pick_notes queue vr name started) →
+        HasDone meaning (view_of core took said) mid everyone nobody 2 (λ old new. IsPick old name queue started job new) (pick_notes queue vr name started)
+    did_pick left job mid picks = by_start started (pick_notes queue vr name started) picks
+      where
+        by_start : (marked : Bool) (notes : List (Note T)) → CorePicks {T = T} core (Ok (goes_out name queue marked job)) mid notes →
+            HasDone meaning (view_of core took said) mid everyone nobody 2 (λ old new. IsPick old name queue marked job new) notes
+        by_start false notes picks = picked_did (view_of core took said) invariant.0 left mid (Ok (Start name queue job)) notes picks
+        by_start true notes picks = picked_did (view_of core took said) invariant.0 left mid (Ok (Resume name queue job)) notes picks
+
+    -- a further job of the open turn, with its note
+    pub did_follow : (job : J) (mid : CoreView J) → CoreFollows {T = T} core (Some (goes_out name queue started job)) mid (follow_notes name started) →
+        HasDone meaning (view_of core took said) mid everyone nobody 1 (λ old new. IsFurther old name queue started job new) (follow_notes name started)
+    did_follow job mid follows = by_start started (follow_notes name started) follows
+      where
+        by_start : (marked : Bool) (notes : List (Note T)) → CoreFollows {T = T} core (Some (goes_out name queue marked job)) mid notes →
+            HasDone meaning (view_of core took said) mid everyone nobody 1 (λ old new. IsFurther old name queue marked job new) notes
+        by_start false notes follows = followed_did (view_of core took said) invariant.0 mid (Some (Start name queue job)) notes follows
+        by_start true notes follows = followed_did (view_of core took said) invariant.0 mid (Some (Resume name queue job)) notes follows
+
+    -- the same, told before
+    pub pick_ahead : turns said.journal.notes < most_turns → (woken : Bool) → IsAhead core queue vr name started woken →
+        (job : J) × (mid : CoreView J) × HasDone meaning (view_of core took said) mid everyone nobody 2 (λ old new. IsPick old name queue started job new) (pick_notes queue vr name started)
+    pick_ahead left woken ahead = let picks = ahead_picks T core queue vr name started woken ahead in (picks.0, picks.1, did_pick left picks.0 picks.1 picks.2)
+
+    pub follow_ahead : (woken : Bool) → IsAheadInTurn core queue vr name started woken →
+        (job : J) × (mid : CoreView J) × HasDone meaning (view_of core took said) mid everyone nobody 1 (λ old new. IsFurther old name queue started job new) (follow_notes name started)
+    follow_ahead woken ahead = let follows = ahead_follows T core queue vr name started woken ahead in (follows.0, follows.1, did_follow follows.0 follows.1 follows.2)
+
+-- there is room for the note of a settling where there is room for one
+pub one_settled : {J T : Type 0} (said : DeskView J T) (name : JobId) (time : ℕ) (step : Step T) (woken : Bool) → length said.journal.notes < said.journal.room →
+    length said.journal.notes + length (settle_notes name time step woken) ≤ said.journal.room
+one_settled said name time step woken free = grind arith
+
+-- the notes of a pick are two, and those of a further beginning and of a settling are one each
 module _ {J T : Type 0} (said noted : DeskView J T) (slice : List (Note T)) (wrote : noted ≡ desk_with (reverse slice) said) where
   pub noted_pick : (queue vr : ℕ) (name : JobId) (started : Bool) → slice ≡ pick_notes queue vr name started → length noted.journal.notes ≡ length said.journal.notes + 2
   noted_pick queue vr name started slice_is = grind arith
 
+  pub noted_followed : (name : JobId) (started : Bool) → slice ≡ follow_notes name started → length noted.journal.notes ≡ length said.journal.notes + 1
+  noted_followed name started slice_is = grind arith
+
   pub noted_settled : (name : JobId) (time : ℕ) (step : Step T) (woken : Bool) → slice ≡ settle_notes name time step woken → length noted.journal.notes ≡ length said.journal.notes + 1
   noted_settled name time step woken slice_is = grind arith
 
-module _ {J T E : Type 0} {meaning : Meaning J T} (laws : IsMeaning meaning) {out : E → Outward J T} {untouched : E → List ℕ}
+module _ {J T E : Type 0} {meaning : Meaning J T} (laws : IsMeaning meaning) (begins : Begins J T) {out : E → Outward J T} {untouched : E → List ℕ}
     (core : CoreView J) (took : List (Envelope J)) (said : DeskView J T)
-    (invariant : IsRecorded meaning (view_of core took said) × (said ≡ desk_of (view_of core took said))) (few_turns : turns said.journal.notes < most_turns)
-    (queue vr : ℕ) (name : JobId) (started : Bool) (spent : ℕ) (calls : List (Call J T)) (step : Step T) (time : ℕ) (woken : Bool) (core_now : CoreView J)
-    (whole : TurnsWhole meaning core spent calls name queue started (pick_notes queue vr name started) (settled_of step woken) (settle_notes name time step woken) core_now)
-    (slice : List (Note T)) (slice_is : slice ≡ pick_notes queue vr name started) (noted : DeskView J T) (wrote : noted ≡ desk_with (reverse slice) said)
+    (invariant : IsRecorded meaning (view_of core took said) × (said ≡ desk_of (view_of core took said)))
+    (queue polls : ℕ) (name : JobId) (started : Bool) (spent : ℕ) (calls : List (Call J T)) (step : Step T) (time : ℕ) (woken : Bool) (core_now : CoreView J)
+    (mid : CoreView J) (ran : AfterPoll J T) (polled_so : IsPolledIn meaning calls ran) (settles : SettlesOut mid ran spent (settled_of step woken) core_now (settle_notes name time step woken))
+    {most : ℕ} {first_told : List (Note T)} (did : HasDone meaning (view_of core took said) mid everyone nobody most (λ old new. begins old name queue started ran.before new) first_told)
+    (beginning : (picked : RecordedView J T) → begins (view_of core took said) name queue started ran.before picked → IsBeginning (view_of core took said) name queue started ran.before picked)
+    (its_turn : (picked : RecordedView J T) → begins (view_of core took said) name queue started ran.before picked → StandsInTurn queue polls picked.journal.notes)
+    (slice : List (Note T)) (slice_is : slice ≡ first_told) (noted : DeskView J T) (wrote : noted ≡ desk_with (reverse slice) said)
     (left : DeskView J T) (ends later : List E)
     (posted : HasPosted out untouched (record { desk = noted; ends = ends }) (record { desk = left; ends = later })) (written : IsWritten (terms_of_desk left) left.journal.notes) where
   abbrev old : RecordedView J T
   old = view_of core took said
 
   abbrev picked : RecordedView J T
-  picked = view_of whole.mid took noted
+  picked = view_of mid took noted
 
   abbrev polled_view : RecordedView J T
-  polled_view = view_of whole.mid took left
+  polled_view = view_of mid took left
 
   abbrev told : List (Note T)
   told = settle_notes name time step woken
 
   at_pick : IsRecorded meaning picked × (noted ≡ desk_of picked)
-  at_pick = is_picked core took said invariant few_turns queue vr name started whole.ran.before whole.mid whole.picks slice slice_is noted wrote
+  at_pick = quiet_invariant core took said invariant slice_is did wrote
 
-  picks_it : HasStepped meaning everyone nobody (λ old new. IsPick old name queue started whole.ran.before new) old picked
-  picks_it = has_picked core took said invariant few_turns queue vr name started whole.ran.before whole.mid whole.picks slice slice_is noted wrote
+  picks_it : HasStepped meaning everyone nobody (λ old new. begins old name queue started ran.before new) old picked
+  picks_it = quiet_now core took said invariant slice_is did wrote refl
+
+  begun : IsBeginning old name queue started ran.before picked
+  begun = beginning picked picks_it.does_so
 
   rest : left ≡ record noted { journal = record noted.journal { notes = left.journal.notes }; lanes = left.lanes }
   rest = posted_rest noted left ends later posted
 
   said_left : HasSaid meaning left picked polled_view
-  said_left = has_said whole.mid took noted at_pick refl rest written (subst (SaysNoMore noted.journal.notes) (sym (ap (λ desk. desk.journal.notes) posted.desk)) (all_posted posted.notes noted.journal.notes posted.posts))
+  said_left = has_said mid took noted at_pick refl rest written (subst (SaysNoMore noted.journal.notes) (sym (ap (λ desk. desk.journal.notes) posted.desk)) (all_posted posted.notes noted.journal.notes posted.posts))
 
   at_poll : IsRecorded meaning polled_view × (left ≡ desk_of polled_view)
   at_poll = (said_left.sound, said_left.is_its)
 
-  polled : IsPolled meaning whole.ran
-  polled = record { answered = whole.polled.answered; same_task = whole.polled.task; later = whole.polled.later }
+  polled : IsPolled meaning ran
+  polled = record { answered = polled_so.answered; same_task = polled_so.task; later = polled_so.later }
 
   abbrev its_out : JobOut J
-  its_out = record { name = name; queue = queue; woken = is_wake_kept name said.journal.notes; job = whole.ran.before }
+  its_out = record { name = name; queue = queue; woken = is_wake_kept name said.journal.notes; job = ran.before }
 
-  it_is : whole.settles.0 ≡ its_out
-  it_is = same_Some _ _ (sym whole.settles.1 ∙ picks_it.does_so.out)
+  it_is : settles.0 ≡ its_out
+  it_is = same_Some _ _ (sym settles.1 ∙ begun.out)
 
-  last_step : HasDone meaning polled_view core_now everyone (given_settled whole.settles.0.name (settled_of step woken)) 1 (λ old new. Settles meaning old whole.ran spent (settled_of step woken) new) told
-  last_step = settled_did laws polled_view at_poll.0 whole.settles.0 whole.settles.1 core_now whole.ran (ap (λ job. job.job) it_is) polled spent (settled_of step woken) told whole.settles.2
+  last_step : HasDone meaning polled_view core_now everyone (given_settled settles.0.name (settled_of step woken)) 1 (λ old new. Settles meaning old ran spent (settled_of step woken) new) told
+  last_step = settled_did laws polled_view at_poll.0 settles.0 settles.1 core_now ran (ap (λ job. job.job) it_is) polled spent (settled_of step woken) told settles.2
 
   -- the desk and its ends are those of the core between pick and settling
   posts_of : (P : PostView J T E → PostView J T E → Type 0) → P (record { desk = noted; ends = ends }) (record { desk = left; ends = later }) → P (post_of picked ends) (post_of polled_view later)
@@ -125,39 +152,39 @@ module _ {J T E : Type 0} {meaning : Meaning J T} (laws : IsMeaning meaning) {ou
 
   module _ (last : List (Note T)) (last_is : last ≡ told) where
     pub may_settle : length left.journal.notes + 1 ≤ left.journal.room → MayNote left last
-    may_settle = quiet_noted whole.mid took left at_poll last_is last_step refl
+    may_settle = quiet_noted mid took left at_poll last_is last_step refl
 
     module _ (said_now : DeskView J T) (wrote_it : said_now ≡ desk_with (reverse last) left) where
       abbrev new : RecordedView J T
       new = view_of core_now took said_now
 
       pub turned_invariant : IsRecorded meaning new × (said_now ≡ desk_of new)
-      turned_invariant = quiet_invariant whole.mid took left at_poll last_is last_step wrote_it
+      turned_invariant = quiet_invariant mid took left at_poll last_is last_step wrote_it
 
-      has_settled : HasStepped meaning everyone (given_settled whole.settles.0.name (settled_of step woken)) (λ old new. Settles meaning old whole.ran spent (settled_of step woken) new) polled_view new
-      has_settled = quiet_now whole.mid took left at_poll last_is last_step wrote_it refl
+      has_settled : HasStepped meaning everyone (given_settled settles.0.name (settled_of step woken)) (λ old new. Settles meaning old ran spent (settled_of step woken) new) polled_view new
+      has_settled = quiet_now mid took left at_poll last_is last_step wrote_it refl
 
-      settles_it : Settles meaning polled_view whole.ran spent (settled_of step woken) new
+      settles_it : Settles meaning polled_view ran spent (settled_of step woken) new
       settles_it = has_settled.does_so
 
       owes_it : OwesSettled polled_view (settled_of step woken) new
-      owes_it = owes_settled polled_view _ whole.settles.0 whole.settles.1 (settled_of step woken) (λ sender. has_settled.ins sender tt)
+      owes_it = owes_settled polled_view _ settles.0 settles.1 (settled_of step woken) (λ sender. has_settled.ins sender tt)
 
       turned : {does : Doing (PostView J T E) J T} {tells : ℕ → Type 0} → tells spent → Makes does calls (record { desk = noted; ends = ends }) (record { desk = left; ends = later }) →
-          IsPostingTurn meaning does out untouched tells old ends name queue started (settled_of step woken) new later
+          IsPostingTurn meaning begins does out untouched tells old ends name queue started (settled_of step woken) new later
       turned {does} told_it makes = record {
         picked = picked;
         left = polled_view;
-        ran = whole.ran;
+        ran = ran;
         spent = spent;
         told = told_it;
         picks = picks_it.does_so;
         sound = at_pick.0;
         stays = assumption picks_it;
         keeps = λ sender. picks_it.ins sender tt;
-        owed = record { calls = calls; owed = whole.polled.owed; makes = posts_of (Makes does calls) makes };
+        owed = record { calls = calls; owed = polled_so.owed; makes = posts_of (Makes does calls) makes };
         posted = posts_of (HasPosted out untouched) posted;
-        rest = λ i. record { cap = ap (λ desk. desk.cap) rest i; core = whole.mid; journal = left.journal; took = took; lanes = left.lanes };
+        rest = λ i. record { cap = ap (λ desk. desk.cap) rest i; core = mid; journal = left.journal; took = took; lanes = left.lanes };
         silent = said_left.ins;
         polled = polled;
         settles = settles_it;
@@ -165,16 +192,60 @@ module _ {J T E : Type 0} {meaning : Meaning J T} (laws : IsMeaning meaning) {ou
         owes = owes_it;
       }
 
-      pub turned_noted : {credited : E → ℕ} {tells : ℕ → Type 0} → tells spent → Makes (Does (Fits meaning) out credited untouched) calls (lends noted ends) (lends left later) →
-          AreOutsOf (Fits meaning) out credited left later → length said_now.journal.notes ≤ length said.journal.notes + core.cores * (3 * said.cap) + 3 →
-          TurnsNoted meaning out credited untouched tells old ends name queue started (settled_of step woken) new later
-      turned_noted {credited = credited} {tells = tells} told_it makes outs few =
-          let owes = λ (sender : ℕ). subst (λ name. LeavesOwed sender (told_under name (option_map outcome_note (outcome_settled {J = J} (settled_of step woken))) sender) old new) (ap (λ job. job.name) it_is)
-          (record { each = λ inward is. (owes_it whole.settles.0 whole.settles.1 sender).each inward ((said_left.ins sender).each inward ((picks_it.ins sender tt).each inward is)) }) in
-          let may_answer = subst (λ name. MayAnswer meaning took name (settled_of step woken)) (ap (λ job. job.name) (same_Some settles_it.out its_out (sym settles_it.was_out ∙ picks_it.does_so.out)))
-          (its_answer meaning took settles_it.out.name settles_it.out.queue settles_it.sent settles_it.task whole.ran.step (settled_of step woken) (stays_in_line settles_it.out.name left.journal.notes) settles_it.tells settles_it.answered) in
-          let outs_now = outs_kept polled_view new (assumption has_settled) later (subst (λ desk. AreOutsOf (Fits meaning) out credited desk later) at_poll.1 outs) in
+      -- each note of the poll leaves fewer that can be made
+      spends_it : (own : ℕ) → length noted.journal.notes + 1 ≡ length said.journal.notes + own → length said_now.journal.notes + sum_by left_of said_now.lanes ≤ length said.journal.notes + sum_by left_of said.lanes + own
+      spends_it own noted_own = omega (
+        arith,
+        posted.few,
+        noted_own,
+        ap (λ desk. length desk.journal.notes) posted.desk,
+        length-append posted.notes noted.journal.notes,
+        ap (λ desk. sum_by left_of desk.lanes) wrote,
+        ap (λ desk. sum_by left_of desk.lanes) wrote_it,
+        noted_settled left said_now last wrote_it name time step woken last_is,
+      )
+
+      seat : IsSameSeat old new
+      seat =
           let one = picks_it.seat in
           let other = has_settled.seat in
-          let seat : IsSameSeat old new = assumption (other.number ∙ one.number, other.cores ∙ one.cores, other.cap ∙ (ap (λ desk. desk.cap) rest ∙ one.cap), other.room ∙ (ap (λ desk. desk.journal.room) rest ∙ one.room)) in
-          assumption (turned {tells = tells} told_it makes, settles_it.out_now, turned_invariant)
+          assumption (
+            other.number ∙ one.number,
+            other.cores ∙ one.cores,
+            other.cap ∙ (ap (λ desk. desk.cap) rest ∙ one.cap),
+            other.burst ∙ one.burst,
+            other.room ∙ (ap (λ desk. desk.journal.room) rest ∙ one.room),
+          )
+
+      in_turn : LeavesTurn core_now.bursts.burst queue polls new.journal.notes
+      in_turn =
+          subst (LeavesTurn core_now.bursts.burst queue polls) (sym notes_are)
+          (leaves_turn core_now.bursts.burst queue polls settles_it.out.name (unwrap_or ran.told spent) (settled_of step woken) posted.notes posted.posts
+          noted.journal.notes (its_turn picked picks_it.does_so))
+        where
+          notes_are : new.journal.notes ≡ settle_note settles_it.out.name (unwrap_or ran.told spent) (settled_of step woken) ∷ posted.notes ++ noted.journal.notes
+          notes_are = ap (λ journal. journal.notes) settles_it.journal ∙ ap (λ desk. settle_note settles_it.out.name (unwrap_or ran.told spent) (settled_of step woken) ∷ desk.journal.notes) posted.desk
+
+      pub turned_noted : {credited : E → ℕ} {tells : ℕ → Type 0} → tells spent → Makes (Does (Fits meaning) out credited untouched) calls (lends noted ends) (lends left later) →
+          AreOutsOf (Fits meaning) out credited left later → (own : ℕ) → length noted.journal.notes + 1 ≡ length said.journal.notes + own → sum_by left_of said.lanes ≤ core.cores * (3 * said.cap) →
+          TurnsNoted meaning begins out credited untouched tells own polls old ends name queue started (settled_of step woken) new later
+      turned_noted {credited = credited} {tells = tells} told_it makes outs own noted_own few_left =
+          let owes = λ (sender : ℕ). subst (λ name. LeavesOwed sender (told_under name (option_map outcome_note (outcome_settled {J = J} (settled_of step woken))) sender) old new) (ap (λ job. job.name) it_is)
+          (record { each = λ inward is. (owes_it settles.0 settles.1 sender).each inward ((said_left.ins sender).each inward ((picks_it.ins sender tt).each inward is)) }) in
+          let may_answer = subst (λ name. MayAnswer meaning took name (settled_of step woken)) (ap (λ job. job.name) (same_Some settles_it.out its_out (sym settles_it.was_out ∙ begun.out)))
+          (its_answer meaning took settles_it.out.name settles_it.out.queue settles_it.sent settles_it.task ran.step (settled_of step woken) (stays_in_line settles_it.out.name left.journal.notes) settles_it.tells settles_it.answered) in
+          let spends = spends_it own noted_own in
+          record {
+            turns = turned {tells = tells} told_it makes;
+            owes = owes;
+            may_answer = may_answer;
+            outs = outs_kept polled_view new (assumption has_settled) later (subst (λ desk. AreOutsOf (Fits meaning) out credited desk later) at_poll.1 outs);
+            few = omega (arith, spends, few_left);
+            spends = spends;
+            left = few_left;
+            in_turn = in_turn;
+            at_rest = settles_it.out_now;
+            took = refl;
+            seat = seat;
+            sound = turned_invariant.0;
+          }

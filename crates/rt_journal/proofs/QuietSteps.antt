@@ -42,6 +42,14 @@ module _ {T : Type 0} (notes : Journal T) where
   quiet-picked name queue runtime false = assumption
   quiet-picked name queue runtime true = assumption
 
+  -- the note of a further poll, and that of the end of a turn
+  pub quiet-followed : (name : JobId) (was_started : Bool) → IsQuiet everyone nobody notes (poll_note name was_started ∷ notes)
+  quiet-followed name false = assumption
+  quiet-followed name true = assumption
+
+  pub quiet-turned : (queue time : ℕ) → IsQuiet everyone nobody notes (writes.Turned queue time ∷ notes)
+  quiet-turned queue time = assumption
+
   -- a poll that is settled
   pub quiet-settled : (name : JobId) (time : ℕ) (settled : Settled T) → IsQuiet everyone (given_settled name settled) notes (settle_note name time settled ∷ notes)
   quiet-settled name time (came.Finished out) = assumption
@@ -70,6 +78,7 @@ module _ {J T : Type 0} (old : RecordedView J T) (core : CoreView J) (written : 
       pub kept : IsKept (terms_at old) core longer
       pub number : core.core ≡ old.core.core
       pub cores : core.cores ≡ old.core.cores
+      pub burst : core.bursts.burst ≡ old.core.bursts.burst
       pub room : core.queues.room ≡ old.core.queues.room
       pub quiet : IsQuiet keeps gives old.journal.notes longer
       pub ungiven : (sender : ℕ) (inward : Inward J T) → IsInOf sender old inward → IsUngiven (gives sender) inward.given
@@ -83,7 +92,7 @@ module _ {J T : Type 0} {meaning : Meaning J T}
   new = stepped old core written
 
   terms_now : terms_at old ≡ terms_at new
-  terms_now = λ i. record { actor = sym step.number i; cores = sym step.cores i; cap = old.cap }
+  terms_now = λ i. record { actor = sym step.number i; cores = sym step.cores i; cap = old.cap; burst = sym step.burst i }
 
   pub recorded_step : IsRecorded meaning new
   recorded_step = record {
@@ -99,7 +108,7 @@ module _ {J T : Type 0} {meaning : Meaning J T}
   }
 
   pub seat_step : IsSameSeat old new
-  seat_step = record { number = step.number; cores = step.cores; cap = refl; room = refl }
+  seat_step = record { number = step.number; cores = step.cores; cap = refl; burst = step.burst; room = refl }
 
   pub ins_step : (sender : ℕ) → keeps sender → LeavesOwed sender (gives sender) old new
   ins_step sender kept = keeps_in old new seat_step sender _ (step.quiet.given sender) (step.quiet.gates sender kept) (step.ungiven sender) (ap length (step.quiet.delivered sender)) (λ name order from at. at)
@@ -131,8 +140,8 @@ module _ {J T : Type 0} where
   view_of core took said = record { cap = said.cap; core = core; journal = said.journal; took = took; lanes = said.lanes }
 
   -- the desk is the one of its core
-  pub desk_is : (said : DeskView J T) (core : CoreView J) (took : List (Envelope J)) → said.actor ≡ core.core → said.cores ≡ core.cores → said ≡ desk_of (view_of core took said)
-  desk_is said core took actor cores = λ i. record { actor = actor i; cores = cores i; cap = said.cap; journal = said.journal; lanes = said.lanes }
+  pub desk_is : (said : DeskView J T) (core : CoreView J) (took : List (Envelope J)) → said.actor ≡ core.core → said.cores ≡ core.cores → said.burst ≡ core.bursts.burst → said ≡ desk_of (view_of core took said)
+  desk_is said core took actor cores burst = λ i. record { actor = actor i; cores = cores i; cap = said.cap; burst = burst i; journal = said.journal; lanes = said.lanes }
 
 -- what a desk asks of the notes that it writes
 pub record MayNote {J T : Type 0} (said : DeskView J T) (slice : List (Note T)) : Type 0 where
@@ -182,7 +191,8 @@ module _ {J T : Type 0} {meaning : Meaning J T}
     quiet_invariant = (
       subst (IsRecorded meaning) (sym now_is) (recorded_step old invariant.0 after (reverse notes) did.step),
       desk_is said_now after took (ap (λ desk. desk.actor) now_written ∙ (ap (λ desk. desk.actor) invariant.1 ∙ sym did.step.number))
-          (ap (λ desk. desk.cores) now_written ∙ (ap (λ desk. desk.cores) invariant.1 ∙ sym did.step.cores)),
+          (ap (λ desk. desk.cores) now_written ∙ (ap (λ desk. desk.cores) invariant.1 ∙ sym did.step.cores))
+          (ap (λ desk. desk.burst) now_written ∙ (ap (λ desk. desk.burst) invariant.1 ∙ sym did.step.burst)),
     )
 
     module _ {before : RecordedView J T} (view_is : old ≡ before) where
@@ -197,6 +207,6 @@ module _ {J T : Type 0} {meaning : Meaning J T}
         seat = seat_step old invariant.0 after (reverse notes) did.step;
         ins = ins_step old invariant.0 after (reverse notes) did.step;
         outs = keeps_outs (desk_of old) (desk_of (stepped old after (reverse notes)))
-            (λ i. record { actor = did.step.number i; cores = did.step.cores i; cap = old.cap; journal = with_notes (reverse notes) old.journal; lanes = old.lanes }) did.step.quiet.sent;
+            (λ i. record { actor = did.step.number i; cores = did.step.cores i; cap = old.cap; burst = did.step.burst i; journal = with_notes (reverse notes) old.journal; lanes = old.lanes }) did.step.quiet.sent;
         lanes = refl;
       })

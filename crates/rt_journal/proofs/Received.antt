@@ -174,7 +174,7 @@ module _ {J T : Type 0} {meaning : Meaning J T} (laws : IsMeaning meaning)
           }
 
   terms_now : terms_at old ≡ terms_at received
-  terms_now = λ i. record { actor = sym done.number i; cores = sym done.cores i; cap = old.cap }
+  terms_now = λ i. record { actor = sym done.number i; cores = sym done.cores i; cap = old.cap; burst = sym done.burst i }
 
   pub recorded_now : IsRecorded meaning received
   recorded_now = record {
@@ -219,7 +219,7 @@ module _ {J T : Type 0} {meaning : Meaning J T} (laws : IsMeaning meaning)
     pub received_now : HasReceived meaning envelope told old new
     received_now = subst (HasReceived meaning envelope told old) (sym is) (record {
       sound = recorded_now laws old recorded envelope told core (reverse written) done next;
-      seat = record { number = done.number; cores = done.cores; cap = refl; room = refl };
+      seat = record { number = done.number; cores = done.cores; cap = refl; burst = done.burst; room = refl };
       receives = record { notes = reverse written; delivery = done.delivery; journal = refl; took = refl; out = done.out; lists = done.lists; delivered = done.delivered };
       gives = done.given;
       stands = here laws old recorded envelope told core (reverse written) done next;

@@ -1,5 +1,5 @@
 -- A refusal by a shut gate is right only where the gate had let through what this actor had sent.
-use Rattle.rt_journal.proofs.Names.{◌≡◌, ℕ, true, false, List, [], ◌∷◌, ◌++◌, length, Some, Ok, Err, refl, sym, ◌∙◌, ap, arith}
+use Rattle.rt_journal.proofs.Names.{inl, ◌≡◌, ℕ, true, false, List, [], ◌∷◌, ◌++◌, length, Some, Ok, Err, refl, sym, ◌∙◌, ap, arith}
 use Rattle.rt_journal.proofs.Names.{Note, Journal, Job}
 use Rattle.rt_ids.specs.declared.note.Note.TheVariants as writes
 use Rattle.rt_ids.specs.declared.order.SendError.TheVariants as refused
@@ -21,7 +21,7 @@ behind P (note ∷ later) before each = behind P later before each.1
 -- a first poll that noted nothing was refused, and only a gate that is shut before the first order refuses it
 refused_first : (count : ℕ) → (0 ≡ count → ⊥) → AreOwed count (writes.Yield job 5 ∷ begun) → ⊥
 refused_first count unshut owed =
-    let its = its_poll (shut_at count) submits_twice 5 steps.Yield [] false 0 0 first tt owed.0 in
+    let its = its_poll (shut_at count) submits_twice 5 steps.Yield [] false (writes.Pick 0 0 ∷ first) tt owed.0 in
     let wrong : ◌≡◌ {A = ℕ} 0 2 = ap length (sym its.wrote) ∙ two_notes (shut_at count) unshut its.calls its.owed.0 its.right in
     omega arith
 
@@ -36,8 +36,8 @@ after_the_last = (
       calls = Submit 1 (Job 0 small_job) (Err (refused.Closed (Job 0 small_job) 1)) ∷ [];
       told = Some 5;
       was_started = true;
-      runtime = 5;
-      earlier = accepted ++ begun;
+      earlier = writes.Pick 0 5 ∷ accepted ++ begun;
+      due = inl refl;
       stands = refl;
       right = ((refl, refl, refl), tt);
       owed = (record { answer = Err (refused.Closed (Job 0 small_job) 1); are = refl }, refl, refl);
@@ -58,8 +58,8 @@ after_the_last = (
             calls = Submit 1 (Job 0 small_job) (Ok (sent 1)) ∷ Detach (sent 1) (Ok tt) ∷ [];
             told = Some 5;
             was_started = false;
-            runtime = 0;
-            earlier = first;
+            earlier = writes.Pick 0 0 ∷ first;
+            due = inl refl;
             stands = refl;
             right = (
               (record { sender = refl; receiver = omega arith; next = refl; in_range = omega arith; credit = omega arith; spelled = omega arith }, refl, tt),

@@ -14,7 +14,7 @@ use Rattle.rt_journal.specs.OwedPolls.{IsPollOf}
 use Rattle.rt_journal.specs.RightAnswers.{Seen, posted_notes}
 use Rattle.rt_journal.specs.ScriptPolls.{SettlesWord, IsWordOf, IsPolledByWords}
 use Rattle.rt_journal.proofs.OwedNotes.{SettleNothing, polls_made-longer, posted_settle_nothing}
-use Rattle.rt_journal.proofs.OwedSteps.{pick_settles_nothing}
+use Rattle.rt_journal.proofs.OwedSteps.{begin_settles_nothing}
 
 -- a poll that is done stands last, and each other before it
 done_last : (polls : List Poll) → EndsDone polls → (place time value : ℕ) → slice_get polls place ≡ Some (poll.Done time value) → place + 1 ≡ length polls
@@ -71,8 +71,8 @@ module _ (terms : Terms) (seen : Seen Script) (queue : ℕ) (sent : Script) (nam
   counted : polls_made name before ≡ polls_made name its.earlier
   counted =
       ap (polls_made name) its.stands
-      ∙ (polls_made-longer name (posted_notes its.calls) (poll_note name its.was_started ∷ writes.Pick queue its.runtime ∷ its.earlier) (posted_settle_nothing its.calls)
-      ∙ polls_made-longer name (poll_note name its.was_started ∷ writes.Pick queue its.runtime ∷ []) its.earlier (pick_settles_nothing ℕ name its.was_started queue its.runtime))
+      ∙ (polls_made-longer name (posted_notes its.calls) (poll_note name its.was_started ∷ its.earlier) (posted_settle_nothing its.calls)
+      ∙ polls_made-longer name (poll_note name its.was_started ∷ []) its.earlier (begin_settles_nothing ℕ name its.was_started))
 
   by_word : (at : Option Poll) → Does at its.calls step its.told → slice_get sent.polls place ≡ at → IsWordOf sent name time step before
   by_word None does at = absurd does

@@ -17,7 +17,7 @@ use Rattle.rt_journal.proofs.QuietSteps.{nobody, held_on, view_of, desk_is}
 
 -- the longer journal says no more of the core, of what was delivered and given, of gates and of polls
 pub record SaysNoMore {T : Type 0} (old new : Journal T) : Type 1 where
-  pub agrees : {J : Type 0} (core : CoreView J) → Agrees core old → Agrees core new
+  pub agrees : {J : Type 0} {burst : ℕ} (core : CoreView J) → Agrees burst core old → Agrees burst core new
   pub delivered : (sender : ℕ) → delivered_names sender new ≡ delivered_names sender old
   pub given : (sender : ℕ) → given_outcomes sender new ≡ given_outcomes sender old
   pub gates : (sender : ℕ) → final_count sender new ≡ final_count sender old
@@ -93,7 +93,7 @@ module _ {J T : Type 0} (old : RecordedView J T) (longer : Journal T) (lanes : L
 
     pub ins_silent : (sender : ℕ) → KeepsIn sender old new
     ins_silent sender =
-        keeps_in old new (record { number = refl; cores = refl; cap = refl; room = refl }) sender None (silent.given sender) (silent.gates sender) (λ inward is. tt) (ap length (silent.delivered sender)) (λ which order from at. at)
+        keeps_in old new (record { number = refl; cores = refl; cap = refl; burst = refl; room = refl }) sender None (silent.given sender) (silent.gates sender) (λ inward is. tt) (ap length (silent.delivered sender)) (λ which order from at. at)
 
 -- what each call of the desk writes
 module _ {J T : Type 0} (said now : DeskView J T) where
@@ -141,6 +141,6 @@ module _ {J T : Type 0} {meaning : Meaning J T}
       record {
         sound = subst (IsRecorded meaning) (sym now_is)
             (recorded_silent old now.journal.notes now.lanes silent invariant.0 (subst (λ terms. IsWritten terms now.journal.notes) (ap terms_of_desk rest ∙ ap terms_of_desk invariant.1) written));
-        is_its = desk_is now inside took (ap (λ desk. desk.actor) rest ∙ ap (λ desk. desk.actor) invariant.1) (ap (λ desk. desk.cores) rest ∙ ap (λ desk. desk.cores) invariant.1);
+        is_its = desk_is now inside took (ap (λ desk. desk.actor) rest ∙ ap (λ desk. desk.actor) invariant.1) (ap (λ desk. desk.cores) rest ∙ ap (λ desk. desk.cores) invariant.1) (ap (λ desk. desk.burst) rest ∙ ap (λ desk. desk.burst) invariant.1);
         ins = λ sender. subst (λ before. KeepsIn sender before (view_of inside took now)) view_is (subst (KeepsIn sender old) (sym now_is) (ins_silent old now.journal.notes now.lanes silent sender));
       }

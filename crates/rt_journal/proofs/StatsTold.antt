@@ -24,7 +24,10 @@ use Rattle.rt_ids.specs.Lawful.{MayFollow}
 use Rattle.rt_ids.specs.Limits.{most_turns}
 use Rattle.rt_ids.proofs.RuntimeBound.{no_runtime_wraps}
 use Rattle.rt_stats.specs.Stats.{stats_of}
-use Rattle.rt_stats.specs.Sums.{waiting_count}
+use Rattle.rt_stats.specs.Sums.{finished_count, queue_of_told, waiting_count}
+use Rattle.std.specs.Prelude.{Bool, true, false}
+use Rattle.rt_ids.specs.Filters.{name_finished}
+use Rattle.rt_journal.specs.Figures.{counted_up}
 use Rattle.rt_stats.proofs.WaitingLaw.{waiting_is_line}
 use Rattle.rt_core.specs.Closing as closing
 use Rattle.rt_journal.specs.Recorded.{terms_at}
@@ -112,11 +115,20 @@ module _ {T : Type 0} (terms : Terms) where
       by_note _ law within = omega (arith, within)
 
   -- so a virtual runtime is never cut
-  runtime_fits : (queue : ℕ) (journal : Journal T) → EachNote (MayStand terms) journal → virtual_runtime queue journal ≡ min (virtual_runtime queue journal) (2 ^ 128 - 1)
+  runtime_fits : (queue : ℕ) (journal : Journal T) → EachNote (MayStand terms) journal → virtual_runtime terms.burst queue journal ≡ min (virtual_runtime terms.burst queue journal) (2 ^ 128 - 1)
   runtime_fits queue journal notes =
       let low = no_runtime_wraps terms queue journal notes in
       let few = turns_within journal notes in
       omega arith
+
+-- no more jobs are done than there are notes
+finished-within : {T : Type 0} (queue : ℕ) (journal : Journal T) → finished_count queue journal ≤ length journal
+finished-within queue [] = omega arith
+finished-within queue (note ∷ before) = omega (arith, finished-within queue before, small (is_number queue (queue_of_told (name_finished note) before)))
+  where
+    small : (test : Bool) → number_if test ≤ 1
+    small true = omega arith
+    small false = omega arith
 
 module _ {J T : Type 0} {meaning : Meaning J T} (view : RecordedView J T) (recorded : IsRecorded meaning view) where
   pub core_told : (told : CoreStats) → told ≡ core_stats view.core told.drained → IsTrue told.drained ↔ closing.IsDrained view.core → TellsCore view.core.cores view.journal.notes told
@@ -138,28 +150,32 @@ module _ {J T : Type 0} {meaning : Meaning J T} (view : RecordedView J T) (recor
   waits : (queue : ℕ) → length (waiting_of queue view.core.queues) + length (parked_of queue view.core.queues) ≡ waiting_count queue view.journal.notes
   waits queue = waits_told queue ∙ sym (waiting_is_line (terms_at view) queue view.journal.notes recorded.kept.notes)
 
+  -- there are fewer notes than jobs that a core counts as done
+  finished_fits : length view.journal.notes < 2 ^ 32 → (queue : ℕ) → finished_count queue view.journal.notes ≡ counted_up (finished_count queue view.journal.notes)
+  finished_fits few queue = omega (arith, finished-within queue view.journal.notes, few)
+
   -- all numbers of a queue
-  sums_of : (queue : ℕ) → queue < queue_count view.core.queues → queue_stats queue view.core ≡ stats_of queue view.journal.notes
-  sums_of queue within = λ i. record {
+  sums_of : length view.journal.notes < 2 ^ 32 → (queue : ℕ) → queue < queue_count view.core.queues → queue_stats queue view.core ≡ stats_of view.core.bursts.burst queue view.journal.notes
+  sums_of few queue within = λ i. record {
     shares = recorded.kept.agrees.weights queue within i;
     selected = (recorded.kept.agrees.figures queue i).selected;
     runtime = (recorded.kept.agrees.figures queue i).time;
     virtual_runtime = (recorded.kept.agrees.runtimes queue ∙ runtime_fits (terms_at view) queue view.journal.notes recorded.kept.notes) i;
     waiting = waits queue i;
-    finished = (recorded.kept.agrees.figures queue i).finished;
+    finished = (ap (λ figures. figures.finished) (recorded.kept.agrees.figures queue) ∙ sym (finished_fits few queue)) i;
     returned = (recorded.kept.agrees.figures queue i).returned;
   }
 
-  pub queues_told : (count : ℕ) (told : List QueueStats) → count ≡ queue_count view.core.queues →
-      ((queue : ℕ) → queue < queue_count view.core.queues → slice_get told queue ≡ Some (queue_stats queue view.core)) → TellsQueues view.journal.notes count told
-  queues_told count told count_is at = record {
+  pub queues_told : length view.journal.notes < 2 ^ 32 → (count : ℕ) (told : List QueueStats) → count ≡ queue_count view.core.queues →
+      ((queue : ℕ) → queue < queue_count view.core.queues → slice_get told queue ≡ Some (queue_stats queue view.core)) → TellsQueues view.core.bursts.burst view.journal.notes count told
+  queues_told few count told count_is at = record {
     count_is = count_is ∙ recorded.kept.agrees.last;
     each = λ queue known.
         let within : queue < queue_count view.core.queues = omega (arith, known, recorded.kept.agrees.last) in (
           queue_stats queue view.core,
           at queue within,
           record {
-            sums = sums_of queue within;
+            sums = sums_of few queue within;
             runtime_is = recorded.kept.agrees.runtimes queue;
             waiting_are = waits_told queue;
           },

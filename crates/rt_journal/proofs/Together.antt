@@ -7,6 +7,9 @@ use Rattle.rt_journal.proofs.Names.{accepted_orders, delivered_names, given_outc
 use Rattle.rt_journal.proofs.Names.{LinksAgree, DeliversAs, DeliversAsSent, Journal, EachNote, IsLawful, MayStand}
 use Rattle.rt_journal.proofs.Names.{MayWrite, jobs_out, without_job, Meaning, Outward, Inward, Joined, IsJobOut}
 use Rattle.rt_journal.proofs.Names.{numbered_orders, DeskView, terms_of_desk, RecordedView, terms_at, note_taken}
+use Rattle.rt_journal.proofs.Names.{cond}
+use Rattle.rt_ids.proofs.OpenTurns.{none_either}
+use Rattle.rt_ids.specs.Bursts.{has_bursts, queue_begun_last, queue_in_turn}
 use Rattle.rt_journal.proofs.Names.{order_taken, IsOutOf, IsInOf, name_of, named_outcomes, AreTogether, IsAssemblyOf}
 use Rattle.rt_journal.proofs.Names.{suc, zero, ◌++◌, ◌-◌, if_from, with_last, IsNextDelivered, MayFollow}
 use Rattle.rt_ids.specs.declared.note.Note.TheVariants as writes
@@ -65,30 +68,33 @@ module _ {T : Type 0} (terms : Terms) (sender : ℕ) where
 
 -- an actor that is no core polls nothing and carries nothing out
 module _ {T : Type 0} (terms : Terms) (outside : terms.cores ≤ terms.actor) where
-  by_note : (under : JobId → Option (Order (Unit {0}))) (note : Note T) (before : Journal T) → MayWrite terms note → DeliversAs under note before × (jobs_out before ≡ [] → jobs_out (note ∷ before) ≡ [])
-  by_note under (writes.Sent name order) before writer = (tt, λ rest. rest)
-  by_note under (writes.Collected name outcome) before writer = (tt, λ rest. rest)
-  by_note under (writes.Redeemed name outcome) before writer = (tt, λ rest. rest)
-  by_note under (writes.Detached name) before writer = (tt, λ rest. rest)
+  by_note : (under : JobId → Option (Order (Unit {0}))) (note : Note T) (before : Journal T) → MayWrite terms note → DeliversAs under note before × (jobs_out before ≡ [] → jobs_out (note ∷ before) ≡ []) × (queue_begun_last (note ∷ before) ≡ queue_begun_last before)
+  by_note under (writes.Sent name order) before writer = (tt, (λ rest. rest), refl)
+  by_note under (writes.Collected name outcome) before writer = (tt, (λ rest. rest), refl)
+  by_note under (writes.Redeemed name outcome) before writer = (tt, (λ rest. rest), refl)
+  by_note under (writes.Detached name) before writer = (tt, (λ rest. rest), refl)
   by_note under _ before writer = absurd (omega (arith, writer, outside))
 
-  by_notes : (under : JobId → Option (Order (Unit {0}))) (journal : Journal T) → EachNote (MayStand terms) journal → EachNote (DeliversAs under) journal × (jobs_out journal ≡ [])
-  by_notes under [] notes = (tt, refl)
+  by_notes : (under : JobId → Option (Order (Unit {0}))) (journal : Journal T) → EachNote (MayStand terms) journal → EachNote (DeliversAs under) journal × (jobs_out journal ≡ []) × (queue_begun_last journal ≡ None)
+  by_notes under [] notes = (tt, refl, refl)
   by_notes under (note ∷ before) notes =
-      let rest = by_notes under before notes.1 in let now = by_note under note before notes.0.writer in ((now.0, rest.0), now.1 rest.1)
+      let rest = by_notes under before notes.1 in let now = by_note under note before notes.0.writer in ((now.0, rest.0), now.1 rest.1, now.2 ∙ rest.2)
 
 -- outcomes that are the beginning of others are so under their names
 named-prefix : {J T : Type 0} (sender core : ℕ) (front whole : List (ℕ × Outcome J T)) → IsPrefix front whole → IsPrefix (named_outcomes sender core front) (named_outcomes sender core whole)
 named-prefix sender core front whole starts = (named_outcomes sender core starts.0, ap (named_outcomes sender core) starts.1 ∙ map-append _ front starts.0)
 
 module _ {J T : Type 0} {meaning : Meaning J T}
-    (cores cap : ℕ) (desk : ℕ → DeskView J T) (core : ℕ → RecordedView J T) (out : ℕ → ℕ → Outward J T) (credited : ℕ → ℕ → ℕ) (inward : ℕ → ℕ → Inward J T) (assembly : Assembly T)
-    (are : AreTogether meaning cores cap desk core out credited inward) (is : IsAssemblyOf cores cap desk assembly) where
+    (cores cap burst : ℕ) (desk : ℕ → DeskView J T) (core : ℕ → RecordedView J T) (out : ℕ → ℕ → Outward J T) (credited : ℕ → ℕ → ℕ) (inward : ℕ → ℕ → Inward J T) (assembly : Assembly T)
+    (are : AreTogether meaning cores cap burst desk core out credited inward) (is : IsAssemblyOf cores cap burst desk assembly) where
   abbrev notes_at : ℕ → Journal T
   notes_at actor = (desk actor).journal.notes
 
   numbers : (d : ℕ) → d < cores → (core d).core.core ≡ d
   numbers d there = ap (λ desk. desk.actor) (sym (are.desks d there)) ∙ ap (λ terms. terms.actor) (are.actors d (omega (arith, there)))
+
+  burst_at : (d : ℕ) → d < cores → (core d).core.bursts.burst ≡ burst
+  burst_at d there = ap (λ desk. desk.burst) (sym (are.desks d there)) ∙ ap (λ terms. terms.burst) (are.actors d (omega (arith, there)))
 
   notes_are : (d : ℕ) → d < cores → notes_at d ≡ (core d).journal.notes
   notes_are d there = ap (λ desk. desk.journal.notes) (are.desks d there)
@@ -102,20 +108,23 @@ module _ {J T : Type 0} {meaning : Meaning J T}
         no_pick = (are.recorded actor within).kept.no_pick;
         no_answer = (are.recorded actor within).kept.no_answer;
         nobody_out = subst (λ out. IsJobOut out (core actor).journal.notes) (are.at_rest actor within) (are.recorded actor within).kept.agrees.out;
+        no_turn = subst (λ burst. queue_in_turn burst (core actor).journal.notes ≡ None) (sym (burst_at actor within)) (are.no_turn actor within);
       })
 
       outside : cores ≤ actor → IsLawful (terms_of_desk (desk actor)) (notes_at actor)
       outside past =
           let one : cores ≡ actor = omega (arith, past, there) in
+          let rests = by_notes (terms_of_desk (desk cores)) (omega (arith, ap (λ terms. terms.actor) (are.actors cores (omega arith)), ap (λ terms. terms.cores) (are.actors cores (omega arith)))) (λ name. None) (notes_at cores) are.outside.notes in
           subst (λ actor. IsLawful (terms_of_desk (desk actor)) (notes_at actor)) one (record {
             notes = are.outside.notes;
             no_pick = are.outside.no_pick;
             no_answer = are.outside.no_answer;
-            nobody_out = (by_notes (terms_of_desk (desk cores)) (omega (arith, ap (λ terms. terms.actor) (are.actors cores (omega arith)), ap (λ terms. terms.cores) (are.actors cores (omega arith)))) (λ name. None) (notes_at cores) are.outside.notes).1;
+            nobody_out = rests.1;
+            no_turn = ap (λ begun. cond (has_bursts (desk cores).burst) begun None) rests.2 ∙ none_either (has_bursts (desk cores).burst);
           })
 
   terms_are : (actor : ℕ) → actor ≤ cores → terms_of actor assembly ≡ terms_of_desk (desk actor)
-  terms_are actor there = (λ i. record { actor = actor; cores = is.cores_are i; cap = is.cap_is i }) ∙ sym (are.actors actor there)
+  terms_are actor there = (λ i. record { actor = actor; cores = is.cores_are i; cap = is.cap_is i; burst = is.burst_is i }) ∙ sym (are.actors actor there)
 
   within : {actor : ℕ} → actor ≤ assembly.cores → actor ≤ cores
   within known = omega (arith, known, is.cores_are)

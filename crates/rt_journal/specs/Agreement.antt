@@ -5,6 +5,7 @@ use Rattle.rt_ids.specs.declared.names.JobId.{JobId}
 use Rattle.rt_ids.specs.Journal.{Journal, EachNote, is_told}
 use Rattle.rt_ids.specs.Filters.{delivered_names, name_started}
 use Rattle.rt_ids.specs.Work.{queue_of}
+use Rattle.rt_ids.specs.Bursts.{queue_in_turn, polls_in_turn, time_in_turn}
 use Rattle.rt_ids.specs.Runtimes.{virtual_runtime, shares, floor}
 use Rattle.rt_ids.specs.Lines.{line, jobs_out}
 use Rattle.rt_ids.specs.Closing.{queue_mode, core_mode, final_count}
@@ -15,6 +16,7 @@ use Rattle.rt_ids.specs.Parks.{parked, is_wake_kept}
 use Rattle.rt_ids.specs.Picks.{turns}
 use Rattle.rt_taskqueue.specs.Queues.{Marks, Line, Parks, queue_count, shares_of, mode_of, waiting_of, parked_of}
 use Rattle.rt_core.specs.State.{CoreView, JobOut, runtime_of, delivered_of, gate_of}
+use Rattle.rt_core.specs.declared.bursts.OpenTurn.{OpenTurn}
 use Rattle.rt_journal.specs.Figures.{figures_of, figures_told}
 
 module _ {J : Type 0} where
@@ -27,6 +29,12 @@ module _ {J : Type 0} where
 -- what a journal tells of a job that waits: whether it started, and whether a wake of it is kept
 abbrev pub marks_told : {T : Type 0} → JobId → Journal T → Marks
 marks_told name journal = record { started = is_told name_started name journal; woken = is_wake_kept name journal }
+
+module _ {T : Type 0} where
+  -- the turn that is open is the one of the journal, with as many polls and the same time
+  abbrev pub IsOpenTurn : ℕ → Option OpenTurn → Journal T → Type 0
+  IsOpenTurn burst None journal = queue_in_turn burst journal ≡ None
+  IsOpenTurn burst (Some turn) journal = (queue_in_turn burst journal ≡ Some turn.queue) × (turn.polls ≡ polls_in_turn journal) × (turn.time ≡ time_in_turn journal)
 
 module _ {J T : Type 0} where
   -- each of them has the marks that the journal tells
@@ -45,27 +53,30 @@ module _ {J T : Type 0} where
     pub gate_places : length core.gates ≡ core.cores + 1
     pub gates : (sender : ℕ) → gate_of sender core ≡ final_count sender journal
 
-  pub record Agrees (core : CoreView J) (journal : Journal T) : Type 0 where
+  -- a core whose turns have so many polls tells of itself what its journal says
+  pub record Agrees (burst : ℕ) (core : CoreView J) (journal : Journal T) : Type 0 where
+    pub burst_is : core.bursts.burst ≡ burst
     pub tallied : length core.tallies ≡ queue_count core.queues
     pub senders : length core.delivered ≡ core.cores + 1
     pub last : queue_count core.queues ≡ created_count journal + 1
     pub lines : (queue : ℕ) → names_of (waiting_of queue core.queues) ≡ line queue journal
     pub parks : (queue : ℕ) → names_parked (parked_of queue core.queues) ≡ parked queue journal
     pub marks : (queue : ℕ) → AreMarked journal (waiting_of queue core.queues)
-    pub runtimes : (queue : ℕ) → runtime_of queue core ≡ virtual_runtime queue journal
+    pub runtimes : (queue : ℕ) → runtime_of queue core ≡ virtual_runtime burst queue journal
     pub weights : (queue : ℕ) → queue < queue_count core.queues → shares_of queue core.queues ≡ shares queue journal
     pub the_floor : core.floor ≡ floor journal
     pub turns : core.turns ≡ turns journal
     pub out : IsJobOut core.out journal
+    pub turn : IsOpenTurn burst core.bursts.open journal
     pub out_exists : (job : JobOut J) → core.out ≡ Some job → job.queue < queue_count core.queues
     pub delivered : (sender : ℕ) → sender ≤ core.cores → delivered_of sender core ≡ length (delivered_names sender journal)
-    pub figures : (queue : ℕ) → figures_of queue core ≡ figures_told queue journal
+    pub figures : (queue : ℕ) → figures_of queue core ≡ figures_told burst queue journal
     pub closing : AgreesOnClosing core journal
 
 -- the journal is one of notes that may stand where they stand, with no step half done except a poll, and the core agrees with it
 pub record IsKept {J T : Type 0} (terms : Terms) (core : CoreView J) (journal : Journal T) : Type 0 where
   pub is_core : terms.actor < terms.cores
-  pub agrees : Agrees core journal
+  pub agrees : Agrees terms.burst core journal
   pub notes : EachNote (MayStand terms) journal
   pub no_pick : queue_just_picked journal ≡ None
   pub no_answer : effect_awaited journal ≡ None

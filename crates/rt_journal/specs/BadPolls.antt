@@ -21,7 +21,7 @@ abbrev pub sent : ℕ → JobId
 sent number = record { from = 0; to = 1; number = number }
 
 abbrev pub terms : Terms
-terms = record { actor = 0; cores = 2; cap = 4 }
+terms = record { actor = 0; cores = 2; cap = 4; burst = 1 }
 
 -- the job of these polls is the order under each name
 abbrev pub ordered : List Poll → JobId → Option (Order Script)

@@ -30,4 +30,4 @@ module _ (J T : Type 0) where
   abbrev pub PicksRight : Type 0
   PicksRight =
       (terms : Terms) (old new : CoreView J) (name : JobId) (queue : ℕ) (was_started : Bool) (job : J) (journal : Journal T) → IsKept terms old journal →
-      TakesOut old name queue was_started job new → IsRightPick queue (runtime_of queue old) journal
+      TakesOut old name queue was_started job new → IsRightPick terms.burst queue (runtime_of queue old) journal

@@ -1,9 +1,11 @@
 pub mod Agreement
 pub mod BadPolls
 pub mod BadRefusals
+pub mod BadTurns
 pub mod Deliveries
 pub mod Ends
 pub mod Figures
+pub mod Further
 pub mod Laws
 pub mod Lists
 pub mod Owed

@@ -1,5 +1,5 @@
 -- Each step of a core leaves each poll that its journal tells owed.
-use Rattle.std.specs.Prelude.{◌≡◌, ℕ, Bool, Some, List, slice_get, slice_set, Result}
+use Rattle.std.specs.Prelude.{◌≡◌, ◌⊎◌, ℕ, Bool, Some, Option, List, slice_get, slice_set, Result}
 use Rattle.rt_ids.specs.declared.names.JobId.{JobId}
 use Rattle.rt_ids.specs.declared.names.TicketError.{TicketError}
 use Rattle.rt_ids.specs.declared.order.Mode.{Mode}
@@ -22,15 +22,16 @@ use Rattle.rt_journal.specs.OwedPolls.{seen_by, HasOwedPolls}
 use Rattle.rt_journal.specs.Recorded.{RecordedView, desk_of}
 use Rattle.rt_journal.specs.RightAnswers.{Seen, SeesNoLess}
 use Rattle.rt_journal.specs.Steps.{Delivers, CreatesQueue, TellsShut, ClosesItself}
-use Rattle.rt_journal.specs.Turns.{Picks}
+use Rattle.rt_journal.specs.Turns.{IsPick, IsFurther, Picks, Follows, EndsTurn}
 use Rattle.rt_journal.specs.Whole.{IsPostingTurn}
 
 module _ {J T : Type 0} (meaning : Meaning J T) where
-  -- a whole turn settles one poll more, and that one is owed, as far as the ends of its core have seen the links
+  -- a whole turn, and a further poll in place, settles one poll more, and that one is owed, as far as the ends of its core have seen the links
   abbrev pub TurnsKeepOwed : {E : Type 0} → (E → Outward J T) → (E → ℕ) → (E → List ℕ) → (ℕ → Type 0) → Type 0
   TurnsKeepOwed {E} out credited untouched tells =
       (old : RecordedView J T) (ends : List E) (name : JobId) (queue : ℕ) (started : Bool) (settled : Settled T) (new : RecordedView J T) (later : List E) →
-      IsPostingTurn meaning (Does (Fits meaning) out credited untouched) out untouched tells old ends name queue started settled new later →
+      IsPostingTurn meaning IsPick (Does (Fits meaning) out credited untouched) out untouched tells old ends name queue started settled new later
+      ⊎ IsPostingTurn meaning IsFurther (Does (Fits meaning) out credited untouched) out untouched tells old ends name queue started settled new later →
       HasOwedPolls meaning (seen_by out ends) old → HasOwedPolls meaning (seen_by out later) new
 
   -- each other step settles no poll
@@ -40,6 +41,8 @@ module _ {J T : Type 0} (meaning : Meaning J T) where
     pub gate : (sender count : ℕ) → TellsShut old sender count new → HasOwedPolls meaning seen old → HasOwedPolls meaning seen new
     pub closing : (mode : Mode) (closed : Bool) → ClosesItself old mode closed new → HasOwedPolls meaning seen old → HasOwedPolls meaning seen new
     pub pick : (picked : Result (Turn J) PickError) → Picks meaning old picked new → HasOwedPolls meaning seen old → HasOwedPolls meaning seen new
+    pub further : (followed : Option (Turn J)) → Follows old followed new → HasOwedPolls meaning seen old → HasOwedPolls meaning seen new
+    pub end : (time : ℕ) → EndsTurn old time new → HasOwedPolls meaning seen old → HasOwedPolls meaning seen new
 
   -- so does no call of its desk while no job is polled
   pub record CallsKeepOwed (seen : Seen J) (old new : RecordedView J T) : Type 0 where

@@ -1,12 +1,14 @@
 -- That each poll which a journal tells did what its task says.
-use Rattle.std.specs.Prelude.{◌≡◌, ℕ, ◌+◌, Bool, true, Option, Some, List, ◌∷◌, ◌++◌, length, slice_get, IfSome}
+use Rattle.std.specs.Prelude.{◌≡◌, ◌⊎◌, ℕ, ◌+◌, Bool, true, Option, Some, List, ◌∷◌, ◌++◌, length, slice_get, IfSome}
 use Rattle.rt_ids.specs.Terms.{Terms}
 use Rattle.rt_ids.specs.declared.names.JobId.{JobId}
 use Rattle.rt_ids.specs.declared.note.Note.{Note}
 use Rattle.rt_ids.specs.declared.note.Note.TheVariants as writes
 use Rattle.rt_ids.specs.declared.order.Order.{Order}
 use Rattle.rt_ids.specs.declared.order.Order.TheVariants.{Job}
+use Rattle.rt_ids.specs.Bursts.{queue_just_picked}
 use Rattle.rt_ids.specs.Journal.{Journal, EachNote}
+use Rattle.rt_ids.specs.Lawful.{GoesOn}
 use Rattle.rt_jobs.specs.Calls.{Call}
 use Rattle.rt_jobs.specs.Meanings.{Meaning}
 use Rattle.rt_jobs.specs.Steps.{IfDone}
@@ -32,16 +34,16 @@ module _ {J T E : Type 0} (out : E → Outward J T) (ends : List E) where
   seen_by = record { shut = SawShut; sent = SawSent }
 
 module _ {J T : Type 0} (meaning : Meaning J T) (terms : Terms) (seen : Seen J) where
-  -- The poll that a note settles is one that the job `sent` owes. Behind the pick and the note that the poll begins stands what its calls wrote; each
-  -- call is answered as the notes say; and these calls, the step and the told time are what the task says of this poll, counted by the polls before it.
+  -- The poll that a note settles is one that the job `sent` owes. Behind a pick of its queue, or in the open turn of its queue, stands the note that begins the poll, and behind it what its
+  -- calls wrote; each call is answered as the notes say; and these calls, the step and the told time are what the task says of this poll, counted by the polls before it.
   pub record IsPollOf (queue : ℕ) (sent : J) (name : JobId) (time : ℕ) (step : Step T) (before : Journal T) : Type 0 where
     pub calls : List (Call J T)
     pub told : Option ℕ
     pub was_started : Bool
-    pub runtime : ℕ
     pub earlier : Journal T
-    pub stands : before ≡ posted_notes calls ++ poll_note name was_started ∷ writes.Pick queue runtime ∷ earlier
-    pub right : AreRightAnswers terms seen calls (poll_note name was_started ∷ writes.Pick queue runtime ∷ earlier)
+    pub due : (queue_just_picked earlier ≡ Some queue) ⊎ GoesOn terms.burst queue earlier
+    pub stands : before ≡ posted_notes calls ++ poll_note name was_started ∷ earlier
+    pub right : AreRightAnswers terms seen calls (poll_note name was_started ∷ earlier)
     pub owed : meaning.polls sent (meaning.made sent + polls_made name earlier) calls step told
     pub answered : IfDone step (meaning.answers sent)
     pub timed : IfSome told (λ stated. stated ≡ time)

@@ -32,11 +32,11 @@ pub record RecordedView (J T : Type 0) : Type 0 where
 
 -- whose journal it is, and what holds of the whole house
 abbrev pub terms_at : {J T : Type 0} → RecordedView J T → Terms
-terms_at view = record { actor = view.core.core; cores = view.core.cores; cap = view.cap }
+terms_at view = record { actor = view.core.core; cores = view.core.cores; cap = view.cap; burst = view.core.bursts.burst }
 
 -- what the same actor says of its submissions
 abbrev pub desk_of : {J T : Type 0} → RecordedView J T → DeskView J T
-desk_of view = record { actor = view.core.core; cores = view.core.cores; cap = view.cap; journal = view.journal; lanes = view.lanes }
+desk_of view = record { actor = view.core.core; cores = view.core.cores; cap = view.cap; burst = view.core.bursts.burst; journal = view.journal; lanes = view.lanes }
 
 -- a count of the first actors together, the last one included
 abbrev pub sum_upto : (ℕ → ℕ) → ℕ → ℕ

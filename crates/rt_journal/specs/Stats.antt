@@ -16,13 +16,13 @@ module _ {T : Type 0} where
     pub sums : told ≡ core_stats told.drained journal
     pub drained : IsTrue told.drained ↔ IsDrained cores journal
 
-  -- of a queue: all its statistics; its virtual runtime is never cut, and the jobs that wait are those of its line and the parked ones
-  pub record TellsQueue (queue : ℕ) (journal : Journal T) (told : QueueStats) : Type 0 where
-    pub sums : told ≡ stats_of queue journal
-    pub runtime_is : told.virtual_runtime ≡ virtual_runtime queue journal
+  -- of a queue whose turns have so many polls: all its statistics; its virtual runtime is never cut, and the jobs that wait are those of its line and the parked ones
+  pub record TellsQueue (burst queue : ℕ) (journal : Journal T) (told : QueueStats) : Type 0 where
+    pub sums : told ≡ stats_of burst queue journal
+    pub runtime_is : told.virtual_runtime ≡ virtual_runtime burst queue journal
     pub waiting_are : told.waiting ≡ length (line queue journal) + length (parked queue journal)
 
   -- of each queue that there is, by its number
-  pub record TellsQueues (journal : Journal T) (count : ℕ) (told : List QueueStats) : Type 0 where
+  pub record TellsQueues (burst : ℕ) (journal : Journal T) (count : ℕ) (told : List QueueStats) : Type 0 where
     pub count_is : count ≡ created_count journal + 1
-    pub each : (queue : ℕ) → queue ≤ created_count journal → (stats : QueueStats) × (slice_get told queue ≡ Some stats) × TellsQueue queue journal stats
+    pub each : (queue : ℕ) → queue ≤ created_count journal → (stats : QueueStats) × (slice_get told queue ≡ Some stats) × TellsQueue burst queue journal stats

@@ -29,11 +29,11 @@ module _ {T : Type 0} where
   with_notes notes journal = record journal { notes = notes ++ journal.notes }
 
 module _ {J T : Type 0} where
-  -- a core of this number that was just opened, beside a journal of this room
-  abbrev pub opened_beside : ℕ → ℕ → ℕ → ℕ → RecordedView J T
-  opened_beside core cores cap room = record {
+  -- a core of this number that was just opened and whose turns have so many polls, beside a journal of this room
+  abbrev pub opened_beside : ℕ → ℕ → ℕ → ℕ → ℕ → RecordedView J T
+  opened_beside core cores cap room burst = record {
     cap = cap;
-    core = opened core cores ((cores + 1) * cap) 0;
+    core = opened core cores ((cores + 1) * cap) 0 burst;
     journal = record { notes = []; room = room };
     took = [];
     lanes = replicate cores (fresh_lane cap);

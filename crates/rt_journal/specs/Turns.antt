@@ -1,5 +1,5 @@
 -- What a pick does.
-use Rattle.std.specs.Prelude.{◌≡◌, ℕ, ◌-◌, ◌^◌, ◌<◌, ◌≢◌, Some, None, Bool, true, false, List, [], ◌∷◌, Result, Ok, Err}
+use Rattle.std.specs.Prelude.{◌≡◌, ◌⊎◌, ℕ, ◌-◌, ◌^◌, ◌<◌, ◌≢◌, Some, None, IsSome, Bool, true, false, List, [], ◌∷◌, Result, Ok, Err}
 use Rattle.rt_ids.specs.declared.names.JobId.{JobId}
 use Rattle.rt_ids.specs.declared.note.Note.TheVariants as writes
 use Rattle.rt_ids.specs.declared.order.Order.{Order}
@@ -7,6 +7,7 @@ use Rattle.rt_ids.specs.declared.order.Order.TheVariants.{Job}
 use Rattle.rt_ids.specs.declared.order.Reason.{Reason}
 use Rattle.rt_ids.specs.Journal.{is_told}
 use Rattle.rt_ids.specs.Filters.{name_started}
+use Rattle.rt_ids.specs.Bursts.{queue_in_turn}
 use Rattle.rt_ids.specs.Work.{has_work}
 use Rattle.rt_ids.specs.Lines.{line}
 use Rattle.rt_ids.specs.Parks.{is_wake_kept}
@@ -19,6 +20,7 @@ use Rattle.rt_core.specs.declared.turn.PickError.TheVariants.{Busy, Spent}
 use Rattle.rt_journal.specs.Polls.{poll_note}
 use Rattle.rt_journal.specs.Recorded.{RecordedView, order_taken}
 use Rattle.rt_journal.specs.Steps.{with_notes}
+pub use Rattle.rt_journal.specs.Further.{IsFurther, NothingFollows, Follows, EndsTurn}
 pub use Rattle.rt_journal.specs.Settling.{IsOut, IsOutUnder, IsPolled, Settles}
 use Rattle.rt_jobs.specs.Meanings.{Meaning}
 
@@ -28,7 +30,7 @@ module _ {J T : Type 0} where
     pub nobody_out : old.core.out ≡ None
     pub turn_left : turns old.journal.notes < 2 ^ 64 - 1
     pub runtime : ℕ
-    pub right : IsRightPick queue runtime old.journal.notes
+    pub right : IsRightPick old.core.bursts.burst queue runtime old.journal.notes
     pub others : List JobId
     pub first : line queue old.journal.notes ≡ name ∷ others
     pub kept : return_reason queue old.journal.notes ≡ None
@@ -44,7 +46,7 @@ module _ {J T : Type 0} where
       pub turn_left : turns old.journal.notes < 2 ^ 64 - 1
       pub queue : ℕ
       pub runtime : ℕ
-      pub right : IsRightPick queue runtime old.journal.notes
+      pub right : IsRightPick old.core.bursts.burst queue runtime old.journal.notes
       pub others : List JobId
       pub first : line queue old.journal.notes ≡ name ∷ others
       pub returns : return_reason queue old.journal.notes ≡ Some reason
@@ -63,7 +65,7 @@ module _ {J T : Type 0} where
     Picks old (Ok (Resume name queue job)) new = IsPick old name queue true job new
     Picks old (Ok (Back name reason order)) new = IsHandBack old name reason order new
     Picks old (Ok Idle) new = ((queue : ℕ) → has_work queue old.journal.notes ≡ false) × (new ≡ old)
-    Picks old (Err Busy) new = (old.core.out ≢ None) × (new ≡ old)
+    Picks old (Err Busy) new = ((old.core.out ≢ None) ⊎ IsSome (queue_in_turn old.core.bursts.burst old.journal.notes)) × (new ≡ old)
     Picks old (Err Spent) new = (turns old.journal.notes ≡ 2 ^ 64 - 1) × ((queue : ℕ) × (has_work queue old.journal.notes ≡ true)) × (new ≡ old)
 
 -- the pick handed a job back

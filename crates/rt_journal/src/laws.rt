@@ -3,6 +3,7 @@
 ghost use Rattle.std.specs.Prelude.{ℕ};
 ghost use Rattle.rt_journal.specs.BadPolls.{OneIsOwed, PollsAreRefused};
 ghost use Rattle.rt_journal.specs.BadRefusals.{RefusalsAreCounted};
+ghost use Rattle.rt_journal.specs.BadTurns.{FurtherPollsAreCounted};
 ghost use Rattle.rt_journal.specs.Laws.{PicksRight, RefusesAsTold, StaysAsTold, WorksAsTold};
 ghost use Rattle.rt_journal.specs.OwedLaws.{CollectionsSeeNoLess, OthersKeepOwed, TurnsKeepOwed};
 ghost use Rattle.rt_journal.specs.ScriptPolls.{ScriptPollsAreWords};
@@ -37,7 +38,7 @@ pub fn picks_right<J, T>()
     ensures { PicksRight J T }
 {}
 
-/// A whole turn leaves each poll owed that the journal tells: the poll that it settles did what its task says.
+/// A whole turn, and a further poll in place, leaves each poll owed that the journal tells: the poll that it settles did what its task says.
 pub fn turns_owe_polls<J: Task<Out = u64>, O: OutEnd<J>, M: Meter>()
     ensures { (before after : M) → TurnsKeepOwed J.meaning O.out O.credited O.untouched (λ time. M.Tells before time after) }
 {}
@@ -50,11 +51,13 @@ pub fn others_owe_polls<J: Task<Out = u64>, O: OutEnd<J>>()
 
 /// Small journals with a poll that isn't owed are refused: among them one that yields for ever, one whose poll submits nothing, and one in
 /// which another time counts than was told. A journal of a job that submits once and is done isn't. A refusal by a shut gate is right only
-/// behind as many orders as the gate let through: so no order is accepted after it.
+/// behind as many orders as the gate let through: so no order is accepted after it. A further poll is owed in its turn alone, and the turn
+/// has at most as many polls as it may have.
 pub fn bad_polls_are_refused()
     ensures refused { PollsAreRefused }
     ensures owed { OneIsOwed }
     ensures counted { RefusalsAreCounted }
+    ensures further { FurtherPollsAreCounted }
 {}
 
 /// Each poll that a script job owes is a word of its script, in their order: the word's time counts, and the job is done exactly at the last word.

@@ -33,6 +33,7 @@ use rt_taskqueue::CreateError;
 use std::alloc::{AllocError, Allocator, Global};
 use std::marker::Model;
 
+mod further;
 mod tickets;
 mod whole;
 
@@ -65,7 +66,7 @@ impl<J: Task<Out = u64>, A: Allocator + Clone> Model for Recorded<J, A> {
 
 impl<J: Task<Out = u64>, A: Allocator + Clone> Recorded<J, A> {
     /// Opens a core with queue 0 alone, for links of this capacity from `cores` cores and the outside actor, and a journal of
-    /// `room` notes. The core takes its memory from `core_alloc`.
+    /// `room` notes. The core takes its memory from `core_alloc`. Each turn is a single poll.
     pub fn open(
         alloc: Global,
         core_alloc: A,
@@ -75,11 +76,28 @@ impl<J: Task<Out = u64>, A: Allocator + Clone> Recorded<J, A> {
         room: u32,
     ) -> Result<Self, AllocError>
         requires { core < cores }
-        ensures opened { IfOk result (λ recorded. recorded ≡ opened_beside core cores cap room) }
+        ensures opened { IfOk result (λ recorded. recorded ≡ opened_beside core cores cap room 1) }
         ensures sound { IfOk result (λ recorded. IsRecorded J.meaning recorded) }
     {
-        let said = RecordedDesk::open(alloc, ActorNo(core.0), cores, cap, room)?;
-        let core = Core::open(core_alloc, core, cores, cap)?;
+        Self::open_burst(alloc, core_alloc, core, cores, cap, 1, room)
+    }
+
+    /// The same, where each turn may have `burst` polls.
+    pub fn open_burst(
+        alloc: Global,
+        core_alloc: A,
+        core: CoreNo,
+        cores: u8,
+        cap: u16,
+        burst: u8,
+        room: u32,
+    ) -> Result<Self, AllocError>
+        requires { core < cores }
+        ensures opened { IfOk result (λ recorded. recorded ≡ opened_beside core cores cap room burst) }
+        ensures sound { IfOk result (λ recorded. IsRecorded J.meaning recorded) }
+    {
+        let said = RecordedDesk::open_burst(alloc, ActorNo(core.0), cores, cap, burst, room)?;
+        let core = Core::open_burst(core_alloc, core, cores, cap, burst)?;
         Ok(Recorded {
             core,
             took: History::new(),
@@ -221,6 +239,13 @@ impl<J: Task<Out = u64>, A: Allocator + Clone> Recorded<J, A> {
         closed
     }
 
+    /// How many polls a turn may have.
+    pub fn burst(&self) -> u8
+        ensures { result ≡ self.now.core.bursts.burst }
+    {
+        self.said.burst()
+    }
+
     /// How many orders of one sender may be without an outcome.
     pub fn cap(&self) -> u16
         ensures cap { result ≡ self.now.cap }
@@ -258,7 +283,7 @@ impl<J: Task<Out = u64>, A: Allocator + Clone> Recorded<J, A> {
     ///
     /// # Errors
     ///
-    /// `Busy` where a job is out; otherwise `Spent` where all turns are used and a queue has work. Nothing changes.
+    /// `Busy` where a job is out or a turn is open; otherwise `Spent` where all turns are used and a queue has work. Nothing changes.
     pub fn pick(&mut self) -> Result<Turn<J>, PickError>
         requires room { length self.old.journal.notes + 2 ≤ self.old.journal.room }
         ensures picks { Picks J.meaning self.old result self.new }

@@ -16,7 +16,9 @@ pub fn told_stats<J: Task<Out = u64>, A: Allocator + Clone>(
 ) -> (CoreStats, ArrayVec<QueueStats, 256>)
     requires sound { IsRecorded J.meaning recorded.now }
     ensures core { TellsCore recorded.now.core.cores recorded.now.journal.notes result.0 }
-    ensures queues { TellsQueues recorded.now.journal.notes (array_vec_len result.1) result.1.items }
+    ensures queues { TellsQueues recorded.now.core.bursts.burst recorded.now.journal.notes (array_vec_len result.1) result.1.items }
 {
+    // There are fewer notes than jobs that a core counts as done.
+    let _room = recorded.journal().room();
     recorded.core().stats()
 }

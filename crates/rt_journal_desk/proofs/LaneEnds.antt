@@ -14,8 +14,8 @@ module _ {J T : Type 0} (fits : Order J → Outcome J T → Type 0) (core : ℕ)
   }
 
   -- an end on which nothing was done is beside the lane of a desk that was just opened
-  pub fresh_has_lane : (actor cores cap room : ℕ) (out : Outward J T) → core < cores → IsUnused cap out 0 → HasLane fits core (opened_desk actor cores cap room) out 0
-  fresh_has_lane actor cores cap room out known unused = record {
+  pub fresh_has_lane : (actor cores cap room burst : ℕ) (out : Outward J T) → core < cores → IsUnused cap out 0 → HasLane fits core (opened_desk actor cores cap room burst) out 0
+  fresh_has_lane actor cores cap room burst out known unused = record {
     lane = fresh_lane cap;
     is =
         slice_get-get_or (replicate cores (fresh_lane cap)) core (fresh_lane cap) (omega (arith, known, length-replicate cores (fresh_lane {J = J} {T = T} cap)))

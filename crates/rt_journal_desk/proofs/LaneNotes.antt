@@ -17,7 +17,7 @@ use Rattle.rt_journal_desk.proofs.NumberedOrders.{length-numbered, other_name, c
 
 -- a note that takes no turn and is no effect may stand where nothing is awaited
 pub plainly_stands : {T : Type 0} (terms : Terms) (note : Note T) (before : Journal T) → MayWrite terms note → MayFollow terms note before →
-    queue_just_picked before ≡ None → effect_awaited before ≡ None → takes_turn note ≡ false → IsEffectDue None note before →
+    queue_just_picked before ≡ None → effect_awaited before ≡ None → takes_turn terms.burst note before ≡ false → IsEffectDue None note before →
     MayStand terms note before
 plainly_stands terms note before writer law no_pick no_answer plain free =
     record { may_follow = law; turn = rw (no_pick, plain); effect = rw no_answer free; writer = writer }
@@ -30,7 +30,7 @@ pub record IsTicketNote {T : Type 0} (name : JobId) (note : Note T) : Type 0 whe
   pub waits : (other : JobId) (before : Journal T) → same_name other name ≡ false → is_outstanding other (note ∷ before) ≡ is_outstanding other before
   pub no_pick : (before : Journal T) → queue_just_picked (note ∷ before) ≡ None
   pub no_answer : (before : Journal T) → effect_awaited (note ∷ before) ≡ None
-  pub plain : takes_turn note ≡ false
+  pub plain : (burst : ℕ) (before : Journal T) → takes_turn burst note before ≡ false
   pub free : (before : Journal T) → IsEffectDue None note before
   pub writer : (terms : Terms) → MayWrite terms note
 
@@ -128,7 +128,7 @@ module _ {J T : Type 0} (desk : DeskView J T) (known : KnowsLanes desk) (core nu
 
   written_noted : IsWritten (terms_of_desk desk) notes → MayFollow (terms_of_desk desk) note notes → IsWritten (terms_of_desk desk) (note ∷ notes)
   written_noted written law = record {
-    notes = (plainly_stands (terms_of_desk desk) note notes (ticket.writer (terms_of_desk desk)) law written.no_pick written.no_answer ticket.plain (ticket.free notes), written.notes);
+    notes = (plainly_stands (terms_of_desk desk) note notes (ticket.writer (terms_of_desk desk)) law written.no_pick written.no_answer (ticket.plain desk.burst notes) (ticket.free notes), written.notes);
     no_pick = ticket.no_pick notes;
     no_answer = ticket.no_answer notes;
   }

@@ -58,11 +58,6 @@ module _ {J T E : Type 0} {fits : Order J → Outcome J T → Type 0} {out : E �
           subst (λ lane. left_of lane ≤ 3 * desk.cap) same
           (left_within has.lane desk.cap (out end.0) (credited end.0) has.lane_of (outs.beside place end.0 end.1).capacity)
 
-module _ {J T E : Type 0} {fits : Order J → Outcome J T → Type 0} {out : E → Outward J T} {credited : E → ℕ} where
-  pub lent_first : (desk : DeskView J T) (ends : List E) → AreOutsOf fits out credited desk ends → KnowsLanes desk → length desk.journal.notes + desk.cores * (3 * desk.cap) < desk.journal.room →
-      IsLent fits out credited (record { desk = desk; ends = ends })
-  lent_first desk ends outs known room = record { outs = outs; spare = omega (arith, room, room_for desk ends outs known) }
-
 -- posts upon posts
 are_posts : {T : Type 0} (later earlier : List (Note T)) → ArePosts later → ArePosts earlier → ArePosts (later ++ earlier)
 are_posts [] earlier posts before = before

@@ -17,23 +17,24 @@ use Rattle.rt_ids.specs.Lawful.{MayStand, IsNextSent}
 use Rattle.rt_journal_notes.specs.Journals.{JournalView}
 use Rattle.rt_desk.specs.Lanes.{Lane, fresh_lane}
 
--- whose submissions they are, how many cores there are, the capacity of each link, the actor's journal, and what is known of the submissions to each core
+-- whose submissions they are, how many cores there are, the capacity of each link, how many polls a turn may have, the actor's journal, and what is known of the submissions to each core
 pub record DeskView (J T : Type 0) : Type 0 where
   pub actor : ℕ
   pub cores : ℕ
   pub cap : ℕ
+  pub burst : ℕ
   pub journal : JournalView T
   pub lanes : List (Lane J T)
 
 module _ {J T : Type 0} where
   -- whose journal it is, and what holds of the whole house
   abbrev pub terms_of_desk : DeskView J T → Terms
-  terms_of_desk desk = record { actor = desk.actor; cores = desk.cores; cap = desk.cap }
+  terms_of_desk desk = record { actor = desk.actor; cores = desk.cores; cap = desk.cap; burst = desk.burst }
 
   -- a desk whose actor has noted nothing
-  abbrev pub opened_desk : ℕ → ℕ → ℕ → ℕ → DeskView J T
-  opened_desk actor cores cap room =
-      record { actor = actor; cores = cores; cap = cap; journal = record { notes = []; room = room }; lanes = replicate cores (fresh_lane cap) }
+  abbrev pub opened_desk : ℕ → ℕ → ℕ → ℕ → ℕ → DeskView J T
+  opened_desk actor cores cap room burst =
+      record { actor = actor; cores = cores; cap = cap; burst = burst; journal = record { notes = []; room = room }; lanes = replicate cores (fresh_lane cap) }
 
   -- its journal is longer by these notes, the newest first
   abbrev pub desk_with : List (Note T) → DeskView J T → DeskView J T

@@ -26,6 +26,7 @@ pub struct RecordedDesk<J: Task<Out = u64>> {
     actor: ActorNo,
     cores: u8,
     cap: u16,
+    burst: u8,
     journal: Journal<u64>,
     lanes: Vec<Lane<J>, Global>,
 }
@@ -39,15 +40,15 @@ impl<J: Task<Out = u64>> Model for RecordedDesk<J> {
     ghost use Rattle.rt_journal_desk.specs.Submissions.{IsWritten};
     ghost use Rattle.rt_journal_desk.specs.Tickets.{KnowsLanes};
 
-    ghost view = { λ d. record { actor = d.actor; cores = d.cores; cap = d.cap; journal = d.journal; lanes = d.lanes.items } };
+    ghost view = { λ d. record { actor = d.actor; cores = d.cores; cap = d.cap; burst = d.burst; journal = d.journal; lanes = d.lanes.items } };
 
     ghost invariant = { λ d.
-        IsWritten (record { actor = d.actor; cores = d.cores; cap = d.cap }) d.journal.notes
-        × KnowsLanes (record { actor = d.actor; cores = d.cores; cap = d.cap; journal = d.journal; lanes = d.lanes.items }) };
+        IsWritten (record { actor = d.actor; cores = d.cores; cap = d.cap; burst = d.burst }) d.journal.notes
+        × KnowsLanes (record { actor = d.actor; cores = d.cores; cap = d.cap; burst = d.burst; journal = d.journal; lanes = d.lanes.items }) };
 }
 
 impl<J: Task<Out = u64>> RecordedDesk<J> {
-    /// Opens a journal of `room` notes for an actor, who may submit on links of this capacity to `cores` cores.
+    /// Opens a journal of `room` notes for an actor, who may submit on links of this capacity to `cores` cores. Each turn of a core is a single poll.
     /// The other calls ask for no memory; no clause says so.
     pub fn open(
         alloc: Global,
@@ -56,7 +57,22 @@ impl<J: Task<Out = u64>> RecordedDesk<J> {
         cap: u16,
         room: u32,
     ) -> Result<Self, AllocError>
-        ensures opened { IfOk result (λ desk. desk ≡ opened_desk actor cores cap room) }
+        ensures opened { IfOk result (λ desk. desk ≡ opened_desk actor cores cap room 1) }
+        ensures written { IfOk result (λ desk. IsWritten (terms_of_desk desk) desk.journal.notes) }
+    {
+        Self::open_burst(alloc, actor, cores, cap, 1, room)
+    }
+
+    /// The same, where each turn of a core may have `burst` polls.
+    pub fn open_burst(
+        alloc: Global,
+        actor: ActorNo,
+        cores: u8,
+        cap: u16,
+        burst: u8,
+        room: u32,
+    ) -> Result<Self, AllocError>
+        ensures opened { IfOk result (λ desk. desk ≡ opened_desk actor cores cap room burst) }
         ensures written { IfOk result (λ desk. IsWritten (terms_of_desk desk) desk.journal.notes) }
     {
         let lanes = open_lanes(alloc, cores, cap)?;
@@ -65,6 +81,7 @@ impl<J: Task<Out = u64>> RecordedDesk<J> {
             actor,
             cores,
             cap,
+            burst,
             journal,
             lanes,
         })
@@ -72,12 +89,13 @@ impl<J: Task<Out = u64>> RecordedDesk<J> {
 
     /// A desk of no core and no note. It stands where a desk was taken out, until that is put back.
     pub fn nothing(alloc: Global) -> Self
-        ensures { result ≡ opened_desk 0 0 0 0 }
+        ensures { result ≡ opened_desk 0 0 0 0 1 }
     {
         RecordedDesk {
             actor: ActorNo(0),
             cores: 0,
             cap: 0,
+            burst: 1,
             journal: Journal::of(Vec::new(alloc)),
             lanes: Vec::new(alloc),
         }
@@ -88,6 +106,13 @@ impl<J: Task<Out = u64>> RecordedDesk<J> {
         ensures { result ≡ self.now.cap }
     {
         self.cap
+    }
+
+    /// How many polls a turn of a core may have.
+    pub fn burst(&self) -> u8
+        ensures { result ≡ self.now.burst }
+    {
+        self.burst
     }
 
     /// The notes of this actor.

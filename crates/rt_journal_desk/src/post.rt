@@ -46,6 +46,16 @@ impl<J: Task<Out = u64>, O: OutEnd<J>> RecordedPost<J, O> {
         ensures few { sum_by left_of said.lanes ≤ said.cores * (3 * said.cap) }
     {
         said.see_lanes();
+        Self::lend_further(said, ends)
+    }
+
+    /// The same, where an earlier poll of the turn used some of that room. There is room for each note that can be made before the
+    /// next outcome is collected, and for one more.
+    pub fn lend_further(said: RecordedDesk<J>, ends: Vec<O, Global>) -> Self
+        requires outs { AreOutsOf (Fits J.meaning) O.out O.credited said ends.items }
+        requires spare { length said.journal.notes + sum_by left_of said.lanes < said.journal.room }
+        ensures lent { result ≡ record { desk = said; ends = ends.items } }
+    {
         RecordedPost { said, ends }
     }
 

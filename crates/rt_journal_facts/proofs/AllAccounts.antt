@@ -22,15 +22,15 @@ use Rattle.rt_journal_facts.proofs.AccountSteps.{account_known, works}
 use Rattle.rt_journal_facts.proofs.Counts.{parked_from, none_parked}
 
 -- a fresh account says nothing
-fresh_knows : {T : Type 0} (queue : ℕ) → KnowsAccount {T = T} queue fresh_account []
-fresh_knows queue = record { shares = refl; runtime = refl; entered = refl; left = refl; parked = refl }
+fresh_knows : {T : Type 0} (burst queue : ℕ) → KnowsAccount {T = T} burst queue fresh_account []
+fresh_knows burst queue = record { shares = refl; runtime = refl; entered = refl; left = refl; parked = refl }
 
 -- accounts that are all fresh say nothing
-pub all_fresh : {T : Type 0} (count queue : ℕ) (account : Account) → account ≡ fresh_account →
-    KnowsAccount {T = T} queue (get_or (replicate count account) queue fresh_account) []
-all_fresh {T} count queue account is =
-    subst (λ (one : Account). KnowsAccount {T = T} queue one []) (sym (is_fresh count queue))
-    (fresh_knows {T = T} queue)
+pub all_fresh : {T : Type 0} (burst count queue : ℕ) (account : Account) → account ≡ fresh_account →
+    KnowsAccount {T = T} burst queue (get_or (replicate count account) queue fresh_account) []
+all_fresh {T} burst count queue account is =
+    subst (λ (one : Account). KnowsAccount {T = T} burst queue one []) (sym (is_fresh count queue))
+    (fresh_knows {T = T} burst queue)
   where
     is_fresh : (count queue : ℕ) → get_or (replicate count account) queue fresh_account ≡ fresh_account
     is_fresh zero queue = refl
@@ -147,26 +147,26 @@ module _ (old new : Accounts) (so_far : WakesSoFar old new (size old.recent)) wh
       by_either (inl same) = same
       by_either (inr was) = was ∙ woken_nobody old.floor (account_of old queue) none
 
-module _ {T : Type 0} (old new : Accounts) (spot : Spot) (note : Note T) (before : Journal T) (fits : FitsSpot spot note before)
-    (short : length before < greatest_count) (knows : KnowsAccounts old before) where
+module _ {T : Type 0} (burst : ℕ) (old new : Accounts) (spot : Spot) (note : Note T) (before : Journal T) (fits : FitsSpot spot note before)
+    (short : length before < greatest_count) (knows : KnowsAccounts burst old before) where
   -- the accounts after a note, each by what the note says of its queue
   pub all_known : (floor_fits : old.floor ≤ greatest_runtime) → length new.queues ≤ 256 →
-      ((queue : ℕ) → account_of new queue ≡ account_after {T = T} old.floor note (is_number queue spot.queue) (is_number queue spot.parked) (account_of old queue)) →
+      ((queue : ℕ) → account_of new queue ≡ account_after {T = T} burst old.floor note (is_number queue spot.queue) (is_number queue spot.parked) (account_of old queue)) →
       new.floor ≡ max old.floor (runtime_picked note) →
       ((queue : ℕ) → queue < 256 → core_ended note ≡ false → Holds old.recent queue ⊎ (queue_parking note spot.queue ≡ Some queue) → Holds new.recent queue) →
-      KnowsAccounts new (note ∷ before)
+      KnowsAccounts burst new (note ∷ before)
   all_known floor_fits few each floor_is recent = record {
     each = each_known;
     floor = floor_is ∙ ap (λ old. max old (runtime_picked note)) knows.floor;
     recent = λ queue some. by_place queue some (cases_lt queue 256);
   }
     where
-      each_known : (queue : ℕ) → KnowsAccount queue (account_of new queue) (note ∷ before)
+      each_known : (queue : ℕ) → KnowsAccount burst queue (account_of new queue) (note ∷ before)
       each_known queue =
-          subst (λ (one : Account). KnowsAccount queue one (note ∷ before)) (sym (each queue))
+          subst (λ (one : Account). KnowsAccount burst queue one (note ∷ before)) (sym (each queue))
           (
           rw (fits.queue, fits.parked, knows.floor)
-          (account_known queue (account_of old queue) before (subst (λ (it : ℕ). it ≤ greatest_runtime) knows.floor floor_fits) (knows.each queue) short note)
+          (account_known burst queue (account_of old queue) before (subst (λ (it : ℕ). it ≤ greatest_runtime) knows.floor floor_fits) (knows.each queue) short note)
           )
 
       by_end : (queue : ℕ) → queue < 256 → 0 < length (parked queue (note ∷ before)) → (test : Bool) → core_ended note ≡ test → Holds new.recent queue
@@ -192,7 +192,7 @@ no_names [] none = refl
 no_names (name ∷ names) none = absurd (omega (arith, none))
 
 -- an account is empty where its queue has nobody
-module _ {T : Type 0} (queue : ℕ) (account : Account) (journal : Journal T) (knows : KnowsAccount queue account journal) where
+module _ {T : Type 0} {burst : ℕ} (queue : ℕ) (account : Account) (journal : Journal T) (knows : KnowsAccount burst queue account journal) where
   pub has_nobody : IsEmpty account → HasNobody queue journal
   has_nobody empty = record {
     idle = sym (works queue account journal knows) ∙ empty.idle;
@@ -211,16 +211,16 @@ ended_speaks (CoreClosed mode) before ended = (refl, refl)
 ended_speaks note before ended = absurd (true≢false (sym ended))
 
 -- an account after what a note says of its queue and of a job that is parked there
-abbrev pub spoken : ℕ → Note ℕ → Bool → Bool → Account → Account
-spoken at note own parked account =
-    cond own (own_after at note (cond parked (released_after at note account) account)) (cond parked (released_after at note account) account)
+abbrev pub spoken : ℕ → ℕ → Note ℕ → Bool → Bool → Account → Account
+spoken burst at note own parked account =
+    cond own (own_after burst at note (cond parked (released_after at note account) account)) (cond parked (released_after at note account) account)
 
-module _ (old released changed : Accounts) (spot : Spot) (note : Note ℕ)
+module _ (burst : ℕ) (old released changed : Accounts) (spot : Spot) (note : Note ℕ)
     (release : (other : ℕ) → account_of released other ≡ cond (is_number other spot.parked) (released_after old.floor note (account_of old other)) (account_of old other))
-    (change : (other : ℕ) → account_of changed other ≡ cond (is_number other spot.queue) (own_after released.floor note (account_of released other)) (account_of released other))
+    (change : (other : ℕ) → account_of changed other ≡ cond (is_number other spot.queue) (own_after burst released.floor note (account_of released other)) (account_of released other))
     (same_floor : released.floor ≡ old.floor) where
-  changed_is : (queue : ℕ) → account_of changed queue ≡ spoken old.floor note (is_number queue spot.queue) (is_number queue spot.parked) (account_of old queue)
-  changed_is queue = change queue ∙ (λ i. cond (is_number queue spot.queue) (own_after (same_floor i) note (release queue i)) (release queue i))
+  changed_is : (queue : ℕ) → account_of changed queue ≡ spoken burst old.floor note (is_number queue spot.queue) (is_number queue spot.parked) (account_of old queue)
+  changed_is queue = change queue ∙ (λ i. cond (is_number queue spot.queue) (own_after burst (same_floor i) note (release queue i)) (release queue i))
 
   -- a note that says nothing of a queue
   pub left_alone : (queue : ℕ) → is_number queue spot.queue ≡ false → is_number queue spot.parked ≡ false → account_of changed queue ≡ account_of old queue
@@ -228,10 +228,10 @@ module _ (old released changed : Accounts) (spot : Spot) (note : Note ℕ)
 
   -- a note that doesn't end the parks of all queues
   pub each_going : core_ended note ≡ false → (queue : ℕ) →
-      account_of changed queue ≡ account_after old.floor note (is_number queue spot.queue) (is_number queue spot.parked) (account_of old queue)
+      account_of changed queue ≡ account_after burst old.floor note (is_number queue spot.queue) (is_number queue spot.parked) (account_of old queue)
   each_going going queue = changed_is queue ∙ rw going refl
 
-  module _ (new : Accounts) (before : Journal ℕ) (fits : FitsSpot spot note before) (knows : KnowsAccounts old before) (ended : core_ended note ≡ true)
+  module _ (new : Accounts) (before : Journal ℕ) (fits : FitsSpot spot note before) (knows : KnowsAccounts burst old before) (ended : core_ended note ≡ true)
       (told : (queue : ℕ) → Holds old.recent queue → account_of new queue ≡ woken old.floor (account_of changed queue))
       (others : (queue : ℕ) → (account_of changed queue).parked ≡ 0 → account_of new queue ≡ account_of changed queue) where
     same : (queue : ℕ) → account_of changed queue ≡ account_of old queue
@@ -251,7 +251,7 @@ module _ (old released changed : Accounts) (spot : Spot) (note : Note ℕ)
 
     -- a note that ends them
     pub each_ended : (queue : ℕ) →
-        account_of new queue ≡ account_after old.floor note (is_number queue spot.queue) (is_number queue spot.parked) (account_of old queue)
+        account_of new queue ≡ account_after burst old.floor note (is_number queue spot.queue) (is_number queue spot.parked) (account_of old queue)
     each_ended queue =
         new_is queue ∙
         (

@@ -2,7 +2,8 @@
 use Rattle.std.specs.Prelude.{◌≡◌, ℕ, ◌+◌, ◌-◌, min, Bool, not, ◌&&◌, nat_lt, if◌then◌else◌, length}
 use Rattle.rt_shares.specs.Charge.{charge, placed}
 use Rattle.rt_ids.specs.declared.note.Note.{Note}
-use Rattle.rt_ids.specs.declared.note.Note.TheVariants.{Took, Created, SharesSet, QueueClosed, Woken, Yield, Park, Stayed, Done, Returned}
+use Rattle.rt_ids.specs.declared.note.Note.TheVariants.{Took, Created, SharesSet, QueueClosed, Woken, Yield, Park, Stayed, Done, Returned, Turned}
+use Rattle.rt_ids.specs.Bursts.{has_bursts}
 use Rattle.rt_ids.specs.Journal.{Journal}
 use Rattle.rt_ids.specs.Parks.{is_return, parked}
 use Rattle.rt_ids.specs.Runtimes.{shares, virtual_runtime}
@@ -27,9 +28,18 @@ entering floor account =
       entered = min (account.entered + 1) greatest_count;
     }
 
--- a poll is settled
-abbrev pub charged : ℕ → Account → Account
-charged time account = record account { virtual_runtime = min (account.virtual_runtime + charge time account.shares) greatest_runtime }
+-- a time is charged, if it counts
+abbrev pub charged_if : Bool → ℕ → Account → Account
+charged_if counts time account =
+    record account { virtual_runtime = if counts then min (account.virtual_runtime + charge time account.shares) greatest_runtime else account.virtual_runtime }
+
+-- a poll is settled: its time is charged where it ends its turn
+abbrev pub polled : ℕ → ℕ → Account → Account
+polled burst time account = charged_if (not (has_bursts burst)) time account
+
+-- a note ends a turn: its time is charged where turns end so
+abbrev pub turned : ℕ → ℕ → Account → Account
+turned burst time account = charged_if (has_bursts burst) time account
 
 -- a job is done or handed back
 abbrev pub leaving : Account → Account
@@ -54,32 +64,33 @@ released_after floor (Park name time) account = record account { parked = accoun
 released_after floor _ account = account
 
 -- the account of the queue of which a note speaks
-abbrev pub own_after : {T : Type 0} → ℕ → Note T → Account → Account
-own_after floor (Took name queue) account = entering floor account
-own_after floor (Created queue weight) account = record account { shares = weight }
-own_after floor (SharesSet queue weight) account = record account { shares = weight }
-own_after floor (QueueClosed queue mode) account = if is_return mode then waking account.parked floor account else account
-own_after floor (Yield name time) account = charged time account
-own_after floor (Park name time) account = parking (charged time account)
-own_after floor (Stayed name time) account = charged time account
-own_after floor (Done name time value) account = leaving (charged time account)
-own_after floor (Returned name reason) account = leaving account
-own_after floor _ account = account
+abbrev pub own_after : {T : Type 0} → ℕ → ℕ → Note T → Account → Account
+own_after burst floor (Took name queue) account = entering floor account
+own_after burst floor (Created queue weight) account = record account { shares = weight }
+own_after burst floor (SharesSet queue weight) account = record account { shares = weight }
+own_after burst floor (QueueClosed queue mode) account = if is_return mode then waking account.parked floor account else account
+own_after burst floor (Yield name time) account = polled burst time account
+own_after burst floor (Park name time) account = parking (polled burst time account)
+own_after burst floor (Stayed name time) account = polled burst time account
+own_after burst floor (Done name time value) account = leaving (polled burst time account)
+own_after burst floor (Returned name reason) account = leaving account
+own_after burst floor (Turned queue time) account = turned burst time account
+own_after burst floor _ account = account
 
 -- the account of each queue where a note closes the core
 abbrev pub closed_after : {T : Type 0} → ℕ → Note T → Account → Account
 closed_after floor note account = if core_ended note then waking account.parked floor account else account
 
 -- an account after a note that speaks of its queue, or doesn't, and whose job is parked there, or isn't
-abbrev pub account_after : {T : Type 0} → ℕ → Note T → Bool → Bool → Account → Account
-account_after floor note own parked account =
+abbrev pub account_after : {T : Type 0} → ℕ → ℕ → Note T → Bool → Bool → Account → Account
+account_after burst floor note own parked account =
     let released = if parked then released_after floor note account else account in
-    closed_after floor note (if own then own_after floor note released else released)
+    closed_after floor note (if own then own_after burst floor note released else released)
 
--- the account says of its queue what these notes say
-pub record KnowsAccount {T : Type 0} (queue : ℕ) (account : Account) (journal : Journal T) : Type 0 where
+-- the account says of its queue what these notes say, where a turn may have so many polls
+pub record KnowsAccount {T : Type 0} (burst queue : ℕ) (account : Account) (journal : Journal T) : Type 0 where
   pub shares : account.shares ≡ shares queue journal
-  pub runtime : account.virtual_runtime ≡ min (virtual_runtime queue journal) greatest_runtime
+  pub runtime : account.virtual_runtime ≡ min (virtual_runtime burst queue journal) greatest_runtime
   pub entered : account.entered ≡ entered_count queue journal
   pub left : account.left ≡ left_count queue journal
   pub parked : account.parked ≡ length (parked queue journal)

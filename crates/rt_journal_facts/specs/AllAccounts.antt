@@ -34,7 +34,7 @@ pub record IsApart (note : Note ℕ) (spot : Spot) (queue : ℕ) (account : Acco
   pub nobody_parked : core_ended note ≡ true → account.parked ≡ 0
 
 -- each account says of its queue what these notes say, the floor is theirs, and each queue with parked jobs was told
-pub record KnowsAccounts {T : Type 0} (accounts : Accounts) (journal : Journal T) : Type 0 where
-  pub each : (queue : ℕ) → KnowsAccount queue (account_of accounts queue) journal
+pub record KnowsAccounts {T : Type 0} (burst : ℕ) (accounts : Accounts) (journal : Journal T) : Type 0 where
+  pub each : (queue : ℕ) → KnowsAccount burst queue (account_of accounts queue) journal
   pub floor : accounts.floor ≡ floor journal
   pub recent : (queue : ℕ) → 0 < length (parked queue journal) → Holds accounts.recent queue

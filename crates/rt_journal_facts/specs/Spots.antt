@@ -1,7 +1,7 @@
 -- Which queues a note speaks of.
 use Rattle.std.specs.Prelude.{◌≡◌, ℕ, Option, Some, None}
 use Rattle.rt_ids.specs.declared.note.Note.{Note}
-use Rattle.rt_ids.specs.declared.note.Note.TheVariants.{Took, Created, SharesSet, QueueClosed, Woken, Pick, Start, Resume, Yield, Park, Stayed, Done, Returned}
+use Rattle.rt_ids.specs.declared.note.Note.TheVariants.{Took, Created, SharesSet, QueueClosed, Woken, Pick, Start, Resume, Yield, Park, Stayed, Done, Returned, Turned}
 use Rattle.rt_ids.specs.Journal.{Journal}
 use Rattle.rt_ids.specs.Work.{queue_of}
 use Rattle.rt_journal_facts.specs.Parks.{park_of}
@@ -21,6 +21,7 @@ queue_noted (Park name time) before = queue_of name before
 queue_noted (Stayed name time) before = queue_of name before
 queue_noted (Done name time value) before = queue_of name before
 queue_noted (Returned name reason) before = queue_of name before
+queue_noted (Turned queue time) before = Some queue
 queue_noted _ before = None
 
 -- the queue in which the job is parked whose park a note ends or renews

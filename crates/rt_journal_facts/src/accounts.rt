@@ -1,10 +1,11 @@
 //! What is known of the queues of one journal.
 
 ghost use Rattle.std.specs.Prelude.{◌≡◌, ◌↔◌, ◌<◌, ◌≤◌, ◌⊎◌, ◌∷◌, ℕ, IsTrue, Some, [], if◌then◌else◌, get_or, length};
+ghost use Rattle.rt_ids.specs.Bursts as turns;
 ghost use Rattle.rt_ids.specs.Journal.{Journal};
 ghost use Rattle.rt_ids.specs.Names.{is_number};
 ghost use Rattle.rt_ids.specs.Runtimes.{runtime_picked};
-ghost use Rattle.rt_journal_facts.specs.Accounts.{fresh_account, has_jobs, entering, charged, leaving, parking, waking, own_after, released_after, greatest_count};
+ghost use Rattle.rt_journal_facts.specs.Accounts.{fresh_account, has_jobs, entering, charged_if, leaving, parking, waking, own_after, released_after, greatest_count};
 ghost use Rattle.rt_journal_facts.specs.AllAccounts.{KnowsAccounts, IsApart, IsEmpty, account_of};
 ghost use Rattle.rt_journal_facts.specs.Recent.{Holds};
 ghost use Rattle.rt_journal_facts.specs.Spots.{FitsSpot, queue_parking};
@@ -57,12 +58,14 @@ impl Account {
         self.entered = self.entered.saturating_add(1);
     }
 
-    /// A poll is settled.
-    fn charge(&mut self, time: u64)
-        ensures { self.new ≡ charged time self.old }
+    /// A time is charged, if it counts.
+    fn charge(&mut self, time: u64, counts: bool)
+        ensures { self.new ≡ charged_if counts time self.old }
     {
-        let cost = rt_shares::charge(time, &self.shares) as u128;
-        self.virtual_runtime = self.virtual_runtime.saturating_add(cost);
+        if counts {
+            let cost = rt_shares::charge(time, &self.shares) as u128;
+            self.virtual_runtime = self.virtual_runtime.saturating_add(cost);
+        }
     }
 
     /// A job is done or handed back.
@@ -108,28 +111,38 @@ impl Account {
     }
 
     /// Reads a note that speaks of this queue.
-    fn add(&mut self, note: &Note<u64>, floor: u128)
-        ensures { self.new ≡ own_after floor note.now self.old }
+    fn add(&mut self, note: &Note<u64>, floor: u128, burst: u8)
+        ensures { self.new ≡ own_after burst floor note.now self.old }
     {
+        let of_turns = has_bursts(burst);
+        let of_polls = !of_turns;
         match *note {
             Note::Took(_, _) => self.enter(floor),
             Note::Created(_, shares) => self.shares = shares,
             Note::SharesSet(_, shares) => self.shares = shares,
             Note::QueueClosed(_, Mode::Return) => self.wake_all(floor),
-            Note::Yield(_, time) => self.charge(time),
+            Note::Yield(_, time) => self.charge(time, of_polls),
             Note::Park(_, time) => {
-                self.charge(time);
+                self.charge(time, of_polls);
                 self.park();
             }
-            Note::Stayed(_, time) => self.charge(time),
+            Note::Stayed(_, time) => self.charge(time, of_polls),
             Note::Done(_, time, _) => {
-                self.charge(time);
+                self.charge(time, of_polls);
                 self.leave();
             }
             Note::Returned(_, _) => self.leave(),
+            Note::Turned(_, time) => self.charge(time, of_turns),
             _ => {}
         }
     }
+}
+
+/// Whether a note of its own ends a turn, where a turn may have so many polls.
+pub fn has_bursts(burst: u8) -> bool
+    ensures { result ≡ turns.has_bursts burst }
+{
+    burst > 1
 }
 
 /// The virtual runtime at which a note picks a queue.
@@ -176,7 +189,7 @@ pub struct Accounts {
 impl Accounts {
     /// No note was read.
     pub fn new() -> Self
-        ensures { KnowsAccounts {T = ℕ} result [] }
+        ensures { (burst : ℕ) → KnowsAccounts {T = ℕ} burst result [] }
     {
         Accounts {
             queues: [Account::new(); 256],
@@ -223,8 +236,8 @@ impl Accounts {
     }
 
     /// Reads a note that speaks of this queue, if of any.
-    fn change(&mut self, note: &Note<u64>, queue: Option<QueueNo>)
-        ensures each { (other : ℕ) → account_of self.new other ≡ (if is_number other queue then own_after self.old.floor note.now (account_of self.old other) else account_of self.old other) }
+    fn change(&mut self, note: &Note<u64>, queue: Option<QueueNo>, burst: u8)
+        ensures each { (other : ℕ) → account_of self.new other ≡ (if is_number other queue then own_after burst self.old.floor note.now (account_of self.old other) else account_of self.old other) }
         ensures floor { self.new.floor ≡ self.old.floor }
         ensures recent { self.new.recent ≡ self.old.recent }
     {
@@ -232,7 +245,7 @@ impl Accounts {
             return;
         };
         let mut account = self.of(queue);
-        account.add(note, self.floor);
+        account.add(note, self.floor, burst);
         self.queues[queue.0 as usize] = account;
     }
 
@@ -263,13 +276,14 @@ impl Accounts {
         }
     }
 
-    /// Reads the next note, which speaks of the queues of this spot.
-    pub fn add(&mut self, note: &Note<u64>, spot: &Spot)
-        ensures known { (before : Journal ℕ) → FitsSpot spot.now note.now before → length before < greatest_count → KnowsAccounts self.old before → KnowsAccounts self.new (note.now ∷ before) }
-        ensures others { (before : Journal ℕ) → KnowsAccounts self.old before → (queue : ℕ) → IsApart note.now spot.now queue (account_of self.old queue) → account_of self.new queue ≡ account_of self.old queue }
+    /// Reads the next note, which speaks of the queues of this spot. A turn may have so many polls: where it may have several, its own note
+    /// is charged, and none of its polls.
+    pub fn add(&mut self, note: &Note<u64>, spot: &Spot, burst: u8)
+        ensures known { (before : Journal ℕ) → FitsSpot spot.now note.now before → length before < greatest_count → KnowsAccounts burst self.old before → KnowsAccounts burst self.new (note.now ∷ before) }
+        ensures others { (before : Journal ℕ) → KnowsAccounts burst self.old before → (queue : ℕ) → IsApart note.now spot.now queue (account_of self.old queue) → account_of self.new queue ≡ account_of self.old queue }
     {
         self.release(note, spot.parked);
-        self.change(note, spot.queue);
+        self.change(note, spot.queue, burst);
         if core_ended(note) {
             self.wake_all();
         } else {

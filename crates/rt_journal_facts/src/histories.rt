@@ -97,6 +97,7 @@ impl Fact {
             Note::Stayed(_, _) => self.queue,
             Note::Done(_, _, _) => self.queue,
             Note::Returned(_, _) => self.queue,
+            Note::Turned(queue, _) => Some(queue),
             _ => None,
         }
     }

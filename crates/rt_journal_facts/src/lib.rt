@@ -16,7 +16,7 @@ pub mod spots;
 pub mod stays;
 pub mod told;
 
-pub use accounts::{Account, Accounts};
+pub use accounts::{Account, Accounts, has_bursts};
 pub use endings::core_ended;
 pub use histories::{Fact, History};
 pub use jobs::Jobs;

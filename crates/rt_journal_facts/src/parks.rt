@@ -142,6 +142,7 @@ impl Parks {
             Note::Stayed(name, _) => self.queue_of(&name),
             Note::Done(name, _, _) => self.queue_of(&name),
             Note::Returned(name, _) => self.queue_of(&name),
+            Note::Turned(queue, _) => Some(queue),
             _ => None,
         }
     }

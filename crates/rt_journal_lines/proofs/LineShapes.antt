@@ -125,6 +125,7 @@ note_short terms (note.Park name time) few spelled times = omega (arith, name_sh
 note_short terms (note.Stayed name time) few spelled times = omega (arith, name_short terms.cores name few spelled.0, count_short time times)
 note_short terms (note.Done name time value) few spelled times = omega (arith, name_short terms.cores name few spelled.0, count_short time times.0, count_short value times.1)
 note_short terms (note.Returned name why) few spelled times = omega (arith, name_short terms.cores name few (spelled.0).0, reason_short why)
+note_short terms (note.Turned queue time) few spelled times = let most = spelled.3 in omega (arith, queue_short queue spelled.1, count_short time (omega arith))
 note_short terms (note.Shut sender count) few spelled times =
     let one = spelled.1 in
     let two = spelled.2 in

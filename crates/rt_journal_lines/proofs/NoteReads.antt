@@ -56,7 +56,8 @@ core_kind_read word kind is =
     (λ m. told C (codes "closed") word inner.QueueClosed _ kind m (λ e. e)
     (λ m. told C (codes "coreclosed") word inner.CoreClosed _ kind m (λ e. e)
     (λ m. told C (codes "pick") word inner.Pick _ kind m (λ e. e)
-    (λ m. told C (codes "shut") word inner.Shut _ kind m (λ e. e) (λ none. cc))))))
+    (λ m. told C (codes "turned") word inner.Turned _ kind m (λ e. e)
+    (λ m. told C (codes "shut") word inner.Shut _ kind m (λ e. e) (λ none. cc)))))))
 
 own_kind_of-none : own_kind_of [] ≡ None
 unfolding own_kind_of
@@ -100,15 +101,15 @@ received_note_read terms kind ws written some few is =
     let rest = received_rest_read terms kind one.0 (others ws) written mine one.2 in
     (ap (λ r. received_word kind ∷ r) (led (name_of terms.cores) ws two.0 (name_of-none terms.cores) two.1 ∙ ap (λ word. word ∷ others ws) (read.1 ∙ ap name_text at.0)) ∙ rest.0, rest.1)
 
-core_note_read : (terms : Terms) (kind : CoreKind) (ws : List (List ℕ)) (written : Note ℕ) → terms.cores ≤ most_cores → core_note terms.actor terms.cores kind ws ≡ Some written → WordsOf terms (inner_word kind ∷ ws) written
+core_note_read : (terms : Terms) (kind : CoreKind) (ws : List (List ℕ)) (written : Note ℕ) → terms.cores ≤ most_cores → core_note terms.actor terms.cores terms.burst kind ws ≡ Some written → WordsOf terms (inner_word kind ∷ ws) written
 core_note_read terms kind ws written few is =
-    either (chosen (ltb terms.actor terms.cores) (core_rest kind terms.cores ws) None written is)
+    either (chosen (ltb terms.actor terms.cores) (core_rest kind terms.cores terms.burst ws) None written is)
     (λ h. let core : terms.actor < terms.cores = grind (arith, nat_tests, h.0) in core_rest_read terms kind ws written core few h.1)
     (λ h. cc)
 
 -- one kind after another
 abbrev by_core : Terms → List (List ℕ) → Option CoreKind → Option (Note ℕ)
-by_core terms ws k = if_kind k (λ kind. core_note terms.actor terms.cores kind (others ws)) None
+by_core terms ws k = if_kind k (λ kind. core_note terms.actor terms.cores terms.burst kind (others ws)) None
 
 abbrev by_received : Terms → List (List ℕ) → Option ReceivedKind → Option (Note ℕ)
 by_received terms ws k = if_kind k (λ kind. received_note terms.actor terms.cores kind (others ws)) (by_core terms ws (core_kind_of (first ws)))
@@ -135,6 +136,6 @@ of_own terms ws written (Some kind) some few e told =
     (led own_kind_of ws kind own_kind_of-none e ∙ ap (λ word. word ∷ others ws) (own_kind_read (first ws) kind e) ∙ read.0, read.1)
 
 -- what the words say is told by them alone
-pub note_read : (terms : Terms) (ws : List (List ℕ)) (written : Note ℕ) → 1 ≤ terms.cores → terms.cores ≤ most_cores → note_of terms.actor terms.cores ws ≡ Some written → WordsOf terms ws written
+pub note_read : (terms : Terms) (ws : List (List ℕ)) (written : Note ℕ) → 1 ≤ terms.cores → terms.cores ≤ most_cores → note_of terms.actor terms.cores terms.burst ws ≡ Some written → WordsOf terms ws written
 unfolding note_of
 note_read terms ws written some few is = of_own terms ws written (own_kind_of (first ws)) some few refl is

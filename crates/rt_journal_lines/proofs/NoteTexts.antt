@@ -1,9 +1,10 @@
 -- The words of a note's line say that note, and nothing else.
-use Rattle.std.proofs.Common.{◌≡◌, ℕ, ◌<◌, ◌≤◌, List, [], ◌∷◌, length, Some, ap, ◌∙◌, subst, arith, decimal, codes}
+use Rattle.std.proofs.Common.{◌≡◌, ℕ, ◌<◌, ◌≤◌, List, [], ◌∷◌, length, Some, None, IsTrue, ap, ◌∙◌, subst, arith, decimal, codes}
 use Rattle.rt_ids.specs.declared.names.JobId.{JobId}
 use Rattle.rt_ids.specs.declared.note.Note.{Note}
 use Rattle.rt_ids.specs.declared.note.Note.TheVariants as note
 use Rattle.rt_ids.specs.declared.order.Mode.{Mode}
+use Rattle.rt_ids.specs.Bursts.{has_bursts}
 use Rattle.rt_ids.specs.Limits.{most_cores, last_number}
 use Rattle.rt_ids.specs.Spelled.{IsOwn, IsReceived, IsSpelledNote}
 use Rattle.rt_ids.specs.Terms.{Terms}
@@ -17,10 +18,10 @@ use Rattle.rt_journal_lines.specs.declared.kind.CoreKind.{CoreKind}
 use Rattle.rt_journal_lines.specs.declared.kind.CoreKind.TheVariants as inner
 use Rattle.rt_journal_lines.specs.Fields.{◌>>=◌, fixed, number_in, queue_of, mode_of, back_reason_of, return_reason_of, count_of, runtime_of}
 use Rattle.rt_journal_lines.specs.Phrases.{last, shares_phrase, mode_phrase, order_of, answer_of, outcome_of}
-use Rattle.rt_journal_lines.specs.NoteWords.{own_rest, received_rest, core_rest, done_phrase, pick_phrase, shut_phrase}
+use Rattle.rt_journal_lines.specs.NoteWords.{own_rest, received_rest, core_rest, done_phrase, pick_phrase, turned_phrase, shut_phrase}
 use Rattle.rt_journal_lines.proofs.Decimals.{number_in_read, number_in-none}
 use Rattle.rt_journal_lines.proofs.FieldTexts.{queue_word, queue_read, queue_of-none, mode_read, mode_of-none, back_reason_read, back_reason_of-none, return_reason_read, return_reason_of-none}
-use Rattle.rt_journal_lines.proofs.Options.{bind_some, map_some, last_some, told, fixed_some, led, alone}
+use Rattle.rt_journal_lines.proofs.Options.{either, bind_some, map_some, last_some, chosen, fixed_some, led, alone}
 use Rattle.rt_journal_lines.proofs.PhraseTexts.{shares_words_read, mode_words_read, order_words, order_read, answer_words, answer_read, outcome_words, outcome_read}
 
 -- the words of a note
@@ -42,6 +43,7 @@ note_words (note.Park name time) = codes "park" ∷ name_text name ∷ decimal t
 note_words (note.Stayed name time) = codes "stayed" ∷ name_text name ∷ decimal time ∷ []
 note_words (note.Done name time value) = codes "done" ∷ name_text name ∷ decimal time ∷ codes "=" ∷ decimal value ∷ []
 note_words (note.Returned name why) = codes "returned" ∷ name_text name ∷ reason_text why ∷ []
+note_words (note.Turned queue time) = codes "turned" ∷ queue_word queue ∷ decimal time ∷ []
 note_words (note.Shut sender count) = codes "shut" ∷ decimal sender ∷ decimal count ∷ []
 note_words (note.Collected name told) = codes "collected" ∷ name_text name ∷ outcome_words told
 note_words (note.Redeemed name told) = codes "redeemed" ∷ name_text name ∷ outcome_words told
@@ -72,6 +74,7 @@ inner_word inner.SharesSet = codes "shares"
 inner_word inner.QueueClosed = codes "closed"
 inner_word inner.CoreClosed = codes "coreclosed"
 inner_word inner.Pick = codes "pick"
+inner_word inner.Turned = codes "turned"
 inner_word inner.Shut = codes "shut"
 
 -- the words are those of this note, and its actor may write it
@@ -197,6 +200,23 @@ pick_read terms ws written core is =
       (core, omega (arith, queue.0), omega (arith, runtime.1)),
     )
 
+turned_read : (terms : Terms) (ws : List (List ℕ)) (written : Note ℕ) → terms.actor < terms.cores → IsTrue (has_bursts terms.burst) → turned_phrase ws ≡ Some written → WordsOf terms (codes "turned" ∷ ws) written
+unfolding turned_phrase
+turned_read terms ws written core bursts is =
+    let one = bind_some (queue_of (first ws)) (λ queue. last (number_in 1 1099511627775 (second ws)) (others (others ws)) >>= λ time. Some (note.Turned queue time)) written is in
+    let two = bind_some (last (number_in 1 1099511627775 (second ws)) (others (others ws))) (λ time. Some (note.Turned one.0 time)) written one.2 in
+    let end = alone (number_in 1 1099511627775) (others ws) two.0 (number_in-none 1 1099511627775) two.1 in
+    let queue = queue_read (first ws) one.0 one.1 in
+    let time = number_in_read 1 1099511627775 (second ws) two.0 (omega arith) end.0 in
+    let same : note.Turned one.0 two.0 ≡ written = cc in
+    subst (WordsOf terms (codes "turned" ∷ ws)) same (
+      ap (λ r. codes "turned" ∷ r) (
+          led queue_of ws one.0 queue_of-none one.1
+          ∙ ap (λ word. word ∷ others ws) queue.1
+          ∙ ap (λ words. queue_word one.0 ∷ words) (end.1 ∙ ap (λ word. word ∷ []) time.2)),
+      (core, omega (arith, queue.0), time.0, omega (arith, time.1), bursts),
+    )
+
 shut_read : (terms : Terms) (ws : List (List ℕ)) (written : Note ℕ) → terms.actor < terms.cores → terms.cores ≤ most_cores → shut_phrase terms.cores ws ≡ Some written → WordsOf terms (codes "shut" ∷ ws) written
 unfolding shut_phrase
 shut_read terms ws written core few is =
@@ -214,7 +234,7 @@ shut_read terms ws written core few is =
       (core, sender.1, count.1),
     )
 
-pub core_rest_read : (terms : Terms) (kind : CoreKind) (ws : List (List ℕ)) (written : Note ℕ) → terms.actor < terms.cores → terms.cores ≤ most_cores → core_rest kind terms.cores ws ≡ Some written → WordsOf terms (inner_word kind ∷ ws) written
+pub core_rest_read : (terms : Terms) (kind : CoreKind) (ws : List (List ℕ)) (written : Note ℕ) → terms.actor < terms.cores → terms.cores ≤ most_cores → core_rest kind terms.cores terms.burst ws ≡ Some written → WordsOf terms (inner_word kind ∷ ws) written
 unfolding core_rest
 core_rest_read terms inner.Created ws written core few is =
     let one = map_some (λ (p : ℕ × ℕ). note.Created p.0 p.1) (shares_phrase ws) written is in
@@ -233,4 +253,8 @@ core_rest_read terms inner.CoreClosed ws written core few is =
     let end = alone mode_of ws one.0 mode_of-none one.1 in
     subst (WordsOf terms (codes "coreclosed" ∷ ws)) one.2 (ap (λ r. codes "coreclosed" ∷ r) (end.1 ∙ ap (λ word. word ∷ []) (mode_read (first ws) one.0 end.0)), core)
 core_rest_read terms inner.Pick ws written core few is = pick_read terms ws written core is
+core_rest_read terms inner.Turned ws written core few is =
+    either (chosen (has_bursts terms.burst) (turned_phrase ws) None written is)
+    (λ h. turned_read terms ws written core h.0 h.1)
+    (λ h. cc)
 core_rest_read terms inner.Shut ws written core few is = shut_read terms ws written core few is

@@ -142,6 +142,9 @@ module _ (sign : ℕ) (low : sign ≤ 32) where
       let two = times.1 in
       (whole_word (codes "done") refl, (name_whole terms.cores name few spelled.0, (number_word time (omega arith), (whole_word (codes "=") refl, (number_word value (omega arith), tt)))))
   note_whole terms (note.Returned name why) few spelled times = (whole_word (codes "returned") refl, (name_whole terms.cores name few (spelled.0).0, (reason_whole why, tt)))
+  note_whole terms (note.Turned queue time) few spelled times =
+      let most = spelled.3 in
+      (whole_word (codes "turned") refl, (queue_whole queue spelled.1, (number_word time (omega arith), tt)))
   note_whole terms (note.Shut sender count) few spelled times =
       let one = spelled.1 in
       let two = spelled.2 in

@@ -39,4 +39,5 @@ core_kind_of word =
     (or_else (codes "closed") word inner.QueueClosed
     (or_else (codes "coreclosed") word inner.CoreClosed
     (or_else (codes "pick") word inner.Pick
-    (or_else (codes "shut") word inner.Shut None)))))
+    (or_else (codes "turned") word inner.Turned
+    (or_else (codes "shut") word inner.Shut None))))))

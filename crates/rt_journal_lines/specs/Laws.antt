@@ -35,7 +35,7 @@ HoldsTimes _ = Unit {0}
 
 -- the words of the line are the actor's number and words that say the note
 abbrev pub Tells : Terms → Note ℕ → List ℕ → Type 0
-Tells terms note line = (ws : List (List ℕ)) × (words line ≡ decimal terms.actor ∷ ws) × (note_of terms.actor terms.cores ws ≡ Some note)
+Tells terms note line = (ws : List (List ℕ)) × (words line ≡ decimal terms.actor ∷ ws) × (note_of terms.actor terms.cores terms.burst ws ≡ Some note)
 
 -- there are as many cores as there may be, and the actor is one of them or the outside actor
 abbrev pub IsActor : Terms → Type 0

@@ -1,9 +1,10 @@
--- The note that the words of its line say, where an actor of so many cores writes it. Its first word says what kind it is.
-use Rattle.std.specs.Prelude.{ℕ, ◌==◌, List, codes, Option, Some, None, nat_lt, if◌then◌else◌}
+-- The note that the words of its line say, where an actor of so many cores and so many polls in a turn writes it. Its first word says what kind it is.
+use Rattle.std.specs.Prelude.{ℕ, ◌-◌, ◌^◌, ◌==◌, List, codes, Option, Some, None, nat_lt, if◌then◌else◌}
 use Rattle.std.specs.Option.{option_map}
 use Rattle.rt_ids.specs.declared.names.JobId.{JobId}
 use Rattle.rt_ids.specs.declared.note.Note.{Note}
 use Rattle.rt_ids.specs.declared.note.Note.TheVariants as note
+use Rattle.rt_ids.specs.Bursts.{has_bursts}
 use Rattle.rt_ids.specs.Limits.{last_number}
 use Rattle.rt_journal_lines.specs.declared.kind.OwnKind.{OwnKind}
 use Rattle.rt_journal_lines.specs.declared.kind.OwnKind.TheVariants as own
@@ -51,6 +52,13 @@ pick_phrase ws = do
   runtime ← fixed (codes "at") (second ws) (last (runtime_of (third ws)) (others (others (others ws))))
   Some (note.Pick queue runtime)
 
+-- `qQ T`: a turn takes 1 ns at least
+unfoldable pub turned_phrase : List (List ℕ) → Option (Note ℕ)
+turned_phrase ws = do
+  queue ← queue_of (first ws)
+  time ← last (number_in 1 (2 ^ 40 - 1) (second ws)) (others (others ws))
+  Some (note.Turned queue time)
+
 -- `s COUNT`
 unfoldable pub shut_phrase : ℕ → List (List ℕ) → Option (Note ℕ)
 shut_phrase cores ws = do
@@ -58,14 +66,15 @@ shut_phrase cores ws = do
   count ← last (number_in 0 last_number (second ws)) (others (others ws))
   Some (note.Shut sender count)
 
--- the words behind the first in a note of a core that names no submission
-unfoldable pub core_rest : CoreKind → ℕ → List (List ℕ) → Option (Note ℕ)
-core_rest inner.Created cores ws = option_map (λ p. note.Created p.0 p.1) (shares_phrase ws)
-core_rest inner.SharesSet cores ws = option_map (λ p. note.SharesSet p.0 p.1) (shares_phrase ws)
-core_rest inner.QueueClosed cores ws = option_map (λ p. note.QueueClosed p.0 p.1) (mode_phrase ws)
-core_rest inner.CoreClosed cores ws = option_map note.CoreClosed (last (mode_of (first ws)) (others ws))
-core_rest inner.Pick cores ws = pick_phrase ws
-core_rest inner.Shut cores ws = shut_phrase cores ws
+-- the words behind the first in a note of a core that names no submission; where a turn is a single poll, no note of its own ends it
+unfoldable pub core_rest : CoreKind → ℕ → ℕ → List (List ℕ) → Option (Note ℕ)
+core_rest inner.Created cores burst ws = option_map (λ p. note.Created p.0 p.1) (shares_phrase ws)
+core_rest inner.SharesSet cores burst ws = option_map (λ p. note.SharesSet p.0 p.1) (shares_phrase ws)
+core_rest inner.QueueClosed cores burst ws = option_map (λ p. note.QueueClosed p.0 p.1) (mode_phrase ws)
+core_rest inner.CoreClosed cores burst ws = option_map note.CoreClosed (last (mode_of (first ws)) (others ws))
+core_rest inner.Pick cores burst ws = pick_phrase ws
+core_rest inner.Turned cores burst ws = if has_bursts burst then turned_phrase ws else None
+core_rest inner.Shut cores burst ws = shut_phrase cores ws
 
 -- a name that this actor sent, or received
 abbrev pub own_name : ℕ → ℕ → List ℕ → Option JobId
@@ -81,16 +90,16 @@ abbrev pub received_note : ℕ → ℕ → ReceivedKind → List (List ℕ) → 
 received_note actor cores kind ws = received_name actor cores (first ws) >>= λ name. received_rest kind name (others ws)
 
 -- the outside actor writes no such note
-abbrev pub core_note : ℕ → ℕ → CoreKind → List (List ℕ) → Option (Note ℕ)
-core_note actor cores kind ws = if nat_lt actor cores then core_rest kind cores ws else None
+abbrev pub core_note : ℕ → ℕ → ℕ → CoreKind → List (List ℕ) → Option (Note ℕ)
+core_note actor cores burst kind ws = if nat_lt actor cores then core_rest kind cores burst ws else None
 
 -- what a kind says, or else the other
 abbrev pub if_kind : {K A : Type 0} → Option K → (K → Option A) → Option A → Option A
 if_kind None says other = other
 if_kind (Some kind) says other = says kind
 
-unfoldable pub note_of : ℕ → ℕ → List (List ℕ) → Option (Note ℕ)
-note_of actor cores ws =
+unfoldable pub note_of : ℕ → ℕ → ℕ → List (List ℕ) → Option (Note ℕ)
+note_of actor cores burst ws =
     if_kind (own_kind_of (first ws)) (λ kind. own_note actor cores kind (others ws))
     (if_kind (received_kind_of (first ws)) (λ kind. received_note actor cores kind (others ws))
-    (if_kind (core_kind_of (first ws)) (λ kind. core_note actor cores kind (others ws)) None))
+    (if_kind (core_kind_of (first ws)) (λ kind. core_note actor cores burst kind (others ws)) None))

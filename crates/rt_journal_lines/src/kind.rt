@@ -38,6 +38,7 @@ pub enum CoreKind {
     QueueClosed,
     CoreClosed,
     Pick,
+    Turned,
     Shut,
 }
 
@@ -118,6 +119,9 @@ pub(crate) fn core_kind_of(word: &[u8]) -> Option<CoreKind>
     }
     if is_word(word, "pick") {
         return Some(CoreKind::Pick);
+    }
+    if is_word(word, "turned") {
+        return Some(CoreKind::Turned);
     }
     if is_word(word, "shut") {
         return Some(CoreKind::Shut);

@@ -12,11 +12,14 @@ use rt_ids::{ActorNo, JobId, LAST_NUMBER, Note};
 use rt_words::Words;
 use rt_words::field::is_word;
 
-/// The note that the words say, where an actor of so many cores writes it; nothing where they say none.
+/// The longest time of a turn.
+const LONGEST_TURN: u64 = (1 << 40) - 1;
+
+/// The note that the words say, where an actor of so many cores and so many polls in a turn writes it; nothing where they say none.
 #[tactic(auto, unfolding(crate::specs::NoteWords::note_of))]
-pub fn note_of(fields: &mut Words<'_>, actor: u8, cores: u8) -> Option<Note<u64>>
+pub fn note_of(fields: &mut Words<'_>, actor: u8, cores: u8, burst: u8) -> Option<Note<u64>>
     requires { 1 ≤ cores }
-    ensures { result ≡ spec.note_of actor cores fields.old }
+    ensures { result ≡ spec.note_of actor cores burst fields.old }
 {
     let word = fields.next_word();
     if let Some(kind) = own_kind_of(word) {
@@ -29,7 +32,7 @@ pub fn note_of(fields: &mut Words<'_>, actor: u8, cores: u8) -> Option<Note<u64>
     }
     let kind = core_kind_of(word)?;
     if actor < cores {
-        core_rest(kind, cores, fields)
+        core_rest(kind, cores, burst, fields)
     } else {
         None
     }
@@ -123,8 +126,8 @@ fn done_phrase(name: JobId, fields: &mut Words<'_>) -> Option<Note<u64>>
 
 /// The words behind the first, in a note of a core that names no submission.
 #[tactic(auto, unfolding(crate::specs::NoteWords::core_rest))]
-fn core_rest(kind: CoreKind, cores: u8, fields: &mut Words<'_>) -> Option<Note<u64>>
-    ensures { result ≡ spec.core_rest kind cores fields.old }
+fn core_rest(kind: CoreKind, cores: u8, burst: u8, fields: &mut Words<'_>) -> Option<Note<u64>>
+    ensures { result ≡ spec.core_rest kind cores burst fields.old }
 {
     match kind {
         CoreKind::Created => {
@@ -144,6 +147,13 @@ fn core_rest(kind: CoreKind, cores: u8, fields: &mut Words<'_>) -> Option<Note<u
             Some(Note::CoreClosed(last(mode, fields)?))
         }
         CoreKind::Pick => pick_phrase(fields),
+        CoreKind::Turned => {
+            if burst > 1 {
+                turned_phrase(fields)
+            } else {
+                None
+            }
+        }
         CoreKind::Shut => shut_phrase(cores, fields),
     }
 }
@@ -159,6 +169,16 @@ fn pick_phrase(fields: &mut Words<'_>) -> Option<Note<u64>>
     }
     let runtime = runtime_of(fields.next_word());
     Some(Note::Pick(queue, last(runtime, fields)?))
+}
+
+/// `qQ T`
+#[tactic(auto, unfolding(crate::specs::NoteWords::turned_phrase))]
+fn turned_phrase(fields: &mut Words<'_>) -> Option<Note<u64>>
+    ensures { result ≡ spec.turned_phrase fields.old }
+{
+    let queue = queue_of(fields.next_word())?;
+    let time = number_in(fields.next_word(), 1, LONGEST_TURN);
+    Some(Note::Turned(queue, last(time, fields)?))
 }
 
 /// `s COUNT`

@@ -32,7 +32,7 @@ module _ (P : Note ℕ → Type 0) where
       subst P (sym is) (All-get_or P items i note within (subst (All P) (sym same) (all_from_each journal each)))
 
 -- all journals are read, and each is spelled
-pub spelled_from_parts : (assembly : Assembly ℕ) (count : ℕ) → IsWithinLimits assembly.cores assembly.cap → length assembly.journals ≡ assembly.cores + 1 → assembly.cores + 1 ≤ count →
+pub spelled_from_parts : (assembly : Assembly ℕ) (count : ℕ) → IsWithinLimits assembly.cores assembly.cap assembly.burst → length assembly.journals ≡ assembly.cores + 1 → assembly.cores + 1 ≤ count →
     ((actor : ℕ) → actor < count → AreSpelledNotes (terms_of actor assembly) (journal_of actor assembly)) → IsSpelled assembly
 spelled_from_parts assembly count limits journals all each = record {
   limits = limits;
@@ -41,18 +41,21 @@ spelled_from_parts assembly count limits journals all each = record {
 }
 
 -- what is asked of an actor's journal, by numbers that are those of the assembly
-pub spelled_at : (assembly : Assembly ℕ) (actor cores cap : ℕ) (journal : Journal ℕ) → cores ≡ assembly.cores → cap ≡ assembly.cap → journal ≡ journal_of actor assembly → actor < cores + 1 →
-    IsSpelled assembly → AreSpelledNotes (record { actor = actor; cores = cores; cap = cap }) journal
-spelled_at assembly actor cores cap journal cores_is cap_is journal_is within spelled =
-    subst (AreSpelledNotes (record { actor = actor; cores = cores; cap = cap })) (sym journal_is)
-    (subst (λ n. AreSpelledNotes (record { actor = actor; cores = n; cap = cap }) (journal_of actor assembly)) (sym cores_is)
-    (subst (λ n. AreSpelledNotes (record { actor = actor; cores = assembly.cores; cap = n }) (journal_of actor assembly)) (sym cap_is)
-    (spelled.notes actor (omega arith))))
+pub spelled_at : (assembly : Assembly ℕ) (actor cores cap burst : ℕ) (journal : Journal ℕ) → cores ≡ assembly.cores → cap ≡ assembly.cap → burst ≡ assembly.burst →
+    journal ≡ journal_of actor assembly → actor < cores + 1 → IsSpelled assembly → AreSpelledNotes (record { actor = actor; cores = cores; cap = cap; burst = burst }) journal
+spelled_at assembly actor cores cap burst journal cores_is cap_is burst_is journal_is within spelled =
+    subst (AreSpelledNotes (record { actor = actor; cores = cores; cap = cap; burst = burst })) (sym journal_is)
+    (subst (λ n. AreSpelledNotes (record { actor = actor; cores = n; cap = cap; burst = burst }) (journal_of actor assembly)) (sym cores_is)
+    (subst (λ n. AreSpelledNotes (record { actor = actor; cores = assembly.cores; cap = n; burst = burst }) (journal_of actor assembly)) (sym cap_is)
+    (subst (λ n. AreSpelledNotes (record { actor = actor; cores = assembly.cores; cap = assembly.cap; burst = n }) (journal_of actor assembly)) (sym burst_is)
+    (spelled.notes actor (omega arith)))))
 
 -- and back
-pub spelled_of : (assembly : Assembly ℕ) (actor cores cap : ℕ) (journal : Journal ℕ) → cores ≡ assembly.cores → cap ≡ assembly.cap → journal ≡ journal_of actor assembly →
-    AreSpelledNotes (record { actor = actor; cores = cores; cap = cap }) journal → AreSpelledNotes (terms_of actor assembly) (journal_of actor assembly)
-spelled_of assembly actor cores cap journal cores_is cap_is journal_is spelled =
-    subst (λ n. AreSpelledNotes (record { actor = actor; cores = assembly.cores; cap = n }) (journal_of actor assembly)) cap_is
-    (subst (λ n. AreSpelledNotes (record { actor = actor; cores = n; cap = cap }) (journal_of actor assembly)) cores_is
-    (subst (AreSpelledNotes (record { actor = actor; cores = cores; cap = cap })) journal_is spelled))
+pub spelled_of : (assembly : Assembly ℕ) (actor cores cap burst : ℕ) (journal : Journal ℕ) → cores ≡ assembly.cores → cap ≡ assembly.cap → burst ≡ assembly.burst →
+    journal ≡ journal_of actor assembly → AreSpelledNotes (record { actor = actor; cores = cores; cap = cap; burst = burst }) journal →
+    AreSpelledNotes (terms_of actor assembly) (journal_of actor assembly)
+spelled_of assembly actor cores cap burst journal cores_is cap_is burst_is journal_is spelled =
+    subst (λ n. AreSpelledNotes (record { actor = actor; cores = assembly.cores; cap = assembly.cap; burst = n }) (journal_of actor assembly)) burst_is
+    (subst (λ n. AreSpelledNotes (record { actor = actor; cores = assembly.cores; cap = n; burst = burst }) (journal_of actor assembly)) cap_is
+    (subst (λ n. AreSpelledNotes (record { actor = actor; cores = n; cap = cap; burst = burst }) (journal_of actor assembly)) cores_is
+    (subst (AreSpelledNotes (record { actor = actor; cores = cores; cap = cap; burst = burst })) journal_is spelled)))

@@ -12,6 +12,7 @@ use std::marker::Model;
 pub struct Assembly {
     cores: u8,
     cap: u16,
+    burst: u8,
     journals: Vec<Journal<u64>>,
 }
 
@@ -24,6 +25,7 @@ impl Model for Assembly {
     ghost view = { λ assembly. record {
       cores = assembly.cores;
       cap = assembly.cap;
+      burst = assembly.burst;
       journals = map (λ journal. journal.notes) assembly.journals.items;
     } };
 
@@ -31,14 +33,23 @@ impl Model for Assembly {
 }
 
 impl Assembly {
-    /// The journals, one for each core and one for the outside actor.
+    /// The journals, one for each core and one for the outside actor. Each turn is a single poll.
     pub fn of(cores: u8, cap: u16, journals: Vec<Journal<u64>>) -> Self
         requires { length journals.items ≡ cores + 1 }
-        ensures { result ≡ record { cores = cores; cap = cap; journals = map (λ journal. journal.notes) journals.items } }
+        ensures { result ≡ record { cores = cores; cap = cap; burst = 1; journals = map (λ journal. journal.notes) journals.items } }
+    {
+        Assembly::of_burst(cores, cap, 1, journals)
+    }
+
+    /// The journals, where a turn may have so many polls.
+    pub fn of_burst(cores: u8, cap: u16, burst: u8, journals: Vec<Journal<u64>>) -> Self
+        requires { length journals.items ≡ cores + 1 }
+        ensures { result ≡ record { cores = cores; cap = cap; burst = burst; journals = map (λ journal. journal.notes) journals.items } }
     {
         Assembly {
             cores,
             cap,
+            burst,
             journals,
         }
     }
@@ -56,6 +67,13 @@ impl Assembly {
         ensures { result ≡ self.now.cap }
     {
         self.cap
+    }
+
+    /// How many polls a turn may have.
+    pub fn burst(&self) -> u8
+        ensures { result ≡ self.now.burst }
+    {
+        self.burst
     }
 
     /// The notes of one actor.

@@ -1,14 +1,16 @@
 //! Which journals have a text.
 
-ghost use Rattle.std.specs.Prelude.{◌≡◌, ◌↔◌, ◌<◌, ◌≤◌, ℕ, All, IsTrue, reverse};
+ghost use Rattle.std.specs.Prelude.{◌≡◌, ◌↔◌, ◌<◌, ◌≤◌, ◌^◌, ℕ, All, IsTrue, reverse};
 ghost use Rattle.rt_shares.specs.Charge.{InRange};
-ghost use Rattle.rt_ids.specs.Limits.{most_queues};
+ghost use Rattle.rt_ids.specs.Bursts.{has_bursts};
+ghost use Rattle.rt_ids.specs.Limits.{most_capacity, most_cores, most_queues};
 ghost use Rattle.rt_ids.specs.Spelled as spec;
 ghost use Rattle.rt_ids.specs.Orders.{IsSpelledOrder};
 ghost use Rattle.rt_journal_notes.specs.Writers.{terms_seen};
 
 use crate::assembly::Assembly;
 use crate::journal::Journal;
+use rt_ids::limits::MOST_BURST;
 use rt_ids::{
     ActorNo, Answer, JobId, LAST_NUMBER, MOST_CAPACITY, MOST_CORES, Note, Order, OutcomeNote,
     QueueNo, Reason,
@@ -21,21 +23,28 @@ pub struct Writer {
     pub actor: u8,
     pub cores: u8,
     pub cap: u16,
+    pub burst: u8,
 }
 
 impl Assembly {
-    /// Whether the journals have a text: there are as many cores and places as there may be, each actor has a journal, and each note is one
-    /// that its actor may write, within its ranges.
+    /// Whether the journals have a text: there are as many cores, places and polls of a turn as there may be, each actor has a journal,
+    /// and each note is one that its actor may write, within its ranges.
     pub fn is_spelled(&self) -> bool
         ensures { IsTrue result ↔ spec.IsSpelled self.now }
     {
         let cores = self.cores();
         let cap = self.cap();
-        if !is_within_limits(cores, cap) {
+        let burst = self.burst();
+        if !is_within_limits(cores, cap, burst) {
             return false;
         }
         for actor in 0..cores + 1 {
-            let writer = Writer { actor, cores, cap };
+            let writer = Writer {
+                actor,
+                cores,
+                cap,
+                burst,
+            };
             if !are_spelled(writer, self.journal(ActorNo(actor))) {
                 return false;
             }
@@ -44,9 +53,16 @@ impl Assembly {
     }
 }
 
+/// Whether there are as many cores, places and polls of a turn as there may be.
+fn is_within_limits(cores: u8, cap: u16, burst: u8) -> bool
+    ensures { IsTrue result ↔ spec.IsWithinLimits cores cap burst }
+{
+    is_house(cores, cap) && burst >= 1 && burst <= MOST_BURST
+}
+
 /// Whether there are as many cores and places as there may be.
-fn is_within_limits(cores: u8, cap: u16) -> bool
-    ensures { IsTrue result ↔ spec.IsWithinLimits cores cap }
+fn is_house(cores: u8, cap: u16) -> bool
+    ensures { IsTrue result ↔ (1 ≤ cores) × (cores ≤ most_cores) × (1 ≤ cap) × (cap ≤ most_capacity) }
 {
     cores >= 1 && cores <= MOST_CORES && cap >= 1 && cap <= MOST_CAPACITY
 }
@@ -85,6 +101,7 @@ pub fn is_spelled_note(writer: Writer, note: Note<u64>) -> bool
         Note::Stayed(name, _) => is_received(writer, name),
         Note::Done(name, _, _) => is_received(writer, name),
         Note::Returned(name, reason) => is_received(writer, name) && is_return_reason(reason),
+        Note::Turned(queue, time) => is_core(writer) && is_queue(queue) && is_turn(writer, time),
         Note::Shut(sender, count) => {
             is_core(writer) && sender.0 <= writer.cores && count <= LAST_NUMBER
         }
@@ -99,6 +116,13 @@ fn is_core(writer: Writer) -> bool
     ensures { IsTrue result ↔ (writer.actor < writer.cores) }
 {
     writer.actor < writer.cores
+}
+
+/// Whether a note may end a turn with this time: a turn has several polls, and its time is at least 1 and at most what counts.
+fn is_turn(writer: Writer, time: u64) -> bool
+    ensures { IsTrue result ↔ (1 ≤ time) × (time < 2 ^ 40) × IsTrue (has_bursts writer.burst) }
+{
+    writer.burst > 1 && time >= 1 && time < 1 << 40
 }
 
 /// Whether its sender is an actor, its receiver a core, and its number one of a link.

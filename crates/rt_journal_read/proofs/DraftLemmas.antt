@@ -14,7 +14,7 @@ use Rattle.rt_journal_lines.proofs.Options.{either}
 use Rattle.rt_journal_read.specs.declared.draft.Part.{Part}
 use Rattle.rt_journal_read.specs.declared.draft.Part.TheVariants as part
 use Rattle.rt_journal_read.specs.declared.fault.JournalCause.{JournalCause}
-use Rattle.rt_journal_read.specs.Drafts.{Drafted, IsDraft, next_actor, raised, raised_to, with_form, with_size, size_of, with_note, with_actor, with_note_line, with_text, lines_left_of, lines_left, all_journals, assembly_of}
+use Rattle.rt_journal_read.specs.Drafts.{Drafted, IsDraft, next_actor, raised, raised_to, with_form, form_of, with_size, size_of, with_note, with_actor, with_note_line, with_text, lines_left_of, lines_left, all_journals, assembly_of}
 
 -- one actor more
 pub raised_more : (actor count : ℕ) (draft : Drafted) → count < actor → raised (actor - count) draft ≡ raised (actor - (count + 1)) (next_actor draft)
@@ -27,14 +27,15 @@ pub record IsRaised (count : ℕ) (old new : Drafted) : Type 0 where
   pub part : new.part ≡ old.part
   pub cores : new.cores ≡ old.cores
   pub cap : new.cap ≡ old.cap
+  pub burst : new.burst ≡ old.burst
   pub earlier : length new.earlier ≡ length old.earlier + count
 
 pub raised_is : (count : ℕ) (draft : Drafted) → IsRaised count draft (raised count draft)
-raised_is zero draft = record { part = refl; cores = refl; cap = refl; earlier = omega arith }
+raised_is zero draft = record { part = refl; cores = refl; cap = refl; burst = refl; earlier = omega arith }
 raised_is (suc count) draft =
     let rest = raised_is count (next_actor draft) in
     let longer = rest.earlier in
-    record { part = rest.part; cores = rest.cores; cap = rest.cap; earlier = omega (arith, length-append draft.earlier (draft.notes ∷ [])) }
+    record { part = rest.part; cores = rest.cores; cap = rest.cap; burst = rest.burst; earlier = omega (arith, length-append draft.earlier (draft.notes ∷ [])) }
 
 pub raised_notes : (count : ℕ) (draft : Drafted) → (raised (suc count) draft).notes ≡ []
 raised_notes zero draft = refl
@@ -46,14 +47,14 @@ chosen_ok true found missed a is = inl (refl, is)
 chosen_ok false found missed a is = inr (refl, is)
 
 -- a draft after a note
-pub note_taken : (draft new : Drafted) (read : Option (Note ℕ)) → with_note draft read ≡ Ok new → (note : Note ℕ) × (read ≡ Some note) × (length draft.notes < most_notes) × (new ≡ record { part = draft.part; cores = draft.cores; cap = draft.cap; earlier = draft.earlier; notes = note ∷ draft.notes })
+pub note_taken : (draft new : Drafted) (read : Option (Note ℕ)) → with_note draft read ≡ Ok new → (note : Note ℕ) × (read ≡ Some note) × (length draft.notes < most_notes) × (new ≡ record { part = draft.part; cores = draft.cores; cap = draft.cap; burst = draft.burst; earlier = draft.earlier; notes = note ∷ draft.notes })
 note_taken draft new None is = cc
 note_taken draft new (Some note) is =
     either (chosen_ok (ltb (length draft.notes) most_notes) _ _ new is)
     (λ h. let room : length draft.notes < most_notes = grind (arith, nat_tests, h.0) in (note, refl, room, cc))
     (λ h. cc)
 
-pub actor_taken : (draft new : Drafted) (ws : List (List ℕ)) (read : Option ℕ) → with_actor draft ws read ≡ Ok new → (actor : ℕ) × (read ≡ Some actor) × (with_note (raised_to actor draft) (note_of actor draft.cores ws) ≡ Ok new)
+pub actor_taken : (draft new : Drafted) (ws : List (List ℕ)) (read : Option ℕ) → with_actor draft ws read ≡ Ok new → (actor : ℕ) × (read ≡ Some actor) × (with_note (raised_to actor draft) (note_of actor draft.cores draft.burst ws) ≡ Ok new)
 actor_taken draft new ws None is = cc
 actor_taken draft new ws (Some actor) is = (actor, refl, is)
 
@@ -61,12 +62,12 @@ actor_taken draft new ws (Some actor) is = (actor, refl, is)
 left_in : (draft : Drafted) (p : Part) → draft.part ≡ p → lines_left draft ≡ lines_left_of p draft
 left_in draft p at = ap (λ q. lines_left_of q draft) at
 
-left_after : (draft new : Drafted) (ws : List (List ℕ)) (actor count : ℕ) → draft.part ≡ part.Notes → with_note (raised count draft) (note_of actor draft.cores ws) ≡ Ok new →
+left_after : (draft new : Drafted) (ws : List (List ℕ)) (actor count : ℕ) → draft.part ≡ part.Notes → with_note (raised count draft) (note_of actor draft.cores draft.burst ws) ≡ Ok new →
     (length (raised count draft).notes < most_notes) × (lines_left new ≡ (17 - (length draft.earlier + count)) * most_notes + 1 - (length (raised count draft).notes + 1))
 left_after draft new ws actor count at taken =
-    let one = note_taken (raised count draft) new (note_of actor draft.cores ws) taken in
+    let one = note_taken (raised count draft) new (note_of actor draft.cores draft.burst ws) taken in
     let kept = raised_is count draft in
-    let behind : Drafted = record { part = (raised count draft).part; cores = (raised count draft).cores; cap = (raised count draft).cap; earlier = (raised count draft).earlier; notes = one.0 ∷ (raised count draft).notes } in
+    let behind : Drafted = record { part = (raised count draft).part; cores = (raised count draft).cores; cap = (raised count draft).cap; burst = (raised count draft).burst; earlier = (raised count draft).earlier; notes = one.0 ∷ (raised count draft).notes } in
     let longer : suc (length (raised count draft).notes) ≡ length (raised count draft).notes + 1 = omega arith in (
       one.2,
       ap lines_left one.3 ∙ left_in behind part.Notes (kept.part ∙ at)
@@ -74,7 +75,7 @@ left_after draft new ws actor count at taken =
           ∙ ap (λ n. (17 - n) * most_notes + 1 - (length (raised count draft).notes + 1)) kept.earlier,
     )
 
-fewer_note : (draft new : Drafted) (ws : List (List ℕ)) (actor count : ℕ) → draft.part ≡ part.Notes → IsDraft draft → length draft.earlier + count ≤ draft.cores → with_note (raised count draft) (note_of actor draft.cores ws) ≡ Ok new → lines_left new + 1 ≤ lines_left draft
+fewer_note : (draft new : Drafted) (ws : List (List ℕ)) (actor count : ℕ) → draft.part ≡ part.Notes → IsDraft draft → length draft.earlier + count ≤ draft.cores → with_note (raised count draft) (note_of actor draft.cores draft.burst ws) ≡ Ok new → lines_left new + 1 ≤ lines_left draft
 fewer_note draft new ws actor zero at is within taken =
     let few = is.few in
     let after = left_after draft new ws actor zero at taken in
@@ -88,21 +89,19 @@ fewer_note draft new ws actor (suc count) at is within taken =
     let none = ap length (raised_notes count draft) in
     omega (arith, after.1, before, none)
 
-fewer_form : (draft new : Drafted) (line : List ℕ) → draft.part ≡ part.Form → with_form draft line ≡ Ok new → lines_left new + 1 ≤ lines_left draft
-fewer_form draft new line at taken =
-    either (chosen_ok (bytes_eq line (codes "journal 1")) _ _ new taken)
-    (λ h.
-    let next : Drafted = record { part = part.Size; cores = draft.cores; cap = draft.cap; earlier = draft.earlier; notes = draft.notes } in
+fewer_form : (draft new : Drafted) (form : Option ℕ) → draft.part ≡ part.Form → with_form draft form ≡ Ok new → lines_left new + 1 ≤ lines_left draft
+fewer_form draft new None at taken = cc
+fewer_form draft new (Some form) at taken =
+    let next : Drafted = record { part = part.Size; cores = draft.cores; cap = draft.cap; burst = form; earlier = draft.earlier; notes = draft.notes } in
     let is : next ≡ new = cc in
     let before = left_in draft part.Form at in
     let after = ap lines_left (sym is) in
-    omega (arith, before, after))
-    (λ h. cc)
+    omega (arith, before, after)
 
-fewer_size : (draft new : Drafted) (size : Option (ℕ × ℕ)) → draft.part ≡ part.Size → with_size draft size ≡ Ok new → lines_left new + 1 ≤ lines_left draft
+fewer_size : (draft new : Drafted) (size : Option (ℕ × ℕ × ℕ)) → draft.part ≡ part.Size → with_size draft size ≡ Ok new → lines_left new + 1 ≤ lines_left draft
 fewer_size draft new None at taken = cc
 fewer_size draft new (Some size) at taken =
-    let next : Drafted = record { part = part.Notes; cores = size.0; cap = size.1; earlier = draft.earlier; notes = draft.notes } in
+    let next : Drafted = record { part = part.Notes; cores = size.0; cap = size.1; burst = size.2; earlier = draft.earlier; notes = draft.notes } in
     let is : next ≡ new = cc in
     let before = left_in draft part.Size at in
     let after = ap lines_left (sym is) in
@@ -112,7 +111,7 @@ pub fewer_line : (draft new : Drafted) (line : List ℕ) → draft.part ≡ part
 fewer_line draft new line at is taken =
     either (chosen_ok (bytes_eq line (codes "end")) _ _ new taken)
     (λ h.
-    let next : Drafted = record { part = part.After; cores = draft.cores; cap = draft.cap; earlier = draft.earlier; notes = draft.notes } in
+    let next : Drafted = record { part = part.After; cores = draft.cores; cap = draft.cap; burst = draft.burst; earlier = draft.earlier; notes = draft.notes } in
     let same : next ≡ new = cc in
     let few = is.few in
     let actors = is.actors in
@@ -131,8 +130,8 @@ pub fewer_lines : (draft new : Drafted) (line : List ℕ) → IsDraft draft → 
 fewer_lines draft new line is taken = of_part draft.part refl taken
   where
     of_part : (p : Part) → draft.part ≡ p → with_text p draft line ≡ Ok new → lines_left new + 1 ≤ lines_left draft
-    of_part part.Form at h = fewer_form draft new line at h
-    of_part part.Size at h = fewer_size draft new (size_of (words line)) at h
+    of_part part.Form at h = fewer_form draft new (form_of line) at h
+    of_part part.Size at h = fewer_size draft new (size_of draft.burst (words line)) at h
     of_part part.Notes at h = fewer_line draft new line at is h
     of_part part.After at h = cc
 
@@ -148,21 +147,22 @@ lines_left_most draft = of_part draft.part
 
 -- what is read of a line that isn't `end`
 pub line_read : (draft passed : Drafted) (line : List ℕ) (actor : ℕ) (read : Option (Note ℕ)) → bytes_eq line (codes "end") ≡ false → number_in (length draft.earlier) draft.cores (first (words line)) ≡ Some actor →
-    passed ≡ raised_to actor draft → read ≡ note_of actor draft.cores (others (words line)) → with_note_line draft line ≡ with_note passed read
+    passed ≡ raised_to actor draft → read ≡ note_of actor draft.cores draft.burst (others (words line)) → with_note_line draft line ≡ with_note passed read
 line_read draft passed line actor read other number is note_is =
-    ap (λ b. cond b (Ok (record { part = part.After; cores = draft.cores; cap = draft.cap; earlier = draft.earlier; notes = draft.notes })) (with_actor draft (others (words line)) (number_in (length draft.earlier) draft.cores (first (words line))))) other
+    ap (λ b. cond b (Ok (record { part = part.After; cores = draft.cores; cap = draft.cap; burst = draft.burst; earlier = draft.earlier; notes = draft.notes })) (with_actor draft (others (words line)) (number_in (length draft.earlier) draft.cores (first (words line))))) other
     ∙ ap (with_actor draft (others (words line))) number
-    ∙ ap (λ d. with_note d (note_of actor draft.cores (others (words line)))) (sym is)
+    ∙ ap (λ d. with_note d (note_of actor draft.cores draft.burst (others (words line)))) (sym is)
     ∙ ap (with_note passed) (sym note_is)
 
 -- the journals of a draft that was passed through
-pub assembled : (draft passed : Drafted) (cores places : ℕ) (journals : List (Journal ℕ)) (newest : Journal ℕ) → passed ≡ raised_to draft.cores draft → cores ≡ passed.cores → places ≡ passed.cap → journals ≡ passed.earlier ++ newest ∷ [] → newest ≡ passed.notes →
-    ◌≡◌ {A = Assembly ℕ} (record { cores = cores; cap = places; journals = journals }) (assembly_of draft)
-assembled draft passed cores places journals newest is cores_is cap_is journals_are newest_is =
+pub assembled : (draft passed : Drafted) (cores places burst : ℕ) (journals : List (Journal ℕ)) (newest : Journal ℕ) → passed ≡ raised_to draft.cores draft → cores ≡ passed.cores → places ≡ passed.cap → burst ≡ passed.burst → journals ≡ passed.earlier ++ newest ∷ [] → newest ≡ passed.notes →
+    ◌≡◌ {A = Assembly ℕ} (record { cores = cores; cap = places; burst = burst; journals = journals }) (assembly_of draft)
+assembled draft passed cores places burst journals newest is cores_is cap_is burst_is journals_are newest_is =
     let kept = raised_is (draft.cores - length draft.earlier) draft in
-    ap {B = Assembly ℕ} (λ n. record { cores = n; cap = places; journals = journals }) (cores_is ∙ ap (λ (d : Drafted). d.cores) is ∙ kept.cores)
-    ∙ ap {B = Assembly ℕ} (λ n. record { cores = draft.cores; cap = n; journals = journals }) (cap_is ∙ ap (λ (d : Drafted). d.cap) is ∙ kept.cap)
-    ∙ ap {B = Assembly ℕ} (λ js. record { cores = draft.cores; cap = draft.cap; journals = js }) (journals_are ∙ ap (λ j. passed.earlier ++ j ∷ []) newest_is ∙ ap all_journals is)
+    ap {B = Assembly ℕ} (λ n. record { cores = n; cap = places; burst = burst; journals = journals }) (cores_is ∙ ap (λ (d : Drafted). d.cores) is ∙ kept.cores)
+    ∙ ap {B = Assembly ℕ} (λ n. record { cores = draft.cores; cap = n; burst = burst; journals = journals }) (cap_is ∙ ap (λ (d : Drafted). d.cap) is ∙ kept.cap)
+    ∙ ap {B = Assembly ℕ} (λ n. record { cores = draft.cores; cap = draft.cap; burst = n; journals = journals }) (burst_is ∙ ap (λ (d : Drafted). d.burst) is ∙ kept.burst)
+    ∙ ap {B = Assembly ℕ} (λ js. record { cores = draft.cores; cap = draft.cap; burst = draft.burst; journals = js }) (journals_are ∙ ap (λ j. passed.earlier ++ j ∷ []) newest_is ∙ ap all_journals is)
 
 pub passed_count : (draft : Drafted) → length draft.earlier ≤ draft.cores → length (raised_to draft.cores draft).earlier ≡ draft.cores
 passed_count draft actors = let kept = raised_is (draft.cores - length draft.earlier) draft in let longer = kept.earlier in omega arith

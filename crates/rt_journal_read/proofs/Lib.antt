@@ -1,7 +1,10 @@
 pub mod DraftLemmas
 pub mod SoFar
+pub mod SizeWords
 pub mod ReadTexts
 pub mod OnlyTexts
 pub mod Raising
 pub mod HeadLines
 pub mod ReadBack
+pub mod FirstLines
+pub mod FaultyForms

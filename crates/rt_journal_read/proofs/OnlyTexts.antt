@@ -14,21 +14,21 @@ use Rattle.rt_journal_read.proofs.DraftLemmas.{raised_is}
 use Rattle.rt_journal_read.proofs.ReadTexts.{read_from}
 use Rattle.rt_journal_read.proofs.SoFar.{terms_at, IsFair, SpelledFrom, spelled_push, body_lines, raised_fair}
 
-spelled_index : (first cores cap : ℕ) (journals : List (Journal ℕ)) (place : ℕ) → SpelledFrom first cores cap journals → place < length journals → AreSpelledNotes (record { actor = first + place; cores = cores; cap = cap }) (unwrap_or (slice_get journals place) [])
-spelled_index first cores cap [] place spelled within = absurd (omega arith)
-spelled_index first cores cap (journal ∷ journals) zero spelled within =
+spelled_index : (first cores cap burst : ℕ) (journals : List (Journal ℕ)) (place : ℕ) → SpelledFrom first cores cap burst journals → place < length journals → AreSpelledNotes (record { actor = first + place; cores = cores; cap = cap; burst = burst }) (unwrap_or (slice_get journals place) [])
+spelled_index first cores cap burst [] place spelled within = absurd (omega arith)
+spelled_index first cores cap burst (journal ∷ journals) zero spelled within =
     let here : first ≡ first + 0 = omega arith in
-    subst (λ n. AreSpelledNotes (record { actor = n; cores = cores; cap = cap }) journal) here spelled.0
-spelled_index first cores cap (journal ∷ journals) (suc place) spelled within =
+    subst (λ n. AreSpelledNotes (record { actor = n; cores = cores; cap = cap; burst = burst }) journal) here spelled.0
+spelled_index first cores cap burst (journal ∷ journals) (suc place) spelled within =
     let next : (first + 1) + place ≡ first + suc place = omega arith in
-    subst (λ n. AreSpelledNotes (record { actor = n; cores = cores; cap = cap }) (unwrap_or (slice_get journals place) [])) next
-    (spelled_index (first + 1) cores cap journals place spelled.1 (omega arith))
+    subst (λ n. AreSpelledNotes (record { actor = n; cores = cores; cap = cap; burst = burst }) (unwrap_or (slice_get journals place) [])) next
+    (spelled_index (first + 1) cores cap burst journals place spelled.1 (omega arith))
 
 -- all journals of a draft that is whole
-all_spelled : (draft : Drafted) → IsFair draft → SpelledFrom 0 draft.cores draft.cap (all_journals draft)
+all_spelled : (draft : Drafted) → IsFair draft → SpelledFrom 0 draft.cores draft.cap draft.burst (all_journals draft)
 all_spelled draft fair =
     let here : length draft.earlier ≡ 0 + length draft.earlier = omega arith in
-    spelled_push 0 draft.cores draft.cap draft.earlier draft.notes fair.before (subst (λ n. AreSpelledNotes (terms_at n draft) draft.notes) here fair.here)
+    spelled_push 0 draft.cores draft.cap draft.burst draft.earlier draft.notes fair.before (subst (λ n. AreSpelledNotes (terms_at n draft) draft.notes) here fair.here)
 
 pub assembly_spelled : (draft : Drafted) → IsFair draft → IsSpelled (assembly_of draft)
 assembly_spelled draft fair =
@@ -38,16 +38,17 @@ assembly_spelled draft fair =
     let rest = raised_fair (draft.cores - length draft.earlier) draft fair (omega arith) in
     let longer = kept.earlier in
     let count : length (all_journals passed) ≡ draft.cores + 1 = omega (arith, length-append passed.earlier (passed.notes ∷ [])) in
-    let each : SpelledFrom 0 draft.cores draft.cap (all_journals passed) =
-    subst (λ n. SpelledFrom 0 n draft.cap (all_journals passed)) kept.cores
-    (subst (λ n. SpelledFrom 0 passed.cores n (all_journals passed)) kept.cap (all_spelled passed rest.0)) in
+    let each : SpelledFrom 0 draft.cores draft.cap draft.burst (all_journals passed) =
+    subst (λ n. SpelledFrom 0 n draft.cap draft.burst (all_journals passed)) kept.cores
+    (subst (λ n. SpelledFrom 0 passed.cores n draft.burst (all_journals passed)) kept.cap
+    (subst (λ n. SpelledFrom 0 passed.cores passed.cap n (all_journals passed)) kept.burst (all_spelled passed rest.0))) in
     record {
       limits = fair.limits;
       journals = count;
       notes = λ actor within.
           let place : 0 + actor ≡ actor = omega arith in
-          subst (λ n. AreSpelledNotes (record { actor = n; cores = draft.cores; cap = draft.cap }) (unwrap_or (slice_get (all_journals passed) actor) [])) place
-          (spelled_index 0 draft.cores draft.cap (all_journals passed) actor each (omega arith));
+          subst (λ n. AreSpelledNotes (record { actor = n; cores = draft.cores; cap = draft.cap; burst = draft.burst }) (unwrap_or (slice_get (all_journals passed) actor) [])) place
+          (spelled_index 0 draft.cores draft.cap draft.burst (all_journals passed) actor each (omega arith));
     }
 
 -- the lines of a draft are those of its journals
@@ -60,8 +61,9 @@ assembly_text draft fair =
     let rest = raised_fair (draft.cores - length draft.earlier) draft fair (omega arith) in
     ap (λ body. text_of (body ++ end_line ∷ [])) (
     sym rest.1
-    ∙ ap (λ n. form_line ∷ size_line n passed.cap ∷ journal_lines 0 (all_journals passed)) kept.cores
-    ∙ ap (λ n. form_line ∷ size_line draft.cores n ∷ journal_lines 0 (all_journals passed)) kept.cap)
+    ∙ ap (λ n. form_line passed.burst ∷ size_line n passed.cap passed.burst ∷ journal_lines 0 (all_journals passed)) kept.cores
+    ∙ ap (λ n. form_line passed.burst ∷ size_line draft.cores n passed.burst ∷ journal_lines 0 (all_journals passed)) kept.cap
+    ∙ ap (λ n. form_line n ∷ size_line draft.cores draft.cap n ∷ journal_lines 0 (all_journals passed)) kept.burst)
 
 pub only_texts : OnlyTextsAreRead
 only_texts text draft told =

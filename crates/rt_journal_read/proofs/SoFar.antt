@@ -12,31 +12,31 @@ use Rattle.rt_journal_write.proofs.LineLemmas.{journal_lines-append}
 use Rattle.rt_journal_read.specs.Drafts.{Drafted, next_actor, raised, all_journals}
 
 abbrev pub terms_at : ℕ → Drafted → Terms
-terms_at actor draft = record { actor = actor; cores = draft.cores; cap = draft.cap }
+terms_at actor draft = record { actor = actor; cores = draft.cores; cap = draft.cap; burst = draft.burst }
 
 -- the journals from this actor on are spelled
-abbrev pub SpelledFrom : ℕ → ℕ → ℕ → List (Journal ℕ) → Type 0
-SpelledFrom actor cores cap [] = Unit {0}
-SpelledFrom actor cores cap (journal ∷ others) = AreSpelledNotes (record { actor = actor; cores = cores; cap = cap }) journal × SpelledFrom (actor + 1) cores cap others
+abbrev pub SpelledFrom : ℕ → ℕ → ℕ → ℕ → List (Journal ℕ) → Type 0
+SpelledFrom actor cores cap burst [] = Unit {0}
+SpelledFrom actor cores cap burst (journal ∷ others) = AreSpelledNotes (record { actor = actor; cores = cores; cap = cap; burst = burst }) journal × SpelledFrom (actor + 1) cores cap burst others
 
-pub spelled_push : (actor cores cap : ℕ) (journals : List (Journal ℕ)) (journal : Journal ℕ) → SpelledFrom actor cores cap journals → AreSpelledNotes (record { actor = actor + length journals; cores = cores; cap = cap }) journal → SpelledFrom actor cores cap (journals ++ journal ∷ [])
-spelled_push actor cores cap [] journal before last =
+pub spelled_push : (actor cores cap burst : ℕ) (journals : List (Journal ℕ)) (journal : Journal ℕ) → SpelledFrom actor cores cap burst journals → AreSpelledNotes (record { actor = actor + length journals; cores = cores; cap = cap; burst = burst }) journal → SpelledFrom actor cores cap burst (journals ++ journal ∷ [])
+spelled_push actor cores cap burst [] journal before last =
     let here : actor + 0 ≡ actor = omega arith in
-    (subst (λ n. AreSpelledNotes (record { actor = n; cores = cores; cap = cap }) journal) here last, tt)
-spelled_push actor cores cap (first ∷ journals) journal before last =
+    (subst (λ n. AreSpelledNotes (record { actor = n; cores = cores; cap = cap; burst = burst }) journal) here last, tt)
+spelled_push actor cores cap burst (first ∷ journals) journal before last =
     let here : actor + length (first ∷ journals) ≡ (actor + 1) + length journals = omega arith in
-    (before.0, spelled_push (actor + 1) cores cap journals journal before.1 (subst (λ n. AreSpelledNotes (record { actor = n; cores = cores; cap = cap }) journal) here last))
+    (before.0, spelled_push (actor + 1) cores cap burst journals journal before.1 (subst (λ n. AreSpelledNotes (record { actor = n; cores = cores; cap = cap; burst = burst }) journal) here last))
 
 -- what is read so far is spelled
 pub record IsFair (draft : Drafted) : Type 0 where
-  pub limits : IsWithinLimits draft.cores draft.cap
+  pub limits : IsWithinLimits draft.cores draft.cap draft.burst
   pub actors : length draft.earlier ≤ draft.cores
-  pub before : SpelledFrom 0 draft.cores draft.cap draft.earlier
+  pub before : SpelledFrom 0 draft.cores draft.cap draft.burst draft.earlier
   pub here : AreSpelledNotes (terms_at (length draft.earlier) draft) draft.notes
 
 -- the first two lines, and those of the notes
 abbrev pub body_lines : Drafted → List (List ℕ)
-body_lines draft = form_line ∷ size_line draft.cores draft.cap ∷ journal_lines 0 (all_journals draft)
+body_lines draft = form_line draft.burst ∷ size_line draft.cores draft.cap draft.burst ∷ journal_lines 0 (all_journals draft)
 
 -- an actor without notes has no line
 no_lines : (journals : List (Journal ℕ)) → journal_lines 0 (journals ++ [] ∷ []) ≡ journal_lines 0 journals
@@ -47,10 +47,10 @@ next_fair draft fair less = (
   record {
     limits = fair.limits;
     actors = omega (arith, length-append draft.earlier (draft.notes ∷ []));
-    before = spelled_push 0 draft.cores draft.cap draft.earlier draft.notes fair.before (subst (λ n. AreSpelledNotes (terms_at n draft) draft.notes) zero_more fair.here);
+    before = spelled_push 0 draft.cores draft.cap draft.burst draft.earlier draft.notes fair.before (subst (λ n. AreSpelledNotes (terms_at n draft) draft.notes) zero_more fair.here);
     here = tt;
   },
-  ap (λ lines. form_line ∷ size_line draft.cores draft.cap ∷ lines) (no_lines (all_journals draft)),
+  ap (λ lines. form_line draft.burst ∷ size_line draft.cores draft.cap draft.burst ∷ lines) (no_lines (all_journals draft)),
 )
   where
     zero_more : length draft.earlier ≡ 0 + length draft.earlier
@@ -65,7 +65,7 @@ raised_fair (suc count) draft fair within =
 
 -- one note more
 abbrev pub noted : Drafted → Note ℕ → Drafted
-noted draft note = record { part = draft.part; cores = draft.cores; cap = draft.cap; earlier = draft.earlier; notes = note ∷ draft.notes }
+noted draft note = record { part = draft.part; cores = draft.cores; cap = draft.cap; burst = draft.burst; earlier = draft.earlier; notes = note ∷ draft.notes }
 
 pub actor_lines-more : (actor : ℕ) (note : Note ℕ) (before : Journal ℕ) → actor_lines actor (note ∷ before) ≡ actor_lines actor before ++ note_line actor note ∷ []
 actor_lines-more actor note before = ap (map (note_line actor)) (reverse-append (note ∷ []) before) ∙ map-append (note_line actor) (reverse before) (note ∷ [])
@@ -80,7 +80,7 @@ last_lines journals journal =
 pub noted_fair : (draft : Drafted) (note : Note ℕ) → IsFair draft → IsSpelledNote (terms_at (length draft.earlier) draft) note → IsFair (noted draft note) × (body_lines (noted draft note) ≡ body_lines draft ++ note_line (length draft.earlier) note ∷ [])
 noted_fair draft note fair spelled = (
   record { limits = fair.limits; actors = fair.actors; before = fair.before; here = (spelled, fair.here) },
-  ap (λ lines. form_line ∷ size_line draft.cores draft.cap ∷ lines) (
+  ap (λ lines. form_line draft.burst ∷ size_line draft.cores draft.cap draft.burst ∷ lines) (
       last_lines draft.earlier (note ∷ draft.notes)
       ∙ ap (λ lines. journal_lines 0 draft.earlier ++ lines) (actor_lines-more (length draft.earlier) note draft.notes)
       ∙ sym (append_assoc (journal_lines 0 draft.earlier) (actor_lines (length draft.earlier) draft.notes) (note_line (length draft.earlier) note ∷ []))

@@ -2,15 +2,16 @@
 use Rattle.std.specs.Prelude.{◌≡◌, ℕ, ◌+◌, ◌-◌, ◌*◌, ◌≤◌, ◌∷◌, List, codes, length, Option, Some, None, Result, Ok, Err, nat_lt, if◌then◌else◌}
 use Rattle.std.specs.Str.{bytes_eq}
 use Rattle.rt_ids.specs.declared.note.Note.{Note}
-use Rattle.rt_ids.specs.Limits.{most_capacity, most_cores, most_notes}
-use Rattle.rt_words.specs.Words.{words, first, others, second, third, fourth}
-use Rattle.rt_journal_lines.specs.Fields.{◌>>=◌, fixed, number_in}
+use Rattle.rt_ids.specs.Limits.{most_cores, most_notes}
+use Rattle.rt_words.specs.Words.{words, first, others}
+use Rattle.rt_journal_lines.specs.Fields.{number_in}
 use Rattle.rt_journal_lines.specs.NoteWords.{note_of}
-use Rattle.rt_journal_lines.specs.Phrases.{last}
 use Rattle.rt_journal_read.specs.declared.draft.Part.{Part}
 use Rattle.rt_journal_read.specs.declared.draft.Part.TheVariants as part
 use Rattle.rt_journal_read.specs.declared.fault.JournalCause.{JournalCause}
 use Rattle.rt_journal_read.specs.declared.fault.JournalCause.TheVariants as cause
+pub use Rattle.rt_journal_read.specs.Heads.{with_form, with_size}
+unfoldable pub use Rattle.rt_journal_read.specs.Heads.{form_of, burst_of, size_of}
 pub use Rattle.rt_journal_read.specs.Raised.{Drafted, empty_draft, next_actor, raised, raised_to, all_journals, assembly_of}
 
 -- what is wrong with a line that is too long
@@ -20,45 +21,28 @@ too_long part.Size = cause.Cores
 too_long part.Notes = cause.Note
 too_long part.After = cause.AfterEnd
 
--- `journal 1`
-abbrev pub with_form : Drafted → List ℕ → Result Drafted JournalCause
-with_form draft line =
-    if bytes_eq line (codes "journal 1") then Ok (record { part = part.Size; cores = draft.cores; cap = draft.cap; earlier = draft.earlier; notes = draft.notes })
-    else Err cause.Header
-
--- `cores C cap K`
-unfoldable pub size_of : List (List ℕ) → Option (ℕ × ℕ)
-size_of ws = do
-  cores ← fixed (codes "cores") (first ws) (number_in 1 most_cores (second ws))
-  cap ← fixed (codes "cap") (third ws) (last (number_in 1 most_capacity (fourth ws)) (others (others (others (others ws)))))
-  Some (cores, cap)
-
-abbrev pub with_size : Drafted → Option (ℕ × ℕ) → Result Drafted JournalCause
-with_size draft None = Err cause.Cores
-with_size draft (Some size) = Ok (record { part = part.Notes; cores = size.0; cap = size.1; earlier = draft.earlier; notes = draft.notes })
-
 -- one note more of this actor, who has as many as there may be at most
 abbrev pub with_note : Drafted → Option (Note ℕ) → Result Drafted JournalCause
 with_note draft None = Err cause.Note
 with_note draft (Some note) =
-    if nat_lt (length draft.notes) most_notes then Ok (record { part = draft.part; cores = draft.cores; cap = draft.cap; earlier = draft.earlier; notes = note ∷ draft.notes })
+    if nat_lt (length draft.notes) most_notes then Ok (record { part = draft.part; cores = draft.cores; cap = draft.cap; burst = draft.burst; earlier = draft.earlier; notes = note ∷ draft.notes })
     else Err cause.TooMany
 
 -- the actor of a note, and the words behind: no actor comes before the one of the line before
 abbrev pub with_actor : Drafted → List (List ℕ) → Option ℕ → Result Drafted JournalCause
 with_actor draft ws None = Err cause.Actor
-with_actor draft ws (Some actor) = with_note (raised_to actor draft) (note_of actor draft.cores ws)
+with_actor draft ws (Some actor) = with_note (raised_to actor draft) (note_of actor draft.cores draft.burst ws)
 
 -- `ACTOR NOTE`, or `end`
 abbrev pub with_note_line : Drafted → List ℕ → Result Drafted JournalCause
 with_note_line draft line =
-    if bytes_eq line (codes "end") then Ok (record { part = part.After; cores = draft.cores; cap = draft.cap; earlier = draft.earlier; notes = draft.notes })
+    if bytes_eq line (codes "end") then Ok (record { part = part.After; cores = draft.cores; cap = draft.cap; burst = draft.burst; earlier = draft.earlier; notes = draft.notes })
     else with_actor draft (others (words line)) (number_in (length draft.earlier) draft.cores (first (words line)))
 
 -- a line that isn't too long, by where it stands
 abbrev pub with_text : Part → Drafted → List ℕ → Result Drafted JournalCause
-with_text part.Form draft line = with_form draft line
-with_text part.Size draft line = with_size draft (size_of (words line))
+with_text part.Form draft line = with_form draft (form_of line)
+with_text part.Size draft line = with_size draft (size_of draft.burst (words line))
 with_text part.Notes draft line = with_note_line draft line
 with_text part.After draft line = Err cause.AfterEnd
 

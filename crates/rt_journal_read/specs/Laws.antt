@@ -5,13 +5,17 @@ use Rattle.rt_ids.specs.Journal.{EachNote}
 use Rattle.rt_ids.specs.Limits.{most_notes}
 use Rattle.rt_ids.specs.Spelled.{IsSpelled}
 use Rattle.rt_journal_lines.specs.Laws.{HoldsTimes}
-use Rattle.rt_journal_write.specs.Texts.{journal_text}
+use Rattle.rt_journal_write.specs.Texts.{head_text, journal_text}
 use Rattle.rt_journal_read.specs.Drafts.{Drafted, assembly_of}
 use Rattle.rt_journal_read.specs.JournalTexts.{journals_of}
 
 -- a text that tells journals is the text of these journals, and they are spelled; so two texts never tell the same
 abbrev pub OnlyTextsAreRead : Type 0
 OnlyTextsAreRead = (text : List ℕ) (draft : Drafted) → journals_of text ≡ Ok draft → IsSpelled (assembly_of draft) × (text ≡ journal_text (assembly_of draft))
+
+-- the first two lines tell how many cores there are, how much each link may hold and how many polls a turn may have; so journals that differ in one of these, and be it the last alone, differ in these lines
+abbrev pub FirstLinesTell : Type 0
+FirstLinesTell = (one other : Assembly ℕ) → IsSpelled one → IsSpelled other → head_text one ≡ head_text other → (one.cores ≡ other.cores) × (one.cap ≡ other.cap) × (one.burst ≡ other.burst)
 
 -- no actor has more notes than a text may tell of it, and times and answers are what their types hold
 pub record IsTellable (assembly : Assembly ℕ) : Type 0 where

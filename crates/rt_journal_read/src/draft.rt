@@ -7,6 +7,7 @@ ghost use Rattle.rt_journal_read.specs.Drafts as spec;
 ghost use Rattle.rt_lines.specs.Faults.{IfCause};
 
 use crate::fault::JournalCause;
+use rt_ids::limits::MOST_BURST;
 use rt_ids::{MOST_CAPACITY, MOST_CORES, MOST_NOTES, Note};
 use rt_journal_lines::field::number_in;
 use rt_journal_lines::note_of;
@@ -22,9 +23,9 @@ use std::mem::replace;
 /// What comes next in a text.
 #[derive(Clone, Copy, PartialEq, Eq)]
 pub enum Part {
-    /// `journal 1`
+    /// `journal 1` or `journal 2`
     Form,
-    /// `cores C cap K`
+    /// `cores C cap K`, and in form 2 `burst B` behind it
     Size,
     /// A note, or `end`.
     Notes,
@@ -38,6 +39,7 @@ pub(crate) struct Draft {
     part: Part,
     cores: u8,
     cap: u16,
+    burst: u8,
     earlier: Vec<Journal<u64>>,
     notes: Journal<u64>,
     alloc: Global,
@@ -53,6 +55,7 @@ impl Model for Draft {
       part = d.part;
       cores = d.cores;
       cap = d.cap;
+      burst = d.burst;
       earlier = map (λ journal. journal.notes) d.earlier.items;
       notes = d.notes.notes;
     } };
@@ -61,6 +64,7 @@ impl Model for Draft {
       part = d.part;
       cores = d.cores;
       cap = d.cap;
+      burst = d.burst;
       earlier = map (λ journal. journal.notes) d.earlier.items;
       notes = d.notes.notes;
     }) };
@@ -75,6 +79,7 @@ impl Draft {
             part: Part::Form,
             cores: 1,
             cap: 1,
+            burst: 1,
             earlier: Vec::new(alloc),
             notes: Journal::of(Vec::new(alloc)),
             alloc,
@@ -104,26 +109,30 @@ impl Draft {
 
     fn take_form(&mut self, line: &[u8]) -> Result<(), Stop<JournalCause>>
         requires { self.old.part ≡ Part.Form }
-        ensures ok { OnOk result (spec.with_form self.old line.now ≡ Ok self.new) }
-        ensures faulty { IfErr result (IfCause (λ cause. spec.with_form self.old line.now ≡ Err cause)) }
+        ensures ok { OnOk result (spec.with_form self.old (spec.form_of line.now) ≡ Ok self.new) }
+        ensures faulty { IfErr result (IfCause (λ cause. spec.with_form self.old (spec.form_of line.now) ≡ Err cause)) }
     {
-        if is_word(line, "journal 1") {
-            self.part = Part::Size;
-            return Ok(());
+        match form_of(line) {
+            Some(form) => {
+                self.part = Part::Size;
+                self.burst = form;
+                Ok(())
+            }
+            None => Err(Stop::Cause(JournalCause::Header)),
         }
-        Err(Stop::Cause(JournalCause::Header))
     }
 
     fn take_size(&mut self, line: &[u8]) -> Result<(), Stop<JournalCause>>
         requires { self.old.part ≡ Part.Size }
-        ensures ok { OnOk result (spec.with_size self.old (spec.size_of (words line.now)) ≡ Ok self.new) }
-        ensures faulty { IfErr result (IfCause (λ cause. spec.with_size self.old (spec.size_of (words line.now)) ≡ Err cause)) }
+        ensures ok { OnOk result (spec.with_size self.old (spec.size_of self.old.burst (words line.now)) ≡ Ok self.new) }
+        ensures faulty { IfErr result (IfCause (λ cause. spec.with_size self.old (spec.size_of self.old.burst (words line.now)) ≡ Err cause)) }
     {
-        match size_of(&mut Words::of(line)) {
-            Some((cores, cap)) => {
+        match size_of(self.burst, &mut Words::of(line)) {
+            Some((cores, cap, burst)) => {
                 self.part = Part::Notes;
                 self.cores = cores;
                 self.cap = cap;
+                self.burst = burst;
                 Ok(())
             }
             None => Err(Stop::Cause(JournalCause::Cores)),
@@ -145,7 +154,8 @@ impl Draft {
                 let actor = actor as u8;
                 self.raise_to(actor)?;
                 let cores = self.cores;
-                self.take_note(note_of(&mut fields, actor, cores))
+                let burst = self.burst;
+                self.take_note(note_of(&mut fields, actor, cores, burst))
             }
             None => Err(Stop::Cause(JournalCause::Actor)),
         }
@@ -203,19 +213,50 @@ impl Draft {
             part: _,
             cores,
             cap,
+            burst,
             mut earlier,
             notes,
             alloc: _,
         } = self;
         earlier.push(notes)?;
-        Ok(Assembly::of(cores, cap, earlier))
+        Ok(Assembly::of_burst(cores, cap, burst, earlier))
     }
 }
 
-/// `cores C cap K`
-#[tactic(auto, unfolding(crate::specs::Drafts::size_of))]
-fn size_of(fields: &mut Words<'_>) -> Option<(u8, u16)>
-    ensures value { result ≡ spec.size_of fields.old }
+/// The form that the first line tells, as the least burst of its texts.
+#[tactic(auto, unfolding(crate::specs::Heads::form_of))]
+fn form_of(line: &[u8]) -> Option<u8>
+    ensures { result ≡ spec.form_of line.now }
+{
+    if is_word(line, "journal 1") {
+        return Some(1);
+    }
+    if is_word(line, "journal 2") {
+        return Some(2);
+    }
+    None
+}
+
+/// The end of the second line: nothing in form 1, `burst B` in form 2.
+#[tactic(auto, unfolding(crate::specs::Heads::burst_of))]
+fn burst_of(form: u8, fields: &mut Words<'_>) -> Option<u8>
+    ensures { result ≡ spec.burst_of form fields.old }
+{
+    if form < 2 {
+        return last(Some(1), fields);
+    }
+    if !is_word(fields.next_word(), "burst") {
+        return None;
+    }
+    let burst = number_in(fields.next_word(), 2, u64::from(MOST_BURST));
+    let burst = last(burst, fields)?;
+    Some(burst as u8)
+}
+
+/// `cores C cap K`, and how many polls a turn may have.
+#[tactic(auto, unfolding(crate::specs::Heads::size_of))]
+fn size_of(form: u8, fields: &mut Words<'_>) -> Option<(u8, u16, u8)>
+    ensures value { result ≡ spec.size_of form fields.old }
     ensures some { IfSome result (λ size. 1 ≤ size.0) }
     ensures few { IfSome result (λ size. size.0 ≤ most_cores) }
 {
@@ -226,7 +267,7 @@ fn size_of(fields: &mut Words<'_>) -> Option<(u8, u16)>
     if !is_word(fields.next_word(), "cap") {
         return None;
     }
-    let cap = number_in(fields.next_word(), 1, MOST_CAPACITY as u64);
-    let cap = last(cap, fields)?;
-    Some((cores as u8, cap as u16))
+    let cap = number_in(fields.next_word(), 1, MOST_CAPACITY as u64)?;
+    let burst = burst_of(form, fields)?;
+    Some((cores as u8, cap as u16, burst))
 }

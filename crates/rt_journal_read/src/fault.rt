@@ -9,9 +9,9 @@ use rt_text::CauseWords;
 pub enum JournalCause {
     /// It is the last line, and has no line feed.
     Cut,
-    /// It is the first line, and isn't `journal 1`.
+    /// It is the first line, and isn't `journal 1` or `journal 2`.
     Header,
-    /// It is the second line, and isn't a `cores` line within the limits.
+    /// It is the second line, and isn't a `cores` line of its form within the limits.
     Cores,
     /// Its first word is no actor, or an actor before that of the line before.
     Actor,

@@ -14,14 +14,14 @@ use Rattle.rt_journal.specs.Steps.{opened_beside}
 use Rattle.rt_journal_desk.specs.Tickets.{HasLane}
 use Rattle.rt_journal_desk.proofs.LaneEnds.{fresh_has_lane}
 
-module _ {J T : Type 0} (actor : ℕ) (desk : DeskView J T) (cap room : ℕ) (out : Outward J T) (credited : ℕ) (desk_is : desk ≡ opened_desk actor 1 cap room)
+module _ {J T : Type 0} (actor : ℕ) (desk : DeskView J T) (cap room burst : ℕ) (out : Outward J T) (credited : ℕ) (desk_is : desk ≡ opened_desk actor 1 cap room burst)
     (out_is : out ≡ out_of (fresh actor 0 cap 0)) (none : credited ≡ 0) where
   -- the end on which an actor sends, beside its desk
   pub fresh_out_at : IsOutOf 0 desk out credited
   fresh_out_at =
       subst (λ desk. IsOutOf 0 desk out credited) (sym desk_is)
-      (subst (λ out. IsOutOf 0 (opened_desk actor 1 cap room) out credited) (sym out_is)
-      (subst (IsOutOf 0 (opened_desk actor 1 cap room) (out_of (fresh actor 0 cap 0))) (sym none) record {
+      (subst (λ out. IsOutOf 0 (opened_desk actor 1 cap room burst) out credited) (sym out_is)
+      (subst (IsOutOf 0 (opened_desk actor 1 cap room burst) (out_of (fresh actor 0 cap 0))) (sym none) record {
         known = omega arith;
         from = refl;
         to = refl;
@@ -37,15 +37,15 @@ module _ {J T : Type 0} (actor : ℕ) (desk : DeskView J T) (cap room : ℕ) (ou
   pub fresh_lane_at : (fits : Order J → Outcome J T → Type 0) → HasLane fits 0 desk out credited
   fresh_lane_at fits =
       subst (λ desk. HasLane fits 0 desk out credited) (sym desk_is)
-      (subst (HasLane fits 0 (opened_desk actor 1 cap room) out) (sym none)
-      (fresh_has_lane fits 0 actor 1 cap room out (omega arith) (IsUnused-fresh (λ (end : Outward _ _). end) (λ end. 0) actor 0 cap 0 out (omega arith) out_is refl)))
+      (subst (HasLane fits 0 (opened_desk actor 1 cap room burst) out) (sym none)
+      (fresh_has_lane fits 0 actor 1 cap room burst out (omega arith) (IsUnused-fresh (λ (end : Outward _ _). end) (λ end. 0) actor 0 cap 0 out (omega arith) out_is refl)))
 
 -- the end on which a core receives, which may have seen orders
-pub fresh_in_at : {J T : Type 0} (sender : ℕ) (view : RecordedView J T) (cap room : ℕ) (end : Inward J T) → sender ≤ 1 → view ≡ opened_beside 0 1 cap room →
+pub fresh_in_at : {J T : Type 0} (sender : ℕ) (view : RecordedView J T) (cap room burst : ℕ) (end : Inward J T) → sender ≤ 1 → view ≡ opened_beside 0 1 cap room burst →
     end ≡ record (inward_of (fresh sender 0 cap 0)) { seen = end.seen } → IsInOf sender view end
-fresh_in_at sender view cap room end known view_is end_is =
+fresh_in_at sender view cap room burst end known view_is end_is =
     subst (λ view. IsInOf sender view end) (sym view_is)
-    (subst (IsInOf sender (opened_beside 0 1 cap room)) (sym end_is) record {
+    (subst (IsInOf sender (opened_beside 0 1 cap room burst)) (sym end_is) record {
       known = known;
       from = refl;
       to = refl;

@@ -11,7 +11,8 @@ use Rattle.rt_ids.specs.Filters.{if_from}
 use Rattle.rt_core.specs.declared.turn.Turn.{Turn}
 use Rattle.rt_core.specs.declared.turn.Turn.TheVariants.{Back}
 use Rattle.rt_link.specs.declared.ends.Inward.{Inward}
-use Rattle.rt_journal.specs.Recorded.{RecordedView, order_taken}
+use Rattle.rt_journal.specs.Recorded.{RecordedView, desk_of, order_taken}
+use Rattle.rt_journal_desk.specs.Ends.{KeepsOut}
 use Rattle.rt_journal.specs.Owed.{IsSentUnder}
 use Rattle.rt_journal.specs.Turns.{Picks, IsHandBack}
 use Rattle.rt_journal.specs.Ends.{IsInOf, IsInOwing, LeavesOwed, told_under}
@@ -50,3 +51,10 @@ module _ {J T : Type 0} (old new : RecordedView J T) (name : JobId) (what : Opti
   -- and to nobody else
   pub turn_keeps : name.from ≢ sender → IsInOf sender new end
   turn_keeps apart = subst (λ owed. IsInOwing sender owed new end) (told_elsewhere name what sender (λ same. apart (sym same))) (leaves.each end is)
+
+-- where nothing was done, each end is as it was
+pub keeps_all : {J T : Type 0} (sender : ℕ) (view : RecordedView J T) → LeavesOwed sender None view view
+keeps_all sender view = record { each = λ inward is. is }
+
+pub puts_all : {J T : Type 0} (core : ℕ) (view : RecordedView J T) → KeepsOut core (desk_of view) (desk_of view)
+puts_all core view = record { each = λ out credited is. is }

@@ -1,6 +1,9 @@
 //! Actors with the ends of their links, whatever kind of links these are.
 
-ghost use Rattle.std.specs.Prelude.{◌≡◌};
+ghost use Rattle.std.specs.Prelude.{◌≡◌, ℕ, None};
+ghost use Rattle.rt_journal.specs.Ends.{IsSameSeat, KeepsIn};
+ghost use Rattle.rt_journal.specs.Recorded.{desk_of};
+ghost use Rattle.rt_journal_desk.specs.Ends.{KeepsOuts};
 ghost use Rattle.rt_jobs.specs.Ready.{HasReadyJob};
 ghost use Rattle.rt_link.specs.Whole.{fresh, inward_of, out_of};
 
@@ -62,6 +65,26 @@ fn ticket(number: u64) -> Ticket
     })
 }
 
+/// Whether the open turn was one that may not go on, and is ended.
+pub fn ends_turn(core: &mut Recorded<ScriptJob>) -> bool
+    requires rest { core.old.core.out ≡ None }
+    ensures ins { (sender : ℕ) → KeepsIn sender core.old core.new }
+    ensures outs { KeepsOuts (desk_of core.old) (desk_of core.new) }
+    ensures seat { IsSameSeat core.old core.new }
+    ensures lanes { core.new.lanes ≡ core.old.lanes }
+{
+    if core.journal().free() < 1 || !core.has_open_turn() {
+        return false;
+    }
+    match core.ahead_in_turn() {
+        Some(_) => false,
+        None => {
+            let _time = core.end_turn();
+            true
+        }
+    }
+}
+
 /// What a core is to do.
 #[derive(Clone, Copy)]
 pub enum Act {
@@ -73,6 +96,8 @@ pub enum Act {
     Turn,
     /// No queue has work.
     Idle,
+    /// The job of the open turn is polled again, and then the turn ends.
+    Further,
     /// The gate of this sender is shut.
     Shut(ActorNo),
 }
@@ -102,7 +127,21 @@ impl<I: InEnd<ScriptJob> + Drop> Receiver<I> {
         requires own { I.inward own ≡ inward_of (fresh 0 0 cap 0) }
         requires outside { I.inward outside ≡ record (inward_of (fresh 1 0 cap 0)) { seen = (I.inward outside).seen } }
     {
-        let core = Recorded::open(alloc, alloc, CORE, 1, cap, 12)?;
+        Receiver::open_burst(alloc, cap, 1, own, outside)
+    }
+
+    /// The same, where a turn may have so many polls.
+    pub fn open_burst(
+        alloc: Global,
+        cap: u16,
+        burst: u8,
+        own: I,
+        outside: I,
+    ) -> Result<Self, AllocError>
+        requires own { I.inward own ≡ inward_of (fresh 0 0 cap 0) }
+        requires outside { I.inward outside ≡ record (inward_of (fresh 1 0 cap 0)) { seen = (I.inward outside).seen } }
+    {
+        let core = Recorded::open_burst(alloc, alloc, CORE, 1, cap, burst, 12)?;
         Ok(Receiver { core, own, outside })
     }
 
@@ -144,6 +183,24 @@ impl<I: InEnd<ScriptJob> + Drop> Receiver<I> {
         }
     }
 
+    fn further(&mut self) -> bool {
+        if self.core.journal().free() < 2 {
+            return false;
+        }
+        match self.core.follow() {
+            Some(Turn::Resume(name, _, job)) => {
+                if name.from != OUTSIDE {
+                    return false;
+                }
+                let ran = Ran::poll(job, &mut NoPost);
+                drop(self.core.settle(&mut self.outside, name, ran, 5));
+                ends_turn(&mut self.core)
+            }
+            Some(_) => false,
+            None => false,
+        }
+    }
+
     fn shut(&mut self, from: ActorNo) -> bool {
         let closed = self.core.journal().free() >= 1 && self.core.is_closed();
         if !closed || from.0 > 1 || self.core.gate(from).is_some() {
@@ -165,6 +222,7 @@ impl<I: InEnd<ScriptJob> + Drop> Receiver<I> {
                 Act::Nothing => !self.deliver(),
                 Act::Turn => self.turn(),
                 Act::Idle => !self.turn(),
+                Act::Further => self.further(),
                 Act::Shut(from) => self.shut(*from),
             };
             if !done {

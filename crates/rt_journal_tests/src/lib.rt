@@ -4,6 +4,8 @@
 #[cfg(test)]
 mod actors;
 #[cfg(test)]
+mod bursts;
+#[cfg(test)]
 mod parks;
 #[cfg(test)]
 mod poster;

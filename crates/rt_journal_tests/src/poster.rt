@@ -8,7 +8,7 @@ ghost use Rattle.rt_journal_desk.specs.Tickets.{HasLane};
 ghost use Rattle.rt_link.specs.Fits.{Fits};
 ghost use Rattle.rt_link.specs.Whole.{fresh, inward_of, out_of};
 
-use crate::actors::{CORE, OUTSIDE, OWN, tells};
+use crate::actors::{CORE, OUTSIDE, OWN, ends_turn, tells};
 use rt_core::Ahead;
 use rt_ids::{ActorNo, Note};
 use rt_jobs::{ScriptJob, Task};
@@ -74,7 +74,23 @@ impl<O: OutEnd<ScriptJob> + Drop, I: InEnd<ScriptJob> + Drop> Poster<O, I> {
         requires own { I.inward own ≡ inward_of (fresh 0 0 1 0) }
         requires outside { I.inward outside ≡ record (inward_of (fresh 1 0 1 0)) { seen = (I.inward outside).seen } }
     {
-        let core = Recorded::open(alloc, alloc, CORE, 1, 1, 30)?;
+        Poster::open_burst(alloc, 1, out, own, outside)
+    }
+
+    /// The same, where a turn may have so many polls.
+    pub fn open_burst(
+        alloc: Global,
+        burst: u8,
+        out: O,
+        own: I,
+        outside: I,
+    ) -> Result<Self, AllocError>
+        requires out { O.out out ≡ out_of (fresh 0 0 1 0) }
+        requires credited { O.credited out ≡ 0 }
+        requires own { I.inward own ≡ inward_of (fresh 0 0 1 0) }
+        requires outside { I.inward outside ≡ record (inward_of (fresh 1 0 1 0)) { seen = (I.inward outside).seen } }
+    {
+        let core = Recorded::open_burst(alloc, alloc, CORE, 1, 1, burst, 30)?;
         Poster::new(alloc, core, out, own, outside)
     }
 
@@ -109,6 +125,26 @@ impl<O: OutEnd<ScriptJob> + Drop, I: InEnd<ScriptJob> + Drop> Poster<O, I> {
             self.core.give_done(&mut self.outside, next.name, &settled);
         }
         true
+    }
+
+    /// Whether a further job of the open turn was polled in its place, and the turn ended behind it.
+    pub fn further(&mut self, alloc: Global) -> bool {
+        let cap = self.core.cap();
+        if self.core.journal().free() < 3 * cap as u32 + 2 {
+            return false;
+        }
+        let Some(next) = self.core.ahead_in_turn() else {
+            return false;
+        };
+        if next.name.from != OUTSIDE {
+            return false;
+        }
+        let mut spent = 5;
+        let settled = self
+            .core
+            .further_posting(alloc, &mut self.outs, &next, &mut spent);
+        self.core.give_done(&mut self.outside, next.name, &settled);
+        ends_turn(&mut self.core)
     }
 
     /// Whether so many jobs were polled so.

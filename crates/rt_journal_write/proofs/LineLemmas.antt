@@ -1,13 +1,14 @@
 -- The lines of journals, note after note and actor after actor.
-use Rattle.std.proofs.Common.{decimal, ◌≤◌, zero, suc, unwrap_or, ◌≡◌, ℕ, ◌+◌, ◌<◌, List, [], ◌∷◌, ◌++◌, sym, ap, ◌∙◌, append-nil, append_assoc, length, take, drop, get_or, map, codes, refl, arith}
+use Rattle.std.proofs.Common.{decimal, ◌≤◌, zero, suc, unwrap_or, ◌≡◌, ℕ, ◌+◌, ◌<◌, List, [], ◌∷◌, ◌++◌, sym, ap, ◌∙◌, append-nil, append_assoc, length, take, drop, get_or, map, codes, refl, arith, length-append, cond, false, IsTrue}
 use Rattle.std.specs.Prelude.{reverse, slice_get}
 use Rattle.std.proofs.lemmas.Grind.{flat_map-append}
 use Rattle.std.proofs.lemmas.List.{map-append, map_more, take-append-drop, take_more, length-take-le, take_all}
 use Rattle.rt_ids.specs.declared.note.Note.{Note}
 use Rattle.rt_ids.specs.Assembly.{Assembly, journal_of}
+use Rattle.rt_ids.specs.Bursts.{has_bursts}
 use Rattle.rt_ids.specs.Journal.{Journal}
 use Rattle.rt_text.specs.Notes.{note_line}
-use Rattle.rt_journal_write.specs.Texts.{actor_lines, journal_lines, text_of, form_line, size_line, end_line, head_text, journal_text}
+use Rattle.rt_journal_write.specs.Texts.{actor_lines, journal_lines, text_of, form_line, size_line, end_line, head_of, head_text, journal_text}
 
 pub text_of-append : (one two : List (List ℕ)) → text_of (one ++ two) ≡ text_of one ++ text_of two
 text_of-append one two = flat_map-append (λ line. line ++ codes "\n") one two
@@ -72,10 +73,10 @@ front_journals_more assembly count journal within is =
 
 -- the text in its parts
 pub journal_text-parts : (assembly : Assembly ℕ) → journal_text assembly ≡ head_text assembly ++ (text_of (journal_lines 0 assembly.journals) ++ (end_line ++ codes "\n"))
-unfolding journal_text head_text
+unfolding journal_text head_of
 journal_text-parts assembly =
-    text_of-append (form_line ∷ size_line assembly.cores assembly.cap ∷ []) (journal_lines 0 assembly.journals ++ end_line ∷ [])
-    ∙ ap (λ text. text_of (form_line ∷ size_line assembly.cores assembly.cap ∷ []) ++ text) (text_of-last (journal_lines 0 assembly.journals) end_line)
+    text_of-append (form_line assembly.burst ∷ size_line assembly.cores assembly.cap assembly.burst ∷ []) (journal_lines 0 assembly.journals ++ end_line ∷ [])
+    ∙ ap (λ text. text_of (form_line assembly.burst ∷ size_line assembly.cores assembly.cap assembly.burst ∷ []) ++ text) (text_of-last (journal_lines 0 assembly.journals) end_line)
 
 pub journals_text_whole : (journals : List (Journal ℕ)) (count : ℕ) → length journals ≤ count → front_journals journals count ≡ text_of (journal_lines 0 journals)
 journals_text_whole journals count all = ap (λ some. text_of (journal_lines 0 some)) (take_all count journals all)
@@ -90,16 +91,44 @@ journals_text_next assembly count journal within is =
     ∙ ap (λ text. text ++ rest_journals assembly.journals (count + 1)) (front_journals_more assembly count journal within is)
     ∙ append_assoc (front_journals assembly.journals count) (text_of (actor_lines count journal)) (rest_journals assembly.journals (count + 1))
 
-size_joined : (cores places : ℕ) → text_of (form_line ∷ size_line cores places ∷ []) ≡ codes "journal 1\ncores " ++ (decimal cores ++ (codes " cap " ++ (decimal places ++ codes "\n")))
-size_joined cores places =
+-- the first two lines in the pieces that are written, in each form
+pub single_head_joined : (cores places : ℕ) → head_of cores places 1 ≡ codes "journal 1\ncores " ++ (decimal cores ++ (codes " cap " ++ (decimal places ++ codes "\n")))
+unfolding head_of
+single_head_joined cores places =
     ap (λ text. codes "journal 1\ncores " ++ text)
-    (append-nil (((decimal cores ++ codes " cap ") ++ decimal places) ++ codes "\n")
+    (append-nil ((((decimal cores ++ codes " cap ") ++ decimal places) ++ []) ++ codes "\n")
+    ∙ ap (λ text. text ++ codes "\n") (append-nil ((decimal cores ++ codes " cap ") ++ decimal places))
     ∙ append_assoc (decimal cores ++ codes " cap ") (decimal places) (codes "\n")
     ∙ append_assoc (decimal cores) (codes " cap ") (decimal places ++ codes "\n"))
 
--- the first two lines in the pieces that are written
-pub head_joined : (assembly : Assembly ℕ) (cores cap : ℕ) → cores ≡ assembly.cores → cap ≡ assembly.cap →
-    head_text assembly ≡ codes "journal 1\ncores " ++ (decimal cores ++ (codes " cap " ++ (decimal cap ++ codes "\n")))
-unfolding head_text
-head_joined assembly cores cap cores_is cap_is =
-    ap (λ n. text_of (form_line ∷ size_line n assembly.cap ∷ [])) (sym cores_is) ∙ ap (λ n. text_of (form_line ∷ size_line cores n ∷ [])) (sym cap_is) ∙ size_joined cores cap
+pub burst_head_joined : (cores places burst : ℕ) → IsTrue (has_bursts burst) →
+    head_of cores places burst ≡ codes "journal 2\ncores " ++ (decimal cores ++ (codes " cap " ++ (decimal places ++ (codes " burst " ++ (decimal burst ++ codes "\n")))))
+unfolding head_of
+burst_head_joined cores places burst bursts =
+    ap (λ b. text_of (cond b (codes "journal 2") (codes "journal 1") ∷ (codes "cores " ++ decimal cores ++ codes " cap " ++ decimal places ++ cond b (codes " burst " ++ decimal burst) []) ∷ [])) bursts
+    ∙ ap (λ text. codes "journal 2\ncores " ++ text)
+    (append-nil ((((decimal cores ++ codes " cap ") ++ decimal places) ++ (codes " burst " ++ decimal burst)) ++ codes "\n")
+    ∙ append_assoc ((decimal cores ++ codes " cap ") ++ decimal places) (codes " burst " ++ decimal burst) (codes "\n")
+    ∙ append_assoc (decimal cores ++ codes " cap ") (decimal places) (codes " burst " ++ (decimal burst ++ codes "\n"))
+    ∙ append_assoc (decimal cores) (codes " cap ") (decimal places ++ (codes " burst " ++ (decimal burst ++ codes "\n"))))
+
+-- where a turn is a single poll, the form is the first one
+pub single_head : (cores places burst : ℕ) → has_bursts burst ≡ false → head_of cores places burst ≡ head_of cores places 1
+unfolding head_of
+single_head cores places burst single =
+    ap (λ b. text_of (cond b (codes "journal 2") (codes "journal 1") ∷ (codes "cores " ++ decimal cores ++ codes " cap " ++ decimal places ++ cond b (codes " burst " ++ decimal burst) []) ∷ [])) single
+
+pub single_head_text : (assembly : Assembly ℕ) (cores places burst : ℕ) → cores ≡ assembly.cores → places ≡ assembly.cap → burst ≡ assembly.burst → has_bursts burst ≡ false → head_of cores places 1 ≡ head_text assembly
+single_head_text assembly cores places burst cores_is cap_is burst_is single =
+    sym (single_head cores places burst single)
+    ∙ ap (λ n. head_of n places burst) cores_is
+    ∙ ap (λ n. head_of assembly.cores n burst) cap_is
+    ∙ ap (λ n. head_of assembly.cores assembly.cap n) burst_is
+
+-- a text has something in it
+pub journal_some : (assembly : Assembly ℕ) → 1 ≤ length (journal_text assembly)
+unfolding journal_text
+journal_some assembly =
+    let head = form_line assembly.burst in
+    let rest = text_of (size_line assembly.cores assembly.cap assembly.burst ∷ (journal_lines 0 assembly.journals ++ end_line ∷ [])) in
+    omega (arith, length-append (head ++ codes "\n") rest, length-append head (codes "\n"))

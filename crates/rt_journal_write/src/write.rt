@@ -1,7 +1,8 @@
 //! Writes the text of all journals.
 
-ghost use Rattle.std.specs.Prelude.{◌≡◌, ◌++◌, [], codes, IfErr, OnOk, OnErr, string_bytes};
+ghost use Rattle.std.specs.Prelude.{◌≡◌, ◌++◌, [], codes, IsTrue, IfErr, OnOk, OnErr, string_bytes};
 ghost use Rattle.std.specs.Io.KnownBytes.{Appends};
+ghost use Rattle.rt_ids.specs.Bursts.{has_bursts};
 ghost use Rattle.rt_ids.specs.Spelled.{IsSpelled};
 ghost use Rattle.rt_sink.specs.Tries.{HasFailedSince, IsNoFewer};
 ghost use Rattle.rt_text.specs.Faults.{IfUnread, IfUnwritten};
@@ -52,7 +53,30 @@ fn put_head(assembly: &Assembly, page: &mut String) -> Result<(), AllocError>
 {
     let cores = assembly.cores();
     let cap = assembly.cap();
+    let burst = assembly.burst();
+    if burst > 1 {
+        put_burst_head(cores, cap, burst, page)
+    } else {
+        put_single_head(cores, cap, page)
+    }
+}
+
+/// Puts them in form 1: each turn is a single poll.
+fn put_single_head(cores: u8, cap: u16, page: &mut String) -> Result<(), AllocError>
+    ensures { OnOk result (string_bytes page.new ≡ string_bytes page.old ++ spec.head_of cores cap 1) }
+{
     match writeln!(page, "journal 1\ncores {cores} cap {cap}") {
+        Ok(()) => Ok(()),
+        Err(_) => Err(AllocError),
+    }
+}
+
+/// Puts them in form 2: a turn may have several polls.
+fn put_burst_head(cores: u8, cap: u16, burst: u8, page: &mut String) -> Result<(), AllocError>
+    requires { IsTrue (has_bursts burst) }
+    ensures { OnOk result (string_bytes page.new ≡ string_bytes page.old ++ spec.head_of cores cap burst) }
+{
+    match writeln!(page, "journal 2\ncores {cores} cap {cap} burst {burst}") {
         Ok(()) => Ok(()),
         Err(_) => Err(AllocError),
     }

@@ -86,15 +86,13 @@ module _ {J : Type 0} (meaning : Meaning J ℕ) (view : RuntimeView J ℕ) (is :
         (cases_eq actor view.desk.cores);
   }
 
-  terms_now : (core : ℕ) → core < view.desk.cores → terms_at (worker_at core ended).recorded ≡ record { actor = core; cores = view.desk.cores; cap = view.desk.cap }
+  terms_now : (core : ℕ) → core < view.desk.cores → terms_at (worker_at core ended).recorded ≡ record { actor = core; cores = view.desk.cores; cap = view.desk.cap; burst = view.desk.burst }
   terms_now core low =
       let seat = (stays core low).seat in
-      ap (λ actor. record { actor = actor; cores = (worker_at core ended).recorded.core.cores; cap = (worker_at core ended).recorded.cap }) seat.number
-      ∙ (ap (λ cores. record { actor = (worker_at core view.workers).recorded.core.core; cores = cores; cap = (worker_at core ended).recorded.cap }) seat.cores
-      ∙ (ap (λ cap. record { actor = (worker_at core view.workers).recorded.core.core; cores = (worker_at core view.workers).recorded.core.cores; cap = cap }) seat.cap ∙ (is.each core low).terms))
+      (λ i. record { actor = seat.number i; cores = seat.cores i; cap = seat.cap i; burst = seat.burst i }) ∙ (is.each core low).terms
 
   abbrev assembly : Assembly ℕ
-  assembly = record { cores = view.desk.cores; cap = view.desk.cap; journals = told view.desk.journal ended }
+  assembly = record { cores = view.desk.cores; cap = view.desk.cap; burst = view.desk.burst; journals = told view.desk.journal ended }
 
   here : (core : ℕ) → core < view.desk.cores → journal_of core assembly ≡ (worker_at core ended).recorded.journal.notes
   here core low = read_before view.desk.journal ended core (omega (arith, low, count))
@@ -102,10 +100,11 @@ module _ {J : Type 0} (meaning : Meaning J ℕ) (view : RuntimeView J ℕ) (is :
   outside_here : journal_of view.desk.cores assembly ≡ view.desk.journal.notes
   outside_here = ap (λ core. unwrap_or (slice_get (told view.desk.journal ended) core) []) (sym count) ∙ read_last view.desk.journal ended
 
-  is_assembly : IsAssemblyOf view.desk.cores view.desk.cap (desk_among ended (outside_of view)) assembly
+  is_assembly : IsAssemblyOf view.desk.cores view.desk.cap view.desk.burst (desk_among ended (outside_of view)) assembly
   is_assembly = record {
     cores_are = refl;
     cap_is = refl;
+    burst_is = refl;
     count =
         length-map (map (λ (worker : LinkedView J ℕ). worker.recorded.journal) ended ++ view.desk.journal ∷ []) (λ (journal : JournalView ℕ). journal.notes)
         ∙ omega (arith, length-append (map (λ (worker : LinkedView J ℕ). worker.recorded.journal) ended) (view.desk.journal ∷ []), length-map ended (λ (worker : LinkedView J ℕ). worker.recorded.journal), count);
@@ -122,23 +121,25 @@ module _ {J : Type 0} (meaning : Meaning J ℕ) (view : RuntimeView J ℕ) (is :
   finished_grid law = law view.desk.cores (all_ends view.workers (outside_of view)) (all_ends ended (outside_of view)) same_ends is.grid
 
   module _ (each : All (HasEnded meaning) ended) where
-    acts_here : (core : ℕ) → core < view.desk.cores → EachNote (MayAct (least_free view.desk.cores view.desk.cap) view.room) (journal_of core assembly)
+    acts_here : (core : ℕ) → core < view.desk.cores → EachNote (MayAct (least_free view.desk.cores view.desk.cap view.desk.burst) view.room) (journal_of core assembly)
     acts_here core low =
         let end = each core no_linked (omega (arith, low, count)) in
         let cores : (worker_at core ended).recorded.core.cores ≡ view.desk.cores = ap (λ terms. terms.cores) (terms_now core low) in
         let cap : (worker_at core ended).recorded.cap ≡ view.desk.cap = ap (λ terms. terms.cap) (terms_now core low) in
+        let burst : (worker_at core ended).recorded.core.bursts.burst ≡ view.desk.burst = ap (λ terms. terms.burst) (terms_now core low) in
         let room : (worker_at core ended).recorded.journal.room ≡ view.room = (stays core low).seat.room ∙ (is.each core low).room_is in
-        subst (EachNote (MayAct (least_free view.desk.cores view.desk.cap) view.room)) (sym (here core low))
-        (subst (λ room. EachNote (MayAct (least_free view.desk.cores view.desk.cap) room) (worker_at core ended).recorded.journal.notes) room
+        subst (EachNote (MayAct (least_free view.desk.cores view.desk.cap view.desk.burst) view.room)) (sym (here core low))
+        (subst (λ room. EachNote (MayAct (least_free view.desk.cores view.desk.cap view.desk.burst) room) (worker_at core ended).recorded.journal.notes) room
         (subst (λ least. EachNote (MayAct least (worker_at core ended).recorded.journal.room) (worker_at core ended).recorded.journal.notes)
-        (ap (λ cores. least_free cores (worker_at core ended).recorded.cap) cores ∙ ap (λ cap. least_free view.desk.cores cap) cap) end.acts))
+        (ap (λ cores. least_free cores (worker_at core ended).recorded.cap (worker_at core ended).recorded.core.bursts.burst) cores
+        ∙ (ap (λ cap. least_free view.desk.cores cap (worker_at core ended).recorded.core.bursts.burst) cap ∙ ap (λ burst. least_free view.desk.cores view.desk.cap burst) burst)) end.acts))
 
-    have_ended : AreReunited (Fits meaning) view.desk.cores (all_ends ended (outside_of view)) → HaveEnded meaning view.desk.cores view.desk.cap ended (outside_of view)
+    have_ended : AreReunited (Fits meaning) view.desk.cores (all_ends ended (outside_of view)) → HaveEnded meaning view.desk.cores view.desk.cap view.desk.burst ended (outside_of view)
     have_ended reunited = record {
       count = count;
       seats = terms_now;
       ended = λ core low. each core no_linked (omega (arith, low, count));
-      outside_terms = ap (λ actor. record { actor = actor; cores = view.desk.cores; cap = view.desk.cap }) is.actor;
+      outside_terms = ap (λ actor. record { actor = actor; cores = view.desk.cores; cap = view.desk.cap; burst = view.desk.burst }) is.actor;
       outside_is = is.outside;
       reunited = reunited;
     }
@@ -146,11 +147,12 @@ module _ {J : Type 0} (meaning : Meaning J ℕ) (view : RuntimeView J ℕ) (is :
     pub finished : AreReunited (Fits meaning) view.desk.cores (all_ends ended (outside_of view)) → EndedAreJoined meaning → JoiningIsSound → JoinedAreSpelled → ((core : ℕ) → core < length view.closing → closing_at core view ≡ true) → HasFinished meaning view assembly
     finished reunited joined_law sound_law spelled_law closed =
         let have = have_ended reunited in
-        let law = joined_law view.desk.cores view.desk.cap ended (outside_of view) assembly have is_assembly in
+        let law = joined_law view.desk.cores view.desk.cap view.desk.burst ended (outside_of view) assembly have is_assembly in
         record {
           closed = λ core low. closed core (omega (arith, low, is.closings));
           cores = refl;
           cap = refl;
+          burst = refl;
           joined = law.0;
           sound = sound_law assembly law.0;
           spelled = spelled_law assembly law.0 is.limits;
@@ -166,15 +168,14 @@ module _ {J : Type 0} (meaning : Meaning J ℕ) (view : RuntimeView J ℕ) (is :
         }
 
     -- the same of the assembly as the code has it
-    pub finished_as : (cores cap : ℕ) (ends : List (EndsView J ℕ)) (journals : List (JournalView ℕ)) → cores ≡ view.desk.cores → cap ≡ view.desk.cap →
+    pub finished_as : (cores cap burst : ℕ) (ends : List (EndsView J ℕ)) (journals : List (JournalView ℕ)) → cores ≡ view.desk.cores → cap ≡ view.desk.cap → burst ≡ view.desk.burst →
         ends ≡ all_ends ended (outside_of view) → journals ≡ map (λ worker. worker.recorded.journal) ended ++ view.desk.journal ∷ [] → AreReunited (Fits meaning) cores ends → EndedAreJoined meaning →
         JoiningIsSound → JoinedAreSpelled → ((core : ℕ) → core < length view.closing → closing_at core view ≡ true) →
-        HasFinished meaning view (record { cores = cores; cap = cap; journals = map (λ journal. journal.notes) journals })
-    finished_as cores cap ends journals same_cores same_cap ends_are journals_are reunited joined_law sound_law spelled_law closed =
-        subst (λ cores. HasFinished meaning view (record { cores = cores; cap = cap; journals = map (λ (journal : JournalView ℕ). journal.notes) journals })) (sym same_cores)
-        (subst (λ cap. HasFinished meaning view (record { cores = view.desk.cores; cap = cap; journals = map (λ (journal : JournalView ℕ). journal.notes) journals })) (sym same_cap)
-        (subst (λ journals. HasFinished meaning view (record { cores = view.desk.cores; cap = view.desk.cap; journals = map (λ (journal : JournalView ℕ). journal.notes) journals })) (sym journals_are)
-        (finished (subst (λ cores. AreReunited (Fits meaning) cores (all_ends ended (outside_of view))) same_cores (subst (AreReunited (Fits meaning) cores) ends_are reunited)) joined_law sound_law spelled_law closed)))
+        HasFinished meaning view (record { cores = cores; cap = cap; burst = burst; journals = map (λ journal. journal.notes) journals })
+    finished_as cores cap burst ends journals same_cores same_cap same_burst ends_are journals_are reunited joined_law sound_law spelled_law closed =
+        subst (HasFinished meaning view)
+        (λ i. record { cores = (sym same_cores) i; cap = (sym same_cap) i; burst = (sym same_burst) i; journals = map (λ (journal : JournalView ℕ). journal.notes) ((sym journals_are) i) })
+        (finished (subst (λ cores. AreReunited (Fits meaning) cores (all_ends ended (outside_of view))) same_cores (subst (AreReunited (Fits meaning) cores) ends_are reunited)) joined_law sound_law spelled_law closed)
 
 -- the promise of each worker is kept by what it was opened as
 pub its_kept : {J T C G : Type 0} (workers : List (WorkerView J T C G)) (ended : List (LinkedView J T)) → Together (λ worker end. StaysLinked worker.linked end) workers ended →

@@ -69,8 +69,8 @@ has_order {fits = fits} base taken sent given none are place outcome at =
     }
 
 module _ {J : Type 0} {meaning : Meaning J ℕ} (view : RuntimeView J ℕ) (ended : List (LinkedView J ℕ))
-    (have : HaveEnded meaning view.desk.cores view.desk.cap ended (outside_of view)) (assembly : Assembly ℕ)
-    (is : IsAssemblyOf view.desk.cores view.desk.cap (desk_among ended (outside_of view)) assembly) where
+    (have : HaveEnded meaning view.desk.cores view.desk.cap view.desk.burst ended (outside_of view)) (assembly : Assembly ℕ)
+    (is : IsAssemblyOf view.desk.cores view.desk.cap view.desk.burst (desk_among ended (outside_of view)) assembly) where
   abbrev orders : Orders J
   orders = its_orders view ended have assembly is
 

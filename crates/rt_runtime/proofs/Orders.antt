@@ -66,8 +66,8 @@ module _ {J : Type 0} where
           ∙ first_under-numbered sender core 0 sent place order at
 
 module _ {J : Type 0} {meaning : Meaning J ℕ} (view : RuntimeView J ℕ) (ended : List (LinkedView J ℕ))
-    (have : HaveEnded meaning view.desk.cores view.desk.cap ended (outside_of view)) (assembly : Assembly ℕ)
-    (is : IsAssemblyOf view.desk.cores view.desk.cap (desk_among ended (outside_of view)) assembly) where
+    (have : HaveEnded meaning view.desk.cores view.desk.cap view.desk.burst ended (outside_of view)) (assembly : Assembly ℕ)
+    (is : IsAssemblyOf view.desk.cores view.desk.cap view.desk.burst (desk_among ended (outside_of view)) assembly) where
   -- the end on which the order of a name was sent
   abbrev pub out_under : JobId → Sending J ℕ
   out_under name = out_at name.to (ends_at name.from (all_ends ended (outside_of view)))

@@ -37,8 +37,8 @@ told_shut out inward found final joined is closed at =
     is ∙ (ap (final_of inward) shut ∙ ap Some last)
 
 module _ {J : Type 0} {meaning : Meaning J ℕ} (view : RuntimeView J ℕ) (ended : List (LinkedView J ℕ))
-    (have : HaveEnded meaning view.desk.cores view.desk.cap ended (outside_of view)) (assembly : Assembly ℕ)
-    (is : IsAssemblyOf view.desk.cores view.desk.cap (desk_among ended (outside_of view)) assembly) where
+    (have : HaveEnded meaning view.desk.cores view.desk.cap view.desk.burst ended (outside_of view)) (assembly : Assembly ℕ)
+    (is : IsAssemblyOf view.desk.cores view.desk.cap view.desk.burst (desk_among ended (outside_of view)) assembly) where
   abbrev all : List (EndsView J ℕ)
   all = all_ends ended (outside_of view)
 
@@ -103,7 +103,7 @@ module _ {J : Type 0} {meaning : Meaning J ℕ} (view : RuntimeView J ℕ) (ende
       let seen = seen_at_end assembly (its_orders view ended have assembly is) core in
       let orders = its_orders view ended have assembly is in
       let recorded = (worker_at core ended).recorded in
-      subst (PollsAreOwed meaning (record { actor = core; cores = view.desk.cores; cap = view.desk.cap }) seen orders) (sym (journal_here core low))
+      subst (PollsAreOwed meaning (record { actor = core; cores = view.desk.cores; cap = view.desk.cap; burst = view.desk.burst }) seen orders) (sym (journal_here core low))
       (subst (λ terms. PollsAreOwed meaning terms seen orders recorded.journal.notes) (have.seats core low)
       (owed_stays (terms_at recorded) (seen_by (λ (end : Sending J ℕ). end.out) (worker_at core ended).ends.outs) seen (no_less core low) meaning (order_taken recorded.took) orders (taken_under core low) recorded.journal.notes
       (have.ended core low).linked.owed))

@@ -3,7 +3,6 @@ use Rattle.std.proofs.Common.{◌≡◌, ℕ, ◌+◌, ◌≤◌, Bool, true, fa
 use Rattle.std.specs.Prelude.{Option}
 use Rattle.rt_ids.specs.declared.names.JobId.{JobId}
 use Rattle.rt_ids.specs.declared.note.Note.{Note}
-use Rattle.rt_ids.specs.declared.note.Note.TheVariants as writes
 use Rattle.rt_ids.specs.declared.order.Order.{Order}
 use Rattle.rt_ids.specs.declared.order.Order.TheVariants.{Job}
 use Rattle.rt_ids.specs.Assembly.{Assembly, journal_of}
@@ -38,7 +37,7 @@ module _ {J : Type 0} (meaning : Meaning J ℕ) where
 
   pub told_polls_owed : ToldPollsAreOwed meaning
   told_polls_owed view assembly name job step tells finished =
-      let terms : Terms = record { actor = name.to; cores = view.desk.cores; cap = view.desk.cap } in
+      let terms : Terms = record { actor = name.to; cores = view.desk.cores; cap = view.desk.cap; burst = view.desk.burst } in
       let seen = seen_at_end assembly finished.orders name.to in
       let each = subst (EachNote (PollIsOwed meaning terms seen finished.orders)) tells.told (finished.polls name.to tells.there) in
       let owed = settled_is terms seen finished.orders name tells.time step tells.stays tells.before
@@ -50,18 +49,18 @@ module _ {J : Type 0} (meaning : Meaning J ℕ) where
       subst (λ queue. IsPollOf meaning terms seen queue job name tells.time step tells.before) same_queue
       (subst (λ sent. IsPollOf meaning terms seen owed.queue sent name tells.time step tells.before) same_job owed.poll)
 
-  begins_nothing : (name : JobId) (was_started : Bool) (queue runtime : ℕ) → SettleNothing (poll_note {T = ℕ} name was_started ∷ writes.Pick queue runtime ∷ [])
-  begins_nothing name false queue runtime = (refl, (refl, tt))
-  begins_nothing name true queue runtime = (refl, (refl, tt))
+  begins_nothing : (name : JobId) (was_started : Bool) → SettleNothing (poll_note {T = ℕ} name was_started ∷ [])
+  begins_nothing name false = (refl, tt)
+  begins_nothing name true = (refl, tt)
 
-  -- the polls before a poll are those before its pick
+  -- the polls before a poll are those before its beginning
   made_before : (terms : Terms) (seen : Seen J) (queue : ℕ) (job : J) (name : JobId) (time : ℕ) (step : Step ℕ) (before : Journal ℕ)
       (poll : IsPollOf meaning terms seen queue job name time step before) → polls_made name before ≡ polls_made name poll.earlier
   made_before terms seen queue job name time step before poll =
-      let began = poll_note name poll.was_started ∷ writes.Pick queue poll.runtime ∷ [] in
+      let began = poll_note name poll.was_started ∷ [] in
       ap (polls_made name) poll.stands
       ∙ (polls_made-longer name (posted_notes poll.calls) (began ++ poll.earlier) (posted_settle_nothing poll.calls)
-      ∙ polls_made-longer name began poll.earlier (begins_nothing name poll.was_started queue poll.runtime))
+      ∙ polls_made-longer name began poll.earlier (begins_nothing name poll.was_started))
 
   pub unowed_polls_refused : UnowedPollsAreRefused meaning
   unowed_polls_refused view assembly name job step tells unowed finished =

@@ -117,8 +117,7 @@ module _ {J T : Type 0} where
     runtime_put : (closing : List Bool) → length closing ≡ view.desk.cores → (rung : RingsView J T) → length rung.times ≡ view.desk.cores + 1 → booked desk ≤ desk.journal.room → IsRuntime fits (record { desk = desk; ends = put; closing = closing; workers = view.workers; room = view.room; rung = rung; bells = view.bells })
     runtime_put closing count rung bells room = record {
       count = is.count ∙ sym cores;
-      each = subst (λ cores. (core : ℕ) → core < cores → IsWorkerOf core cores desk.cap view.room (worker_at core view.workers)) (sym cores)
-          (subst (λ cap. (core : ℕ) → core < view.desk.cores → IsWorkerOf core view.desk.cores cap view.room (worker_at core view.workers)) (sym cap) is.each);
+      each = subst (λ (desk : DeskView J T). (core : ℕ) → core < desk.cores → IsWorkerOf core desk.cores desk.cap desk.burst view.room (worker_at core view.workers)) (sym stays.rest) is.each;
       actor = ap (λ desk. desk.actor) stays.rest ∙ (is.actor ∙ sym cores);
       outside = record {
         outs_are = length-set view.ends.outs core later ∙ (is.outside.outs_are ∙ sym cores);
@@ -131,7 +130,7 @@ module _ {J T : Type 0} where
       lanes = lanes_now;
       lanes_are = stays.known.cores_are;
       room_is = room;
-      limits = subst (λ cores. IsWithinLimits cores desk.cap) (sym cores) (subst (IsWithinLimits view.desk.cores) (sym cap) is.limits);
+      limits = subst (λ (desk : DeskView J T). IsWithinLimits desk.cores desk.cap desk.burst) (sym stays.rest) is.limits;
     }
 
     -- the same, over the ends as the code has them

@@ -35,9 +35,9 @@ use Rattle.rt_runtime.proofs.Finished.{together_at}
 all_from : {A : Type 0} (P : A → Type 0) (xs : List A) (d : A) → ((i : ℕ) → i < length xs → P (get_or xs i d)) → All P xs
 all_from P xs d each place other low = subst P (sym (get_or_default xs place other d low)) (each place low)
 
-module _ {J T : Type 0} (cores cap room : ℕ) (queues : List Entry) where
+module _ {J T : Type 0} (cores cap burst room : ℕ) (queues : List Entry) where
   -- the workers have the ends over which they were opened
-  over_same : (front : List (EndsView J T)) (workers : List (LinkedView J T)) → Together (IsOpenedWith cores cap room queues) front workers → map (λ worker. worker.ends) workers ≡ front
+  over_same : (front : List (EndsView J T)) (workers : List (LinkedView J T)) → Together (IsOpenedWith cores cap burst room queues) front workers → map (λ worker. worker.ends) workers ≡ front
   over_same [] [] both = refl
   over_same [] (worker ∷ workers) both = absurd both
   over_same (ends ∷ front) [] both = absurd both
@@ -57,8 +57,8 @@ module _ {J T : Type 0} (cores cap room : ℕ) (queues : List Entry) where
     fresh_front core low = subst (AreFresh cap core) (at_front core low) (are_fresh core (omega (arith, low, front_count)))
 
     -- each of the first ends may be opened
-    pub may_open : (clocks gates : ℕ) → IsGood cores cap room queues clocks gates → All (AreOpening cores cap room queues) front
-    may_open clocks gates good = all_from (AreOpening cores cap room queues) front no_ends (λ core low.
+    pub may_open : (clocks gates : ℕ) → IsGood cores cap burst room queues clocks gates → All (AreOpening cores cap burst room queues) front
+    may_open clocks gates good = all_from (AreOpening cores cap burst room queues) front no_ends (λ core low.
         let there : core < cores = omega (arith, low, front_count) in
         let fresh = fresh_front core low in
         record {
@@ -71,34 +71,34 @@ module _ {J T : Type 0} (cores cap room : ℕ) (queues : List Entry) where
           enough = (good.each (get_or front core no_ends).number (omega (arith, fresh.number_is, there))).room_least;
         })
 
-    pub opened_house : (workers : List (LinkedView J T)) → Together (IsOpenedWith cores cap room queues) front workers → IsHouse cores cap room queues workers outside
+    pub opened_house : (workers : List (LinkedView J T)) → Together (IsOpenedWith cores cap burst room queues) front workers → IsHouse cores cap burst room queues workers outside
     opened_house workers both = record {
-      count = sym (together_length (IsOpenedWith cores cap room queues) front workers both) ∙ front_count;
+      count = sym (together_length (IsOpenedWith cores cap burst room queues) front workers both) ∙ front_count;
       each = λ core low.
           let there : core < length front = omega (arith, low, front_count) in
-          let opened = together_at (IsOpenedWith cores cap room queues) front workers no_ends no_linked core both there in
-          subst (λ number. IsWorkerOf number cores cap room (worker_at core workers)) (fresh_front core there).number_is opened.over.of;
+          let opened = together_at (IsOpenedWith cores cap burst room queues) front workers no_ends no_linked core both there in
+          subst (λ number. IsWorkerOf number cores cap burst room (worker_at core workers)) (fresh_front core there).number_is opened.over.of;
       grid = subst (IsGrid cores) (is ∙ ap (λ front. front ++ outside ∷ []) (sym (over_same front workers both))) grid;
       outs = subst (λ ends. length ends.outs ≡ cores) at_outside (grid.outs cores (omega arith));
       fresh = subst (AreFresh cap cores) at_outside (are_fresh cores (omega arith));
       have_queues = λ core low.
           let there : core < length front = omega (arith, low, front_count) in
-          let opened = together_at (IsOpenedWith cores cap room queues) front workers no_ends no_linked core both there in
+          let opened = together_at (IsOpenedWith cores cap burst room queues) front workers no_ends no_linked core both there in
           subst (λ number. (worker_at core workers).recorded.journal.notes ≡ creations number queues) (fresh_front core there).number_is opened.queues_are;
     }
 
   -- no order was submitted
-  pub none_submitted : (workers : List (LinkedView J T)) (ends : EndsView J T) → IsHouse cores cap room queues workers ends → (core : ℕ) → core < cores → (out_at core ends).out.sent ≡ []
+  pub none_submitted : (workers : List (LinkedView J T)) (ends : EndsView J T) → IsHouse cores cap burst room queues workers ends → (core : ℕ) → core < cores → (out_at core ends).out.sent ≡ []
   none_submitted workers ends house core low = ap (λ out. out.sent) (house.fresh.outs core (omega (arith, low, house.outs))).out
 
   -- a runtime in which nothing has happened
-  module _ (workers : List (LinkedView J T)) (ends : EndsView J T) (desk : DeskView J T) (closing : List Bool) (house : IsHouse cores cap room queues workers ends) (opened : desk ≡ opened_desk cores cores cap room)
-      (written : IsWritten (terms_of_desk desk) desk.journal.notes) (none : closing ≡ replicate cores false) (rung : RingsView J T) (bells : List (List ℕ)) (silent : rung.times ≡ replicate (cores + 1) 0) (limits : IsWithinLimits cores cap) where
-    outs_opened : (core : ℕ) → core < cores → IsOutOf core (opened_desk cores cores cap room) (out_at core ends).out (out_at core ends).credited
+  module _ (workers : List (LinkedView J T)) (ends : EndsView J T) (desk : DeskView J T) (closing : List Bool) (house : IsHouse cores cap burst room queues workers ends) (opened : desk ≡ opened_desk cores cores cap room burst)
+      (written : IsWritten (terms_of_desk desk) desk.journal.notes) (none : closing ≡ replicate cores false) (rung : RingsView J T) (bells : List (List ℕ)) (silent : rung.times ≡ replicate (cores + 1) 0) (limits : IsWithinLimits cores cap burst) where
+    outs_opened : (core : ℕ) → core < cores → IsOutOf core (opened_desk cores cores cap room burst) (out_at core ends).out (out_at core ends).credited
     outs_opened core low =
         let is = house.fresh.outs core (omega (arith, low, house.outs)) in
-        subst (λ out. IsOutOf core (opened_desk cores cores cap room) out (out_at core ends).credited) (sym is.out)
-        (subst (IsOutOf core (opened_desk cores cores cap room) (out_of (fresh cores core cap 0))) (sym is.credited) (fresh_out cores core cores cap room low))
+        subst (λ out. IsOutOf core (opened_desk cores cores cap room burst) out (out_at core ends).credited) (sym is.out)
+        (subst (IsOutOf core (opened_desk cores cores cap room burst) (out_of (fresh cores core cap 0))) (sym is.credited) (fresh_out cores core cores cap room burst low))
 
     outside_opened : IsOutside {J = J} {T = T} (record { desk = desk; ends = ends })
     outside_opened = record {
@@ -107,11 +107,11 @@ module _ {J T : Type 0} (cores cap room : ℕ) (queues : List Entry) where
       outs = subst (λ desk. (core : ℕ) → core < desk.cores → IsOutOf core desk (out_at core ends).out (out_at core ends).credited) (sym opened) outs_opened;
     }
 
-    lanes_opened : (fits : Order J → Outcome J T → Type 0) (core : ℕ) → core < cores → HasLane fits core (opened_desk cores cores cap room) (out_at core ends).out (out_at core ends).credited
+    lanes_opened : (fits : Order J → Outcome J T → Type 0) (core : ℕ) → core < cores → HasLane fits core (opened_desk cores cores cap room burst) (out_at core ends).out (out_at core ends).credited
     lanes_opened fits core low =
         let is = house.fresh.outs core (omega (arith, low, house.outs)) in
-        subst (λ credited. HasLane fits core (opened_desk cores cores cap room) (out_at core ends).out credited) (sym is.credited)
-        (fresh_has_lane fits core cores cores cap room (out_at core ends).out low
+        subst (λ credited. HasLane fits core (opened_desk cores cores cap room burst) (out_at core ends).out credited) (sym is.credited)
+        (fresh_has_lane fits core cores cores cap room burst (out_at core ends).out low
         (subst (λ credited. IsUnused cap (out_at core ends).out credited) is.credited
         (IsUnused-fresh (λ (end : Sending J T). end.out) (λ (end : Sending J T). end.credited) cores core cap 0 (out_at core ends) (omega arith) is.out is.credited)))
 
@@ -122,7 +122,7 @@ module _ {J T : Type 0} (cores cap room : ℕ) (queues : List Entry) where
     started fits = record {
       lanes = subst (λ (desk : DeskView J T). (core : ℕ) → core < desk.cores → HasLane fits core desk (out_at core ends).out (out_at core ends).credited) (sym opened) (lanes_opened fits);
       count = house.count ∙ ap (λ desk. desk.cores) (sym opened);
-      each = subst (λ (desk : DeskView J T). (core : ℕ) → core < desk.cores → IsWorkerOf core desk.cores desk.cap room (worker_at core workers)) (sym opened) house.each;
+      each = subst (λ (desk : DeskView J T). (core : ℕ) → core < desk.cores → IsWorkerOf core desk.cores desk.cap desk.burst room (worker_at core workers)) (sym opened) house.each;
       actor = ap (λ desk. desk.actor) opened ∙ ap (λ desk. desk.cores) (sym opened);
       outside = outside_opened;
       grid = subst (λ (desk : DeskView J T). IsGrid desk.cores (map (λ worker. worker.ends) workers ++ ends ∷ [])) (sym opened) house.grid;
@@ -130,7 +130,7 @@ module _ {J T : Type 0} (cores cap room : ℕ) (queues : List Entry) where
       closings = ap length none ∙ (length-replicate cores false ∙ ap (λ desk. desk.cores) (sym opened));
       lanes_are = ap (λ desk. length desk.lanes) opened ∙ (length-replicate cores (fresh_lane cap) ∙ ap (λ desk. desk.cores) (sym opened));
       room_is = subst (λ (desk : DeskView J T). booked desk ≤ desk.journal.room) (sym opened) (omega (arith, none_due));
-      limits = subst (λ (desk : DeskView J T). IsWithinLimits desk.cores desk.cap) (sym opened) limits;
+      limits = subst (λ (desk : DeskView J T). IsWithinLimits desk.cores desk.cap desk.burst) (sym opened) limits;
     }
 
 -- what holds of all holds of the next one

@@ -25,8 +25,8 @@ use Rattle.rt_runtime.specs.State.{RuntimeView, closing_at, submitted}
 module _ {J T : Type 0} where
   -- A runtime that was just started. There is a worker for each core, and the outside actor has a fresh end to each. Each core has the queues that
   -- the configuration names for it, in their order. Each worker rings the very bells that the caller has.
-  pub record IsStarted (cores cap room : ℕ) (queues : List Entry) (view : RuntimeView J T) : Type 0 where
-    pub desk : view.desk ≡ opened_desk cores cores cap room
+  pub record IsStarted (cores cap burst room : ℕ) (queues : List Entry) (view : RuntimeView J T) : Type 0 where
+    pub desk : view.desk ≡ opened_desk cores cores cap room burst
     pub closing : view.closing ≡ replicate cores false
     pub rung : view.rung.times ≡ replicate (cores + 1) 0
     pub bells : view.bells ≡ replicate cores view.rung.names
@@ -44,17 +44,17 @@ module _ {J T : Type 0} where
     pub before : (other : ℕ) → other < core → closing_at other view ≡ true
 
   -- a start with a good configuration
-  abbrev pub Begins : ℕ → ℕ → ℕ → List Entry → Result (RuntimeView J T) StartError → Type 0
-  Begins cores cap room queues (Ok view) = IsStarted cores cap room queues view
-  Begins cores cap room queues (Err BadConfig) = ⊥
-  Begins cores cap room queues (Err _) = Unit {0}
+  abbrev pub Begins : ℕ → ℕ → ℕ → ℕ → List Entry → Result (RuntimeView J T) StartError → Type 0
+  Begins cores cap burst room queues (Ok view) = IsStarted cores cap burst room queues view
+  Begins cores cap burst room queues (Err BadConfig) = ⊥
+  Begins cores cap burst room queues (Err _) = Unit {0}
 
   -- a start: the configuration is not good, or there was no memory or no thread, or nothing has happened yet
-  abbrev pub Starts : ℕ → ℕ → ℕ → List Entry → ℕ → ℕ → Result (RuntimeView J T) StartError → Type 0
-  Starts cores cap room queues clocks gates (Ok view) = IsGood cores cap room queues clocks gates × IsStarted cores cap room queues view
-  Starts cores cap room queues clocks gates (Err BadConfig) = IsGood cores cap room queues clocks gates → ⊥
-  Starts cores cap room queues clocks gates (Err Memory) = IsGood cores cap room queues clocks gates
-  Starts cores cap room queues clocks gates (Err Thread) = IsGood cores cap room queues clocks gates
+  abbrev pub Starts : ℕ → ℕ → ℕ → ℕ → List Entry → ℕ → ℕ → Result (RuntimeView J T) StartError → Type 0
+  Starts cores cap burst room queues clocks gates (Ok view) = IsGood cores cap burst room queues clocks gates × IsStarted cores cap burst room queues view
+  Starts cores cap burst room queues clocks gates (Err BadConfig) = IsGood cores cap burst room queues clocks gates → ⊥
+  Starts cores cap burst room queues clocks gates (Err Memory) = IsGood cores cap burst room queues clocks gates
+  Starts cores cap burst room queues clocks gates (Err Thread) = IsGood cores cap burst room queues clocks gates
 
 module _ {J : Type 0} (meaning : Meaning J ℕ) where
   -- The journals are joined, so they are sound, and they have a text. The outside journal is that of the caller's calls. Each core is drained.
@@ -65,12 +65,13 @@ module _ {J : Type 0} (meaning : Meaning J ℕ) where
     pub closed : (core : ℕ) → core < view.desk.cores → closing_at core view ≡ true
     pub cores : assembly.cores ≡ view.desk.cores
     pub cap : assembly.cap ≡ view.desk.cap
+    pub burst : assembly.burst ≡ view.desk.burst
     pub joined : AreJoined assembly
     pub sound : IsSound assembly
     pub spelled : IsSpelled assembly
     pub outside : journal_of view.desk.cores assembly ≡ view.desk.journal.notes
     pub drained : (core : ℕ) → core < view.desk.cores → IsDrained view.desk.cores (journal_of core assembly)
-    pub acts : (core : ℕ) → core < view.desk.cores → EachNote (MayAct (least_free view.desk.cores view.desk.cap) view.room) (journal_of core assembly)
+    pub acts : (core : ℕ) → core < view.desk.cores → EachNote (MayAct (least_free view.desk.cores view.desk.cap view.desk.burst) view.room) (journal_of core assembly)
     pub openings : (core : ℕ) → core < view.desk.cores → opening_of (journal_of core assembly) ≡ opening_of (worker_at core view.workers).recorded.journal.notes
     pub orders : Orders J
     pub orders_are : AreItsOrders view assembly orders

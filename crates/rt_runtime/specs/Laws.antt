@@ -49,7 +49,7 @@ module _ {J : Type 0} where
   abbrev pub ToldPollsAreOwed : Meaning J ℕ → Type 0
   ToldPollsAreOwed meaning =
       (view : RuntimeView J ℕ) (assembly : Assembly ℕ) (name : JobId) (job : J) (step : Step ℕ) (tells : TellsPoll view assembly name job step) (finished : HasFinished meaning view assembly) →
-      IsPollOf meaning (record { actor = name.to; cores = view.desk.cores; cap = view.desk.cap }) (seen_at_end assembly finished.orders name.to) tells.queue job name tells.time step tells.before
+      IsPollOf meaning (record { actor = name.to; cores = view.desk.cores; cap = view.desk.cap; burst = view.desk.burst }) (seen_at_end assembly finished.orders name.to) tells.queue job name tells.time step tells.before
 
   -- a finish tells no poll of a submitted job that its task doesn't owe behind as many polls
   abbrev pub UnowedPollsAreRefused : Meaning J ℕ → Type 0

@@ -55,4 +55,4 @@ module _ {J T : Type 0} (view : RuntimeView J T) (assembly : Assembly T) (orders
   abbrev pub AllPollsAreOwed : Meaning J T → Type 0
   AllPollsAreOwed meaning =
       (core : ℕ) → core < view.desk.cores →
-      PollsAreOwed meaning (record { actor = core; cores = view.desk.cores; cap = view.desk.cap }) (seen_at_end assembly orders core) orders (journal_of core assembly)
+      PollsAreOwed meaning (record { actor = core; cores = view.desk.cores; cap = view.desk.cap; burst = view.desk.burst }) (seen_at_end assembly orders core) orders (journal_of core assembly)

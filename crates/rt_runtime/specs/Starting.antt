@@ -10,18 +10,18 @@ use Rattle.rt_runtime_worker.specs.Together.{worker_at}
 use Rattle.rt_runtime_worker.specs.Workers.{WorkerView}
 
 -- a journal has room for the queues that a core is to have, and for what a worker needs
-abbrev pub IsRoomFor : ℕ → ℕ → ℕ → List Entry → ℕ → Type 0
-IsRoomFor cores cap room queues core = least_room cores cap + queues_of core queues ≤ room
+abbrev pub IsRoomFor : ℕ → ℕ → ℕ → ℕ → List Entry → ℕ → Type 0
+IsRoomFor cores cap burst room queues core = least_room cores cap burst + queues_of core queues ≤ room
 
 module _ {J T : Type 0} where
   -- fresh ends of a core, for whose journal there is room
-  pub record AreOpening (cores cap room : ℕ) (queues : List Entry) (ends : EndsView J T) : Type 0 where
+  pub record AreOpening (cores cap burst room : ℕ) (queues : List Entry) (ends : EndsView J T) : Type 0 where
     pub ends_of : AreEndsOf cores cap ends
-    pub enough : IsRoomFor cores cap room queues ends.number
+    pub enough : IsRoomFor cores cap burst room queues ends.number
 
   -- a worker over these ends, whose journal tells of the queues of its core and of nothing else
-  pub record IsOpenedWith (cores cap room : ℕ) (queues : List Entry) (ends : EndsView J T) (worker : LinkedView J T) : Type 0 where
-    pub over : IsOpenedOver cores cap room ends worker
+  pub record IsOpenedWith (cores cap burst room : ℕ) (queues : List Entry) (ends : EndsView J T) (worker : LinkedView J T) : Type 0 where
+    pub over : IsOpenedOver cores cap burst room ends worker
     pub queues_are : worker.recorded.journal.notes ≡ creations ends.number queues
 
   -- a worker of which this is so has this clock and this gate, and rings the bells of these names
@@ -36,9 +36,9 @@ module _ {J T : Type 0} where
   HaveQueues cores queues workers = (core : ℕ) → core < cores → (worker_at core workers).recorded.journal.notes ≡ creations core queues
 
   -- the workers of a house that was just opened, one for each core, and the outside actor's ends
-  pub record IsHouse (cores cap room : ℕ) (queues : List Entry) (workers : List (LinkedView J T)) (outside : EndsView J T) : Type 0 where
+  pub record IsHouse (cores cap burst room : ℕ) (queues : List Entry) (workers : List (LinkedView J T)) (outside : EndsView J T) : Type 0 where
     pub count : length workers ≡ cores
-    pub each : (core : ℕ) → core < cores → IsWorkerOf core cores cap room (worker_at core workers)
+    pub each : (core : ℕ) → core < cores → IsWorkerOf core cores cap burst room (worker_at core workers)
     pub grid : IsGrid cores (map (λ worker. worker.ends) workers ++ outside ∷ [])
     pub outs : length outside.outs ≡ cores
     pub fresh : AreFresh cap cores outside

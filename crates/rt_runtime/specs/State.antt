@@ -68,7 +68,7 @@ module _ {J T : Type 0} (fits : Order J → Outcome J T → Type 0) where
   -- It has room for each note that is due of its submissions.
   pub record IsRuntime (view : RuntimeView J T) : Type 0 where
     pub count : length view.workers ≡ view.desk.cores
-    pub each : (core : ℕ) → core < view.desk.cores → IsWorkerOf core view.desk.cores view.desk.cap view.room (worker_at core view.workers)
+    pub each : (core : ℕ) → core < view.desk.cores → IsWorkerOf core view.desk.cores view.desk.cap view.desk.burst view.room (worker_at core view.workers)
     pub actor : view.desk.actor ≡ view.desk.cores
     pub outside : IsOutside (outside_of view)
     pub grid : IsGrid view.desk.cores (all_ends view.workers (outside_of view))
@@ -77,7 +77,7 @@ module _ {J T : Type 0} (fits : Order J → Outcome J T → Type 0) where
     pub lanes : (core : ℕ) → core < view.desk.cores → HasLane fits core view.desk (out_at core view.ends).out (out_at core view.ends).credited
     pub lanes_are : length view.desk.lanes ≡ view.desk.cores
     pub room_is : booked view.desk ≤ view.desk.journal.room
-    pub limits : IsWithinLimits view.desk.cores view.desk.cap
+    pub limits : IsWithinLimits view.desk.cores view.desk.cap view.desk.burst
 
 -- what stands in a runtime beside what a caller sees: its numbers, and room for what the workers give back
 pub record IsStored {J T : Type 0} (view : RuntimeView J T) (cores cap ends journals : ℕ) : Type 0 where

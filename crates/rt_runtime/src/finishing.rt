@@ -73,16 +73,17 @@ fn first_open(cores: u8, closing: &[bool]) -> Option<u8>
 fn assemble<J: Task<Out = u64>>(
     cores: u8,
     cap: u16,
+    burst: u8,
     ends: Vec<Ends<J>>,
     journals: Vec<Journal<u64>>,
 ) -> Assembly
     requires grid { IsGrid cores ends.items }
     requires count { length journals.items ≡ cores + 1 }
-    ensures assembly { result ≡ record { cores = cores; cap = cap; journals = map (λ journal. journal.notes) journals.items } }
+    ensures assembly { result ≡ record { cores = cores; cap = cap; burst = burst; journals = map (λ journal. journal.notes) journals.items } }
     ensures reunited { AreReunited (Fits J.meaning) cores ends.items }
 {
     reunite_all(ends, cores);
-    Assembly::of(cores, cap, journals)
+    Assembly::of_burst(cores, cap, burst, journals)
 }
 
 impl<J: Job + Task<Out = u64>, C: Clock + Drop, G: Gate + Drop> Runtime<J, C, G> {
@@ -102,10 +103,11 @@ impl<J: Job + Task<Out = u64>, C: Clock + Drop, G: Gate + Drop> Runtime<J, C, G>
             ..
         } = self;
         let (mut all, mut journals) = part_all(team.join(rt), spare_ends, spare_journals);
+        let burst = desk.burst();
         all.push_reserved(ends);
         journals.push_reserved(desk.into_journal());
         grid_is_kept::<J>();
-        let assembly = assemble(cores, cap, all, journals);
+        let assembly = assemble(cores, cap, burst, all, journals);
         ended_are_joined::<J>();
         joining_is_sound();
         joined_are_spelled();

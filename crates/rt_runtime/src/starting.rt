@@ -58,9 +58,9 @@ fn open_seats<J: Task<Out = u64>, C: Drop, G: Drop>(
     seats: Vec<Seat<J, C, G>>,
     bells: &Bells,
 ) -> Result<Vec<Worker<J, C, G>>, AllocError>
-    requires each { All (λ seat. AreOpening config.now.cores config.now.cap config.now.room config.now.queues.items seat.ends) seats.items }
+    requires each { All (λ seat. AreOpening config.now.cores config.now.cap config.now.burst config.now.room config.now.queues.items seat.ends) seats.items }
     requires bells { length bells.now.rings ≡ config.now.cores + 1 }
-    ensures { IfOk result (λ opened. Together (λ seat worker. IsWiredWith (IsOpenedWith config.now.cores config.now.cap config.now.room config.now.queues.items seat.ends) seat.clock seat.gate bells.now.names worker) seats.items opened.items) }
+    ensures { IfOk result (λ opened. Together (λ seat worker. IsWiredWith (IsOpenedWith config.now.cores config.now.cap config.now.burst config.now.room config.now.queues.items seat.ends) seat.clock seat.gate bells.now.names worker) seats.items opened.items) }
 {
     let mut workers = Vec::with_capacity(alloc, seats.len())?;
     for seat in seats {
@@ -79,11 +79,11 @@ fn open_workers<J: Task<Out = u64>, C: Drop, G: Drop>(
     clocks: Vec<C>,
     gates: Vec<G>,
 ) -> Result<Vec<Worker<J, C, G>>, AllocError>
-    requires each { All (AreOpening config.now.cores config.now.cap config.now.room config.now.queues.items) all.items }
+    requires each { All (AreOpening config.now.cores config.now.cap config.now.burst config.now.room config.now.queues.items) all.items }
     requires bells { length bells.now.rings ≡ config.now.cores + 1 }
     requires clocks { length clocks.items ≡ length all.items }
     requires gates { length gates.items ≡ length all.items }
-    ensures opened { IfOk result (λ opened. Together (IsOpenedWith config.now.cores config.now.cap config.now.room config.now.queues.items) all.items (map (λ worker. worker.linked) opened.items)) }
+    ensures opened { IfOk result (λ opened. Together (IsOpenedWith config.now.cores config.now.cap config.now.burst config.now.room config.now.queues.items) all.items (map (λ worker. worker.linked) opened.items)) }
     ensures clocks { IfOk result (λ opened. map (λ worker. worker.clock) opened.items ≡ clocks.items) }
     ensures gates { IfOk result (λ opened. map (λ worker. worker.gate) opened.items ≡ gates.items) }
     ensures bells { IfOk result (λ opened. map (λ worker. worker.bells) opened.items ≡ map (λ ends. bells.now.names) all.items) }
@@ -99,8 +99,8 @@ fn open_house<J: Task<Out = u64>, C: Drop, G: Drop>(
     clocks: Vec<C>,
     gates: Vec<G>,
 ) -> Result<(Vec<Worker<J, C, G>>, Bells, Ends<J>), AllocError>
-    requires { IsGood config.now.cores config.now.cap config.now.room config.now.queues.items (length clocks.items) (length gates.items) }
-    ensures house { IfOk result (λ house. IsHouse config.now.cores config.now.cap config.now.room config.now.queues.items (map (λ worker. worker.linked) house.0.items) house.2) }
+    requires { IsGood config.now.cores config.now.cap config.now.burst config.now.room config.now.queues.items (length clocks.items) (length gates.items) }
+    ensures house { IfOk result (λ house. IsHouse config.now.cores config.now.cap config.now.burst config.now.room config.now.queues.items (map (λ worker. worker.linked) house.0.items) house.2) }
     ensures clocks { IfOk result (λ house. map (λ worker. worker.clock) house.0.items ≡ clocks.items) }
     ensures gates { IfOk result (λ house. map (λ worker. worker.gate) house.0.items ≡ gates.items) }
     ensures shared { IfOk result (λ house. map (λ worker. worker.bells) house.0.items ≡ replicate config.now.cores house.1.names) }
@@ -122,15 +122,16 @@ fn open_outside<J: Task<Out = u64>>(
     alloc: Global,
     config: &Config,
 ) -> Result<(RecordedDesk<J>, Vec<bool>), AllocError>
-    ensures desk { IfOk result (λ outside. outside.0 ≡ opened_desk config.now.cores config.now.cores config.now.cap config.now.room) }
+    ensures desk { IfOk result (λ outside. outside.0 ≡ opened_desk config.now.cores config.now.cores config.now.cap config.now.room config.now.burst) }
     ensures written { IfOk result (λ outside. IsWritten (terms_of_desk outside.0) outside.0.journal.notes) }
     ensures closing { IfOk result (λ outside. outside.1.items ≡ replicate config.now.cores false) }
 {
-    let mut desk = RecordedDesk::open(
+    let mut desk = RecordedDesk::open_burst(
         alloc,
         ActorNo(config.cores),
         config.cores,
         config.cap,
+        config.burst,
         config.room,
     )?;
     desk.prefault();
@@ -153,8 +154,8 @@ impl<J: Task<Out = u64>, C: Drop, G: Drop> Runtime<J, C, G> {
         C: Clock + Send + 'static,
         G: Gate + Send + 'static,
         R: Threads + Wait + Copy + Drop + Send + 'static,
-        requires { IsGood config.now.cores config.now.cap config.now.room config.now.queues.items (length clocks.items) (length gates.items) }
-        ensures { Begins config.now.cores config.now.cap config.now.room config.now.queues.items result }
+        requires { IsGood config.now.cores config.now.cap config.now.burst config.now.room config.now.queues.items (length clocks.items) (length gates.items) }
+        ensures { Begins config.now.cores config.now.cap config.now.burst config.now.room config.now.queues.items result }
     {
         let actors = config.cores as usize + 1;
         let Ok((workers, bells, ends)) = open_house(alloc, config, clocks, gates) else {
@@ -194,8 +195,10 @@ impl<J: Task<Out = u64>, C: Drop, G: Drop> Runtime<J, C, G> {
     /// # Limits
     ///
     /// - 1 to 16 cores. 1 to 1024 submissions from one actor to one core may be outstanding. A core has at most 255 queues beside queue 0.
-    /// - A journal has room for `16 * (cores + 1) * (cap + 1)` notes and one for each queue at least, and for 2^24 at most. A poll makes three
-    ///   notes, a job that comes and goes four more. No room comes back.
+    /// - A turn has 1 to 64 polls (`burst`).
+    /// - A journal has room for `16 * (cores + 1) * (cap + 1) + 4 * (burst - 1)` notes and one for each queue at least, and for 2^24 at most.
+    ///   The first poll of a turn makes three notes, each further one two, and the end of the turn one more if `burst` is above 1. A job
+    ///   that comes and goes makes four more. No room comes back.
     /// - A core whose journal grows short closes by itself, and hands its jobs back. A caller whose journal is full can't submit any more.
     /// - A job that doesn't yield keeps its core.
     /// - Each core must be closed before `finish`. A runtime that is dropped without `finish` leaves its threads to themselves.
@@ -216,7 +219,7 @@ impl<J: Task<Out = u64>, C: Drop, G: Drop> Runtime<J, C, G> {
         C: Clock + Send + 'static,
         G: Gate + Send + 'static,
         R: Threads + Wait + Copy + Drop + Send + 'static,
-        ensures { Starts config.cores config.cap config.room config.queues.items (length clocks.items) (length gates.items) result }
+        ensures { Starts config.cores config.cap config.burst config.room config.queues.items (length clocks.items) (length gates.items) result }
     {
         if !is_good(&config, clocks.len(), gates.len()) {
             return Err(StartError::BadConfig);

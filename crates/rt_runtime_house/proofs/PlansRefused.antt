@@ -11,7 +11,7 @@ reads = record { core = 0; queue = 1; text = 114 ∷ [] }
 
 -- two cores, of which core 0 has a queue
 abbrev one_queue : Plan
-one_queue = record { cores = 2; cap = 8; room = 4000; queues = (0, 900) ∷ []; names = reads ∷ [] }
+one_queue = record { cores = 2; cap = 8; burst = 1; room = 4000; queues = (0, 900) ∷ []; names = reads ∷ [] }
 
 -- the second queue of a core gets the number of the first
 number_given_twice : (new : Plan) → PlansQueue 0 100 (99 ∷ []) one_queue (Ok 1) new → ⊥

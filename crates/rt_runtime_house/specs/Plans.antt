@@ -20,13 +20,14 @@ pub record Name : Type 0 where
 pub record Plan : Type 0 where
   pub cores : ℕ
   pub cap : ℕ
+  pub burst : ℕ
   pub room : ℕ
   pub queues : List Entry
   pub names : List Name
 
--- nothing but the numbers is planned
+-- nothing but the numbers is planned, and each turn is a single poll
 abbrev pub fresh_plan : ℕ → ℕ → ℕ → Plan
-fresh_plan cores cap room = record { cores = cores; cap = cap; room = room; queues = []; names = [] }
+fresh_plan cores cap room = record { cores = cores; cap = cap; burst = 1; room = room; queues = []; names = [] }
 
 -- the name of this queue of this core: the first that is given
 abbrev pub name_of : ℕ → ℕ → List Name → Option (List ℕ)
@@ -46,5 +47,5 @@ PlansQueue core shares text old (Err Memory) new = (core < old.cores) × (queues
 
 -- the house starts as its plan says, with a clock and a gate for each core, and the names come back
 abbrev pub StartsPlan : {J T : Type 0} → Plan → Result (RuntimeView J T × List Name) StartError → Type 0
-StartsPlan plan (Ok started) = Starts plan.cores plan.cap plan.room plan.queues plan.cores plan.cores (Ok started.0) × (started.1 ≡ plan.names)
-StartsPlan {J} {T} plan (Err error) = Starts {J = J} {T = T} plan.cores plan.cap plan.room plan.queues plan.cores plan.cores (Err error)
+StartsPlan plan (Ok started) = Starts plan.cores plan.cap plan.burst plan.room plan.queues plan.cores plan.cores (Ok started.0) × (started.1 ≡ plan.names)
+StartsPlan {J} {T} plan (Err error) = Starts {J = J} {T = T} plan.cores plan.cap plan.burst plan.room plan.queues plan.cores plan.cores (Err error)

@@ -91,6 +91,7 @@ impl Model for House {
     ghost view = { λ h. record {
       cores = h.config.cores;
       cap = h.config.cap;
+      burst = h.config.burst;
       room = h.config.room;
       queues = h.config.queues.items;
       names = h.names;
@@ -98,11 +99,12 @@ impl Model for House {
 }
 
 impl House {
-    /// A house of so many cores, with so many submissions outstanding on a link at most. Each core has queue 0, with 1000 shares.
+    /// A house of so many cores, with so many submissions outstanding on a link at most. Each core has queue 0, with 1000 shares, and each
+    /// turn is a single poll.
     ///
     /// A journal has room for 65,536 notes beside those that a worker keeps free, or for 2^24 in all if that is less.
     pub fn new(alloc: Global, cores: u8, cap: u16) -> Self
-        ensures { result ≡ fresh_plan cores cap (min (least_room cores cap + 65536) most_notes) }
+        ensures { result ≡ fresh_plan cores cap (min (least_room cores cap 1 + 65536) most_notes) }
     {
         let least = 16 * ((cores as usize + 1) * (cap as usize + 1));
         let room = (least + SPARE_NOTES).min(MOST_NOTES);
@@ -110,6 +112,7 @@ impl House {
             config: Config {
                 cores,
                 cap,
+                burst: 1,
                 room: room as u32,
                 queues: Vec::new(alloc),
             },
@@ -117,7 +120,17 @@ impl House {
         }
     }
 
-    /// The same house, with room for so many notes in each journal. A poll makes three, and a job that comes and goes four more.
+    /// The same house, whose turns may have so many polls: from 1 to 64, and `start` refuses any other number. The room of a journal stays.
+    pub fn with_burst(self, burst: u8) -> Self
+        ensures { result ≡ record self { burst = burst } }
+    {
+        let mut house = self;
+        house.config.burst = burst;
+        house
+    }
+
+    /// The same house, with room for so many notes in each journal. A poll makes at most three, the end of a turn one more where turns may
+    /// have several polls, and a job that comes and goes four more.
     pub fn with_notes(self, notes: u32) -> Self
         ensures { result ≡ record self { room = notes } }
     {

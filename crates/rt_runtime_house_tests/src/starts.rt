@@ -12,9 +12,9 @@ use rt_shares::Shares;
 use std::alloc::Global;
 use std::test::Fail;
 
-/// A house of two cores, of which core 1 has a queue of reads. None if memory is wanting.
+/// A house of two cores, of which core 1 has a queue of reads, with turns of up to four polls. None if memory is wanting.
 fn planned(alloc: Global) -> Option<(House, QueueNo)> {
-    let mut house = House::new(alloc, 2, 8).with_notes(4000);
+    let mut house = House::new(alloc, 2, 8).with_burst(4).with_notes(4000);
     let Ok(shares) = Shares::try_new(900) else {
         return None;
     };
@@ -64,7 +64,7 @@ fn a_job_enters_the_queue_of_its_name(rt: HostRuntime) -> Result<(), Fail> {
         assert!(rt; false, "not closed");
         return Ok(());
     };
-    assert!(rt; tells_of(assembly.journal(ActorNo(1)), reads));
+    assert!(rt; assembly.burst() == 4 && tells_of(assembly.journal(ActorNo(1)), reads));
     Ok(())
 }
 

@@ -43,14 +43,22 @@ impl Gate for Counter {
 
 pub type House<J> = Runtime<J, Ticks, Counter>;
 
-/// A configuration with queue 0 of each core alone.
+/// A configuration with queue 0 of each core alone, whose turns are single polls.
 pub fn plain(alloc: Global, cores: u8, cap: u16, room: u32) -> Config {
     Config {
         cores,
         cap,
+        burst: 1,
         room,
         queues: Vec::new(alloc),
     }
+}
+
+/// The same, whose turns may have so many polls.
+pub fn with_burst(config: Config, burst: u8) -> Config {
+    let mut config = config;
+    config.burst = burst;
+    config
 }
 
 /// The same with one more queue of core 1.

@@ -4,6 +4,8 @@
 #[cfg(test)]
 mod boxed;
 #[cfg(test)]
+mod bursts;
+#[cfg(test)]
 mod calls;
 #[cfg(test)]
 mod closing;

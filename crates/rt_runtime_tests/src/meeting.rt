@@ -72,6 +72,7 @@ where
     let config = Config {
         cores: 2,
         cap: 2,
+        burst: 1,
         room: 1000,
         queues: Vec::new(alloc),
     };

@@ -29,11 +29,12 @@ module _ {J T : Type 0} where
     number = two.number ∙ one.number;
     cores = two.cores ∙ one.cores;
     cap = two.cap ∙ one.cap;
+    burst = two.burst ∙ one.burst;
     room = two.room ∙ one.room;
   }
 
   pub seat_same : (view : RecordedView J T) → IsSameSeat view view
-  seat_same view = record { number = refl; cores = refl; cap = refl; room = refl }
+  seat_same view = record { number = refl; cores = refl; cap = refl; burst = refl; room = refl }
 
   pub sees_same : (ends : EndsView J T) → SeesNoLess ends ends
   sees_same ends = record { ins = λ sender. omega arith; outs = λ core. omega arith }

@@ -1,6 +1,6 @@
 -- Which steps note a poll, and that the gate is asked for each.
 use Rattle.std.proofs.Common.{◌≡◌, inl, inr, ℕ, List, [], ◌∷◌, ◌++◌, refl, sym, ◌∙◌, ap, subst}
-use Rattle.std.specs.Prelude.{Bool, true, false, Option, Some, None, unwrap_or}
+use Rattle.std.specs.Prelude.{Bool, true, false, Option, Some, None}
 use Rattle.std.proofs.lemmas.List.{append_assoc}
 use Rattle.rt_ids.specs.declared.names.JobId.{JobId}
 use Rattle.rt_ids.specs.declared.note.Note.{Note}
@@ -12,7 +12,6 @@ use Rattle.rt_ids.specs.declared.order.Order.TheVariants.{Job, Create, SetShares
 use Rattle.rt_ids.specs.declared.order.Reason.{Reason}
 use Rattle.rt_ids.specs.Commands.{effect_note, refusal}
 use Rattle.rt_ids.specs.Journal.{Journal}
-use Rattle.rt_jobs.specs.Meanings.{Meaning}
 use Rattle.rt_core.specs.declared.turn.Settled.{Settled}
 use Rattle.rt_core.specs.declared.turn.Settled.TheVariants as settled
 use Rattle.rt_journal.specs.Deliveries.{IsDelivery, entry_note, with_effect}
@@ -23,12 +22,10 @@ use Rattle.rt_journal_notes.specs.Journals.{JournalView}
 use Rattle.rt_runtime_worker.specs.Asks.{polls_of, NotesNoPoll, AsksFor, AsksSince}
 use Rattle.rt_runtime_worker.specs.Gates.{WritesShut, WritesReturn}
 use Rattle.rt_runtime_worker.specs.Linked.{LinkedView}
-use Rattle.rt_runtime_worker.specs.Steps.{DeliversFrom, CollectsOf, MakesTurn, PollsOne}
-use Rattle.rt_runtime_worker.specs.declared.turn.Made.{Made}
-use Rattle.rt_runtime_worker.specs.declared.turn.Made.TheVariants as came
+use Rattle.rt_runtime_worker.specs.Steps.{DeliversFrom, CollectsOf}
 
 module _ {T : Type 0} where
-  posts_note_none : (notes before : Journal T) → ArePosts notes → NotesNoPoll before (notes ++ before)
+  pub posts_note_none : (notes before : Journal T) → ArePosts notes → NotesNoPoll before (notes ++ before)
   posts_note_none [] before posts = refl
   posts_note_none (writes.Sent name order ∷ notes) before posts = posts_note_none notes before posts
   posts_note_none (writes.Redeemed name outcome ∷ notes) before posts = posts_note_none notes before posts
@@ -40,13 +37,13 @@ module _ {T : Type 0} where
   collected_note_none core (writes.Collected name outcome ∷ notes) before are = collected_note_none core notes before are.1
   collected_note_none core (_ ∷ notes) before are = absurd are
 
-  settles_note_none : (name : JobId) (time : ℕ) (did : Settled T) (before : Journal T) → NotesNoPoll before (settle_note name time did ∷ before)
+  pub settles_note_none : (name : JobId) (time : ℕ) (did : Settled T) (before : Journal T) → NotesNoPoll before (settle_note name time did ∷ before)
   settles_note_none name time settled.Yielded before = refl
   settles_note_none name time settled.Parked before = refl
   settles_note_none name time settled.Stayed before = refl
   settles_note_none name time (settled.Finished answer) before = refl
 
-  poll_noted : (name : JobId) (was_started : Bool) (before : Journal T) → polls_of (poll_note name was_started ∷ before) ≡ name ∷ polls_of before
+  pub poll_noted : (name : JobId) (was_started : Bool) (before : Journal T) → polls_of (poll_note name was_started ∷ before) ≡ name ∷ polls_of before
   poll_noted name false before = refl
   poll_noted name true before = refl
 
@@ -89,25 +86,8 @@ module _ {J T : Type 0} where
   collects_note_none core count old new did =
       ap (λ journal. polls_of journal.notes) did.collects.3 ∙ collected_note_none core did.collects.0 old.recorded.journal.notes did.collects.1
 
-  module _ {G : Type 0} (asked : G → ℕ → JobId → G → Type 0) (meaning : Meaning J T) (tells : ℕ → Type 0) (old new : LinkedView J T) (before after : G) where
-    polled_told : (name : JobId) → PollsOne meaning tells name old new → polls_of new.recorded.journal.notes ≡ name ∷ polls_of old.recorded.journal.notes
-    polled_told name did =
-        ap (λ journal. polls_of journal.notes) did.settles.journal
-        ∙ (settles_note_none did.settles.out.name (unwrap_or did.ran.told did.spent) did.settled did.left.journal.notes
-        ∙ (ap (λ desk. polls_of desk.journal.notes) did.posted.desk
-        ∙ (posts_note_none did.posted.notes did.picked.journal.notes did.posted.posts
-        ∙ (ap (λ journal. polls_of journal.notes) did.picks.journal ∙ poll_noted name did.was_started (writes.Pick did.queue did.picks.runtime ∷ old.recorded.journal.notes)))))
-
-    -- a turn asks the gate for the poll that it notes
-    pub turn_asks : (kept : Type 0) (made : Made) → MakesTurn meaning tells (λ core name. asked before core name after) ((after ≡ before) × kept) old made new →
-        AsksSince asked old.recorded.core.core old.recorded.journal.notes new.recorded.journal.notes before after
-    turn_asks kept came.Polled did = record { polls = did.0 ∷ []; told = polled_told did.0 did.1; asks = (before, refl, did.2) }
-    turn_asks kept came.Returned did = record { polls = []; told = ap (λ journal. polls_of journal.notes) did.0.did.journal; asks = did.1.0 }
-    turn_asks kept came.Idle did = record { polls = []; told = ap (λ view. polls_of view.journal.notes) did.1; asks = did.2.0 }
-    turn_asks kept came.Spent did = record { polls = []; told = ap (λ view. polls_of view.journal.notes) did.2; asks = did.3.0 }
-
 module _ {G : Type 0} (asked : G → ℕ → JobId → G → Type 0) (core : ℕ) where
-  asks_more : (one two : List JobId) (before middle after : G) → AsksFor asked core one before middle → AsksFor asked core two middle after → AsksFor asked core (two ++ one) before after
+  pub asks_more : (one two : List JobId) (before middle after : G) → AsksFor asked core one before middle → AsksFor asked core two middle after → AsksFor asked core (two ++ one) before after
   asks_more one [] before middle after first next = subst (AsksFor asked core one before) (sym next) first
   asks_more one (name ∷ two) before middle after first next = (next.0, asks_more one two before middle next.0 first next.1, next.2)
 

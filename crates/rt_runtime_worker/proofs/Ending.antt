@@ -1,10 +1,12 @@
 -- Workers that have ended and the outside actor are recorded actors together.
 use Rattle.std.proofs.Common.{◌≡◌, ◌≢◌, ℕ, ◌<◌, ◌≤◌, List, [], ◌∷◌, ◌++◌, length, map, get_or, sym, ◌∙◌, ap, subst, arith, ⊎_elim}
+use Rattle.std.specs.Prelude.{None}
 use Rattle.std.proofs.lemmas.Bool.{cases_eq}
 use Rattle.std.proofs.lemmas.List.{get_or-map, get_or_append_left, length-map}
 use Rattle.std.proofs.lemmas.Option.{slice_get-get_or}
 use Rattle.std.proofs.Math.Seq.{get_or-append_seam}
 use Rattle.rt_ids.specs.Assembly.{Assembly, journal_of}
+use Rattle.rt_ids.specs.Bursts.{queue_in_turn}
 use Rattle.rt_ids.specs.Closing.{IsDrained}
 use Rattle.rt_jobs.specs.Meanings.{Meaning}
 use Rattle.rt_journal_desk.specs.Submissions.{IsWritten, terms_of_desk}
@@ -25,7 +27,7 @@ module _ {A B : Type 0} (f : A → B) (xs : List A) (x none : B) (d : A) where
   at_last n is = rw (← is) (rw (← length-map xs f) (get_or-append_seam (map f xs) x [] none))
 
 module _ {J T : Type 0} {meaning : Meaning J T}
-    {cores cap : ℕ} {workers : List (LinkedView J T)} {outside : OutsideView J T} (have : HaveEnded meaning cores cap workers outside) where
+    {cores cap burst : ℕ} {workers : List (LinkedView J T)} {outside : OutsideView J T} (have : HaveEnded meaning cores cap burst workers outside) where
   desk_here : (core : ℕ) → core < cores → desk_among workers outside core ≡ desk_of (worker_at core workers).recorded
   desk_here core low = before_last (λ (worker : LinkedView J T). desk_of worker.recorded) workers outside.desk outside.desk no_linked core (omega (arith, low, have.count))
 
@@ -40,6 +42,9 @@ module _ {J T : Type 0} {meaning : Meaning J T}
 
   cores_here : (core : ℕ) → core < cores → (worker_at core workers).recorded.core.cores ≡ cores
   cores_here core low = ap (λ terms. terms.cores) (have.seats core low)
+
+  burst_here : (core : ℕ) → core < cores → (worker_at core workers).recorded.core.bursts.burst ≡ burst
+  burst_here core low = ap (λ terms. terms.burst) (have.seats core low)
 
   -- the end on which a worker sends
   ended_out : (sender number : ℕ) → sender < cores → number < cores →
@@ -61,7 +66,7 @@ module _ {J T : Type 0} {meaning : Meaning J T}
       rw (desk_here sender here) (rw (ends_here sender here) (ended_out sender number here low)))
       (cases_eq sender cores)
 
-  terms_are : (actor : ℕ) → actor ≤ cores → terms_of_desk (desk_among workers outside actor) ≡ record { actor = actor; cores = cores; cap = cap }
+  terms_are : (actor : ℕ) → actor ≤ cores → terms_of_desk (desk_among workers outside actor) ≡ record { actor = actor; cores = cores; cap = cap; burst = burst }
   terms_are actor known =
       ⊎_elim
       (λ (is : actor ≡ cores). rw is (rw desk_outside have.outside_terms))
@@ -69,7 +74,7 @@ module _ {J T : Type 0} {meaning : Meaning J T}
       (cases_eq actor cores)
 
   pub ended_together :
-      AreTogether meaning cores cap (desk_among workers outside) (λ core. (worker_at core workers).recorded)
+      AreTogether meaning cores cap burst (desk_among workers outside) (λ core. (worker_at core workers).recorded)
       (λ sender core. (out_at core (ends_at sender (all_ends workers outside))).out)
       (λ sender core. (out_at core (ends_at sender (all_ends workers outside))).credited)
       (λ sender core. (in_at sender (ends_at core (all_ends workers outside))).inward)
@@ -78,6 +83,7 @@ module _ {J T : Type 0} {meaning : Meaning J T}
     desks = desk_here;
     recorded = λ core low. (have.ended core low).linked.recorded;
     at_rest = λ core low. (have.ended core low).linked.at_rest;
+    no_turn = λ core low. subst (λ burst. queue_in_turn burst (worker_at core workers).recorded.journal.notes ≡ None) (burst_here core low) (have.ended core low).between;
     outside = subst (λ desk. IsWritten (terms_of_desk desk) desk.journal.notes) (sym desk_outside) have.outside_is.written;
     outs = sends;
     ins = λ sender core known low.
@@ -85,7 +91,7 @@ module _ {J T : Type 0} {meaning : Meaning J T}
     joined = λ sender core known low. (have.reunited sender core known low).joined;
   }
 
-  pub ended_drained : (assembly : Assembly T) → IsAssemblyOf cores cap (desk_among workers outside) assembly → (core : ℕ) → core < cores → IsDrained cores (journal_of core assembly)
+  pub ended_drained : (assembly : Assembly T) → IsAssemblyOf cores cap burst (desk_among workers outside) assembly → (core : ℕ) → core < cores → IsDrained cores (journal_of core assembly)
   ended_drained assembly is core low =
       rw (is.each core (omega (arith, low)))
       (rw (desk_here core low)

@@ -147,23 +147,25 @@ module _ {J T : Type 0} where
           omega (arith, all_within, same_places, places, spare, returned_room, shuts.longer, returns.stays.seat.cores, cores, room, linked.recorded.kept.is_core);
     }
 
-    pub ending_acts : IsShort old.recorded → ActsAsItMay old.recorded.core.cores old.recorded.cap old.recorded.journal →
-        ActsAsItMay new.recorded.core.cores new.recorded.cap new.recorded.journal
+    pub ending_acts : IsShort old.recorded → ActsAsItMay old.recorded.core.cores old.recorded.cap old.recorded.core.bursts.burst old.recorded.journal →
+        ActsAsItMay new.recorded.core.cores new.recorded.cap new.recorded.core.bursts.burst new.recorded.journal
     ending_acts short each =
         let cores : new.recorded.core.cores ≡ old.recorded.core.cores = shuts.stays.seat.cores ∙ returns.stays.seat.cores in
         let cap : new.recorded.cap ≡ old.recorded.cap = shuts.stays.seat.cap ∙ returns.stays.seat.cap in
+        let burst : new.recorded.core.bursts.burst ≡ old.recorded.core.bursts.burst = shuts.stays.seat.burst ∙ returns.stays.seat.burst in
         let room : new.recorded.journal.room ≡ middle.recorded.journal.room = shuts.stays.seat.room in
         subst (λ least. EachNote (MayAct least new.recorded.journal.room) new.recorded.journal.notes)
-        (sym (ap (λ cores. least_free cores new.recorded.cap) cores ∙ ap (λ cap. least_free old.recorded.core.cores cap) cap))
-        (subst (λ room. EachNote (MayAct (least_free old.recorded.core.cores old.recorded.cap) room) new.recorded.journal.notes) (sym room)
-        (shuts.acts (least_free old.recorded.core.cores old.recorded.cap)
-        (subst (λ room. EachNote (MayAct (least_free old.recorded.core.cores old.recorded.cap) room) middle.recorded.journal.notes) (sym returns.stays.seat.room)
+        (sym (ap (λ cores. least_free cores new.recorded.cap new.recorded.core.bursts.burst) cores
+        ∙ (ap (λ cap. least_free old.recorded.core.cores cap new.recorded.core.bursts.burst) cap ∙ ap (λ burst. least_free old.recorded.core.cores old.recorded.cap burst) burst)))
+        (subst (λ room. EachNote (MayAct (least_free old.recorded.core.cores old.recorded.cap old.recorded.core.bursts.burst) room) new.recorded.journal.notes) (sym room)
+        (shuts.acts (least_free old.recorded.core.cores old.recorded.cap old.recorded.core.bursts.burst)
+        (subst (λ room. EachNote (MayAct (least_free old.recorded.core.cores old.recorded.cap old.recorded.core.bursts.burst) room) middle.recorded.journal.notes) (sym returns.stays.seat.room)
         (by_return middle.recorded.journal returns.wrote))))
       where
-        by_return : (now : JournalView T) → WritesReturn old.recorded.journal now → EachNote (MayAct (least_free old.recorded.core.cores old.recorded.cap) old.recorded.journal.room) now.notes
-        by_return now (inl same) = subst (λ journal. EachNote (MayAct (least_free old.recorded.core.cores old.recorded.cap) old.recorded.journal.room) journal.notes) (sym same) each
+        by_return : (now : JournalView T) → WritesReturn old.recorded.journal now → EachNote (MayAct (least_free old.recorded.core.cores old.recorded.cap old.recorded.core.bursts.burst) old.recorded.journal.room) now.notes
+        by_return now (inl same) = subst (λ journal. EachNote (MayAct (least_free old.recorded.core.cores old.recorded.cap old.recorded.core.bursts.burst) old.recorded.journal.room) journal.notes) (sym same) each
         by_return now (inr wrote) =
-            subst (λ journal. EachNote (MayAct (least_free old.recorded.core.cores old.recorded.cap) old.recorded.journal.room) journal.notes) (sym wrote) (inr (refl, short), each)
+            subst (λ journal. EachNote (MayAct (least_free old.recorded.core.cores old.recorded.cap old.recorded.core.bursts.burst) old.recorded.journal.room) journal.notes) (sym wrote) (inr (refl, short), each)
 
   -- a core that closes by itself and shuts its gates notes no poll
   pub ending_notes_none : (old middle new : LinkedView J T) (count : ℕ) → LeavesReturning old middle → ShutsFirst count middle new → NotesNoPoll old.recorded.journal.notes new.recorded.journal.notes

@@ -19,6 +19,11 @@ pub mod Noted
 pub mod Acting
 pub mod Spare
 pub mod Asking
+pub mod PollNotes
+pub mod TurnNotes
+pub mod TurnAsks
+pub mod TurnRoom
+pub mod Between
 pub mod Gated
 pub mod Serving
 pub mod Telling

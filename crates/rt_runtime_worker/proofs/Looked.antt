@@ -1,6 +1,6 @@
 -- Which watch and which gate serve a turn, and what a look at the room leaves.
-use Rattle.std.proofs.Common.{◌≡◌, ℕ, ◌++◌, [], ◌∷◌, ap, sym, subst, arith, refl}
-use Rattle.std.specs.Prelude.{Bool, Option, Some, None, IsSome}
+use Rattle.std.proofs.Common.{◌≡◌, ℕ, List, ◌++◌, [], ◌∷◌, ap, sym, subst, arith, refl}
+use Rattle.std.specs.Prelude.{Bool, true, false, Option, Some, None, IsSome}
 use Rattle.rt_ids.specs.declared.names.JobId.{JobId}
 use Rattle.rt_ids.specs.declared.note.Note.{Note}
 use Rattle.rt_ids.specs.Closing.{core_mode_told, count_told}
@@ -12,7 +12,10 @@ use Rattle.rt_runtime_worker.specs.Gates.{KeepsTaken}
 use Rattle.rt_runtime_worker.specs.Linked.{Grows, LinkedView, StaysLinked}
 use Rattle.rt_runtime_worker.specs.Rounds.{HasShutGates, LooksAtRoom, ShutsClosed}
 use Rattle.rt_runtime_worker.specs.Readings.{WatchView, watch_view}
-use Rattle.rt_runtime_worker.specs.Steps.{MakesTurn}
+use Rattle.rt_runtime_worker.specs.Bursts.{GoesThrough, MakesTurn, PollsOn, TurnView, turn_view}
+use Rattle.rt_runtime_worker.specs.Steps.{PollsOne}
+use Rattle.rt_journal.specs.Turns.{IsFurther, IsPick}
+use Rattle.rt_journal.specs.Whole.{Begins}
 use Rattle.rt_runtime_worker.specs.Turns.{TakesTurn, TurnsWith}
 use Rattle.rt_runtime_worker.specs.declared.stopwatch.Stopwatch.{Stopwatch}
 use Rattle.rt_runtime_worker.specs.declared.turn.Made.{Made}
@@ -31,23 +34,63 @@ module _ {J T C G : Type 0} (meaning : Meaning J T) (reads : C → ℕ → C →
       (subst (λ gate. TurnsWith meaning reads asked own later gate after old some new) here_is
       (subst (λ gate. TurnsWith meaning reads asked own later here gate old some new) there_is turns))
 
-module _ {J T : Type 0} (meaning : Meaning J T) (tells : ℕ → Type 0) (asked : ℕ → JobId → Type 0) {kept keeps : Type 0} (keeps_too : kept → keeps) where
-  makes_kept : (old new : LinkedView J T) (made : Made) → MakesTurn meaning tells asked kept old made new → MakesTurn meaning tells asked keeps old made new
-  makes_kept old new came.Polled did = did
-  makes_kept old new came.Returned did = (did.0, keeps_too did.1)
-  makes_kept old new came.Idle did = (did.0, did.1, keeps_too did.2)
-  makes_kept old new came.Spent did = (did.0, did.1, did.2, keeps_too did.3)
+module _ {J T M N G : Type 0} (meaning : Meaning J T) (tells : M → ℕ → M → Type 0) (told : N → ℕ → N → Type 0) (asked : G → ℕ → JobId → G → Type 0)
+    (seen : M → N) (tells_too : (meter : M) (time : ℕ) (later : M) → tells meter time later → told (seen meter) time (seen later)) where
+  -- a turn, where less is seen of the meter
+  abbrev turn_seen : TurnView J T M G → TurnView J T N G
+  turn_seen view = turn_view view.linked (seen view.meter) view.gate
 
-  -- a turn without a poll keeps what follows from what it keeps
-  pub turns_kept : {old new : ServedView J T} {some : Bool} → TakesTurn meaning tells asked kept old some new → TakesTurn meaning tells asked keeps old some new
-  turns_kept {old} {new} turn = record {
+  poll_seen : (begins : Begins J T) (own polls : ℕ) (name : JobId) (old new : TurnView J T M G) → PollsOne meaning begins (λ time. tells old.meter time new.meter) own polls name old.linked new.linked →
+      PollsOne meaning begins (λ time. told (seen old.meter) time (seen new.meter)) own polls name old.linked new.linked
+  poll_seen begins own polls name old new one = record {
+    queue = one.queue;
+    was_started = one.was_started;
+    picked = one.picked;
+    left = one.left;
+    ran = one.ran;
+    spent = one.spent;
+    settled = one.settled;
+    picks = one.picks;
+    owed = one.owed;
+    posted = one.posted;
+    told = tells_too old.meter one.spent new.meter one.told;
+    settles = one.settles;
+    few = one.few;
+    spends = one.spends;
+    spare = one.spare;
+    in_turn = one.in_turn;
+    seat = one.seat;
+  }
+
+  on_seen : (polls : List JobId) (old new : TurnView J T M G) → PollsOn meaning tells asked polls old new → PollsOn meaning told asked polls (turn_seen old) (turn_seen new)
+  on_seen [] old new did = ap turn_seen did
+  on_seen (name ∷ before) old new did = (
+    turn_seen did.0,
+    on_seen before old did.0 did.1,
+    record { polls = poll_seen IsFurther 2 _ name did.0 new did.2.polls; gate = did.2.gate },
+  )
+
+  through_seen : (form : Bool) (old new : TurnView J T M G) → GoesThrough meaning tells asked form old new → GoesThrough meaning told asked form (turn_seen old) (turn_seen new)
+  through_seen false old new did = ap turn_seen did
+  through_seen true old new did = (did.0, turn_seen did.1, on_seen did.0 old did.1 did.2, record { time = did.3.time; ends = did.3.ends; rest = ap turn_seen did.3.rest })
+
+  makes_seen : (old new : TurnView J T M G) (made : Made) → MakesTurn meaning tells asked old made new → MakesTurn meaning told asked (turn_seen old) made (turn_seen new)
+  makes_seen old new came.Polled did =
+      (did.0, turn_seen did.1, record { polls = poll_seen IsPick 3 1 did.0 old did.1 did.2.polls; gate = did.2.gate }, through_seen _ did.1 new did.3)
+  makes_seen old new came.Returned did = (did.0, (did.1.0, ap seen did.1.1))
+  makes_seen old new came.Idle did = (did.0, did.1, (did.2.0, ap seen did.2.1))
+  makes_seen old new came.Spent did = (did.0, did.1, did.2, (did.3.0, ap seen did.3.1))
+
+  pub turns_seen : (meter later : M) (gate after : G) {old new : ServedView J T} {some : Bool} → TakesTurn meaning tells asked meter later gate after old some new →
+      TakesTurn meaning told asked (seen meter) (seen later) gate after old some new
+  turns_seen meter later gate after {old} {new} turn = record {
     before = turn.before;
     looks = turn.looks;
     stays = turn.stays;
     ready = turn.ready;
     ended = turn.ended;
     made = turn.made;
-    makes = makes_kept turn.before.linked new.linked turn.made turn.makes;
+    makes = makes_seen (turn_view turn.before.linked meter gate) (turn_view new.linked later after) turn.made turn.makes;
     answer = turn.answer;
   }
 

@@ -26,10 +26,11 @@ use Rattle.rt_journal_desk.specs.Tickets.{HasLane}
 use Rattle.rt_journal_desk.proofs.LaneEnds.{fresh_has_lane}
 use Rattle.rt_ring_mesh.specs.Ends.{EndsView, IsFreshOut, in_at, no_out}
 use Rattle.rt_runtime_config.specs.Configs.{least_room}
-use Rattle.rt_runtime_worker.specs.Linked.{IsLinked}
+use Rattle.rt_runtime_worker.specs.Linked.{IsBetweenTurns, IsLinked}
 use Rattle.rt_runtime_worker.specs.Opening.{AreEndsOf, IsOpenedOver, CreatesSince}
 use Rattle.rt_runtime_worker.specs.Rooms.{least_free, MayAct, ActsAsItMay, HasSpare}
 use Rattle.rt_runtime_worker.proofs.Along.{ins_along, outs_along, seat_along, seat_same}
+use Rattle.rt_runtime_worker.proofs.Between.{opening_between}
 
 module _ {T : Type 0} where
   -- a creation closes nothing
@@ -47,8 +48,8 @@ module _ {J T : Type 0} (meaning : Meaning J T) (terms : Terms) (seen : Seen J) 
 
 module _ {J T : Type 0} where
   -- a fresh end to a core, and one from an actor
-  pub fresh_out : (actor core cores cap room : ℕ) → core < cores → IsOutOf {J = J} {T = T} core (opened_desk actor cores cap room) (out_of (fresh actor core cap 0)) 0
-  fresh_out actor core cores cap room low = record {
+  pub fresh_out : (actor core cores cap room burst : ℕ) → core < cores → IsOutOf {J = J} {T = T} core (opened_desk actor cores cap room burst) (out_of (fresh actor core cap 0)) 0
+  fresh_out actor core cores cap room burst low = record {
     known = low;
     from = refl;
     to = refl;
@@ -60,8 +61,8 @@ module _ {J T : Type 0} where
     collected = refl;
   }
 
-  fresh_in : (sender core cores cap room : ℕ) → sender ≤ cores → IsInOf {J = J} {T = T} sender (opened_beside core cores cap room) (inward_of (fresh sender core cap 0))
-  fresh_in sender core cores cap room known = record {
+  fresh_in : (sender core cores cap room burst : ℕ) → sender ≤ cores → IsInOf {J = J} {T = T} sender (opened_beside core cores cap room burst) (inward_of (fresh sender core cap 0))
+  fresh_in sender core cores cap room burst known = record {
     known = known;
     from = refl;
     to = refl;
@@ -115,7 +116,7 @@ module _ {J T : Type 0} where
       sound = next.sound;
     }
 
-    module _ (core cores cap room count : ℕ) (recorded : RecordedView J T) (ends : EndsView J T) (created : CreatesSince meaning count (opened_beside core cores cap room) recorded)
+    module _ (core cores cap burst room count : ℕ) (recorded : RecordedView J T) (ends : EndsView J T) (created : CreatesSince meaning count (opened_beside core cores cap room burst) recorded)
         (are : AreEndsOf cores cap ends) (number : ends.number ≡ core) where
       opened_end : (to : ℕ) (end : Sending J T) → slice_get ends.outs to ≡ Some end → IsFreshOut ends.number to cap end × (to < cores)
       opened_end to end there =
@@ -126,22 +127,22 @@ module _ {J T : Type 0} where
       opened_lane fits to end there =
           let is = opened_end to end there in
           let unused : IsUnused cap end.out end.credited = IsUnused-fresh (λ (end : Sending J T). end.out) (λ end. end.credited) ends.number to cap 0 end (omega arith) is.0.out is.0.credited in
-          let has : HasLane fits to (opened_desk core cores cap room) end.out 0 = fresh_has_lane fits to core cores cap room end.out is.1 (subst (IsUnused cap end.out) is.0.credited unused) in
+          let has : HasLane fits to (opened_desk core cores cap room burst) end.out 0 = fresh_has_lane fits to core cores cap room burst end.out is.1 (subst (IsUnused cap end.out) is.0.credited unused) in
           record { lane = has.lane; is = ap (λ lanes. slice_get lanes to) created.lanes ∙ has.is; lane_of = subst (IsLaneOf fits has.lane end.out) (sym is.0.credited) has.lane_of }
 
       opened_out : (to : ℕ) (end : Sending J T) → slice_get ends.outs to ≡ Some end → IsOutOf to (desk_of recorded) end.out end.credited
       opened_out to end there =
           let is = opened_end to end there in
           (created.outs to).each _ _
-          (subst (λ out. IsOutOf to (opened_desk core cores cap room) out end.credited) (sym (is.0.out ∙ ap (λ number. out_of (fresh number to cap 0)) number))
-          (subst (IsOutOf to (opened_desk core cores cap room) (out_of (fresh core to cap 0))) (sym is.0.credited) (fresh_out core to cores cap room is.1)))
+          (subst (λ out. IsOutOf to (opened_desk core cores cap room burst) out end.credited) (sym (is.0.out ∙ ap (λ number. out_of (fresh number to cap 0)) number))
+          (subst (IsOutOf to (opened_desk core cores cap room burst) (out_of (fresh core to cap 0))) (sym is.0.credited) (fresh_out core to cores cap room burst is.1)))
 
       opened_in : (sender : ℕ) → sender ≤ recorded.core.cores → IsInOf sender recorded (in_at sender ends).inward
       opened_in sender known =
           let there : sender ≤ cores = omega (arith, known, created.seat.cores) in
           let is = are.fresh.ins sender (omega (arith, there, are.ins)) in
           (created.ins sender).each _
-          (subst (IsInOf sender (opened_beside core cores cap room)) (sym (is.inward ∙ ap (λ number. inward_of (fresh sender number cap 0)) number)) (fresh_in sender core cores cap room there))
+          (subst (IsInOf sender (opened_beside core cores cap room burst)) (sym (is.inward ∙ ap (λ number. inward_of (fresh sender number cap 0)) number)) (fresh_in sender core cores cap room burst there))
 
       pub opened_linked : IsLinked meaning (record { recorded = recorded; ends = ends })
       opened_linked = record {
@@ -156,23 +157,25 @@ module _ {J T : Type 0} where
         owed = opening_owed meaning (terms_at recorded) (seen_by (λ (end : Sending J T). end.out) ends.outs) (order_taken recorded.took) recorded.journal.notes created.opening;
       }
 
-      pub opened_spare : least_room cores cap + count ≤ room → HasSpare recorded
+      -- no turn is open yet
+      pub opened_between : IsBetweenTurns recorded
+      opened_between = opening_between recorded.core.bursts.burst recorded.journal.notes created.opening
+
+      pub opened_spare : least_room cores cap burst + count ≤ room → HasSpare recorded
       opened_spare enough =
           let places : (recorded.core.cores + 1) * (recorded.cap + 1) ≡ (cores + 1) * (cap + 1) = ap (λ cores. (cores + 1) * (recorded.cap + 1)) created.seat.cores ∙ ap (λ cap. (cores + 1) * (cap + 1)) created.seat.cap in
           omega (arith, enough, created.few, places, created.seat.room)
 
-      pub opened_acts : ActsAsItMay recorded.core.cores recorded.cap recorded.journal
-      opened_acts = opening_acts (least_free recorded.core.cores recorded.cap) recorded.journal.room recorded.journal.notes created.opening
+      pub opened_acts : ActsAsItMay recorded.core.cores recorded.cap recorded.core.bursts.burst recorded.journal
+      opened_acts = opening_acts (least_free recorded.core.cores recorded.cap recorded.core.bursts.burst) recorded.journal.room recorded.journal.notes created.opening
 
-      pub opened_terms : terms_at recorded ≡ record { actor = core; cores = cores; cap = cap }
-      opened_terms =
-          ap (λ actor. record { actor = actor; cores = recorded.core.cores; cap = recorded.cap }) created.seat.number
-          ∙ (ap (λ cores. record { actor = core; cores = cores; cap = recorded.cap }) created.seat.cores ∙ ap (λ cap. record { actor = core; cores = cores; cap = cap }) created.seat.cap)
+      pub opened_terms : terms_at recorded ≡ record { actor = core; cores = cores; cap = cap; burst = burst }
+      opened_terms = λ i. record { actor = created.seat.number i; cores = created.seat.cores i; cap = created.seat.cap i; burst = created.seat.burst i }
 
-      pub opened_over : IsOpenedOver cores cap room ends (record { recorded = recorded; ends = ends })
+      pub opened_over : IsOpenedOver cores cap burst room ends (record { recorded = recorded; ends = ends })
       opened_over = record {
         of = record {
-          terms = opened_terms ∙ ap (λ actor. record { actor = actor; cores = cores; cap = cap }) (sym number);
+          terms = opened_terms ∙ ap (λ actor. record { actor = actor; cores = cores; cap = cap; burst = burst }) (sym number);
           room_is = created.seat.room;
         };
         ends_are = refl;

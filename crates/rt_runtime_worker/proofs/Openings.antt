@@ -1,6 +1,6 @@
 -- No step of a worker changes what was created at the opening.
 use Rattle.std.proofs.Common.{◌≡◌, ℕ, ◌+◌, ◌==◌, Bool, true, false, if◌then◌else◌, List, [], ◌∷◌, ◌++◌, refl, sym, ◌∙◌, ap, subst}
-use Rattle.std.specs.Prelude.{Option, Some, None, unwrap_or}
+use Rattle.std.specs.Prelude.{Option, Some, None}
 use Rattle.rt_ids.specs.declared.names.JobId.{JobId}
 use Rattle.rt_ids.specs.declared.note.Note.{Note}
 use Rattle.rt_ids.specs.declared.note.Note.TheVariants as writes
@@ -12,25 +12,16 @@ use Rattle.rt_ids.specs.declared.order.Answer.TheVariants as answers
 use Rattle.rt_ids.specs.Journal.{Journal}
 use Rattle.rt_ids.specs.Commands.{created_count, refusal, effect_note}
 use Rattle.rt_jobs.specs.Meanings.{Meaning}
-use Rattle.rt_jobs.specs.Steps.{AfterPoll}
-use Rattle.rt_core.specs.declared.turn.Settled.{Settled}
-use Rattle.rt_core.specs.declared.turn.Settled.TheVariants as came
 use Rattle.rt_link.specs.declared.ends.Inward.{Inward}
 use Rattle.rt_journal_notes.specs.Journals.{JournalView}
-use Rattle.rt_ring.specs.declared.ring_out.Sending.{Sending}
 use Rattle.rt_journal.specs.Deliveries.{IsDelivery, entry_note, with_effect}
-use Rattle.rt_journal.specs.Polls.{poll_note, settle_note}
-use Rattle.rt_journal_desk.specs.Posts.{ArePosts, HasPosted}
+use Rattle.rt_journal_desk.specs.Posts.{ArePosts}
 use Rattle.rt_journal.specs.Recorded.{RecordedView}
 use Rattle.rt_journal.specs.Steps.{Delivers, TellsShut}
-use Rattle.rt_journal_desk.specs.Submissions.{DeskView}
 use Rattle.rt_journal_desk.specs.Tickets.{AreCollected}
-use Rattle.rt_journal.specs.Turns.{IsPick, IsHandBack, Settles}
-use Rattle.rt_journal.specs.Whole.{post_of}
+use Rattle.rt_journal.specs.Turns.{IsHandBack}
 use Rattle.rt_runtime_config.specs.Configs.{Entry}
-use Rattle.rt_runtime_worker.specs.Linked.{LinkedView}
 use Rattle.rt_runtime_worker.specs.Queues.{behind_entry, behind_entries, creations, is_opening, opening_of}
-use Rattle.rt_runtime_worker.specs.Steps.{PollsOne}
 
 module _ {T : Type 0} where
   -- a journal of creations alone
@@ -54,7 +45,7 @@ module _ {T : Type 0} where
   opening_creations core entries = opening_all (creations core entries) (creations_behind core entries [] refl)
 
   -- what a poll submits, redeems and detaches
-  opening_posted : (notes : List (Note T)) (before : Journal T) → ArePosts notes → opening_of (notes ++ before) ≡ opening_of before
+  pub opening_posted : (notes : List (Note T)) (before : Journal T) → ArePosts notes → opening_of (notes ++ before) ≡ opening_of before
   opening_posted [] before are = refl
   opening_posted (writes.Sent name order ∷ notes) before are = opening_posted notes before are
   opening_posted (writes.Redeemed name outcome ∷ notes) before are = opening_posted notes before are
@@ -100,38 +91,7 @@ module _ {J T : Type 0} where
   pub opening_shut : (old new : RecordedView J T) (sender count : ℕ) → TellsShut old sender count new → opening_of new.journal.notes ≡ opening_of old.journal.notes
   opening_shut old new sender count tells = ap (λ (journal : JournalView T). opening_of journal.notes) tells.journal
 
-  -- a pick that takes a job out, and one that hands a job back
-  pub opening_picked : (old new : RecordedView J T) (name : JobId) (queue : ℕ) (started : Bool) (job : J) → IsPick old name queue started job new → opening_of new.journal.notes ≡ opening_of old.journal.notes
-  opening_picked old new name queue started job is = ap (λ (journal : JournalView T). opening_of journal.notes) is.journal ∙ by_start started
-    where
-      by_start : (test : Bool) → opening_of (poll_note name test ∷ writes.Pick queue is.runtime ∷ old.journal.notes) ≡ opening_of old.journal.notes
-      by_start true = refl
-      by_start false = refl
-
+  -- a pick that hands a job back
   pub opening_returned : (meaning : Meaning J T) (old new : RecordedView J T) (name : JobId) (reason : Reason) (order : Order J) → IsHandBack meaning old name reason order new →
       opening_of new.journal.notes ≡ opening_of old.journal.notes
   opening_returned meaning old new name reason order did = ap (λ (journal : JournalView T). opening_of journal.notes) did.journal
-
-  -- a poll with its post
-  pub opening_posts : (old new : RecordedView J T) (ends later : List (Sending J T)) → HasPosted (λ (end : Sending J T). end.out) (λ (end : Sending J T). end.link) (post_of old ends) (post_of new later) →
-      opening_of new.journal.notes ≡ opening_of old.journal.notes
-  opening_posts old new ends later posted = ap (λ (desk : DeskView J T). opening_of desk.journal.notes) posted.desk ∙ opening_posted posted.notes old.journal.notes posted.posts
-
-  module _ {meaning : Meaning J T} where
-    -- a poll that is settled
-    pub opening_settled : (old new : RecordedView J T) (ran : AfterPoll J T) (spent : ℕ) (settled : Settled T) → Settles meaning old ran spent settled new →
-        opening_of new.journal.notes ≡ opening_of old.journal.notes
-    opening_settled old new ran spent settled did = ap (λ (journal : JournalView T). opening_of journal.notes) did.journal ∙ by_settled settled
-      where
-        by_settled : (one : Settled T) → opening_of (settle_note did.out.name (unwrap_or ran.told spent) one ∷ old.journal.notes) ≡ opening_of old.journal.notes
-        by_settled came.Yielded = refl
-        by_settled came.Parked = refl
-        by_settled came.Stayed = refl
-        by_settled (came.Finished answer) = refl
-
-    pub opening_polled : {tells : ℕ → Type 0} {name : JobId} (old new : LinkedView J T) → PollsOne meaning tells name old new →
-        opening_of new.recorded.journal.notes ≡ opening_of old.recorded.journal.notes
-    opening_polled {name = name} old new did =
-        opening_settled did.left new.recorded did.ran did.spent did.settled did.settles
-        ∙ (opening_posts did.picked did.left old.ends.outs new.ends.outs did.posted
-        ∙ opening_picked old.recorded did.picked name did.queue did.was_started did.ran.before did.picks)

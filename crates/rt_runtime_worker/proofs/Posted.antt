@@ -11,7 +11,7 @@ use Rattle.rt_journal_desk.specs.Calls.{Does}
 use Rattle.rt_journal.specs.Recorded.{RecordedView, desk_of}
 use Rattle.rt_journal.specs.Ends.{IsSameSeat, KeepsIn}
 use Rattle.rt_journal_desk.specs.Posts.{AreOutsOf, HasPosted}
-use Rattle.rt_journal.specs.Whole.{post_of}
+use Rattle.rt_journal.specs.Whole.{Begins, post_of}
 use Rattle.rt_ring_mesh.specs.Ends.{EndsView, SameEnds}
 use Rattle.rt_runtime_worker.specs.Linked.{LinkedView, AreBeside, SeesNoLess}
 use Rattle.rt_runtime_worker.specs.Steps.{PollsOne}
@@ -59,9 +59,9 @@ module _ {J T : Type 0} where
         ins = λ sender known. (ins sender).each _ (beside.ins sender (omega (arith, known, seat.cores)));
       })
 
-  module _ {meaning : Meaning J T} {tells : ℕ → Type 0} where
-    pub polls_again : (old : LinkedView J T) (new : RecordedView J T) (ends later : EndsView J T) (name : JobId) → later.outs ≡ ends.outs → PollsOne meaning tells name old (record { recorded = new; ends = ends }) →
-        PollsOne meaning tells name old (record { recorded = new; ends = later })
+  module _ {meaning : Meaning J T} {begins : Begins J T} {tells : ℕ → Type 0} {own polls : ℕ} where
+    pub polls_again : (old : LinkedView J T) (new : RecordedView J T) (ends later : EndsView J T) (name : JobId) → later.outs ≡ ends.outs →
+        PollsOne meaning begins tells own polls name old (record { recorded = new; ends = ends }) → PollsOne meaning begins tells own polls name old (record { recorded = new; ends = later })
     polls_again old new ends later name same one = record {
       queue = one.queue;
       was_started = one.was_started;
@@ -76,4 +76,8 @@ module _ {J T : Type 0} where
       told = one.told;
       settles = one.settles;
       few = one.few;
+      spends = one.spends;
+      spare = one.spare;
+      in_turn = one.in_turn;
+      seat = one.seat;
     }

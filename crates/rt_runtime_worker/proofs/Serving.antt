@@ -1,5 +1,5 @@
 -- Each step of a worker leaves it room for the next.
-use Rattle.std.proofs.Common.{◌≡◌, inr, ℕ, suc, ◌+◌, ◌*◌, ◌≤◌, ◌∷◌, ◌++◌, length, sym, ◌∙◌, ap, subst, arith}
+use Rattle.std.proofs.Common.{◌≡◌, inr, ℕ, suc, ◌+◌, ◌*◌, ◌-◌, ◌≤◌, ◌∷◌, ◌++◌, length, sym, ◌∙◌, ap, subst, arith}
 use Rattle.std.specs.Prelude.{◌==◌, Bool, true, false, Some, unwrap_or, IsSome}
 use Rattle.std.proofs.lemmas.List.{length-append}
 use Rattle.rt_ids.specs.declared.names.JobId.{JobId}
@@ -12,31 +12,35 @@ use Rattle.rt_ids.specs.Closing.{core_mode, final_count}
 use Rattle.rt_ids.specs.Lawful.{MayStand}
 use Rattle.rt_ids.proofs.Returning.{has_reason}
 use Rattle.rt_jobs.specs.Meanings.{Meaning}
-use Rattle.rt_journal.specs.Polls.{poll_note, settle_note}
 use Rattle.rt_journal.specs.Recorded.{RecordedView, terms_at, sum_upto, given_count}
 use Rattle.rt_journal.specs.Ends.{IsSameSeat}
 use Rattle.rt_journal.specs.Steps.{Delivers, Receives}
 use Rattle.rt_journal.proofs.Sums.{sum_upto-same, sum_upto-one_more}
 use Rattle.rt_ring_mesh.specs.Ends.{in_at}
-use Rattle.rt_runtime_worker.specs.Linked.{LinkedView, IsLinked}
-use Rattle.rt_runtime_worker.specs.Steps.{DeliversFrom, CollectsOf, MakesTurn, PollsOne, HandsBack}
+use Rattle.rt_runtime_worker.specs.Bursts.{MakesTurn, turn_view}
+use Rattle.rt_runtime_worker.specs.Linked.{LinkedView, IsBetweenTurns, IsLinked}
+use Rattle.rt_runtime_worker.specs.Steps.{DeliversFrom, CollectsOf, HandsBack}
 use Rattle.rt_runtime_worker.specs.Gates.{ShutsFirst}
 use Rattle.rt_runtime_worker.specs.Ended.{IsServed}
-use Rattle.rt_runtime_worker.specs.Rooms.{least_free, last_through, IsPolling, MayAct, ActsAsItMay, HasSpare, IsEnding, IsProvided, IsReady}
+use Rattle.rt_runtime_worker.specs.Rooms.{least_free, last_through, MayAct, ActsAsItMay, HasSpare, IsEnding, IsProvided, IsReady}
 use Rattle.rt_runtime_worker.specs.declared.turn.Made.{Made}
 use Rattle.rt_runtime_worker.specs.declared.turn.Made.TheVariants as came
-use Rattle.rt_runtime_worker.proofs.Acting.{begins_poll, collects_act, picks_act, posts_act, settles_act}
+use Rattle.rt_runtime_worker.proofs.Acting.{collects_act}
+use Rattle.rt_runtime_worker.proofs.Between.{between_same}
 use Rattle.rt_runtime_worker.proofs.Noted.{more_from, delivery_short, delivery_acts, delivery_gives}
 use Rattle.rt_runtime_worker.proofs.Spare.{stays_returning, places_some, places_more, places_few, posts_few}
+use Rattle.rt_runtime_worker.proofs.TurnNotes.{turn_acts}
+use Rattle.rt_runtime_worker.proofs.TurnRoom.{turn_counts}
 
 module _ {J T : Type 0} where
   -- what a core may do by the old numbers it may do by the new ones
-  pub acts_here : (old new : RecordedView J T) → IsSameSeat old new → EachNote (MayAct (least_free old.core.cores old.cap) old.journal.room) new.journal.notes →
-      ActsAsItMay new.core.cores new.cap new.journal
+  pub acts_here : (old new : RecordedView J T) → IsSameSeat old new → EachNote (MayAct (least_free old.core.cores old.cap old.core.bursts.burst) old.journal.room) new.journal.notes →
+      ActsAsItMay new.core.cores new.cap new.core.bursts.burst new.journal
   acts_here old new seat each =
       subst (λ least. EachNote (MayAct least new.journal.room) new.journal.notes)
-      (sym (ap (λ cores. least_free cores new.cap) seat.cores ∙ ap (λ cap. least_free old.core.cores cap) seat.cap))
-      (subst (λ room. EachNote (MayAct (least_free old.core.cores old.cap) room) new.journal.notes) (sym seat.room) each)
+      (sym (ap (λ cores. least_free cores new.cap new.core.bursts.burst) seat.cores
+      ∙ (ap (λ cap. least_free old.core.cores cap new.core.bursts.burst) seat.cap ∙ ap (λ burst. least_free old.core.cores old.cap burst) seat.burst)))
+      (subst (λ room. EachNote (MayAct (least_free old.core.cores old.cap old.core.bursts.burst) room) new.journal.notes) (sym seat.room) each)
 
   -- who is ready for a step is provided
   pub ready_provided : (ending : Bool) (view : RecordedView J T) → IsReady ending view → IsProvided ending view
@@ -44,7 +48,8 @@ module _ {J T : Type 0} where
   ready_provided true view ready = ready
 
   -- a step with at most so many notes leaves room for the end
-  spare_after : (old new : RecordedView J T) (count : ℕ) → IsSameSeat old new → IsReady false old → length new.journal.notes ≤ length old.journal.notes + count → count ≤ 4 * ((old.core.cores + 1) * (old.cap + 1)) → HasSpare new
+  spare_after : (old new : RecordedView J T) (count : ℕ) → IsSameSeat old new → IsReady false old →
+      length new.journal.notes ≤ length old.journal.notes + count → count ≤ 4 * ((old.core.cores + 1) * (old.cap + 1)) + 2 * (old.core.bursts.burst - 1) → HasSpare new
   spare_after old new count seat ready longer few =
       let same_places : (new.core.cores + 1) * (new.cap + 1) ≡ (old.core.cores + 1) * (old.cap + 1) = ap (λ cores. (cores + 1) * (new.cap + 1)) seat.cores ∙ ap (λ cap. (old.core.cores + 1) * (cap + 1)) seat.cap in
       omega (arith, ready, longer, few, same_places, seat.room)
@@ -75,12 +80,13 @@ module _ {J T : Type 0} where
 
   module _ {meaning : Meaning J T} where
     -- the same core is as well served as before
-    pub unmoved : (ending : Bool) (old new : LinkedView J T) → IsLinked meaning new → IsReady ending old.recorded → new.recorded ≡ old.recorded →
-        ActsAsItMay old.recorded.core.cores old.recorded.cap old.recorded.journal → IsServed meaning (record { linked = new; ending = ending })
-    unmoved ending old new linked ready is acts = record {
+    pub unmoved : (ending : Bool) (old new : LinkedView J T) → IsLinked meaning new → IsBetweenTurns old.recorded → IsReady ending old.recorded → new.recorded ≡ old.recorded →
+        ActsAsItMay old.recorded.core.cores old.recorded.cap old.recorded.core.bursts.burst old.recorded.journal → IsServed meaning (record { linked = new; ending = ending })
+    unmoved ending old new linked between ready is acts = record {
       linked = linked;
+      between = between_same old.recorded new.recorded is between;
       provided = subst (IsProvided ending) (sym is) (ready_provided ending old.recorded ready);
-      acts = subst (λ (view : RecordedView J T). ActsAsItMay view.core.cores view.cap view.journal) (sym is) acts;
+      acts = subst (λ (view : RecordedView J T). ActsAsItMay view.core.cores view.cap view.core.bursts.burst view.journal) (sym is) acts;
     }
 
     module _ (sender : ℕ) (old new : LinkedView J T) (was : IsLinked meaning old) (now : IsLinked meaning new) (known : sender ≤ old.recorded.core.cores) (seat : IsSameSeat old.recorded new.recorded)
@@ -116,79 +122,50 @@ module _ {J T : Type 0} where
       delivered_provided false ready = spare_after old.recorded new.recorded 2 seat ready delivered_longer (omega (arith, places_some old.recorded.core.cores old.recorded.cap))
       delivered_provided true ready = ending_after old.recorded new.recorded (delivered_one ready.returning) ready
 
-      pub delivered_served : (ending : Bool) → IsReady ending old.recorded → ActsAsItMay old.recorded.core.cores old.recorded.cap old.recorded.journal →
+      pub delivered_served : (ending : Bool) → IsBetweenTurns new.recorded → IsReady ending old.recorded → ActsAsItMay old.recorded.core.cores old.recorded.cap old.recorded.core.bursts.burst old.recorded.journal →
           IsServed meaning (record { linked = new; ending = ending })
-      delivered_served ending ready acts = record {
+      delivered_served ending between ready acts = record {
         linked = now;
+        between = between;
         provided = delivered_provided ending ready;
         acts = acts_here old.recorded new.recorded seat
-            (subst (EachNote (MayAct (least_free old.recorded.core.cores old.recorded.cap) old.recorded.journal.room)) (sym notes_now)
-            (delivery_acts does.0.name old.recorded.journal.notes (least_free old.recorded.core.cores old.recorded.cap) old.recorded.journal.room does.0.order received.notes received.delivery acts));
+            (subst (EachNote (MayAct (least_free old.recorded.core.cores old.recorded.cap old.recorded.core.bursts.burst) old.recorded.journal.room)) (sym notes_now)
+            (delivery_acts does.0.name old.recorded.journal.notes (least_free old.recorded.core.cores old.recorded.cap old.recorded.core.bursts.burst) old.recorded.journal.room does.0.order received.notes received.delivery acts));
       }
 
     -- whether an order was delivered or not
-    pub delivers_served : (sender : ℕ) (found ending : Bool) (old new : LinkedView J T) → IsLinked meaning old → IsLinked meaning new → sender ≤ old.recorded.core.cores →
-        DeliversFrom sender old found new → IsReady ending old.recorded → ActsAsItMay old.recorded.core.cores old.recorded.cap old.recorded.journal →
+    pub delivers_served : (sender : ℕ) (found ending : Bool) (old new : LinkedView J T) → IsLinked meaning old → IsLinked meaning new → IsBetweenTurns old.recorded → IsBetweenTurns new.recorded → sender ≤ old.recorded.core.cores →
+        DeliversFrom sender old found new → IsReady ending old.recorded → ActsAsItMay old.recorded.core.cores old.recorded.cap old.recorded.core.bursts.burst old.recorded.journal →
         IsServed meaning (record { linked = new; ending = ending })
-    delivers_served sender true ending old new was now known does ready acts = delivered_served sender old new was now known does.stays.seat does.delivers ending ready acts
-    delivers_served sender false ending old new was now known does ready acts = unmoved ending old new now ready does.delivers.1 acts
+    delivers_served sender true ending old new was now before between known does ready acts = delivered_served sender old new was now known does.stays.seat does.delivers ending between ready acts
+    delivers_served sender false ending old new was now before between known does ready acts = unmoved ending old new now before ready does.delivers.1 acts
 
     -- gates that are shut in a core that was closed by an order
-    pub shuts_served : (old new : LinkedView J T) → IsLinked meaning new → ShutsFirst (old.recorded.core.cores + 1) old new → IsReady false old.recorded →
-        ActsAsItMay old.recorded.core.cores old.recorded.cap old.recorded.journal → IsServed meaning (record { linked = new; ending = false })
-    shuts_served old new now shuts ready acts = record {
+    pub shuts_served : (old new : LinkedView J T) → IsLinked meaning new → IsBetweenTurns new.recorded → ShutsFirst (old.recorded.core.cores + 1) old new → IsReady false old.recorded →
+        ActsAsItMay old.recorded.core.cores old.recorded.cap old.recorded.core.bursts.burst old.recorded.journal → IsServed meaning (record { linked = new; ending = false })
+    shuts_served old new now between shuts ready acts = record {
       linked = now;
+      between = between;
       provided = spare_after old.recorded new.recorded (old.recorded.core.cores + 1) shuts.stays.seat ready shuts.longer (omega (arith, places_more old.recorded.core.cores old.recorded.cap));
-      acts = acts_here old.recorded new.recorded shuts.stays.seat (shuts.acts (least_free old.recorded.core.cores old.recorded.cap) acts);
+      acts = acts_here old.recorded new.recorded shuts.stays.seat (shuts.acts (least_free old.recorded.core.cores old.recorded.cap old.recorded.core.bursts.burst) acts);
     }
 
     -- outcomes that were collected
-    pub collects_served : (core count : ℕ) (old new : LinkedView J T) → IsLinked meaning new → CollectsOf core old count new → IsReady false old.recorded →
-        ActsAsItMay old.recorded.core.cores old.recorded.cap old.recorded.journal → IsServed meaning (record { linked = new; ending = false })
-    collects_served core count old new now did ready acts =
+    pub collects_served : (core count : ℕ) (old new : LinkedView J T) → IsLinked meaning new → IsBetweenTurns new.recorded → CollectsOf core old count new → IsReady false old.recorded →
+        ActsAsItMay old.recorded.core.cores old.recorded.cap old.recorded.core.bursts.burst old.recorded.journal → IsServed meaning (record { linked = new; ending = false })
+    collects_served core count old new now between did ready acts =
         let notes_now : new.recorded.journal.notes ≡ did.collects.0 ++ old.recorded.journal.notes = ap (λ journal. journal.notes) did.collects.3 in
         let longer : length new.recorded.journal.notes ≡ length did.collects.0 + length old.recorded.journal.notes = ap length notes_now ∙ length-append did.collects.0 old.recorded.journal.notes in
         record {
           linked = now;
-          provided = spare_after old.recorded new.recorded old.recorded.cap did.stays.seat ready (omega (arith, longer, did.collects.2, did.few)) (places_few old.recorded.core.cores old.recorded.cap);
+          between = between;
+          provided = spare_after old.recorded new.recorded old.recorded.cap did.stays.seat ready (omega (arith, longer, did.collects.2, did.few)) (omega (arith, places_few old.recorded.core.cores old.recorded.cap));
           acts = acts_here old.recorded new.recorded did.stays.seat
-              (subst (EachNote (MayAct (least_free old.recorded.core.cores old.recorded.cap) old.recorded.journal.room)) (sym notes_now)
+              (subst (EachNote (MayAct (least_free old.recorded.core.cores old.recorded.cap old.recorded.core.bursts.burst) old.recorded.journal.room)) (sym notes_now)
               (collects_act _ _ core did.collects.0 old.recorded.journal.notes did.collects.1 acts));
         }
 
-    module _ (old new : LinkedView J T) (was : IsLinked meaning old) (now : IsLinked meaning new) (seat : IsSameSeat old.recorded new.recorded) where
-      -- a poll
-      module _ {tells : ℕ → Type 0} {name : JobId} (did : PollsOne meaning tells name old new) where
-        picked_notes : did.picked.journal.notes ≡ poll_note name did.was_started ∷ writes.Pick did.queue did.picks.runtime ∷ old.recorded.journal.notes
-        picked_notes = ap (λ journal. journal.notes) did.picks.journal
-
-        posted_notes : did.left.journal.notes ≡ did.posted.notes ++ did.picked.journal.notes
-        posted_notes = ap (λ desk. desk.journal.notes) did.posted.desk
-
-        settled_notes : new.recorded.journal.notes ≡ settle_note did.settles.out.name (unwrap_or did.ran.told did.spent) did.settled ∷ did.left.journal.notes
-        settled_notes = ap (λ journal. journal.notes) did.settles.journal
-
-        polled_acts : EachNote (MayAct (least_free old.recorded.core.cores old.recorded.cap) old.recorded.journal.room) old.recorded.journal.notes →
-            EachNote (MayAct (least_free old.recorded.core.cores old.recorded.cap) old.recorded.journal.room) new.recorded.journal.notes
-        polled_acts acts =
-            subst (EachNote (MayAct (least_free old.recorded.core.cores old.recorded.cap) old.recorded.journal.room)) (sym settled_notes)
-            (settles_act _ _ _ _ did.settled did.left.journal.notes
-            (subst (EachNote (MayAct (least_free old.recorded.core.cores old.recorded.cap) old.recorded.journal.room)) (sym posted_notes)
-            (posts_act _ _ did.posted.notes did.picked.journal.notes did.posted.posts (subst IsPolling (sym picked_notes) (begins_poll name did.was_started (writes.Pick did.queue did.picks.runtime ∷ old.recorded.journal.notes)))
-            (subst (EachNote (MayAct (least_free old.recorded.core.cores old.recorded.cap) old.recorded.journal.room)) (sym picked_notes)
-            (picks_act _ _ name did.was_started did.queue did.picks.runtime old.recorded.journal.notes acts)))))
-
-        polled_provided : (ending : Bool) → IsReady ending old.recorded → IsProvided ending new.recorded
-        polled_provided false ready = spare_after old.recorded new.recorded (old.recorded.core.cores * (3 * old.recorded.cap) + 3) seat ready (omega (arith, did.few)) (posts_few old.recorded.core.cores old.recorded.cap)
-        polled_provided true ready = absurd (has_reason did.queue old.recorded.journal.notes (inr ready.returning) did.picks.kept)
-
-        polled_served : (ending : Bool) → IsReady ending old.recorded → ActsAsItMay old.recorded.core.cores old.recorded.cap old.recorded.journal → IsServed meaning (record { linked = new; ending = ending })
-        polled_served ending ready acts = record {
-          linked = now;
-          provided = polled_provided ending ready;
-          acts = acts_here old.recorded new.recorded seat (polled_acts acts);
-        }
-
+    module _ (old new : LinkedView J T) (was : IsLinked meaning old) (now : IsLinked meaning new) (before : IsBetweenTurns old.recorded) (between : IsBetweenTurns new.recorded) (seat : IsSameSeat old.recorded new.recorded) where
       -- a job that is handed back
       module _ (did : HandsBack meaning old.recorded new.recorded) where
         returned_notes : new.recorded.journal.notes ≡ writes.Returned did.name did.reason ∷ writes.Pick did.did.queue did.did.runtime ∷ old.recorded.journal.notes
@@ -212,18 +189,36 @@ module _ {J T : Type 0} where
             })
             ready
 
-        returned_served : (ending : Bool) → IsReady ending old.recorded → ActsAsItMay old.recorded.core.cores old.recorded.cap old.recorded.journal → IsServed meaning (record { linked = new; ending = ending })
+        returned_served : (ending : Bool) → IsReady ending old.recorded → ActsAsItMay old.recorded.core.cores old.recorded.cap old.recorded.core.bursts.burst old.recorded.journal → IsServed meaning (record { linked = new; ending = ending })
         returned_served ending ready acts = record {
           linked = now;
+          between = between;
           provided = returned_provided ending ready;
           acts = acts_here old.recorded new.recorded seat
-              (subst (EachNote (MayAct (least_free old.recorded.core.cores old.recorded.cap) old.recorded.journal.room)) (sym returned_notes) (tt, (tt, acts)));
+              (subst (EachNote (MayAct (least_free old.recorded.core.cores old.recorded.cap old.recorded.core.bursts.burst) old.recorded.journal.room)) (sym returned_notes) (tt, (tt, acts)));
         }
 
-      -- whatever a turn came to
-      pub turned_served : (tells : ℕ → Type 0) (asked : ℕ → JobId → Type 0) (unasked : Type 0) (came_to : Made) (ending : Bool) → MakesTurn meaning tells asked unasked old came_to new → IsReady ending old.recorded →
-          ActsAsItMay old.recorded.core.cores old.recorded.cap old.recorded.journal → IsServed meaning (record { linked = new; ending = ending })
-      turned_served tells asked unasked came.Polled ending did ready acts = polled_served did.1 ending ready acts
-      turned_served tells asked unasked came.Returned ending did ready acts = returned_served did.0 ending ready acts
-      turned_served tells asked unasked came.Idle ending did ready acts = unmoved ending old new now ready did.1 acts
-      turned_served tells asked unasked came.Spent ending did ready acts = unmoved ending old new now ready did.2 acts
+      module _ {M G : Type 0} (tells : M → ℕ → M → Type 0) (asked : G → ℕ → JobId → G → Type 0) (meter later : M) (gate after : G) where
+        -- polls
+        module _ (did : MakesTurn meaning tells asked (turn_view old meter gate) came.Polled (turn_view new later after)) where
+          polled_provided : (ending : Bool) → IsReady ending old.recorded → IsProvided ending new.recorded
+          polled_provided false ready =
+              spare_after old.recorded new.recorded (old.recorded.core.cores * (3 * old.recorded.cap) + 4 + 2 * (old.recorded.core.bursts.burst - 1)) seat ready
+              (turn_counts meaning tells asked (turn_view old meter gate) (turn_view new later after) did) (omega (arith, posts_few old.recorded.core.cores old.recorded.cap))
+          polled_provided true ready = absurd (has_reason did.2.polls.queue old.recorded.journal.notes (inr ready.returning) did.2.polls.picks.kept)
+
+          polled_served : (ending : Bool) → IsReady ending old.recorded → ActsAsItMay old.recorded.core.cores old.recorded.cap old.recorded.core.bursts.burst old.recorded.journal → IsServed meaning (record { linked = new; ending = ending })
+          polled_served ending ready acts = record {
+            linked = now;
+            between = between;
+            provided = polled_provided ending ready;
+            acts = acts_here old.recorded new.recorded seat (turn_acts meaning tells asked (turn_view old meter gate) (turn_view new later after) _ _ did acts);
+          }
+
+        -- whatever a turn came to
+        pub turned_served : (came_to : Made) (ending : Bool) → MakesTurn meaning tells asked (turn_view old meter gate) came_to (turn_view new later after) → IsReady ending old.recorded →
+            ActsAsItMay old.recorded.core.cores old.recorded.cap old.recorded.core.bursts.burst old.recorded.journal → IsServed meaning (record { linked = new; ending = ending })
+        turned_served came.Polled ending did ready acts = polled_served did ending ready acts
+        turned_served came.Returned ending did ready acts = returned_served did.0 ending ready acts
+        turned_served came.Idle ending did ready acts = unmoved ending old new now before ready did.1 acts
+        turned_served came.Spent ending did ready acts = unmoved ending old new now before ready did.2 acts

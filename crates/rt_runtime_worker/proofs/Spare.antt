@@ -5,8 +5,10 @@ use Rattle.std.specs.Prelude.{Some, unwrap_or, IsSome, Bool, true, false}
 use Rattle.rt_ids.specs.Terms.{Terms}
 use Rattle.rt_ids.specs.declared.order.Mode.TheVariants.{Return}
 use Rattle.rt_ids.specs.Journal.{Journal, EachNote}
+use Rattle.rt_ids.specs.Bursts.{has_bursts}
 use Rattle.rt_ids.specs.Closing.{core_mode, final_count}
 use Rattle.rt_ids.specs.Lawful.{MayStand}
+use Rattle.rt_ids.specs.Work.{number_if}
 use Rattle.rt_ids.proofs.Returning.{core_stays_returning}
 use Rattle.rt_link.specs.declared.ends.Inward.{Inward}
 use Rattle.rt_link.specs.Calls.{final_of}
@@ -42,12 +44,20 @@ places_all cores cap = omega (arith, places_more cores cap, add-mul cores 1 cap)
 pub places_some : (cores cap : ℕ) → 1 ≤ (cores + 1) * (cap + 1)
 places_some cores cap = omega (arith, places_more cores cap)
 
--- a link's places, and all notes of a turn, are few enough
+-- a link's places, and all notes that a turn posts, with those of its first poll and of its end, are few enough
 pub places_few : (cores cap : ℕ) → cap ≤ 4 * ((cores + 1) * (cap + 1))
 places_few cores cap = omega (arith, places_all cores cap)
 
-pub posts_few : (cores cap : ℕ) → cores * (3 * cap) + 3 ≤ 4 * ((cores + 1) * (cap + 1))
+pub posts_few : (cores cap : ℕ) → cores * (3 * cap) + 4 ≤ 4 * ((cores + 1) * (cap + 1))
 posts_few cores cap = omega (arith, places_all cores cap, mul_left_comm cores 3 cap)
+
+-- at most one note of its own ends a turn
+pub ends_once : (burst : ℕ) → number_if (has_bursts burst) ≤ 1
+ends_once burst = by_form (has_bursts burst)
+  where
+    by_form : (form : Bool) → number_if form ≤ 1
+    by_form true = omega arith
+    by_form false = omega arith
 
 module _ {T : Type 0} (terms : Terms) where
   -- a core that hands back goes on so
@@ -96,5 +106,5 @@ module _ {J T : Type 0} {meaning : Meaning J T} (view : LinkedView J T) (linked 
   }
   turn_room false ready = record {
     back = omega (arith, ready, places_some view.recorded.core.cores view.recorded.cap);
-    poll = λ goes_on. omega (arith, ready, posts_few view.recorded.core.cores view.recorded.cap);
+    poll = λ goes_on. omega (arith, ready, posts_few view.recorded.core.cores view.recorded.cap, ends_once view.recorded.core.bursts.burst);
   }

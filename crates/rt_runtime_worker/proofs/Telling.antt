@@ -11,15 +11,12 @@ use Rattle.rt_ids.specs.declared.order.Order.{Order}
 use Rattle.rt_ids.specs.declared.order.Order.TheVariants.{Job, Create, SetShares, Close, CloseCore, Wake}
 use Rattle.rt_ids.specs.Commands.{effect_note}
 use Rattle.rt_ids.specs.Journal.{Journal}
-use Rattle.rt_jobs.specs.Meanings.{Meaning}
 use Rattle.rt_journal.specs.Deliveries.{IsDelivery, with_effect}
-use Rattle.rt_runtime_worker.specs.declared.turn.Made.{Made}
-use Rattle.rt_runtime_worker.specs.declared.turn.Made.TheVariants as came
 use Rattle.rt_runtime_worker.specs.Linked.{LinkedView, Grows, StaysLinked}
 use Rattle.rt_runtime_worker.specs.Ended.{ServedView}
-use Rattle.rt_runtime_worker.specs.Steps.{DeliversFrom, CollectsOf, HandsBack, MakesTurn, PollsOne}
+use Rattle.rt_runtime_worker.specs.Steps.{DeliversFrom, CollectsOf}
 use Rattle.rt_runtime_worker.specs.Rooms.{IsShort}
-use Rattle.rt_runtime_worker.specs.Rounds.{TellsNotes, LooksAtRoom, StepsServed, is_turn}
+use Rattle.rt_runtime_worker.specs.Rounds.{TellsNotes, LooksAtRoom, StepsServed}
 use Rattle.rt_runtime_worker.proofs.Along.{stays_along, stays_same}
 use Rattle.rt_runtime_worker.proofs.Growing.{no_shorter}
 
@@ -76,23 +73,6 @@ module _ {J T : Type 0} where
   pub collected_tells : (core count : ℕ) (old new : LinkedView J T) → CollectsOf core old count new → TellsNotes (nat_lt 0 count) old.recorded.journal.notes new.recorded.journal.notes
   collected_tells core count old new did = collected_notes count did.collects.0 old.recorded.journal.notes new.recorded.journal.notes (ap (λ journal. journal.notes) did.collects.3) did.collects.2
 
-  module _ (meaning : Meaning J T) (old new : LinkedView J T) where
-    polled_tells : (tells : ℕ → Type 0) (name : JobId) → PollsOne meaning tells name old new → TellsNotes true old.recorded.journal.notes new.recorded.journal.notes
-    polled_tells tells name did =
-        let picked : length did.picked.journal.notes ≡ suc (suc (length old.recorded.journal.notes)) = ap (λ journal. length journal.notes) did.picks.journal in
-        let posted : length did.left.journal.notes ≡ length did.posted.notes + length did.picked.journal.notes = ap (λ desk. length desk.journal.notes) did.posted.desk ∙ length-append did.posted.notes did.picked.journal.notes in
-        let settled : length new.recorded.journal.notes ≡ suc (length did.left.journal.notes) = ap (λ journal. length journal.notes) did.settles.journal in
-        omega (arith, picked, posted, settled)
-
-    returned_tells : HandsBack meaning old.recorded new.recorded → TellsNotes true old.recorded.journal.notes new.recorded.journal.notes
-    returned_tells did = let now : length new.recorded.journal.notes ≡ suc (suc (length old.recorded.journal.notes)) = ap (λ journal. length journal.notes) did.did.journal in omega (arith, now)
-
-    pub turned_tells : (tells : ℕ → Type 0) (asked : ℕ → JobId → Type 0) (unasked : Type 0) (made : Made) → MakesTurn meaning tells asked unasked old made new → TellsNotes (is_turn made) old.recorded.journal.notes new.recorded.journal.notes
-    turned_tells tells asked unasked came.Polled did = polled_tells tells did.0 did.1
-    turned_tells tells asked unasked came.Returned did = returned_tells did.0
-    turned_tells tells asked unasked came.Idle did = ap (λ view. view.journal.notes) did.1
-    turned_tells tells asked unasked came.Spent did = ap (λ view. view.journal.notes) did.2
-
 -- three answers, the second one first
 order_of_three : (one two three : Bool) → (one || two) || three ≡ two || (one || three)
 order_of_three true true three = refl
@@ -116,7 +96,7 @@ module _ {J T : Type 0} where
   still_short old new stays short =
       let longer = no_shorter old.recorded.journal.notes new.recorded.journal.notes stays.grows in
       let same : (new.recorded.core.cores + 1) * (new.recorded.cap + 1) ≡ (old.recorded.core.cores + 1) * (old.recorded.cap + 1) = ap (λ cores. (cores + 1) * (new.recorded.cap + 1)) stays.seat.cores ∙ ap (λ cap. (old.recorded.core.cores + 1) * (cap + 1)) stays.seat.cap in
-      omega (arith, short, longer, same, stays.seat.room)
+      omega (arith, short, longer, same, stays.seat.burst, stays.seat.room)
 
   -- the room is looked at, and then a step is made
   pub looked_steps : (old middle inside : ServedView J T) (new : LinkedView J T) (some : Bool) → inside ≡ middle → LooksAtRoom old middle → StaysLinked old.linked middle.linked → StaysLinked inside.linked new →

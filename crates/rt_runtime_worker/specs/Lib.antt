@@ -1,6 +1,7 @@
 pub mod Queues
 pub mod Linked
 pub mod Steps
+pub mod Bursts
 pub mod Rooms
 pub mod Gates
 pub mod Ended

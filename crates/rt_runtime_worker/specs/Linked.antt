@@ -1,5 +1,6 @@
 -- A core beside its journal, with its actor's ends of the links.
 use Rattle.std.specs.Prelude.{◌≡◌, ◌≢◌, ℕ, ◌+◌, ◌≤◌, Option, None, length, ◌++◌}
+use Rattle.rt_ids.specs.Bursts.{queue_in_turn}
 use Rattle.rt_ids.specs.Journal.{Journal}
 use Rattle.rt_ids.specs.declared.names.JobId.{JobId}
 use Rattle.rt_ids.specs.declared.order.Order.{Order}
@@ -44,6 +45,10 @@ abbrev pub Grows : {T : Type 0} → Journal T → Journal T → Type 0
 Grows {T} old new = (newer : Journal T) × (new ≡ newer ++ old)
 
 module _ {J T : Type 0} where
+  -- no turn of the core is open, so its journal is lawful as it stands
+  abbrev pub IsBetweenTurns : RecordedView J T → Type 0
+  IsBetweenTurns view = queue_in_turn view.core.bursts.burst view.journal.notes ≡ None
+
   -- no end has seen less than before: of each sender as many orders, and of each core as many outcomes
   pub record SeesNoLess (old new : EndsView J T) : Type 0 where
     pub ins : (sender : ℕ) → length (in_at sender old).inward.seen ≤ length (in_at sender new).inward.seen

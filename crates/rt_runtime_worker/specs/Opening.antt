@@ -16,14 +16,14 @@ module _ {J T : Type 0} where
     pub ins : length ends.ins ≡ cores + 1
     pub fresh : AreFresh cap ends.number ends
 
-  -- a worker of this core, with room for so many notes
-  pub record IsWorkerOf (core cores cap room : ℕ) (worker : LinkedView J T) : Type 0 where
-    pub terms : terms_at worker.recorded ≡ record { actor = core; cores = cores; cap = cap }
+  -- a worker of this core, whose turns may have so many polls, with room for so many notes
+  pub record IsWorkerOf (core cores cap burst room : ℕ) (worker : LinkedView J T) : Type 0 where
+    pub terms : terms_at worker.recorded ≡ record { actor = core; cores = cores; cap = cap; burst = burst }
     pub room_is : worker.recorded.journal.room ≡ room
 
   -- a worker of the core of these ends, over them
-  pub record IsOpenedOver (cores cap room : ℕ) (ends : EndsView J T) (worker : LinkedView J T) : Type 0 where
-    pub of : IsWorkerOf ends.number cores cap room worker
+  pub record IsOpenedOver (cores cap burst room : ℕ) (ends : EndsView J T) (worker : LinkedView J T) : Type 0 where
+    pub of : IsWorkerOf ends.number cores cap burst room worker
     pub ends_are : worker.ends ≡ ends
 
 module _ {J T : Type 0} (meaning : Meaning J T) where

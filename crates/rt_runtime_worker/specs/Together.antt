@@ -22,7 +22,7 @@ pub record OutsideView (J T : Type 0) : Type 0 where
 
 module _ {J T : Type 0} where
   abbrev pub no_linked : LinkedView J T
-  no_linked = record { recorded = opened_beside 0 0 0 0; ends = no_ends }
+  no_linked = record { recorded = opened_beside 0 0 0 0 1; ends = no_ends }
 
   -- the worker of a core
   abbrev pub worker_at : ℕ → List (LinkedView J T) → LinkedView J T
@@ -44,17 +44,17 @@ module _ {J T : Type 0} where
 
 module _ {J T : Type 0} (meaning : Meaning J T) where
   -- each worker of the house has ended, the outside actor is there, and the links are reunited
-  pub record HaveEnded (cores cap : ℕ) (workers : List (LinkedView J T)) (outside : OutsideView J T) : Type 0 where
+  pub record HaveEnded (cores cap burst : ℕ) (workers : List (LinkedView J T)) (outside : OutsideView J T) : Type 0 where
     pub count : length workers ≡ cores
-    pub seats : (core : ℕ) → core < cores → terms_at (worker_at core workers).recorded ≡ record { actor = core; cores = cores; cap = cap }
+    pub seats : (core : ℕ) → core < cores → terms_at (worker_at core workers).recorded ≡ record { actor = core; cores = cores; cap = cap; burst = burst }
     pub ended : (core : ℕ) → core < cores → HasEnded meaning (worker_at core workers)
-    pub outside_terms : terms_of_desk outside.desk ≡ record { actor = cores; cores = cores; cap = cap }
+    pub outside_terms : terms_of_desk outside.desk ≡ record { actor = cores; cores = cores; cap = cap; burst = burst }
     pub outside_is : IsOutside outside
     pub reunited : AreReunited (Fits meaning) cores (all_ends workers outside)
 
   -- their journals are joined, so they are sound; each core is drained
   abbrev pub EndedAreJoined : Type 0
   EndedAreJoined =
-      (cores cap : ℕ) (workers : List (LinkedView J T)) (outside : OutsideView J T) (assembly : Assembly T) →
-      HaveEnded cores cap workers outside → IsAssemblyOf cores cap (desk_among workers outside) assembly →
+      (cores cap burst : ℕ) (workers : List (LinkedView J T)) (outside : OutsideView J T) (assembly : Assembly T) →
+      HaveEnded cores cap burst workers outside → IsAssemblyOf cores cap burst (desk_among workers outside) assembly →
       AreJoined assembly × ((core : ℕ) → core < cores → IsDrained cores (journal_of core assembly))

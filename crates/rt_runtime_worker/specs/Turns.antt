@@ -2,30 +2,29 @@
 use Rattle.std.specs.Prelude.{◌≡◌, ℕ, Bool}
 use Rattle.rt_ids.specs.declared.names.JobId.{JobId}
 use Rattle.rt_jobs.specs.Meanings.{Meaning}
+use Rattle.rt_runtime_worker.specs.Bursts.{MakesTurn, turn_view}
 use Rattle.rt_runtime_worker.specs.Linked.{StaysLinked}
 use Rattle.rt_runtime_worker.specs.Ended.{ServedView}
 use Rattle.rt_runtime_worker.specs.Readings.{TimesNext, WatchView}
 use Rattle.rt_runtime_worker.specs.Rooms.{IsReady}
 use Rattle.rt_runtime_worker.specs.Rounds.{LooksAtRoom, is_turn}
-use Rattle.rt_runtime_worker.specs.Steps.{MakesTurn}
 use Rattle.rt_runtime_worker.specs.declared.turn.Made.{Made}
 
-module _ {J T : Type 0} (meaning : Meaning J T) (tells : ℕ → Type 0) (asked : ℕ → JobId → Type 0) (unasked : Type 0) where
+module _ {J T M G : Type 0} (meaning : Meaning J T) (tells : M → ℕ → M → Type 0) (asked : G → ℕ → JobId → G → Type 0) where
   -- The room is looked at, and then one turn is made; it tells whether there was work. A worker that is at its end right before the turn was so before, or
-  -- it closed its core and shut each gate just now, and it is at its end behind the turn.
-  pub record TakesTurn (old : ServedView J T) (some : Bool) (new : ServedView J T) : Type 0 where
+  -- it closed its core and shut each gate just now, and it is at its end behind the turn. The meter tells of each poll, and the gate is asked for each.
+  pub record TakesTurn (meter later : M) (gate after : G) (old : ServedView J T) (some : Bool) (new : ServedView J T) : Type 0 where
     pub before : ServedView J T
     pub looks : LooksAtRoom old before
     pub stays : StaysLinked old.linked before.linked
     pub ready : IsReady before.ending before.linked.recorded
     pub ended : new.ending ≡ before.ending
     pub made : Made
-    pub makes : MakesTurn meaning tells asked unasked before.linked made new.linked
+    pub makes : MakesTurn meaning tells asked (turn_view before.linked meter gate) made (turn_view new.linked later after)
     pub answer : some ≡ is_turn made
 
 module _ {J T C G : Type 0} (meaning : Meaning J T) (reads : C → ℕ → C → Type 0) (asked : G → ℕ → JobId → G → Type 0) where
-  -- The room is looked at, and a turn is made. A poll is timed by this watch, and this gate is asked for it. Behind a turn without a poll both are as they
+  -- The room is looked at, and a turn is made. Each poll is timed by this watch, and this gate is asked for it. Behind a turn without a poll both are as they
   -- were.
   abbrev pub TurnsWith : WatchView C → WatchView C → G → G → ServedView J T → Bool → ServedView J T → Type 0
-  TurnsWith watch later before after old some new =
-      TakesTurn meaning (λ spent. TimesNext reads watch spent later) (λ core name. asked before core name after) ((after ≡ before) × (later ≡ watch)) old some new
+  TurnsWith watch later before after old some new = TakesTurn meaning (TimesNext reads) asked watch later before after old some new

@@ -3,7 +3,7 @@
 ghost use Rattle.std.specs.Prelude.{◌≡◌, ◌+◌, ◌<◌, ◌≤◌, IsSome, length};
 ghost use Rattle.rt_ids.specs.Closing.{core_mode};
 ghost use Rattle.rt_runtime_worker.specs.Asks.{NotesNoPoll};
-ghost use Rattle.rt_runtime_worker.specs.Linked.{IsLinked, StaysLinked};
+ghost use Rattle.rt_runtime_worker.specs.Linked.{IsBetweenTurns, IsLinked, StaysLinked};
 ghost use Rattle.rt_runtime_worker.specs.Gates.{LeavesShut, LeavesReturning, ShutsFirst};
 ghost use Rattle.rt_runtime_worker.specs.Rooms.{ActsAsItMay, HasSpare, IsEnding, IsShort};
 ghost use Rattle.rt_runtime_worker.specs.Rounds.{TellsNotes};
@@ -22,6 +22,7 @@ impl<J: Task<Out = u64>> Linked<J> {
         ensures leaves { LeavesShut sender self.old self.new }
         ensures tells { TellsNotes result self.old.recorded.journal.notes self.new.recorded.journal.notes }
         ensures linked { IsLinked J.meaning self.new }
+        ensures between { IsBetweenTurns self.new.recorded }
     {
         let shut = self.is_shut(sender);
         if !shut {
@@ -39,6 +40,7 @@ impl<J: Task<Out = u64>> Linked<J> {
         ensures shuts { ShutsFirst (self.old.recorded.core.cores + 1) self.old self.new }
         ensures tells { TellsNotes result self.old.recorded.journal.notes self.new.recorded.journal.notes }
         ensures linked { IsLinked J.meaning self.new }
+        ensures between { IsBetweenTurns self.new.recorded }
     {
         let mut some = false;
         for sender in 0..self.cores as usize + 1 {
@@ -64,12 +66,13 @@ impl<J: Task<Out = u64>> Linked<J> {
     pub(crate) fn end(&mut self)
         requires spare { HasSpare self.old.recorded }
         requires short { IsShort self.old.recorded }
-        requires acts { ActsAsItMay self.old.recorded.core.cores self.old.recorded.cap self.old.recorded.journal }
+        requires acts { ActsAsItMay self.old.recorded.core.cores self.old.recorded.cap self.old.recorded.core.bursts.burst self.old.recorded.journal }
         ensures ending { IsEnding self.new.recorded }
-        ensures acts { ActsAsItMay self.new.recorded.core.cores self.new.recorded.cap self.new.recorded.journal }
+        ensures acts { ActsAsItMay self.new.recorded.core.cores self.new.recorded.cap self.new.recorded.core.bursts.burst self.new.recorded.journal }
         ensures polls { NotesNoPoll self.old.recorded.journal.notes self.new.recorded.journal.notes }
         ensures stays { StaysLinked self.old self.new }
         ensures linked { IsLinked J.meaning self.new }
+        ensures between { IsBetweenTurns self.new.recorded }
     {
         let _cores = self.cores;
         self.close_returning();

@@ -3,6 +3,7 @@
 
 pub mod bell;
 pub mod bells;
+mod bursts;
 pub mod ended;
 mod gates;
 mod handing;

@@ -2,7 +2,7 @@
 
 ghost use Rattle.std.specs.Prelude.{◌≡◌, ◌+◌, ◌<◌, ◌≤◌, ◌↔◌, IsSome, IsTrue, None, false, length, is_some};
 ghost use Rattle.rt_ids.specs.Closing.{IsDrained, core_mode, final_count};
-ghost use Rattle.rt_runtime_worker.specs.Linked.{IsLinked};
+ghost use Rattle.rt_runtime_worker.specs.Linked.{IsBetweenTurns, IsLinked};
 ghost use Rattle.rt_runtime_worker.specs.Rooms.{IsShort};
 ghost use Rattle.rt_runtime_worker.specs.Steps.{ShutsGate, DeliversFrom, CollectsOf, HasNoTurn};
 
@@ -14,7 +14,7 @@ use rt_journal::Recorded;
 use rt_ring_mesh::Ends;
 use std::marker::Model;
 
-/// A core, its journal, and its actor's ends of the links. No job of it is out.
+/// A core, its journal, and its actor's ends of the links. No job of it is out, and no turn is open.
 #[derive(Drop)]
 pub struct Linked<J: Task<Out = u64>> {
     pub(crate) cores: u8,
@@ -29,17 +29,18 @@ impl<J: Task<Out = u64>> Model for Linked<J> {
     ghost Value = { LinkedView J ℕ };
 
     ghost use Rattle.std.specs.Prelude.{◌≡◌};
-    ghost use Rattle.rt_runtime_worker.specs.Linked.{IsLinked};
+    ghost use Rattle.rt_runtime_worker.specs.Linked.{IsBetweenTurns, IsLinked};
 
     ghost view = { λ l. record { recorded = l.recorded; ends = l.ends } };
 
-    ghost invariant = { λ l. IsLinked J.meaning (record { recorded = l.recorded; ends = l.ends }) × (l.cores ≡ l.recorded.core.cores) };
+    ghost invariant = { λ l. IsLinked J.meaning (record { recorded = l.recorded; ends = l.ends }) × (l.cores ≡ l.recorded.core.cores) × IsBetweenTurns l.recorded };
 }
 
 impl<J: Task<Out = u64>> Linked<J> {
     /// A core beside its ends. There are so many cores in its house.
     pub fn of(cores: u8, recorded: Recorded<J>, ends: Ends<J>) -> Self
         requires linked { IsLinked J.meaning (record { recorded = recorded; ends = ends }) }
+        requires between { IsBetweenTurns recorded }
         requires cores { cores ≡ recorded.core.cores }
         ensures { result ≡ record { recorded = recorded; ends = ends } }
     {
@@ -55,6 +56,7 @@ impl<J: Task<Out = u64>> Linked<J> {
         ensures recorded { result.0 ≡ self.recorded }
         ensures ends { result.1 ≡ self.ends }
         ensures linked { IsLinked J.meaning self }
+        ensures between { IsBetweenTurns self.recorded }
     {
         let Linked { recorded, ends, .. } = self;
         (recorded, ends)
@@ -111,7 +113,8 @@ impl<J: Task<Out = u64>> Linked<J> {
         ensures { IsTrue result ↔ IsShort self.now.recorded }
     {
         let places = (self.cores as usize + 1) * (self.recorded.cap() as usize + 1);
-        (self.recorded.journal().free() as usize) < 8 * places
+        let further = (self.recorded.burst() as usize).saturating_sub(1);
+        (self.recorded.journal().free() as usize) < 8 * places + 2 * further
     }
 
     /// Shuts the gate of this sender in a closed core.
@@ -131,6 +134,7 @@ impl<J: Task<Out = u64>> Linked<J> {
         requires room { length self.old.recorded.journal.notes + 2 ≤ self.old.recorded.journal.room }
         ensures delivers { DeliversFrom sender self.old result self.new }
         ensures linked { IsLinked J.meaning self.new }
+        ensures between { IsBetweenTurns self.new.recorded }
     {
         deliver_on(&mut self.recorded, &mut self.ends, sender)
     }
@@ -141,6 +145,7 @@ impl<J: Task<Out = u64>> Linked<J> {
         requires room { length self.old.recorded.journal.notes + self.old.recorded.cap ≤ self.old.recorded.journal.room }
         ensures collects { CollectsOf core self.old result self.new }
         ensures linked { IsLinked J.meaning self.new }
+        ensures between { IsBetweenTurns self.new.recorded }
     {
         collect_on(&mut self.recorded, &mut self.ends, core)
     }

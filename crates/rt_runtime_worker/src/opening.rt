@@ -65,15 +65,16 @@ fn open_core<J: Task<Out = u64>>(
     core: u8,
     cores: u8,
     cap: u16,
+    burst: u8,
     room: u32,
     queues: &[(CoreNo, Shares)],
 ) -> Result<Recorded<J>, AllocError>
     requires known { core < cores }
     requires room { queues_of core queues.now ≤ room }
-    ensures since { IfOk result (λ recorded. CreatesSince J.meaning (queues_of core queues.now) (opened_beside core cores cap room) recorded) }
+    ensures since { IfOk result (λ recorded. CreatesSince J.meaning (queues_of core queues.now) (opened_beside core cores cap room burst) recorded) }
     ensures noted { IfOk result (λ recorded. recorded.journal.notes ≡ creations core queues.now) }
 {
-    let mut recorded = Recorded::open(alloc, alloc, CoreNo(core), cores, cap, room)?;
+    let mut recorded = Recorded::open_burst(alloc, alloc, CoreNo(core), cores, cap, burst, room)?;
     create_all(&mut recorded, core, queues)?;
     Ok(recorded)
 }
@@ -85,8 +86,8 @@ fn serve_core<J: Task<Out = u64>>(
     ends: Ends<J>,
 ) -> Result<Served<J>, AllocError>
     requires ends { AreEndsOf config.now.cores config.now.cap ends }
-    requires room { least_room config.now.cores config.now.cap + queues_of ends.number config.now.queues.items ≤ config.now.room }
-    ensures over { IfOk result (λ served. IsOpenedOver config.now.cores config.now.cap config.now.room ends served.linked) }
+    requires room { least_room config.now.cores config.now.cap config.now.burst + queues_of ends.number config.now.queues.items ≤ config.now.room }
+    ensures over { IfOk result (λ served. IsOpenedOver config.now.cores config.now.cap config.now.burst config.now.room ends served.linked) }
     ensures ending { IfOk result (λ served. served.ending ≡ false) }
     ensures queues { IfOk result (λ served. served.linked.recorded.journal.notes ≡ creations ends.number config.now.queues.items) }
 {
@@ -96,6 +97,7 @@ fn serve_core<J: Task<Out = u64>>(
         number.0,
         config.cores,
         config.cap,
+        config.burst,
         config.room,
         &config.queues,
     )?;
@@ -118,9 +120,9 @@ impl<J: Task<Out = u64>, C: Drop, G: Drop> Worker<J, C, G> {
         bells: &Bells,
     ) -> Result<Self, AllocError>
         requires ends { AreEndsOf config.now.cores config.now.cap ends }
-        requires room { least_room config.now.cores config.now.cap + queues_of ends.number config.now.queues.items ≤ config.now.room }
+        requires room { least_room config.now.cores config.now.cap config.now.burst + queues_of ends.number config.now.queues.items ≤ config.now.room }
         requires bells { length bells.now.rings ≡ config.now.cores + 1 }
-        ensures over { IfOk result (λ worker. IsOpenedOver config.now.cores config.now.cap config.now.room ends worker.linked) }
+        ensures over { IfOk result (λ worker. IsOpenedOver config.now.cores config.now.cap config.now.burst config.now.room ends worker.linked) }
         ensures clock { IfOk result (λ worker. worker.clock ≡ clock) }
         ensures gate { IfOk result (λ worker. worker.gate ≡ gate) }
         ensures bells { IfOk result (λ worker. worker.bells ≡ bells.now.names) }

@@ -1,9 +1,11 @@
-//! The turn of the job that is told ahead, with the job in its place. It may submit, redeem and detach on the ends of its core.
+//! The poll of the job that is told ahead, with the job in its place. It may submit, redeem and detach on the ends of its core.
 
-ghost use Rattle.std.specs.Prelude.{◌≡◌, ◌≤◌, None};
+ghost use Rattle.std.specs.Prelude.{◌≡◌, ◌+◌, ◌*◌, ◌≤◌, None, length, sum_by};
 ghost use Rattle.std.specs.Option.{option_map};
 ghost use Rattle.rt_ids.specs.Outcomes.{outcome_note};
+ghost use Rattle.rt_core.specs.Further.{IsAheadInTurn};
 ghost use Rattle.rt_core.specs.Whole.{IsAhead};
+ghost use Rattle.rt_journal_desk.specs.Spending.{left_of};
 ghost use Rattle.rt_link.specs.Fits.{Fits};
 ghost use Rattle.rt_journal.specs.Recorded.{IsRecorded};
 ghost use Rattle.rt_journal.specs.Ends.{told_under, IsSameSeat};
@@ -11,8 +13,7 @@ ghost use Rattle.rt_journal.specs.Owed.{outcome_settled};
 ghost use Rattle.rt_journal.specs.Whole.{MayAnswer};
 ghost use Rattle.rt_ring_mesh.specs.Ends.{SameEnds};
 ghost use Rattle.rt_runtime_worker.specs.Linked.{AreBeside, AreOwing, IsLinked, PollsAsOwed, SeesNoLess, StaysLinked};
-ghost use Rattle.rt_runtime_worker.specs.Rooms.{HasPollRoom};
-ghost use Rattle.rt_runtime_worker.specs.Steps.{PollsOne};
+ghost use Rattle.rt_runtime_worker.specs.Steps.{PollsFirst, PollsFurther};
 
 use crate::leave::Leave;
 use rt_core::{Next, Settled};
@@ -23,7 +24,7 @@ use rt_ring_mesh::Ends;
 use rt_taskqueue::Meter;
 use std::alloc::Global;
 
-// Makes the turn, for which the gate was asked. What it owes to the job's sender isn't given yet.
+// Makes the first poll of a turn, for which the gate was asked. What it owes to the job's sender isn't given yet.
 fn post_turn<J: Job + Task<Out = u64>, M: Meter>(
     alloc: Global,
     recorded: &mut Recorded<J>,
@@ -37,8 +38,8 @@ fn post_turn<J: Job + Task<Out = u64>, M: Meter>(
     requires ahead { IsAhead recorded.old.core next.now.queue next.now.vr next.now.name next.now.started next.now.woken }
     requires known { next.now.name.from ≤ recorded.old.core.cores }
     requires beside { AreBeside (Fits J.meaning) recorded.old ends.old }
-    requires room { HasPollRoom recorded.old }
-    ensures polls { PollsOne J.meaning (λ time. M.Tells meter.old time meter.new) next.now.name (record { recorded = recorded.old; ends = ends.old }) (record { recorded = recorded.new; ends = ends.new }) }
+    requires room { length recorded.old.journal.notes + recorded.old.core.cores * (3 * recorded.old.cap) + 3 ≤ recorded.old.journal.room }
+    ensures polls { PollsFirst J.meaning (λ time. M.Tells meter.old time meter.new) next.now.name (record { recorded = recorded.old; ends = ends.old }) (record { recorded = recorded.new; ends = ends.new }) }
     ensures owed { PollsAsOwed J.meaning recorded.old ends.old → PollsAsOwed J.meaning recorded.new ends.new }
     ensures owing { AreOwing (Fits J.meaning) next.now.name.from (told_under next.now.name (option_map outcome_note (outcome_settled {J = J} result)) next.now.name.from) recorded.new ends.new }
     ensures may_answer { MayAnswer J.meaning recorded.new.took next.now.name result }
@@ -52,7 +53,36 @@ fn post_turn<J: Job + Task<Out = u64>, M: Meter>(
     recorded.turn_posting(alloc, &mut ends.outs, next, meter)
 }
 
-// Gives the outcome of a turn on the end of the job's sender, if the job is done.
+// Makes a further poll of the open turn, for which the gate was asked. What it owes to the job's sender isn't given yet.
+fn post_further<J: Job + Task<Out = u64>, M: Meter>(
+    alloc: Global,
+    recorded: &mut Recorded<J>,
+    ends: &mut Ends<J>,
+    next: &Next,
+    leave: Leave,
+    meter: &mut M,
+) -> Settled<u64>
+    requires core { leave.core ≡ recorded.old.core.core }
+    requires name { leave.name ≡ next.now.name }
+    requires ahead { IsAheadInTurn recorded.old.core next.now.queue next.now.vr next.now.name next.now.started next.now.woken }
+    requires known { next.now.name.from ≤ recorded.old.core.cores }
+    requires beside { AreBeside (Fits J.meaning) recorded.old ends.old }
+    requires room { length recorded.old.journal.notes + sum_by left_of recorded.old.lanes + 2 ≤ recorded.old.journal.room }
+    ensures polls { PollsFurther J.meaning (λ time. M.Tells meter.old time meter.new) next.now.name (record { recorded = recorded.old; ends = ends.old }) (record { recorded = recorded.new; ends = ends.new }) }
+    ensures owed { PollsAsOwed J.meaning recorded.old ends.old → PollsAsOwed J.meaning recorded.new ends.new }
+    ensures owing { AreOwing (Fits J.meaning) next.now.name.from (told_under next.now.name (option_map outcome_note (outcome_settled {J = J} result)) next.now.name.from) recorded.new ends.new }
+    ensures may_answer { MayAnswer J.meaning recorded.new.took next.now.name result }
+    ensures rest { recorded.new.core.out ≡ None }
+    ensures seat { IsSameSeat recorded.old recorded.new }
+    ensures ends { SameEnds ends.old ends.new }
+    ensures sees { SeesNoLess ends.old ends.new }
+    ensures sound { IsRecorded J.meaning recorded.new }
+{
+    let _leave = leave;
+    recorded.further_posting(alloc, &mut ends.outs, next, meter)
+}
+
+// Gives the outcome of a poll on the end of the job's sender, if the job is done.
 fn done_on<J: Job + Task<Out = u64>>(
     recorded: &Recorded<J>,
     ends: &mut Ends<J>,
@@ -73,7 +103,7 @@ fn done_on<J: Job + Task<Out = u64>>(
     recorded.give_done(&mut ends.ins[name.from.0 as usize], name, settled);
 }
 
-// Makes the turn of the job that was told ahead, for which the gate was asked.
+/// Makes the first poll of the turn of the job that was told ahead, for which the gate was asked, and gives its outcome.
 pub(crate) fn turn_on<J: Job + Task<Out = u64>, M: Meter>(
     alloc: Global,
     recorded: &mut Recorded<J>,
@@ -88,11 +118,35 @@ pub(crate) fn turn_on<J: Job + Task<Out = u64>, M: Meter>(
     requires known { next.now.name.from ≤ recorded.old.core.cores }
     requires beside { AreBeside (Fits J.meaning) recorded.old ends.old }
     requires owed { PollsAsOwed J.meaning recorded.old ends.old }
-    requires room { HasPollRoom recorded.old }
-    ensures polls { PollsOne J.meaning (λ time. M.Tells meter.old time meter.new) next.now.name (record { recorded = recorded.old; ends = ends.old }) (record { recorded = recorded.new; ends = ends.new }) }
+    requires room { length recorded.old.journal.notes + recorded.old.core.cores * (3 * recorded.old.cap) + 3 ≤ recorded.old.journal.room }
+    ensures polls { PollsFirst J.meaning (λ time. M.Tells meter.old time meter.new) next.now.name (record { recorded = recorded.old; ends = ends.old }) (record { recorded = recorded.new; ends = ends.new }) }
     ensures linked { IsLinked J.meaning (record { recorded = recorded.new; ends = ends.new }) }
     ensures stays { StaysLinked (record { recorded = recorded.old; ends = ends.old }) (record { recorded = recorded.new; ends = ends.new }) }
 {
     let settled = post_turn(alloc, recorded, ends, next, leave, meter);
+    done_on(recorded, ends, next.name, &settled);
+}
+
+/// Makes a further poll of the open turn, of the job that was told ahead, for which the gate was asked, and gives its outcome.
+pub(crate) fn further_on<J: Job + Task<Out = u64>, M: Meter>(
+    alloc: Global,
+    recorded: &mut Recorded<J>,
+    ends: &mut Ends<J>,
+    next: &Next,
+    leave: Leave,
+    meter: &mut M,
+)
+    requires core { leave.core ≡ recorded.old.core.core }
+    requires name { leave.name ≡ next.now.name }
+    requires ahead { IsAheadInTurn recorded.old.core next.now.queue next.now.vr next.now.name next.now.started next.now.woken }
+    requires known { next.now.name.from ≤ recorded.old.core.cores }
+    requires beside { AreBeside (Fits J.meaning) recorded.old ends.old }
+    requires owed { PollsAsOwed J.meaning recorded.old ends.old }
+    requires room { length recorded.old.journal.notes + sum_by left_of recorded.old.lanes + 2 ≤ recorded.old.journal.room }
+    ensures polls { PollsFurther J.meaning (λ time. M.Tells meter.old time meter.new) next.now.name (record { recorded = recorded.old; ends = ends.old }) (record { recorded = recorded.new; ends = ends.new }) }
+    ensures linked { IsLinked J.meaning (record { recorded = recorded.new; ends = ends.new }) }
+    ensures stays { StaysLinked (record { recorded = recorded.old; ends = ends.old }) (record { recorded = recorded.new; ends = ends.new }) }
+{
+    let settled = post_further(alloc, recorded, ends, next, leave, meter);
     done_on(recorded, ends, next.name, &settled);
 }

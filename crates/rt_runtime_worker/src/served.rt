@@ -56,7 +56,7 @@ impl<J: Task<Out = u64>> Served<J> {
     /// A linked core that has room for its end, and no more.
     pub fn of(linked: Linked<J>) -> Self
         requires spare { HasSpare linked.recorded }
-        requires acts { ActsAsItMay linked.recorded.core.cores linked.recorded.cap linked.recorded.journal }
+        requires acts { ActsAsItMay linked.recorded.core.cores linked.recorded.cap linked.recorded.core.bursts.burst linked.recorded.journal }
         ensures { result ≡ record { linked = linked; ending = false } }
     {
         let _recorded = &linked.recorded;
@@ -221,7 +221,7 @@ impl<J: Job + Task<Out = u64>> Served<J> {
         gate: &mut G,
     ) -> bool
         ensures steps { StepsServed self.old result self.new }
-        ensures takes { TakesTurn J.meaning (λ time. M.Tells meter.old time meter.new) (λ core name. G.Asked gate.old core name gate.new) ((gate.new ≡ gate.old) × (meter.new ≡ meter.old)) self.old result self.new }
+        ensures takes { TakesTurn J.meaning M.Tells G.Asked meter.old meter.new gate.old gate.new self.old result self.new }
         ensures asks { AsksSince G.Asked self.old.linked.recorded.core.core self.old.linked.recorded.journal.notes self.new.linked.recorded.journal.notes gate.old gate.new }
     {
         self.look();

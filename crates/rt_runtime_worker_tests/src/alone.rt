@@ -1,8 +1,9 @@
 //! One worker alone: what is sent to it before it begins, and what its journal says when its core is drained.
 
-ghost use Rattle.std.specs.Prelude.{◌≡◌, ◌<◌, ◌^◌, IfOk, replicate};
+ghost use Rattle.std.specs.Prelude.{◌≡◌, ◌≤◌, ◌<◌, ◌^◌, IfOk, replicate};
 ghost use Rattle.rt_ring_mesh.specs.Grid.{IsGrid, AreAllFresh};
 ghost use Rattle.rt_jobs.specs.Ready.{HasReadyJob};
+ghost use Rattle.rt_runtime_config.specs.Configs.{least_room};
 ghost use Rattle.rt_runtime_worker.specs.Opening.{AreEndsOf};
 
 use rt_ids::{ActorNo, Answer, CoreNo, JobId, Mode, Note, Order, OutcomeNote, QueueNo, Reason};
@@ -31,8 +32,11 @@ const QUEUE: QueueNo = QueueNo(0);
 /// How many submissions each link holds.
 const CAP: u16 = 4;
 
-/// The least room of a journal: it is short with fewer than 80 notes free.
+/// The least room of a journal of single polls: it is short with fewer than 80 notes free.
 const ROOM: u32 = 160;
+
+/// The same where a turn may have two polls: it is short with fewer than 82 notes free.
+const ROOM_OF_BURSTS: u32 = 164;
 
 /// A clock that stands still and counts its readings. Script jobs tell their own times.
 #[derive(Drop)]
@@ -130,6 +134,13 @@ fn parking_job(rt: &impl Abort) -> ScriptJob {
     job.unwrap_or(ScriptJob::done(10, 1))
 }
 
+/// A job that yields twice, and is done at its next poll.
+fn yielding_job(rt: &impl Abort) -> ScriptJob {
+    let job = ScriptJob::try_new(&[Poll::Yield(10), Poll::Yield(10), Poll::Done(5, 7)]);
+    assert!(rt; job.is_some());
+    job.unwrap_or(ScriptJob::done(10, 1))
+}
+
 /// The ends of the core.
 fn own_of(all: &mut Vec<Ends<ScriptJob>>) -> Ends<ScriptJob>
     requires grid { IsGrid 1 all.old.items }
@@ -161,19 +172,23 @@ fn send(outside: &mut Ends<ScriptJob>, order: Order<ScriptJob>) -> bool
     }
 }
 
-/// A worker over these ends, which parks after each round in which nothing was done.
+/// A worker over these ends, which parks after each round in which nothing was done. A turn may have so many polls.
 fn open(
     alloc: Global,
     own: Ends<ScriptJob>,
     shared: &Shared,
+    burst: u8,
+    room: u32,
 ) -> Result<Worker<ScriptJob, Still, Counter>, AllocError>
+    requires room { least_room 1 4 burst ≤ room }
     requires own { AreEndsOf 1 4 own }
     requires bells { shared.now.bells.rings ≡ replicate 2 0 }
 {
     let config = Config {
         cores: 1,
         cap: CAP,
-        room: ROOM,
+        burst,
+        room,
         queues: Vec::new(alloc),
     };
     let clock = Still {
@@ -188,7 +203,7 @@ fn open(
     Ok(worker.with_tries(0))
 }
 
-/// What a worker over these ends notes until its core is drained.
+/// What a worker over these ends notes until its core is drained. Each turn is a single poll.
 fn serve<R: Wait>(
     rt: &R,
     alloc: Global,
@@ -198,7 +213,22 @@ fn serve<R: Wait>(
     requires own { AreEndsOf 1 4 own }
     requires bells { shared.now.bells.rings ≡ replicate 2 0 }
 {
-    let worker = open(alloc, own, shared)?;
+    let worker = open(alloc, own, shared, 1, ROOM)?;
+    let (recorded, _ends) = worker.run(rt).into_linked().into_parts();
+    Ok(recorded.into_journal())
+}
+
+/// The same, where a turn may have two polls.
+fn serve_bursts<R: Wait>(
+    rt: &R,
+    alloc: Global,
+    own: Ends<ScriptJob>,
+    shared: &Shared,
+) -> Result<Journal<u64>, AllocError>
+    requires own { AreEndsOf 1 4 own }
+    requires bells { shared.now.bells.rings ≡ replicate 2 0 }
+{
+    let worker = open(alloc, own, shared, 2, ROOM_OF_BURSTS)?;
     let (recorded, _ends) = worker.run(rt).into_linked().into_parts();
     Ok(recorded.into_journal())
 }
@@ -334,5 +364,36 @@ fn a_parked_job_goes_back_when_the_journal_is_short(rt: HostRuntime) -> Result<(
     let closed = says(&journal, Note::CoreClosed(Mode::Return));
     let returned = says(&journal, Note::Returned(parks, Reason::CoreReturned));
     assert!(rt; sent && parked && closed && returned);
+    Ok(())
+}
+
+#[test]
+fn a_job_is_polled_twice_in_a_turn_of_two(rt: HostRuntime) -> Result<(), Fail> {
+    let shared = Shared::new(rt.alloc())?;
+    let (own, mut outside) = ends(rt.alloc())?;
+    let job = order(&rt, yielding_job(&rt));
+    let sent = send(&mut outside, job) && send(&mut outside, Order::CloseCore(Mode::Finish));
+    let journal = serve_bursts(&rt, rt.alloc(), own, &shared)?;
+    let yields = name(OUTSIDE, 1);
+    let notes = [
+        Note::Took(yields, QUEUE),
+        Note::Answered(name(OUTSIDE, 2), Answer::Closed),
+        Note::CoreClosed(Mode::Finish),
+        Note::Pick(QUEUE, 0),
+        Note::Start(yields),
+        Note::Yield(yields, 10),
+        Note::Resume(yields),
+        Note::Yield(yields, 10),
+        Note::Turned(QUEUE, 20),
+        Note::Shut(OWN, 0),
+        Note::Shut(OUTSIDE, 2),
+        Note::Pick(QUEUE, 20),
+        Note::Resume(yields),
+        Note::Done(yields, 5, 7),
+        Note::Turned(QUEUE, 5),
+    ];
+    assert!(rt; sent && journal.len() == notes.len() && begins(&journal, &notes));
+    // The clock is read twice for each of three polls, and the gate is asked once.
+    assert!(rt; shared.counts() == (6, 3, 0));
     Ok(())
 }

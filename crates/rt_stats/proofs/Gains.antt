@@ -17,9 +17,9 @@ module _ {T : Type 0} where
   same_place place to journal past within =
       let same : length journal - place ≡ length journal - to = omega arith in ap (λ count. drop count journal) same
 
-  gained_total : (queue : ℕ) (later earlier : Journal T) → gained queue later earlier + charges queue earlier ≡ charges queue (later ++ earlier)
-  gained_total queue [] earlier = omega arith
-  gained_total queue (note ∷ later) earlier = let was = gained_total queue later earlier in omega (arith, was)
+  gained_total : (burst queue : ℕ) (later earlier : Journal T) → gained burst queue later earlier + charges burst queue earlier ≡ charges burst queue (later ++ earlier)
+  gained_total burst queue [] earlier = omega arith
+  gained_total burst queue (note ∷ later) earlier = let was = gained_total burst queue later earlier in omega (arith, was)
 
   drop_drop : (more count : ℕ) (items : Journal T) → drop more (drop count items) ≡ drop (more + count) items
   drop_drop more zero items = let none : more ≡ more + 0 = omega arith in ap (λ count. drop count items) none
@@ -38,18 +38,18 @@ module _ {T : Type 0} where
       drop_drop (length (at_place to journal) - from) (length journal - to) journal ∙ ap (λ count. drop count journal) count
 
   -- no note stands between
-  pub none_between : (queue from to : ℕ) (journal : Journal T) → to ≤ from → gained_between queue from to journal ≡ 0
-  none_between queue from to journal past =
+  pub none_between : (burst queue from to : ℕ) (journal : Journal T) → to ≤ from → gained_between burst queue from to journal ≡ 0
+  none_between burst queue from to journal past =
       let none : length (at_place to journal) - from ≡ 0 = omega (arith, length-at_place to journal) in
-      ap (λ count. gained queue (take count (at_place to journal)) (at_place from (at_place to journal))) none
+      ap (λ count. gained burst queue (take count (at_place to journal)) (at_place from (at_place to journal))) none
 
   -- it is what the charges grew by
-  pub gained_is : (queue from to : ℕ) (journal : Journal T) → from < to →
-      charges queue (at_place to journal) - charges queue (at_place from journal) ≡ gained_between queue from to journal
-  gained_is queue from to journal less =
+  pub gained_is : (burst queue from to : ℕ) (journal : Journal T) → from < to →
+      charges burst queue (at_place to journal) - charges burst queue (at_place from journal) ≡ gained_between burst queue from to journal
+  gained_is burst queue from to journal less =
       let read = at_place to journal in
       let whole : notes_from from read ++ at_place from read ≡ read = take-append-drop (length read - from) read in
-      let total : gained_from queue from read + charges queue (at_place from read) ≡ charges queue read =
-      gained_total queue (notes_from from read) (at_place from read) ∙ ap (charges queue) whole in
-      let there : charges queue (at_place from read) ≡ charges queue (at_place from journal) = ap (charges queue) (earlier_place from to journal less) in
+      let total : gained_from burst queue from read + charges burst queue (at_place from read) ≡ charges burst queue read =
+      gained_total burst queue (notes_from from read) (at_place from read) ∙ ap (charges burst queue) whole in
+      let there : charges burst queue (at_place from read) ≡ charges burst queue (at_place from journal) = ap (charges burst queue) (earlier_place from to journal less) in
       omega (arith, total, there)

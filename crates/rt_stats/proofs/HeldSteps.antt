@@ -35,7 +35,7 @@ inside_all (suc queues) accounts = by_place (cases_lt queues (length accounts)) 
 
 module _ {T : Type 0} where
   -- the accounts tell how many are inside
-  pub inside_known : (queues : ℕ) (accounts : Accounts) (journal : Journal T) → KnowsAccounts accounts journal →
+  pub inside_known : {burst : ℕ} (queues : ℕ) (accounts : Accounts) (journal : Journal T) → KnowsAccounts burst accounts journal →
       inside_below queues accounts.queues ≡ jobs_below queues journal
   inside_known zero accounts journal knows = refl
   inside_known (suc queue) accounts journal knows =

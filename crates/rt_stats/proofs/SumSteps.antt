@@ -1,5 +1,5 @@
 -- What the sums say of the journal that was read.
-use Rattle.std.proofs.Common.{◌≡◌, ℕ, ◌+◌, ◌≤◌, min, Bool, sym, ◌∙◌, ap, arith, get_or}
+use Rattle.std.proofs.Common.{◌≡◌, ℕ, ◌+◌, ◌≤◌, min, Bool, sym, subst, ◌∙◌, ap, arith, get_or}
 use Rattle.std.specs.Prelude.{Some}
 use Rattle.std.proofs.lemmas.Bool.{false_from_ne_true, true≢false}
 use Rattle.rt_ids.specs.Closing.{IsDrained}
@@ -17,7 +17,11 @@ use Rattle.rt_stats.specs.Walks.{SumsView, KnowsSums, inside_below}
 use Rattle.rt_stats.proofs.HeldSteps.{inside_known, held-within}
 
 module _ {T : Type 0} where
-  module _ (sums : SumsView) (journal : Journal T) (knows : KnowsSums sums journal) where
+  -- what is known under a burst that is the same
+  pub under_same : {burst other : ℕ} (sums : SumsView) (journal : Journal T) → burst ≡ other → KnowsSums burst sums journal → KnowsSums other sums journal
+  under_same sums journal same knows = subst (λ (polls : ℕ). KnowsSums polls sums journal) same knows
+
+  module _ {burst : ℕ} (sums : SumsView) (journal : Journal T) (knows : KnowsSums burst sums journal) where
     -- all jobs inside
     held : min (inside_below (sums.gates.created + 1) sums.accounts.queues) greatest_count ≡ jobs_held journal
     held =

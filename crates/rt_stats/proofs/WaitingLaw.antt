@@ -11,7 +11,7 @@ use Rattle.rt_ids.specs.Parks.{parked}
 use Rattle.rt_ids.specs.Terms.{Terms}
 use Rattle.rt_ids.specs.Work.{queue_of, number_if}
 use Rattle.rt_ids.proofs.Counts.{queue_out-alone, queue_out-stays, counts_agree}
-use Rattle.rt_ids.proofs.JobsOut.{nobody_out, jobs_out-start, jobs_out-resume, names_but-alone}
+use Rattle.rt_ids.proofs.JobsOut.{nobody_at_turn, jobs_out-start, jobs_out-resume, names_but-alone}
 use Rattle.rt_ids.proofs.Known.{known_of}
 use Rattle.rt_stats.specs.Sums.{begun_count, settled_count, waiting_count}
 
@@ -25,8 +25,8 @@ module _ {T : Type 0} (terms : Terms) (queue : ℕ) where
       stays : (note : Note T) → MayFollow terms note before → queue_of_first (jobs_out before) (note ∷ before) ≡ queue_out before
       stays note law = queue_out-stays terms note before law (known_of terms before notes.1)
 
-      nobody : (name : JobId) (picked : ℕ) → IsTurnOf name picked before → jobs_out before ≡ []
-      nobody name picked turn = nobody_out terms before notes.1 picked turn.picked
+      nobody : (name : JobId) (picked : ℕ) → IsTurnOf terms.burst name picked before → jobs_out before ≡ []
+      nobody name picked turn = nobody_at_turn terms before notes.1 name picked turn
 
       by_note : (note : Note T) → MayFollow terms note before →
           begun_count queue before ≡ settled_count queue before + number_if (is_number queue (queue_out before)) →

@@ -8,9 +8,9 @@ abbrev pub notes_from : {T : Type 0} → ℕ → Journal T → Journal T
 notes_from place journal = take (length journal - place) journal
 
 -- what a queue gained from a place on
-abbrev pub gained_from : {T : Type 0} → ℕ → ℕ → Journal T → ℕ
-gained_from queue place journal = gained queue (notes_from place journal) (at_place place journal)
+abbrev pub gained_from : {T : Type 0} → ℕ → ℕ → ℕ → Journal T → ℕ
+gained_from burst queue place journal = gained burst queue (notes_from place journal) (at_place place journal)
 
 -- what a queue gained from one place to another: the sum of its charges in the notes between them
-abbrev pub gained_between : {T : Type 0} → ℕ → ℕ → ℕ → Journal T → ℕ
-gained_between queue from to journal = gained_from queue from (at_place to journal)
+abbrev pub gained_between : {T : Type 0} → ℕ → ℕ → ℕ → ℕ → Journal T → ℕ
+gained_between burst queue from to journal = gained_from burst queue from (at_place to journal)

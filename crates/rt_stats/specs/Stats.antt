@@ -9,21 +9,21 @@ use Rattle.rt_ids.specs.Picks.{turns}
 use Rattle.rt_ids.specs.Runtimes.{shares, floor, virtual_runtime}
 use Rattle.rt_stats.specs.Sums.{run_time, waiting_count, finished_count, returned_count}
 
--- the statistics of one queue; a virtual runtime that no `u128` holds is told as the greatest one
-abbrev pub stats_of : {T : Type 0} → ℕ → Journal T → QueueStats
-stats_of queue journal = record {
+-- the statistics of one queue, where a turn may have so many polls; a virtual runtime that no `u128` holds is told as the greatest one
+abbrev pub stats_of : {T : Type 0} → ℕ → ℕ → Journal T → QueueStats
+stats_of burst queue journal = record {
   shares = shares queue journal;
   selected = picks_of queue journal;
-  runtime = run_time queue journal;
-  virtual_runtime = min (virtual_runtime queue journal) (2 ^ 128 - 1);
+  runtime = run_time burst queue journal;
+  virtual_runtime = min (virtual_runtime burst queue journal) (2 ^ 128 - 1);
   waiting = waiting_count queue journal;
   finished = finished_count queue journal;
   returned = returned_count queue journal;
 }
 
 -- a queue has statistics if there is such a queue: queue 0, and those that were created behind it
-abbrev pub queue_stats : {T : Type 0} → ℕ → Journal T → Option QueueStats
-queue_stats queue journal = if nat_le queue (created_count journal) then Some (stats_of queue journal) else None
+abbrev pub queue_stats : {T : Type 0} → ℕ → ℕ → Journal T → Option QueueStats
+queue_stats burst queue journal = if nat_le queue (created_count journal) then Some (stats_of burst queue journal) else None
 
 -- the statistics of a core, which is drained or not
 abbrev pub core_stats : {T : Type 0} → Bool → Journal T → CoreStats

@@ -4,13 +4,14 @@ use Rattle.rt_shares.specs.Charge.{clamped}
 use Rattle.rt_ids.specs.declared.names.JobId.{JobId}
 use Rattle.rt_ids.specs.declared.note.Note.{Note}
 use Rattle.rt_ids.specs.declared.note.Note.TheVariants.{Returned}
+use Rattle.rt_ids.specs.Bursts.{turn_told}
 use Rattle.rt_ids.specs.Filters.{name_finished}
 use Rattle.rt_ids.specs.HandBacks.{jobs_inside}
-use Rattle.rt_ids.specs.Journal.{Journal}
+use Rattle.rt_ids.specs.Journal.{Journal, or_else}
 use Rattle.rt_ids.specs.Lines.{name_polled, name_settled}
 use Rattle.rt_ids.specs.Names.{is_number}
 use Rattle.rt_ids.specs.Polls.{poll_settled}
-use Rattle.rt_ids.specs.Runtimes.{charge_noted}
+use Rattle.rt_ids.specs.Runtimes.{charge_noted, poll_charged, turn_charged}
 use Rattle.rt_ids.specs.Work.{queue_of, number_if}
 
 -- the queue of a job, if there is a job
@@ -42,24 +43,24 @@ finished_count = count_of name_finished
 abbrev pub returned_count : {T : Type 0} → ℕ → Journal T → ℕ
 returned_count = count_of name_returned
 
--- the time of a settled poll of a job of the queue, as it counts for its charge
-abbrev pub time_of : {T : Type 0} → ℕ → Option (JobId × ℕ) → Journal T → ℕ
-time_of queue None before = 0
-time_of queue (Some poll) before = if is_number queue (queue_of poll.0 before) then clamped poll.1 else 0
+-- a time that is charged to the queue, as it counts for the charge
+abbrev pub time_of : ℕ → Option (Option ℕ × ℕ) → ℕ
+time_of queue None = 0
+time_of queue (Some charged) = if is_number queue charged.0 then clamped charged.1 else 0
 
--- the same of the poll that a note settles
-abbrev pub time_noted : {T : Type 0} → ℕ → Note T → Journal T → ℕ
-time_noted queue note before = time_of queue (poll_settled note) before
+-- the same of the turn that a note ends
+abbrev pub time_noted : {T : Type 0} → ℕ → ℕ → Note T → Journal T → ℕ
+time_noted burst queue note before = time_of queue (or_else (turn_charged burst (turn_told note)) (poll_charged burst (poll_settled note) before))
 
--- the time of all polls of the queue
-abbrev pub run_time : {T : Type 0} → ℕ → Journal T → ℕ
-run_time queue [] = 0
-run_time queue (note ∷ before) = run_time queue before + time_noted queue note before
+-- the time of all turns of the queue
+abbrev pub run_time : {T : Type 0} → ℕ → ℕ → Journal T → ℕ
+run_time burst queue [] = 0
+run_time burst queue (note ∷ before) = run_time burst queue before + time_noted burst queue note before
 
 -- all that the queue was charged
-abbrev pub charges : {T : Type 0} → ℕ → Journal T → ℕ
-charges queue [] = 0
-charges queue (note ∷ before) = charges queue before + charge_noted queue note before
+abbrev pub charges : {T : Type 0} → ℕ → ℕ → Journal T → ℕ
+charges burst queue [] = 0
+charges burst queue (note ∷ before) = charges burst queue before + charge_noted burst queue note before
 
 -- the jobs inside a queue that aren't being polled, parked ones counted too
 abbrev pub waiting_count : {T : Type 0} → ℕ → Journal T → ℕ

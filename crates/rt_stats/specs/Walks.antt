@@ -15,8 +15,8 @@ use Rattle.rt_stats.specs.Tallies.{KnowsTally, no_tally}
 use Rattle.rt_stats.specs.Gates.{gate_of, open_gate}
 
 -- each tally says of its queue what these notes say
-abbrev pub KnowsTallies : {T : Type 0} → Tallies → Journal T → Type 0
-KnowsTallies tallies journal = (queue : ℕ) → KnowsTally queue (get_or tallies.queues queue no_tally) journal
+abbrev pub KnowsTallies : {T : Type 0} → ℕ → Tallies → Journal T → Type 0
+KnowsTallies burst tallies journal = (queue : ℕ) → KnowsTally burst queue (get_or tallies.queues queue no_tally) journal
 
 -- picks, creations and gates are counted as these notes say
 pub record KnowsGates {T : Type 0} (gates : Gates) (journal : Journal T) : Type 0 where
@@ -35,17 +35,19 @@ abbrev pub inside_below : ℕ → List Account → ℕ
 inside_below zero accounts = 0
 inside_below (suc queue) accounts = inside_below queue accounts + inside (get_or accounts queue fresh_account)
 
--- the queues of jobs and where they are parked, the accounts and tallies of queues, and the gates
+-- how many polls a turn may have, the queues of jobs and where they are parked, the accounts and tallies of queues, and the gates
 pub record SumsView : Type 0 where
+  pub burst : ℕ
   pub parks : Parks
   pub accounts : Accounts
   pub tallies : Tallies
   pub gates : Gates
 
--- all is known as these notes tell it
-pub record KnowsSums {T : Type 0} (sums : SumsView) (journal : Journal T) : Type 0 where
+-- all is known as these notes tell it, where a turn may have so many polls
+pub record KnowsSums {T : Type 0} (burst : ℕ) (sums : SumsView) (journal : Journal T) : Type 0 where
+  pub same_burst : sums.burst ≡ burst
   pub parks : KnowsParks sums.parks journal
-  pub accounts : KnowsAccounts sums.accounts journal
-  pub tallies : KnowsTallies sums.tallies journal
+  pub accounts : KnowsAccounts burst sums.accounts journal
+  pub tallies : KnowsTallies burst sums.tallies journal
   pub gates : KnowsGates sums.gates journal
   pub short : length journal ≤ greatest_count

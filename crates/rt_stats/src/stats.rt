@@ -1,6 +1,8 @@
 //! The statistics of a journal, each by a call of its own.
 //!
 //! Each call reads the journal once. Who asks for many queues reads it once for all by `Sums`.
+//!
+//! The burst tells how many polls a turn may have: 0 and 1 mean that each poll is a turn, and more that a note of its own ends a turn.
 
 ghost use Rattle.std.specs.Prelude.{◌≡◌, ◌↔◌, IfOk, IsTrue};
 ghost use Rattle.rt_ids.specs.Closing.{IsDrained};
@@ -22,10 +24,11 @@ pub fn queue_stats(
     alloc: Global,
     journal: &Journal<u64>,
     queue: QueueNo,
+    burst: u8,
 ) -> Result<Option<QueueStats>, AllocError>
-    ensures { IfOk result (λ stats. stats ≡ spec.queue_stats queue journal.now.notes) }
+    ensures { IfOk result (λ stats. stats ≡ spec.queue_stats burst queue journal.now.notes) }
 {
-    Ok(Sums::of(alloc, journal)?.queue_stats(queue))
+    Ok(Sums::of(alloc, journal, burst)?.queue_stats(queue))
 }
 
 /// The statistics of a core, in a house of so many cores.
@@ -37,7 +40,7 @@ pub fn core_stats(alloc: Global, journal: &Journal<u64>, cores: u8) -> Result<Co
     ensures core { IfOk result (λ stats. stats ≡ spec.core_stats stats.drained journal.now.notes) }
     ensures drained { IfOk result (λ stats. IsTrue stats.drained ↔ IsDrained cores journal.now.notes) }
 {
-    Ok(Sums::of(alloc, journal)?.core_stats(cores))
+    Ok(Sums::of(alloc, journal, 1)?.core_stats(cores))
 }
 
 /// What a queue gained from one place of the journal to another: the sum of its charges in the notes between them.
@@ -51,13 +54,14 @@ pub fn gained(
     queue: QueueNo,
     from: usize,
     to: usize,
+    burst: u8,
 ) -> Result<u128, AllocError>
-    ensures { IfOk result (λ sum. sum ≡ gained_between queue from to journal.now.notes) }
+    ensures { IfOk result (λ sum. sum ≡ gained_between burst queue from to journal.now.notes) }
 {
     if to <= from {
         return Ok(0);
     }
-    let mut sums = Sums::new(alloc);
+    let mut sums = Sums::new(alloc, burst);
     sums.read(journal, 0, from)?;
     let earlier = sums.charged(queue);
     sums.read(journal, from, to)?;
@@ -73,8 +77,9 @@ pub fn greatest_turn(
     alloc: Global,
     journal: &Journal<u64>,
     queue: QueueNo,
+    burst: u8,
 ) -> Result<u64, AllocError>
-    ensures { IfOk result (λ charge. charge ≡ greatest_charge queue journal.now.notes) }
+    ensures { IfOk result (λ charge. charge ≡ greatest_charge burst queue journal.now.notes) }
 {
-    Ok(Sums::of(alloc, journal)?.greatest_turn(queue))
+    Ok(Sums::of(alloc, journal, burst)?.greatest_turn(queue))
 }

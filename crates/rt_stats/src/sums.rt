@@ -22,6 +22,7 @@ use std::marker::Model;
 /// A contract sees the four tables of it. `KnowsSums` says that they are what some notes tell.
 #[derive(Drop)]
 pub struct Sums {
+    burst: u8,
     parks: Parks,
     accounts: Accounts,
     tallies: Tallies,
@@ -33,7 +34,7 @@ impl Model for Sums {
 
     ghost Value = { SumsView };
 
-    ghost view = { λ sums. record { parks = sums.parks; accounts = sums.accounts; tallies = sums.tallies; gates = sums.gates } };
+    ghost view = { λ sums. record { burst = sums.burst; parks = sums.parks; accounts = sums.accounts; tallies = sums.tallies; gates = sums.gates } };
 }
 
 /// The jobs inside all queues, of which so many were created behind queue 0.
@@ -49,11 +50,12 @@ fn held(accounts: &[Account; 256], created: u64) -> u64
 }
 
 impl Sums {
-    /// No note was read.
-    pub fn new(alloc: Global) -> Self
-        ensures { KnowsSums {T = ℕ} result [] }
+    /// No note was read. A turn may have so many polls: 0 and 1 mean a single one.
+    pub fn new(alloc: Global, burst: u8) -> Self
+        ensures { KnowsSums {T = ℕ} burst result [] }
     {
         Sums {
+            burst,
             parks: Parks::new(alloc),
             accounts: Accounts::new(),
             tallies: Tallies::new(),
@@ -63,11 +65,12 @@ impl Sums {
 
     /// Reads the next note.
     fn add(&mut self, note: &Note<u64>) -> Result<(), AllocError>
-        ensures { OnOk result ((before : Notes ℕ) → length before < greatest_count → KnowsSums self.old before → KnowsSums self.new (note.now ∷ before)) }
+        ensures { OnOk result ((burst : ℕ) (before : Notes ℕ) → length before < greatest_count → KnowsSums burst self.old before → KnowsSums burst self.new (note.now ∷ before)) }
     {
         let spot = self.parks.spot(note);
-        self.tallies.add(note, &spot.queue, &self.accounts);
-        self.accounts.add(note, &spot);
+        self.tallies
+            .add(note, &spot.queue, &self.accounts, self.burst);
+        self.accounts.add(note, &spot, self.burst);
         self.gates.add(note);
         self.parks.add(note)
     }
@@ -79,7 +82,7 @@ impl Sums {
     /// `AllocError` for want of memory; then nothing is known any more.
     pub fn read(&mut self, journal: &Journal<u64>, from: usize, to: usize) -> Result<(), AllocError>
         requires { from ≤ to }
-        ensures { OnOk result (KnowsSums self.old (at_place from journal.now.notes) → KnowsSums self.new (at_place to journal.now.notes)) }
+        ensures { OnOk result ((burst : ℕ) → KnowsSums burst self.old (at_place from journal.now.notes) → KnowsSums burst self.new (at_place to journal.now.notes)) }
     {
         let end = to.min(journal.len());
         for place in from..end {
@@ -89,22 +92,22 @@ impl Sums {
         Ok(())
     }
 
-    /// The sums of all notes.
+    /// The sums of all notes, where a turn may have so many polls.
     ///
     /// # Errors
     ///
     /// `AllocError` for want of memory.
-    pub fn of(alloc: Global, journal: &Journal<u64>) -> Result<Self, AllocError>
-        ensures { IfOk result (λ sums. KnowsSums sums journal.now.notes) }
+    pub fn of(alloc: Global, journal: &Journal<u64>, burst: u8) -> Result<Self, AllocError>
+        ensures { IfOk result (λ sums. KnowsSums burst sums journal.now.notes) }
     {
-        let mut sums = Sums::new(alloc);
+        let mut sums = Sums::new(alloc, burst);
         sums.read(journal, 0, journal.len())?;
         Ok(sums)
     }
 
     /// The statistics of a queue, if there is such a queue.
     pub fn queue_stats(&self, queue: QueueNo) -> Option<QueueStats>
-        ensures { (journal : Notes ℕ) → KnowsSums self.now journal → result ≡ spec.queue_stats queue journal }
+        ensures { (burst : ℕ) (journal : Notes ℕ) → KnowsSums burst self.now journal → result ≡ spec.queue_stats burst queue journal }
     {
         if queue.0 as u64 <= self.gates.created {
             Some(self.stats_of(queue))
@@ -114,7 +117,7 @@ impl Sums {
     }
 
     fn stats_of(&self, queue: QueueNo) -> QueueStats
-        ensures { (journal : Notes ℕ) → KnowsSums self.now journal → result ≡ spec.stats_of queue journal }
+        ensures { (burst : ℕ) (journal : Notes ℕ) → KnowsSums burst self.now journal → result ≡ spec.stats_of burst queue journal }
     {
         let account = self.accounts.of(queue);
         let tally = self.tallies.of(queue);
@@ -132,8 +135,8 @@ impl Sums {
 
     /// The statistics of the core, in a house of so many cores.
     pub fn core_stats(&self, cores: u8) -> CoreStats
-        ensures core { (journal : Notes ℕ) → KnowsSums self.now journal → result ≡ spec.core_stats result.drained journal }
-        ensures drained { (journal : Notes ℕ) → KnowsSums self.now journal → IsTrue result.drained ↔ IsDrained cores journal }
+        ensures core { (burst : ℕ) (journal : Notes ℕ) → KnowsSums burst self.now journal → result ≡ spec.core_stats result.drained journal }
+        ensures drained { (burst : ℕ) (journal : Notes ℕ) → KnowsSums burst self.now journal → IsTrue result.drained ↔ IsDrained cores journal }
     {
         CoreStats {
             turns: self.gates.turns,
@@ -145,14 +148,14 @@ impl Sums {
 
     /// The sum of the charges of a queue.
     pub fn charged(&self, queue: QueueNo) -> u128
-        ensures { (journal : Notes ℕ) → KnowsSums self.now journal → result ≡ charges queue journal }
+        ensures { (burst : ℕ) (journal : Notes ℕ) → KnowsSums burst self.now journal → result ≡ charges burst queue journal }
     {
         self.tallies.of(queue).charged
     }
 
     /// The greatest charge of one turn of a queue, 0 if it was charged nothing.
     pub fn greatest_turn(&self, queue: QueueNo) -> u64
-        ensures { (journal : Notes ℕ) → KnowsSums self.now journal → result ≡ greatest_charge queue journal }
+        ensures { (burst : ℕ) (journal : Notes ℕ) → KnowsSums burst self.now journal → result ≡ greatest_charge burst queue journal }
     {
         self.tallies.of(queue).greatest
     }

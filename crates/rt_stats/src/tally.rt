@@ -4,13 +4,12 @@ ghost use Rattle.std.specs.Prelude.{◌≡◌, ◌<◌, ◌∷◌, ◌^◌, ℕ,
 ghost use Rattle.rt_ids.specs.Journal.{Journal as Notes};
 ghost use Rattle.rt_journal_facts.specs.Accounts.{greatest_count, fresh_account};
 ghost use Rattle.rt_journal_facts.specs.AllAccounts.{KnowsAccounts};
-ghost use Rattle.rt_stats.specs.Tallies.{no_tally, one_more, settling, tally_after, cost_told};
+ghost use Rattle.rt_stats.specs.Tallies.{no_tally, one_more, charged_if, settling, tally_after, cost_told};
 ghost use Rattle.rt_stats.specs.Tallies as spec;
 ghost use Rattle.rt_stats.specs.Walks.{KnowsTallies};
 
 use rt_ids::{Note, QueueNo};
-use rt_journal_facts::told::poll_settled;
-use rt_journal_facts::{Account, Accounts};
+use rt_journal_facts::{Account, Accounts, has_bursts};
 use rt_shares::Shares;
 
 /// Of the notes that were read: what is counted of one queue. Times are nanoseconds.
@@ -18,7 +17,7 @@ use rt_shares::Shares;
 pub struct Tally {
     /// Picks of the queue.
     pub selected: u64,
-    /// The sum of the times of its settled polls, each clamped as for its charge.
+    /// The sum of the times of its turns, each clamped as for its charge.
     pub time: u128,
     /// The sum of its charges.
     pub charged: u128,
@@ -51,44 +50,66 @@ impl Tally {
         }
     }
 
-    /// A poll is settled, at this cost.
-    fn settle(&mut self, cost: u64, time: u64)
-        ensures { self.new ≡ settling cost time self.old }
+    /// A time is charged, at this cost, if it counts.
+    fn charge(&mut self, cost: u64, time: u64, counts: bool)
+        ensures { self.new ≡ charged_if counts cost time self.old }
     {
-        self.time = self.time.saturating_add(rt_shares::clamped(time) as u128);
-        self.charged = self.charged.saturating_add(cost as u128);
-        self.greatest = self.greatest.max(cost);
+        if counts {
+            self.time = self.time.saturating_add(rt_shares::clamped(time) as u128);
+            self.charged = self.charged.saturating_add(cost as u128);
+            self.greatest = self.greatest.max(cost);
+        }
+    }
+
+    /// A poll is settled: its time is charged, at this cost, where it ends its turn.
+    fn settle(&mut self, cost: u64, time: u64, burst: u8)
+        ensures { self.new ≡ settling burst cost time self.old }
+    {
+        self.charge(cost, time, !has_bursts(burst));
         self.settled = self.settled.saturating_add(1);
     }
 
-    /// Reads a note that is of this queue, and costs it so much.
-    pub fn add(&mut self, note: &Note<u64>, cost: u64)
-        ensures { self.new ≡ tally_after cost note.now self.old }
+    /// Reads a note that is of this queue, and costs it so much where its time is charged.
+    pub fn add(&mut self, note: &Note<u64>, cost: u64, burst: u8)
+        ensures { self.new ≡ tally_after burst cost note.now self.old }
     {
         match *note {
             Note::Pick(_, _) => self.selected = self.selected.saturating_add(1),
             Note::Start(_) => self.begun = self.begun.saturating_add(1),
             Note::Resume(_) => self.begun = self.begun.saturating_add(1),
-            Note::Yield(_, time) => self.settle(cost, time),
-            Note::Park(_, time) => self.settle(cost, time),
-            Note::Stayed(_, time) => self.settle(cost, time),
+            Note::Yield(_, time) => self.settle(cost, time, burst),
+            Note::Park(_, time) => self.settle(cost, time, burst),
+            Note::Stayed(_, time) => self.settle(cost, time, burst),
             Note::Done(_, time, _) => {
-                self.settle(cost, time);
+                self.settle(cost, time, burst);
                 self.finished = self.finished.saturating_add(1);
             }
             Note::Returned(_, _) => self.returned = self.returned.saturating_add(1),
+            Note::Turned(_, time) => self.charge(cost, time, has_bursts(burst)),
             _ => {}
         }
     }
 }
 
-/// What a note costs a queue of these shares.
+/// The time that a note tells: that of the poll that it settles, or of the turn that it ends.
+fn time_told(note: &Note<u64>) -> Option<u64>
+    ensures { result ≡ spec.time_told note.now }
+{
+    match *note {
+        Note::Yield(_, time) | Note::Park(_, time) | Note::Stayed(_, time) => Some(time),
+        Note::Done(_, time, _) => Some(time),
+        Note::Turned(_, time) => Some(time),
+        _ => None,
+    }
+}
+
+/// What a note costs a queue of these shares, where its time is charged.
 fn cost_told(note: &Note<u64>, shares: &Shares) -> u64
     ensures value { result ≡ cost_told shares.now note.now }
     ensures bounded { result < 2 ^ 50 }
 {
-    match poll_settled(note) {
-        Some((_, time)) => rt_shares::charge(time, shares),
+    match time_told(note) {
+        Some(time) => rt_shares::charge(time, shares),
         None => 0,
     }
 }
@@ -102,7 +123,7 @@ pub struct Tallies {
 impl Tallies {
     /// No note was read.
     pub fn new() -> Self
-        ensures { KnowsTallies {T = ℕ} result [] }
+        ensures { (burst : ℕ) → KnowsTallies {T = ℕ} burst result [] }
     {
         Tallies {
             queues: [Tally::new(); 256],
@@ -116,15 +137,15 @@ impl Tallies {
         self.queues[queue.0 as usize]
     }
 
-    /// Reads the next note, which speaks of this queue, if of any. The accounts are those before the note.
-    pub fn add(&mut self, note: &Note<u64>, queue: &Option<QueueNo>, accounts: &Accounts)
-        ensures { (before : Notes ℕ) → queue.now ≡ spec.queue_noted note.now before → length before < greatest_count → KnowsAccounts accounts.now before → KnowsTallies self.old before → KnowsTallies self.new (note.now ∷ before) }
+    /// Reads the next note, which speaks of this queue, if of any. The accounts are those before the note, and a turn may have so many polls.
+    pub fn add(&mut self, note: &Note<u64>, queue: &Option<QueueNo>, accounts: &Accounts, burst: u8)
+        ensures { (before : Notes ℕ) → queue.now ≡ spec.queue_noted note.now before → length before < greatest_count → KnowsAccounts burst accounts.now before → KnowsTallies burst self.old before → KnowsTallies burst self.new (note.now ∷ before) }
     {
         if let Some(queue) = *queue {
             let account = accounts.of(queue);
             let cost = cost_told(note, &account.shares);
             let mut tally = self.of(queue);
-            tally.add(note, cost);
+            tally.add(note, cost, burst);
             self.queues[queue.0 as usize] = tally;
         }
     }

@@ -22,7 +22,7 @@ fn journal(alloc: Global) -> Option<Journal<u64>> {
 /// The picks of queue 1, asked for until they aren't refused.
 fn selected(alloc: Global, journal: &Journal<u64>) -> Option<u64> {
     for _ in 0..TRIES {
-        if let Ok(stats) = queue_stats(alloc, journal, QueueNo(1)) {
+        if let Ok(stats) = queue_stats(alloc, journal, QueueNo(1), 1) {
             return match stats {
                 Some(stats) => Some(stats.selected),
                 None => None,
@@ -45,7 +45,7 @@ fn turns(alloc: Global, journal: &Journal<u64>) -> Option<u64> {
 /// What queue 1 gained in the whole journal.
 fn gain(alloc: Global, journal: &Journal<u64>) -> Option<u128> {
     for _ in 0..TRIES {
-        if let Ok(gain) = gained(alloc, journal, QueueNo(1), 0, 23) {
+        if let Ok(gain) = gained(alloc, journal, QueueNo(1), 0, 23, 1) {
             return Some(gain);
         }
     }
@@ -55,7 +55,7 @@ fn gain(alloc: Global, journal: &Journal<u64>) -> Option<u128> {
 /// The greatest charge of queue 1.
 fn charge(alloc: Global, journal: &Journal<u64>) -> Option<u64> {
     for _ in 0..TRIES {
-        if let Ok(charge) = greatest_turn(alloc, journal, QueueNo(1)) {
+        if let Ok(charge) = greatest_turn(alloc, journal, QueueNo(1), 1) {
             return Some(charge);
         }
     }

@@ -55,7 +55,7 @@ const PARKED: [Note<u64>; 5] = [
 
 /// What queue 0 is told to be.
 fn told(alloc: Global, journal: &Journal<u64>) -> Option<QueueStats> {
-    match queue_stats(alloc, journal, Q0) {
+    match queue_stats(alloc, journal, Q0, 1) {
         Ok(told) => told,
         Err(_) => None,
     }
@@ -84,7 +84,7 @@ fn of_no_queue(alloc: Global) -> Option<bool> {
         Some(stats) => waits_only(&stats),
         None => false,
     };
-    Some(waits && gained(alloc, &journal, Q0, 0, 3) == Ok(0))
+    Some(waits && gained(alloc, &journal, Q0, 0, 3, 1) == Ok(0))
 }
 
 #[test]
@@ -123,7 +123,7 @@ fn are_read(sums: &mut Sums, journal: &Journal<u64>) -> bool {
 
 fn read_in_parts(alloc: Global) -> Option<bool> {
     let journal = journal_of(alloc, &IN_ORDER).ok()?;
-    Some(are_read(&mut Sums::new(alloc), &journal))
+    Some(are_read(&mut Sums::new(alloc, 1), &journal))
 }
 
 #[test]

@@ -85,6 +85,10 @@ pub enum Scene {
     FewerShares,
     /// Three jobs in queue 0: the second is being polled, and the others wait.
     OneOut,
+    /// The two queues that share, with turns of at most two polls.
+    TwoPolls,
+    /// Queue 1 has 3 shares, and its job is done after the three polls of one turn, of 1 ns each.
+    OneTurn,
 }
 
 /// The notes of two queues, behind the creation of the second.
@@ -172,6 +176,48 @@ const POLLED: [Note<u64>; 8] = [
     Note::Start(SECOND),
 ];
 
+/// The notes of two queues whose turns have at most two polls, behind the creation of the second.
+const TURNING: [Note<u64>; 24] = [
+    Note::Sent(OWN_1, Order::Job(Q0, ())),
+    Note::Sent(OWN_2, Order::Job(Q1, ())),
+    Note::Took(OWN_1, Q0),
+    Note::Took(OWN_2, Q1),
+    Note::Pick(Q0, 0),
+    Note::Start(OWN_1),
+    Note::Yield(OWN_1, 30),
+    Note::Resume(OWN_1),
+    Note::Yield(OWN_1, 30),
+    Note::Turned(Q0, 60),
+    Note::Pick(Q1, 0),
+    Note::Start(OWN_2),
+    Note::Yield(OWN_2, 30),
+    Note::Resume(OWN_2),
+    Note::Yield(OWN_2, 30),
+    Note::Turned(Q1, 60),
+    Note::Pick(Q0, 60),
+    Note::Resume(OWN_1),
+    Note::Done(OWN_1, 30, 0),
+    Note::Turned(Q0, 30),
+    Note::Pick(Q1, 120),
+    Note::Resume(OWN_2),
+    Note::Done(OWN_2, 30, 0),
+    Note::Turned(Q1, 30),
+];
+
+/// The notes of a queue with a single turn, behind its creation.
+const ONCE: [Note<u64>; 10] = [
+    Note::Sent(OWN_1, Order::Job(Q1, ())),
+    Note::Took(OWN_1, Q1),
+    Note::Pick(Q1, 0),
+    Note::Start(OWN_1),
+    Note::Yield(OWN_1, 1),
+    Note::Resume(OWN_1),
+    Note::Yield(OWN_1, 0),
+    Note::Resume(OWN_1),
+    Note::Done(OWN_1, 1, 0),
+    Note::Turned(Q1, 3),
+];
+
 /// These shares, else 1000.
 fn shares(weight: u32) -> Shares {
     match Shares::try_new(weight) {
@@ -211,6 +257,16 @@ fn poll(journal: &mut Journal<u64>) {
     add(journal, &POLLED);
 }
 
+fn turn_by_turn(journal: &mut Journal<u64>) {
+    add(journal, &[Note::Created(Q1, shares(500))]);
+    add(journal, &TURNING);
+}
+
+fn turn_once(journal: &mut Journal<u64>) {
+    add(journal, &[Note::Created(Q1, shares(3))]);
+    add(journal, &ONCE);
+}
+
 fn fill(journal: &mut Journal<u64>, scene: Scene) {
     match scene {
         Scene::TwoQueues => share(journal),
@@ -218,6 +274,8 @@ fn fill(journal: &mut Journal<u64>, scene: Scene) {
         Scene::HandedBack => hand_back(journal),
         Scene::FewerShares => lessen(journal),
         Scene::OneOut => poll(journal),
+        Scene::TwoPolls => turn_by_turn(journal),
+        Scene::OneTurn => turn_once(journal),
     }
 }
 

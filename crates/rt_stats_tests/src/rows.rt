@@ -12,13 +12,13 @@ type QueueRow = (u8, u32, u64, u128, u128, u64, u64, u64);
 /// What a core's line tells: turns, floor, held, drained.
 type CoreRow = (u64, u128, u64, bool);
 
-/// A journal, the cores of its house, the line of its core, and those of its one or two queues.
-type Row = (Scene, u8, CoreRow, QueueRow, QueueRow);
+/// A journal, the cores of its house, the line of its core, and those of its one or two queues under a burst.
+type Row = (Scene, u8, CoreRow, QueueRow, QueueRow, u8);
 
 /// Stands for the second queue where there is none.
 const NONE: QueueRow = (0, 0, 0, 0, 0, 0, 0, 0);
 
-static ROWS: [Row; 5] = [
+static ROWS: [Row; 9] = [
     // Two queues share.
     (
         Scene::TwoQueues,
@@ -26,6 +26,7 @@ static ROWS: [Row; 5] = [
         (6, 120, 0, false),
         (0, 1000, 3, 90, 90, 0, 1, 0),
         (1, 500, 3, 90, 180, 0, 1, 0),
+        1,
     ),
     // A closed core is drained.
     (
@@ -34,6 +35,7 @@ static ROWS: [Row; 5] = [
         (2, 5, 0, true),
         (0, 1000, 2, 10, 10, 0, 2, 0),
         NONE,
+        0,
     ),
     // A job that goes back at its delivery isn't returned.
     (
@@ -42,6 +44,7 @@ static ROWS: [Row; 5] = [
         (3, 20, 0, false),
         (0, 1000, 0, 0, 0, 0, 0, 0),
         (1, 1000, 3, 20, 20, 0, 0, 2),
+        1,
     ),
     // A job that is out doesn't wait.
     (
@@ -50,6 +53,7 @@ static ROWS: [Row; 5] = [
         (2, 10, 3, false),
         (0, 1000, 2, 10, 10, 2, 0, 0),
         NONE,
+        1,
     ),
     // Fewer shares cost more.
     (
@@ -58,6 +62,43 @@ static ROWS: [Row; 5] = [
         (2, 30, 0, false),
         (0, 250, 2, 60, 150, 0, 1, 0),
         NONE,
+        1,
+    ),
+    // Two queues share by turns of two polls.
+    (
+        Scene::TwoPolls,
+        1,
+        (4, 120, 0, false),
+        (0, 1000, 2, 90, 90, 0, 1, 0),
+        (1, 500, 2, 90, 180, 0, 1, 0),
+        2,
+    ),
+    // Three polls of 1 ns in one turn cost 1000 at 3 shares.
+    (
+        Scene::OneTurn,
+        1,
+        (1, 0, 0, false),
+        (0, 1000, 0, 0, 0, 0, 0, 0),
+        (1, 3, 1, 3, 1000, 0, 1, 0),
+        64,
+    ),
+    // Each of them a turn of its own, they cost 1002.
+    (
+        Scene::OneTurn,
+        1,
+        (1, 0, 0, false),
+        (0, 1000, 0, 0, 0, 0, 0, 0),
+        (1, 3, 1, 3, 1002, 0, 1, 0),
+        1,
+    ),
+    // A journal without turns that end by a note has no runtime where they should.
+    (
+        Scene::TwoQueues,
+        1,
+        (6, 120, 0, false),
+        (0, 1000, 3, 0, 0, 0, 1, 0),
+        (1, 500, 3, 0, 0, 0, 1, 0),
+        2,
     ),
 ];
 
@@ -86,8 +127,14 @@ fn tells_core(alloc: Global, journal: &Journal<u64>, cores: u8, row: &CoreRow) -
 }
 
 /// Whether a queue has this line, and the sums of the whole journal say so too.
-fn tells_queue(alloc: Global, journal: &Journal<u64>, sums: &Sums, row: &QueueRow) -> bool {
-    match queue_stats(alloc, journal, QueueNo(row.0)) {
+fn tells_queue(
+    alloc: Global,
+    journal: &Journal<u64>,
+    sums: &Sums,
+    row: &QueueRow,
+    burst: u8,
+) -> bool {
+    match queue_stats(alloc, journal, QueueNo(row.0), burst) {
         Ok(Some(stats)) => {
             is_row(&stats, row) && sums.queue_stats(QueueNo(row.0)) == Some(stats)
         }
@@ -97,19 +144,19 @@ fn tells_queue(alloc: Global, journal: &Journal<u64>, sums: &Sums, row: &QueueRo
 
 /// Whether there is no such queue.
 fn has_no_queue(alloc: Global, journal: &Journal<u64>, queue: u8) -> bool {
-    matches!(queue_stats(alloc, journal, QueueNo(queue)), Ok(None))
+    matches!(queue_stats(alloc, journal, QueueNo(queue), 1), Ok(None))
 }
 
 /// Whether the journal has these lines of queues, and no further queue.
 fn tells_queues(alloc: Global, journal: &Journal<u64>, row: &Row) -> bool {
-    let Ok(sums) = Sums::of(alloc, journal) else {
+    let Ok(sums) = Sums::of(alloc, journal, row.5) else {
         return false;
     };
-    tells_queue(alloc, journal, &sums, &row.3)
+    tells_queue(alloc, journal, &sums, &row.3, row.5)
         && if row.4.0 == 0 {
             has_no_queue(alloc, journal, 1)
         } else {
-            tells_queue(alloc, journal, &sums, &row.4) && has_no_queue(alloc, journal, 2)
+            tells_queue(alloc, journal, &sums, &row.4, row.5) && has_no_queue(alloc, journal, 2)
         }
 }
 
@@ -137,7 +184,7 @@ fn rows_told(alloc: Global, rows: &[Row]) -> usize {
 
 #[test]
 fn journals_have_their_lines(rt: HostRuntime) {
-    assert_eq!(rt; rows_told(rt.alloc(), &ROWS), 5);
+    assert_eq!(rt; rows_told(rt.alloc(), &ROWS), 9);
 }
 
 /// Whether the closed core of a house of two, which is drained there, isn't drained in a house of three.
@@ -170,11 +217,21 @@ static GAINS: [GainRow; 10] = [
     (1, 20, 100, 60),
 ];
 
-/// The number of rows before the first that isn't gained so.
-fn rows_gained(alloc: Global, journal: &Journal<u64>, rows: &[GainRow]) -> usize {
+/// The turns of queue 0 end at the places 10 and 20, those of queue 1 at 16 and 24.
+static TURNED: [GainRow; 6] = [
+    (0, 0, 10, 0),
+    (0, 0, 11, 60),
+    (0, 11, 25, 30),
+    (1, 0, 16, 0),
+    (1, 16, 17, 120),
+    (1, 0, 25, 180),
+];
+
+/// The number of rows before the first that isn't gained so under this burst.
+fn rows_gained(alloc: Global, journal: &Journal<u64>, rows: &[GainRow], burst: u8) -> usize {
     let mut right: usize = 0;
     for row in rows {
-        if gained(alloc, journal, QueueNo(row.0), row.1, row.2) != Ok(row.3) {
+        if gained(alloc, journal, QueueNo(row.0), row.1, row.2, burst) != Ok(row.3) {
             return right;
         }
         right = right.saturating_add(1);
@@ -182,20 +239,22 @@ fn rows_gained(alloc: Global, journal: &Journal<u64>, rows: &[GainRow]) -> usize
     right
 }
 
-fn is_greatest(alloc: Global, journal: &Journal<u64>, queue: u8, charge: u64) -> bool {
-    greatest_turn(alloc, journal, QueueNo(queue)) == Ok(charge)
+fn is_greatest(alloc: Global, journal: &Journal<u64>, queue: u8, burst: u8, charge: u64) -> bool {
+    greatest_turn(alloc, journal, QueueNo(queue), burst) == Ok(charge)
 }
 
 /// Whether these are the greatest charges of the two queues, and of one that isn't there.
 fn are_greatest(alloc: Global, journal: &Journal<u64>) -> bool {
-    is_greatest(alloc, journal, 0, 30)
-        && is_greatest(alloc, journal, 1, 60)
-        && is_greatest(alloc, journal, 2, 0)
+    is_greatest(alloc, journal, 0, 1, 30)
+        && is_greatest(alloc, journal, 1, 1, 60)
+        && is_greatest(alloc, journal, 2, 1, 0)
 }
 
 fn gains_right(alloc: Global) -> bool {
     match scene_of(alloc, Scene::TwoQueues) {
-        Ok(journal) => rows_gained(alloc, &journal, &GAINS) == 10 && are_greatest(alloc, &journal),
+        Ok(journal) => {
+            rows_gained(alloc, &journal, &GAINS, 1) == 10 && are_greatest(alloc, &journal)
+        }
         Err(_) => false,
     }
 }
@@ -207,7 +266,7 @@ fn gains_between_places(rt: HostRuntime) {
 
 fn costs_more(alloc: Global) -> bool {
     match scene_of(alloc, Scene::FewerShares) {
-        Ok(journal) => is_greatest(alloc, &journal, 0, 120),
+        Ok(journal) => is_greatest(alloc, &journal, 0, 1, 120),
         Err(_) => false,
     }
 }
@@ -215,4 +274,21 @@ fn costs_more(alloc: Global) -> bool {
 #[test]
 fn fewer_shares_cost_more(rt: HostRuntime) {
     assert!(rt; costs_more(rt.alloc()));
+}
+
+/// Whether the turns of two polls are gained and charged each as one.
+fn turns_right(alloc: Global) -> bool {
+    match scene_of(alloc, Scene::TwoPolls) {
+        Ok(journal) => {
+            rows_gained(alloc, &journal, &TURNED, 2) == 6
+                && is_greatest(alloc, &journal, 0, 2, 60)
+                && is_greatest(alloc, &journal, 1, 2, 120)
+        }
+        Err(_) => false,
+    }
+}
+
+#[test]
+fn turns_are_charged_at_their_ends(rt: HostRuntime) {
+    assert!(rt; turns_right(rt.alloc()));
 }

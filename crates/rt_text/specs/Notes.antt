@@ -72,6 +72,7 @@ note_text (note.Park name time) = codes "park " ++ name_text name ++ codes " " +
 note_text (note.Stayed name time) = codes "stayed " ++ name_text name ++ codes " " ++ decimal time
 note_text (note.Done name time out) = codes "done " ++ name_text name ++ codes " " ++ decimal time ++ codes " = " ++ decimal out
 note_text (note.Returned name why) = codes "returned " ++ name_text name ++ codes " " ++ reason_text why
+note_text (note.Turned queue time) = codes "turned q" ++ decimal queue ++ codes " " ++ decimal time
 note_text (note.Shut from count) = codes "shut " ++ decimal from ++ codes " " ++ decimal count
 note_text (note.Collected name told) = codes "collected " ++ name_text name ++ codes " " ++ outcome_text told
 note_text (note.Redeemed name told) = codes "redeemed " ++ name_text name ++ codes " " ++ outcome_text told

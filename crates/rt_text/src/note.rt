@@ -5,7 +5,7 @@ ghost use Rattle.rt_text.specs.Notes as spec;
 
 use crate::parts::{
     AnsweredText, ClosedText, DoneText, HandedText, JobText, PickText, QueueText, SentText,
-    ShutText, TimedText, ToldText, TookText,
+    ShutText, TimedText, ToldText, TookText, TurnedText,
 };
 use crate::word::mode_word;
 use rt_ids::{ActorNo, Note};
@@ -55,6 +55,7 @@ impl fmt::Display for NoteText {
             Note::Stayed(name, time) => TimedText("stayed ", name, time).fmt(f),
             Note::Done(name, time, out) => DoneText(name, time, out).fmt(f),
             Note::Returned(name, reason) => HandedText("returned ", name, reason).fmt(f),
+            Note::Turned(queue, time) => TurnedText(queue, time).fmt(f),
             Note::Shut(from, count) => ShutText(from, count).fmt(f),
             Note::Collected(name, outcome) => ToldText("collected ", name, outcome).fmt(f),
             Note::Redeemed(name, outcome) => ToldText("redeemed ", name, outcome).fmt(f),

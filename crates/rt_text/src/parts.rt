@@ -177,6 +177,20 @@ impl fmt::Display for DoneText {
     }
 }
 
+/// `turned qQ T`
+#[derive(Clone, Copy)]
+pub(crate) struct TurnedText(pub(crate) QueueNo, pub(crate) u64);
+
+impl fmt::Display for TurnedText {
+    ghost output = { λ text. Some (spec.note_text (note.Turned text.0 text.1)) };
+
+    fn fmt<W: fmt::Write>(&self, f: &mut fmt::Formatter<W>) -> fmt::Result {
+        let queue = self.0.0;
+        let time = self.1;
+        write!(f, "turned q{queue} {time}")
+    }
+}
+
 /// `shut s COUNT`
 #[derive(Clone, Copy)]
 pub(crate) struct ShutText(pub(crate) ActorNo, pub(crate) u64);

@@ -61,7 +61,7 @@ module _ {T : Type 0} where
   pub none_watched : (queue : ℕ) (watch : Watch) → watch ≡ no_watch → KnowsWatch {T = T} queue watch []
   none_watched queue watch is = record { due = ap (λ (it : Watch). it.due) is; most_waiting = ap (λ (it : Watch). it.most_waiting) is }
 
-  module _ (accounts : Accounts) (journal : Journal T) (knows : KnowsAccounts accounts journal) where
+  module _ (accounts : Accounts) (journal : Journal T) (knows : KnowsAccounts 1 accounts journal) where
     -- the accounts tell which queues have work, and their shares
     pub busy_known : (queue : ℕ) → shares_in (get_or accounts.queues queue fresh_account) ≡ busy_shares queue journal
     busy_known queue = λ i. cond (nat_lt ((knows.each queue).left i + (knows.each queue).parked i) ((knows.each queue).entered i)) ((knows.each queue).shares i) 0
@@ -72,7 +72,7 @@ module _ {T : Type 0} where
     below_known (suc queue) = λ i. below_known queue i + busy_known queue i
 
     -- the accounts and tallies tell how many jobs wait
-    pub waiting_known : (tallies : Tallies) → KnowsTallies tallies journal → (queue : ℕ) →
+    pub waiting_known : (tallies : Tallies) → KnowsTallies 1 tallies journal → (queue : ℕ) →
         waiting_in (get_or accounts.queues queue fresh_account) (get_or tallies.queues queue no_tally) ≡ waiting_count queue journal
     waiting_known tallies told queue =
         λ i.

@@ -40,7 +40,7 @@ module _ {T : Type 0} where
   most_waiting queue (note ∷ before) = max (most_waiting queue before) (waiting_count queue (note ∷ before))
 
   -- what is told of the shares of a queue, if there is such a queue; a due time that no `u128` holds is told as the greatest one
-  abbrev pub queue_share : ℕ → Journal T → Option QueueShare
-  queue_share queue journal =
+  abbrev pub queue_share : ℕ → ℕ → Journal T → Option QueueShare
+  queue_share burst queue journal =
       option_map (λ stats. record { stats = stats; due = min (due queue journal) greatest_runtime; most_waiting = most_waiting queue journal })
-      (queue_stats queue journal)
+      (queue_stats burst queue journal)

@@ -60,14 +60,14 @@ pub record KnowsWatch {T : Type 0} (queue : ℕ) (watch : Watch) (journal : Jour
 abbrev pub AreWatched : {T : Type 0} → List Watch → Journal T → Type 0
 AreWatched each journal = (queue : ℕ) → queue < most_queues → KnowsWatch queue (get_or each queue no_watch) journal
 
--- all is known as these notes tell it
+-- all is known as these notes tell it; no charge is asked for, so each poll may stand for a turn
 pub record KnowsWatches {T : Type 0} (watches : Watches) (journal : Journal T) : Type 0 where
   pub parks : KnowsParks watches.parks journal
-  pub accounts : KnowsAccounts watches.accounts journal
-  pub tallies : KnowsTallies watches.tallies journal
+  pub accounts : KnowsAccounts 1 watches.accounts journal
+  pub tallies : KnowsTallies 1 watches.tallies journal
   pub each : AreWatched watches.each journal
 
--- the sums and the watches are those of these notes
-pub record KnowsShares {T : Type 0} (shares : CoreShares) (journal : Journal T) : Type 0 where
-  pub sums : KnowsSums shares.sums journal
+-- the sums and the watches are those of these notes, where a turn may have so many polls
+pub record KnowsShares {T : Type 0} (burst : ℕ) (shares : CoreShares) (journal : Journal T) : Type 0 where
+  pub sums : KnowsSums burst shares.sums journal
   pub each : AreWatched shares.each journal

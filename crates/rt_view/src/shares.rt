@@ -30,22 +30,22 @@ pub struct CoreShares {
 }
 
 impl CoreShares {
-    /// Reads the journal of a core. It goes over all queues at each note.
+    /// Reads the journal of a core, where a turn may have so many polls. It goes over all queues at each note.
     ///
     /// # Errors
     ///
     /// `AllocError` for want of memory.
-    pub fn of(alloc: Global, journal: &Journal<u64>) -> Result<Self, AllocError>
-        ensures { IfOk result (λ shares. watches.KnowsShares shares journal.now.notes) }
+    pub fn of(alloc: Global, journal: &Journal<u64>, burst: u8) -> Result<Self, AllocError>
+        ensures { IfOk result (λ shares. watches.KnowsShares burst shares journal.now.notes) }
     {
-        let sums = Sums::of(alloc, journal)?;
+        let sums = Sums::of(alloc, journal, burst)?;
         let each = watched(alloc, journal)?;
         Ok(CoreShares { sums, each })
     }
 
     /// What is told of the shares of a queue, if there is such a queue.
     pub fn queue(&self, queue: QueueNo) -> Option<QueueShare>
-        ensures { (journal : Notes ℕ) → watches.KnowsShares self.now journal → result ≡ spec.queue_share queue journal }
+        ensures { (burst : ℕ) (journal : Notes ℕ) → watches.KnowsShares burst self.now journal → result ≡ spec.queue_share burst queue journal }
     {
         let stats = self.sums.queue_stats(queue)?;
         let watch = self.each[queue.0 as usize];

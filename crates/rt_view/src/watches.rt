@@ -153,8 +153,9 @@ impl Watches {
     {
         let spot = self.parks.spot(note);
         owe_all(&mut self.each, settled_time(note), &self.accounts.queues);
-        self.tallies.add(note, &spot.queue, &self.accounts);
-        self.accounts.add(note, &spot);
+        // No charge is asked for, so each poll may stand for a turn.
+        self.tallies.add(note, &spot.queue, &self.accounts, 1);
+        self.accounts.add(note, &spot, 1);
         see_all(&mut self.each, &self.accounts.queues, &self.tallies.queues);
         self.parks.add(note)
     }

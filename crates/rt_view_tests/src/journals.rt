@@ -49,6 +49,30 @@ fn finish(journal: &mut Journal<u64>) {
     );
 }
 
+/// The same jobs, each in one turn of its own: the first is polled twice in it.
+fn turn(journal: &mut Journal<u64>) {
+    add(
+        journal,
+        &[
+            Note::Resume(job(1)),
+            Note::Done(job(1), 10, 7),
+            Note::Turned(QueueNo(0), 40),
+            Note::Pick(QueueNo(1), 0),
+            Note::Start(job(2)),
+            Note::Done(job(2), 20, 5),
+            Note::Turned(QueueNo(1), 20),
+        ],
+    );
+}
+
+/// The journal of a core whose turns may have two polls.
+pub fn turned(alloc: Global) -> Result<Journal<u64>, AllocError> {
+    let mut journal = Journal::try_with_room(alloc, 12)?;
+    enter(&mut journal);
+    turn(&mut journal);
+    Ok(journal)
+}
+
 /// The journal of these notes.
 pub fn journal(alloc: Global) -> Result<Journal<u64>, AllocError> {
     let mut journal = Journal::try_with_room(alloc, 11)?;

@@ -25,6 +25,12 @@ third ws = second (others ws)
 abbrev pub fourth : List (List ℕ) → List ℕ
 fourth ws = third (others ws)
 
+abbrev pub fifth : List (List ℕ) → List ℕ
+fifth ws = fourth (others ws)
+
+abbrev pub sixth : List (List ℕ) → List ℕ
+sixth ws = fifth (others ws)
+
 -- no word is empty
 abbrev pub all_words : List (List ℕ) → Bool
 all_words ws = list_all (λ word. nat_lt 0 (length word)) ws

@@ -5,6 +5,7 @@ use Rattle.rt_world.proofs.Words.{Detaches, Sends, RecordedView, desk_of, core_a
 use Rattle.rt_world.specs.declared.model.acts.Act.TheVariants.{Send, Collect, Redeem, Detach}
 use Rattle.rt_world.specs.Acts.{notes_for, HasCoreActed}
 use Rattle.rt_world.proofs.Desks.{desks-core}
+use Rattle.rt_world_links.proofs.Between.{none_open, not_open}
 use Rattle.rt_world_links.proofs.LinkRows.{with_link}
 use Rattle.rt_world_links.proofs.LinkSteps.{OnlySent, in_stays}
 use Rattle.rt_world.proofs.WorldAfter.{rest_after}
@@ -84,7 +85,12 @@ module _ {J : Type 0} {meaning : Meaning J ℕ} {old : Parts J ℕ} {sender to :
   core_journals = ap (map (λ desk. desk.journal.notes)) (desks-core old sender now (omega (arith, by.core, world.all_there.cores_are)))
 
   pub core_at_rest : IsAtRest old → IsAtRest core_sent
-  core_at_rest rest = rest_after old sender now (with_link old.links sender to after) rest (ap (λ view. view.core.out) core_did.rest ∙ rest sender by.core)
+  core_at_rest rest =
+      let was = rest sender by.core in
+      rest_after old sender now (with_link old.links sender to after) rest (record {
+        nobody_out = ap (λ view. view.core.out) core_did.rest ∙ was.nobody_out;
+        no_turn = none_open now core_did.sound (ap (λ view. view.core.bursts.open) core_did.rest ∙ not_open (core_at sender old) (world.recorded sender by.core) was.no_turn);
+      })
 
   pub core_rests : IsWorld meaning core_sent
   core_rests =

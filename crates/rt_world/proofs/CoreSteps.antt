@@ -29,6 +29,9 @@ module _ {J T : Type 0} {meaning : Meaning J T} {old : Parts J T}
   pub core_cap : (core_at core old).cap ≡ old.cap
   core_cap = ap (λ desk. desk.cap) (sym desk_is ∙ world.all_there.seats_are core (omega (arith, there)))
 
+  pub burst_is : (core_at core old).core.bursts.burst ≡ old.burst
+  burst_is = ap (λ desk. desk.burst) (sym desk_is ∙ world.all_there.seats_are core (omega (arith, there)))
+
   pub cores_are : (core_at core old).core.cores ≡ old.cores
   cores_are = ap (λ desk. desk.cores) (sym desk_is ∙ world.all_there.seats_are core (omega (arith, there)))
 
@@ -37,7 +40,7 @@ module _ {J T : Type 0} {meaning : Meaning J T} {old : Parts J T}
 
   -- the core that a call borrows is the one of this number
   pub viewed : {place : ℕ} (view : RecordedView J T) → place ≡ core → view ≡ get_or old.inside place view → view ≡ core_at core old
-  viewed view is read = read ∙ (ap (λ at. get_or old.inside at view) is ∙ get_or_default old.inside core view (opened_beside 0 0 0 0) within)
+  viewed view is read = read ∙ (ap (λ at. get_or old.inside at view) is ∙ get_or_default old.inside core view (opened_beside 0 0 0 0 0) within)
 
   -- notes that have room in the world have room there
   pub free : {seen : WorldView J T} {view : RecordedView J T} → world_of old ≡ seen → view ≡ core_at core old → (more : ℕ) →
@@ -74,7 +77,7 @@ module _ {J T : Type 0} {meaning : Meaning J T} {old : Parts J T}
       pub ins : (sender : ℕ) → sender ≤ old.cores → IsInOf sender now (inward_of (link_at sender core links))
 
     core_now : core_at core parts_now ≡ now
-    core_now = get_or-set_same old.inside core now (opened_beside 0 0 0 0) within
+    core_now = get_or-set_same old.inside core now (opened_beside 0 0 0 0 0) within
 
     seat_is : IsSameSeat (core_at core old) now → desk_of now ≡ seat_of core (desk_of now) old
     seat_is seat =
@@ -83,6 +86,7 @@ module _ {J T : Type 0} {meaning : Meaning J T} {old : Parts J T}
           actor = (seat.number ∙ ap (λ desk. desk.actor) was) i;
           cores = (seat.cores ∙ ap (λ desk. desk.cores) was) i;
           cap = (seat.cap ∙ ap (λ desk. desk.cap) was) i;
+          burst = (seat.burst ∙ ap (λ desk. desk.burst) was) i;
           journal = record { notes = now.journal.notes; room = (seat.room ∙ ap (λ desk. desk.journal.room) was) i };
           lanes = now.lanes;
         }
@@ -95,7 +99,7 @@ module _ {J T : Type 0} {meaning : Meaning J T} {old : Parts J T}
       links_are = did.links_are;
       desks_are = desks-core old core now within;
       seat = seat_is did.seat;
-      other_cores = λ other away. get_or-set_other old.inside core other now (opened_beside 0 0 0 0) away;
+      other_cores = λ other away. get_or-set_other old.inside core other now (opened_beside 0 0 0 0 0) away;
       recorded = λ known. subst (IsRecorded meaning) (sym core_now) did.recorded;
       written = world.outside;
       received = did.received;
@@ -145,7 +149,7 @@ module _ {J T : Type 0} {meaning : Meaning J T} {old : Parts J T}
     -- where no order was sent, its world is longer by these notes
     pub core_noted : (notes : List (Note T)) → now.journal ≡ with_notes notes (core_at core old).journal → (world_of parts_now).sent ≡ (world_of old).sent →
         world_of parts_now ≡ noted core notes (world_of old)
-    core_noted notes longer same_lists = λ i. record { cores = old.cores; cap = old.cap; room = old.room; journals = journals_now notes longer i; sent = same_lists i }
+    core_noted notes longer same_lists = λ i. record { cores = old.cores; cap = old.cap; burst = old.burst; room = old.room; journals = journals_now notes longer i; sent = same_lists i }
 
     -- and where the core is as it was, so is its world
     pub core_unchanged : now ≡ core_at core old → (world_of parts_now).sent ≡ (world_of old).sent → world_of parts_now ≡ world_of old

@@ -15,14 +15,14 @@ module _ {J T : Type 0} (parts : Parts J T) where
   -- the desk of a core is its own, and the last one is the outside actor's
   pub desk_at-core : (core : ℕ) → core < length parts.inside → desk_at core parts ≡ desk_of (core_at core parts)
   desk_at-core core there =
-      get_or_append_left (map desk_of parts.inside) (parts.outside ∷ []) (opened_desk 0 0 0 0) core (omega (arith, there, length-map parts.inside desk_of))
-      ∙ get_or-map desk_of parts.inside core (opened_beside 0 0 0 0)
+      get_or_append_left (map desk_of parts.inside) (parts.outside ∷ []) (opened_desk 0 0 0 0 0) core (omega (arith, there, length-map parts.inside desk_of))
+      ∙ get_or-map desk_of parts.inside core (opened_beside 0 0 0 0 0)
 
   pub desk_at-outside : (actor : ℕ) → length parts.inside ≡ actor → desk_at actor parts ≡ parts.outside
-  desk_at-outside actor last = get_or_push (map desk_of parts.inside) parts.outside (opened_desk 0 0 0 0) actor (length-map parts.inside desk_of ∙ last)
+  desk_at-outside actor last = get_or_push (map desk_of parts.inside) parts.outside (opened_desk 0 0 0 0 0) actor (length-map parts.inside desk_of ∙ last)
 
   pub journal_at-world : (actor : ℕ) → journal_at actor (world_of parts) ≡ notes_at actor parts
-  journal_at-world actor = get_or-map (λ desk. desk.journal.notes) (desks parts) actor (opened_desk 0 0 0 0)
+  journal_at-world actor = get_or-map (λ desk. desk.journal.notes) (desks parts) actor (opened_desk 0 0 0 0 0)
 
   pub journal_of-world : (actor : ℕ) → journal_of actor (assembly_of (world_of parts)) ≡ notes_at actor parts
   journal_of-world actor = unwrap_or-slice_get (world_of parts).journals actor [] ∙ journal_at-world actor

@@ -1,6 +1,7 @@
 pub mod Words
 pub mod Desks
 pub mod Fresh
+pub mod StillTurns
 pub mod WorldAfter
 pub mod CoreSteps
 pub mod SentLinks
@@ -13,3 +14,4 @@ pub mod Gathered
 pub mod WorldSound
 pub mod Posting
 pub mod Polling
+pub mod WholeTurns

@@ -1,24 +1,28 @@
--- A core's turn in its world: a job is picked, it is polled with its post, and the poll is settled; or it is handed back.
-use Rattle.rt_world.proofs.Words.{◌≡◌, ℕ, ◌+◌, ◌-◌, ◌^◌, ◌<◌, ◌≤◌, List, [], ◌∷◌, refl, sym, ◌∙◌, ap, subst, inl, inr, arith, set, get_or-set_same}
+-- A poll of a core in its world: its job goes out, is polled with its post, and the poll is settled.
+use Rattle.rt_world.proofs.Words.{◌≡◌, ℕ, ◌+◌, ◌-◌, ◌^◌, ◌<◌, ◌≤◌, List, [], ◌∷◌, refl, sym, ◌∙◌, ap, subst, arith, set, get_or-set_same}
 use Rattle.rt_world.proofs.Words.{unwrap_or, set-set, set-get_or, Some, slice_get, JobId, Order, Journal, IsRightPick, Meaning, Whole, RecordedView, row_of}
-use Rattle.rt_world.proofs.Words.{link_at, Parts, core_at, world_of, IsWorld, IsAtRest, journal_at, noted, Job, return_reason, name_started, is_told, line}
-use Rattle.rt_world.proofs.Words.{turns, has_work, Makes, polls_made, poll_note, order_taken, opened_beside, with_notes, post_of, CallsAt, order_under}
-use Rattle.rt_world.proofs.Words.{pick_notes, IsPoll, Turns}
+use Rattle.rt_world.proofs.Words.{link_at, Parts, core_at, world_of, IsWorld, journal_at, noted, Job, return_reason, name_started, is_told, line}
+use Rattle.rt_world.proofs.Words.{turns, Makes, polls_made, poll_note, order_taken, opened_beside, with_notes, post_of, CallsAt, order_under}
+use Rattle.rt_world.proofs.Words.{Note, poll_notes, IsPoll, true}
 use Rattle.rt_ids.specs.declared.note.Note.TheVariants as writes
+use Rattle.std.proofs.lemmas.Bool.{lt-ltb}
+use Rattle.rt_ids.specs.Bursts.{polls_in_turn}
 use Rattle.rt_ids.specs.Commands.{stays_in_line}
+use Rattle.rt_ids.specs.Lawful.{GoesOn, may_go_on}
+use Rattle.rt_ids.proofs.WorkOfLines.{work_of_line}
 use Rattle.rt_core.specs.Whole.{settled_of}
 use Rattle.rt_journal.specs.Polls.{settle_note}
-use Rattle.rt_world_links.specs.declared.turn.Turned.{Turned}
-use Rattle.rt_world_links.specs.declared.turn.Turned.TheVariants.{Made, Idle, Spent}
-use Rattle.rt_world.specs.Turns.{settled_note, turned_reply}
+use Rattle.rt_journal.specs.Recorded.{terms_at}
+use Rattle.rt_journal.specs.Turns.{IsFurther, IsPick}
+use Rattle.rt_journal.specs.Whole.{Begins}
+use Rattle.rt_world.specs.Turns.{IsFirstPoll, IsFurtherPoll, settled_note}
 use Rattle.rt_world_links.specs.OneTurn as one
 use Rattle.rt_world.proofs.CoreSteps.{cores_are, number_is, parts_now, receives, journal_is, core_noted}
 use Rattle.rt_world.proofs.Desks.{sent_at-world}
 use Rattle.rt_world_links.proofs.LinkSteps.{received-same, no_change}
-use Rattle.rt_world_links.proofs.OneTurn.{settled_stays, out_is, poll_owed, poll_task}
+use Rattle.rt_world_links.proofs.OneTurn.{GoesBehind, further_behind, out_is, picked_behind, poll_owed, poll_task, settled_stays}
 use Rattle.rt_world.proofs.Posting.{Post, parts_at, IsAt, calls_now}
-use Rattle.rt_world.proofs.Turning.{quiet, quiet_rests, quiet_at_rest, quiet_noted, handed_back, unchanged}
-use Rattle.rt_world.proofs.WorldAfter.{rest_after}
+use Rattle.rt_world.proofs.Turning.{in_world, quiet, quiet_noted, quiet_rests}
 
 module _ {J : Type 0} {meaning : Meaning J ℕ} {old : Parts J ℕ}
     (world : IsWorld meaning old) (number : ℕ) (there : number < old.cores) where
@@ -42,14 +46,15 @@ module _ {J : Type 0} {meaning : Meaning J ℕ} {old : Parts J ℕ}
     abbrev pub turned : Parts J ℕ
     turned = parts_now world number there new after
 
-    module _ (did : one.PollsOne meaning number spent view new old.links after) where
+    module _ {begins : Begins J ℕ} {name : JobId} (did : one.PollsOne meaning begins number spent name view new old.links after)
+        {begun : List (Note ℕ)} (goes : GoesBehind begun view name did.queue did.started did.turn.ran.before did.turn.picked) where
       abbrev first : Post J
       first = post_of did.turn.picked (row_of number old.links)
 
       abbrev last : Post J
       last = post_of did.turn.left did.row
 
-      -- the world after the pick
+      -- the world after the job went out
       picked_world : IsWorld meaning (parts_now world number there did.turn.picked old.links)
       picked_world = receives world number there did.turn.picked old.links (record {
         recorded = did.turn.sound;
@@ -81,7 +86,7 @@ module _ {J : Type 0} {meaning : Meaning J ℕ} {old : Parts J ℕ}
       mid_world = subst (IsWorld meaning) last_is called.0.world
 
       mid_core : core_at number mid ≡ did.turn.left
-      mid_core = get_or-set_same old.inside number did.turn.left (opened_beside 0 0 0 0) (omega (arith, there, world.all_there.cores_are))
+      mid_core = get_or-set_same old.inside number did.turn.left (opened_beside 0 0 0 0 0) (omega (arith, there, world.all_there.cores_are))
 
       stays : one.StaysBeside meaning number (core_at number mid) new mid.links after
       stays = subst (λ at. one.StaysBeside meaning number at new mid.links after) (sym mid_core) (settled_stays did)
@@ -95,47 +100,42 @@ module _ {J : Type 0} {meaning : Meaning J ℕ} {old : Parts J ℕ}
       abbrev before : Journal ℕ
       before = journal_at number (world_of old)
 
-      picked_noted : world_of (parts_at old number did.turn.picked first) ≡ noted number (pick_notes did.name did.queue did.turn.picks.runtime before) (world_of old)
+      picked_noted : world_of (parts_at old number did.turn.picked first) ≡ noted number (poll_notes name begun before) (world_of old)
       picked_noted =
           ap world_of first_is
-          ∙ (core_noted world number there did.turn.picked old.links (poll_note did.name did.started ∷ writes.Pick did.queue did.turn.picks.runtime ∷ []) did.turn.picks.journal refl
-          ∙ ap (λ started. noted number (poll_note did.name started ∷ writes.Pick did.queue did.turn.picks.runtime ∷ []) (world_of old)) (did.turn.picks.started ∙ ap (is_told name_started did.name) (sym here)))
+          ∙ (core_noted world number there did.turn.picked old.links (poll_note name did.started ∷ begun) goes.journal refl
+          ∙ ap (λ started. noted number (poll_note name started ∷ begun) (world_of old)) (goes.started ∙ ap (is_told name_started name) (sym here)))
 
       mid_notes : journal_at number (world_of mid) ≡ did.turn.left.journal.notes
       mid_notes = journal_is mid_world number there ∙ ap (λ view. view.journal.notes) mid_core
 
       -- what became of the job is what the journal says behind the calls of its poll
-      came : did.settled ≡ settled_of did.turn.ran.step (stays_in_line did.name (journal_at number (world_of mid)))
+      came : did.settled ≡ settled_of did.turn.ran.step (stays_in_line name (journal_at number (world_of mid)))
       came =
           did.turn.settles.tells
-          ∙ (ap (λ out. settled_of did.turn.ran.step (stays_in_line out.name did.turn.left.journal.notes)) (out_is did)
-          ∙ ap (λ notes. settled_of did.turn.ran.step (stays_in_line did.name notes)) (sym mid_notes))
+          ∙ (ap (λ out. settled_of did.turn.ran.step (stays_in_line out.name did.turn.left.journal.notes)) (out_is did goes)
+          ∙ ap (λ notes. settled_of did.turn.ran.step (stays_in_line name notes)) (sym mid_notes))
 
-      settled_noted : world_of turned ≡ noted number (settled_note did.name (unwrap_or did.turn.ran.told spent) did.turn.ran.step (journal_at number (world_of mid)) ∷ []) (world_of mid)
+      settled_noted : world_of turned ≡ noted number (settled_note name (unwrap_or did.turn.ran.told spent) did.turn.ran.step (journal_at number (world_of mid)) ∷ []) (world_of mid)
       settled_noted =
           ap world_of (sym settled_is)
           ∙ (quiet_noted mid_world number there new after stays (settle_note did.turn.settles.out.name (unwrap_or did.turn.ran.told spent) did.settled ∷ [])
           (did.turn.settles.journal
           ∙ λ i. with_notes (settle_note did.turn.settles.out.name (unwrap_or did.turn.ran.told (did.turn.told i)) did.settled ∷ []) (sym mid_core i).journal)
-          ∙ (ap (λ out. noted number (settle_note out.name (unwrap_or did.turn.ran.told spent) did.settled ∷ []) (world_of mid)) (out_is did)
-          ∙ ap (λ settled. noted number (settle_note did.name (unwrap_or did.turn.ran.told spent) settled ∷ []) (world_of mid)) came))
+          ∙ (ap (λ out. noted number (settle_note out.name (unwrap_or did.turn.ran.told spent) did.settled ∷ []) (world_of mid)) (out_is did goes)
+          ∙ ap (λ settled. noted number (settle_note name (unwrap_or did.turn.ran.told spent) settled ∷ []) (world_of mid)) came))
 
-      polled : IsPoll meaning number spent (world_of old) (world_of turned)
+      polled : IsPoll meaning number spent did.queue name begun (world_of old) (world_of turned)
       polled = record {
-        turn_left = subst (λ journal. turns journal < 2 ^ 64 - 1) (sym here) did.turn.picks.turn_left;
-        queue = did.queue;
-        runtime = did.turn.picks.runtime;
-        right = subst (IsRightPick did.queue did.turn.picks.runtime) (sym here) did.turn.picks.right;
-        name = did.name;
-        others = did.turn.picks.others;
-        first = ap (line did.queue) here ∙ did.turn.picks.first;
-        kept = ap (return_reason did.queue) here ∙ did.turn.picks.kept;
+        others = goes.others;
+        first = ap (line did.queue) here ∙ goes.first;
+        kept = ap (return_reason did.queue) here ∙ goes.kept;
         job = did.turn.settles.sent;
-        task = task_sent did.name (Job did.queue did.turn.settles.sent) (poll_task did);
+        task = task_sent name (Job did.queue did.turn.settles.sent) (poll_task did goes);
         calls = did.turn.owed.calls;
         step = did.turn.ran.step;
         told = did.turn.ran.told;
-        owed = subst (λ journal. meaning.polls did.turn.settles.sent (meaning.made did.turn.settles.sent + polls_made did.name journal) did.turn.owed.calls did.turn.ran.step did.turn.ran.told) (sym here) (poll_owed did);
+        owed = subst (λ journal. meaning.polls did.turn.settles.sent (meaning.made did.turn.settles.sent + polls_made name journal) did.turn.owed.calls did.turn.ran.step did.turn.ran.told) (sym here) (poll_owed did goes);
         answered = did.turn.settles.answered;
         posted = world_of mid;
         posts = subst (λ start. Makes (CallsAt meaning number) did.turn.owed.calls start (world_of mid)) picked_noted
@@ -143,19 +143,35 @@ module _ {J : Type 0} {meaning : Meaning J ℕ} {old : Parts J ℕ}
         notes = settled_noted;
       }
 
-    -- after a turn the world is one at rest again, and the turn is the step of its event
-    pub record IsTurned (answer : Turned) : Type 0 where
-      pub holds : IsWorld meaning turned
-      pub at_rest : IsAtRest old → IsAtRest turned
-      pub does : Turns meaning number spent (world_of old) (world_of turned) (turned_reply answer)
+    -- the first poll of a turn
+    pub first_polled : {name : JobId} → one.PollsOne meaning IsPick number spent name view new old.links after → IsWorld meaning turned × IsFirstPoll meaning number spent (world_of old) (world_of turned)
+    first_polled {name} did =
+        let picks = did.turn.picks in (
+          polled_rests did (picked_behind picks),
+          record {
+            turn_left = subst (λ journal. turns journal < 2 ^ 64 - 1) (sym here) picks.turn_left;
+            queue = did.queue;
+            runtime = picks.runtime;
+            right = in_world world number there (λ burst journal. IsRightPick burst did.queue picks.runtime journal) picks.right;
+            name = name;
+            poll = polled did (picked_behind picks);
+          },
+        )
 
-    module _ (stays : one.StaysBeside meaning number view new old.links after) where
-      without_poll : (answer : Turned) → Turns meaning number spent (world_of old) (world_of turned) (turned_reply answer) → IsTurned answer
-      without_poll answer turns = record { holds = quiet_rests world number there new after stays; at_rest = quiet_at_rest world number there new after stays; does = turns }
-
-    pub turns_now : (answer : Turned) → one.Turns meaning number spent view new old.links after answer → IsTurned answer
-    turns_now Made (inl poll) = record { holds = polled_rests poll; at_rest = λ rest. rest_after old number new after rest poll.turn.settles.out_now; does = inl (polled poll) }
-    turns_now Made (inr back) = without_poll back.1 Made (inr (handed_back world number there new after back.1 back.0))
-    turns_now Idle did = without_poll did.2 Idle ((λ queue. ap (has_work queue) here ∙ did.0 queue), unchanged world number there new after did.2 did.1)
-    turns_now Spent did =
-        without_poll did.3 Spent (ap turns here ∙ did.0, (did.1.0, ap (has_work did.1.0) here ∙ did.1.1), unchanged world number there new after did.3 did.2)
+    -- a further one
+    pub further_polled : {name : JobId} → one.PollsOne meaning IsFurther number spent name view new old.links after → IsWorld meaning turned × IsFurtherPoll meaning number spent name (world_of old) (world_of turned)
+    further_polled did =
+        let goes = did.turn.picks in
+        let recorded = world.recorded number there in (
+          polled_rests did (further_behind goes),
+          record {
+            queue = did.queue;
+            goes_on = in_world world number there (λ burst journal. GoesOn burst did.queue journal) goes.goes_on;
+            may = in_world world number there (λ burst journal. may_go_on burst did.queue journal ≡ true) (rw (
+              lt-ltb (polls_in_turn view.journal.notes) view.core.bursts.burst goes.goes_on.poll_left,
+              work_of_line (terms_at view) did.queue view.journal.notes recorded.kept.notes _ goes.others goes.first,
+              goes.kept,
+            ) refl);
+            poll = polled did (further_behind goes);
+          },
+        )

@@ -43,7 +43,7 @@ module _ {J : Type 0} (meaning : Meaning J ℕ) (base : Parts J ℕ) (number : �
 
   module _ (post : Post J) (at : Here post) where
     core_is : core_at number (parts post) ≡ view post
-    core_is = get_or-set_same base.inside number (view post) (opened_beside 0 0 0 0) (omega (arith, there, at.world.all_there.cores_are, length-set base.inside number (view post)))
+    core_is = get_or-set_same base.inside number (view post) (opened_beside 0 0 0 0 0) (omega (arith, there, at.world.all_there.cores_are, length-set base.inside number (view post)))
 
     row_is : row_of number (parts post).links ≡ post.ends
     row_is = get_or-set_same base.links number post.ends [] (omega (arith, there, at.world.all_there.rows_are, length-set base.links number post.ends))
@@ -76,6 +76,7 @@ module _ {J : Type 0} (meaning : Meaning J ℕ) (base : Parts J ℕ) (number : �
         actor = (ap (λ desk. desk.actor) rest_is ∙ ap (λ desk. desk.actor) at.desk) i;
         cores = (ap (λ desk. desk.cores) rest_is ∙ ap (λ desk. desk.cores) at.desk) i;
         cap = (ap (λ desk. desk.cap) rest_is ∙ ap (λ desk. desk.cap) at.desk) i;
+        burst = (ap (λ desk. desk.burst) rest_is ∙ ap (λ desk. desk.burst) at.desk) i;
         journal = next.desk.journal;
         lanes = next.desk.lanes;
       }
@@ -103,7 +104,7 @@ module _ {J : Type 0} (meaning : Meaning J ℕ) (base : Parts J ℕ) (number : �
             record {
               acted = acted;
               rest = refl;
-              seat = record { number = refl; cores = refl; cap = refl; room = ap (λ desk. desk.journal.room) rest_is };
+              seat = record { number = refl; cores = refl; cap = refl; burst = refl; room = ap (λ desk. desk.journal.room) rest_is };
               ins = λ from. subst (KeepsIn from (view post)) (sym view_is) (ins_silent (view post) next.desk.journal.notes next.desk.lanes silent from);
               sound = subst (IsRecorded meaning) (sym view_is) (recorded_silent (view post) next.desk.journal.notes next.desk.lanes silent recorded acted.stays.written);
             }

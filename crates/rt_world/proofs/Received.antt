@@ -1,10 +1,11 @@
 -- A core does something on the link of a sender: it is the step of its event, and the world stays one.
 use Rattle.rt_world.proofs.Words.{◌≡◌, ℕ, ◌<◌, ◌≤◌, Bool, List, sym, ◌∙◌, ap, subst, Meaning, Whole, inward_of, RecordedView, IsInOf, WorldView, journal_at}
 use Rattle.rt_world.proofs.Words.{link_at, Parts, core_at, world_of, IsWorld, ◌+◌, true, false, [], ◌∷◌, length, arith, append-nil, slice_get, Reply, noted, None}
-use Rattle.rt_world.proofs.Words.{desk_at, IsAtRest, accepted_orders, ChangesLink, sent_at, Delivers, IsDelivery, next_place, HasReceived}
+use Rattle.rt_world.proofs.Words.{desk_at, IsAtRest, IsCoreAtRest, accepted_orders, ChangesLink, sent_at, Delivers, IsDelivery, next_place, HasReceived}
 use Rattle.rt_world_links.proofs.TakenLinks.{DidOnLink, on_link, took_on_link, seen_is, sent_is, only_received}
 use Rattle.rt_world.proofs.CoreSteps.{journal_is, number_is, parts_now, core_noted, core_unchanged, receives}
 use Rattle.rt_ids.specs.declared.order.Envelope.{Envelope}
+use Rattle.rt_ids.specs.Bursts.{queue_in_turn}
 use Rattle.rt_ids.specs.Filters.{delivered_names}
 use Rattle.rt_journal.specs.Steps.{Delivers as DeliversTo, out_told}
 use Rattle.rt_journal_desk.proofs.NumberedOrders.{length-numbered}
@@ -16,6 +17,7 @@ use Rattle.rt_world.specs.Receipts.{ReceivesOn, Receives}
 use Rattle.rt_world_links.proofs.Places.{by_place}
 use Rattle.rt_world.proofs.Desks.{journal_at-world, sent_at-world}
 use Rattle.rt_world_links.proofs.LinkRows.{with_link, same_sent, ChangesLink-with_link}
+use Rattle.rt_world.proofs.StillTurns.{delivery_keeps}
 use Rattle.rt_world.proofs.WorldAfter.{rest_after}
 use Rattle.std.proofs.lemmas.Option.{slice_get_past}
 
@@ -56,21 +58,35 @@ module _ {J T : Type 0} {meaning : Meaning J T} {old : Parts J T} {sender core :
   did : HasReceived meaning sender what view link answer now after
   did = received_there world by (λ view link. HasReceived meaning sender what view link answer now after) it_did
 
-  -- where no job was out, none is
-  abbrev StaysFree : Type 0
-  StaysFree = view.core.out ≡ None → now.core.out ≡ None
+  -- where the core was at rest, it is
+  abbrev StaysAtRest : Type 0
+  StaysAtRest = IsCoreAtRest view → IsCoreAtRest now
 
-  did_on_link : DidOnLink link after × StaysFree
+  did_on_link : DidOnLink link after × StaysAtRest
   did_on_link = by_what what did.receives
     where
-      by_found : (found : Bool) → DeliversTo view (inward_of link) now (inward_of after) found → DidOnLink link after × StaysFree
-      by_found true delivers = (took_on_link link after delivers.1.0 delivers.0 delivers.1.1 delivers.1.2 delivers.1.3, λ free. delivers.2.out ∙ ap (out_told now.journal.notes) free)
+      by_found : (found : Bool) → DeliversTo view (inward_of link) now (inward_of after) found → DidOnLink link after × StaysAtRest
+      by_found true delivers = (
+        took_on_link link after delivers.1.0 delivers.0 delivers.1.1 delivers.1.2 delivers.1.3,
+        λ rest. record {
+          nobody_out = delivers.2.out ∙ ap (out_told now.journal.notes) rest.nobody_out;
+          no_turn =
+              (λ i. queue_in_turn (did.seat.burst i) (delivers.2.journal i).notes)
+              ∙ (delivery_keeps view.core.bursts.burst view.journal.notes delivers.0.name delivers.0.order delivers.2.notes delivers.2.delivery ∙ rest.no_turn);
+        },
+      )
       by_found false delivers =
-          (on_link delivers.0.0 delivers.0.1 ([], ap (λ end. end.given) delivers.0.0 ∙ sym (append-nil link.given)), λ free. ap (λ view. view.core.out) delivers.1 ∙ free)
+          (on_link delivers.0.0 delivers.0.1 ([], ap (λ end. end.given) delivers.0.0 ∙ sym (append-nil link.given)), λ rest. subst (λ view. IsCoreAtRest view) (sym delivers.1) rest)
 
-      by_what : (what : Receipt) → ReceivesOn sender what view link answer now after → DidOnLink link after × StaysFree
+      by_what : (what : Receipt) → ReceivesOn sender what view link answer now after → DidOnLink link after × StaysAtRest
       by_what Take receives = by_found receives.0 receives.2
-      by_what Shut receives = (on_link receives.2.0 receives.2.1 ([], ap (λ end. end.given) receives.2.0 ∙ sym (append-nil link.given)), λ free. receives.3.out ∙ free)
+      by_what Shut receives = (
+        on_link receives.2.0 receives.2.1 ([], ap (λ end. end.given) receives.2.0 ∙ sym (append-nil link.given)),
+        λ rest. record {
+          nobody_out = receives.3.out ∙ rest.nobody_out;
+          no_turn = (λ i. queue_in_turn (did.seat.burst i) (receives.3.journal i).notes) ∙ rest.no_turn;
+        },
+      )
 
   same_orders : after.sent ≡ link.sent
   same_orders = sent_is link after did_on_link.0.more did.untouched did_on_link.0.rest

@@ -62,7 +62,7 @@ module _ {J T : Type 0} {meaning : Meaning J T} {old : Parts J T}
     -- nothing changed
     pub same_now : now ≡ desk → after.sent ≡ link.sent → later ≡ world_of old
     same_now is same_orders =
-        let same_desks = ap (set (desks old) sender) (is ∙ acting.desk_is) ∙ set-get_or (desks old) sender (opened_desk 0 0 0 0) in
+        let same_desks = ap (set (desks old) sender) (is ∙ acting.desk_is) ∙ set-get_or (desks old) sender (opened_desk 0 0 0 0 0) in
         let same_journals = journals_are ∙ ap (map (λ desk. desk.journal.notes)) same_desks in
         λ i. record (world_of old) { journals = same_journals i; sent = same_lists same_orders i }
 
@@ -141,6 +141,7 @@ module _ {J T : Type 0} {meaning : Meaning J T} {old : Parts J T}
               actor = ap (λ desk. desk.actor) was i;
               cores = ap (λ desk. desk.cores) was i;
               cap = ap (λ desk. desk.cap) was i;
+              burst = ap (λ desk. desk.burst) was i;
               journal = record { notes = now.journal.notes; room = ap (λ desk. desk.journal.room) was i };
               lanes = now.lanes;
             });

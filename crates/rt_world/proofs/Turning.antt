@@ -1,19 +1,29 @@
 -- A world stays one as a core makes a step that sends nothing, or creates a queue before the first event.
 use Rattle.rt_world.proofs.Words.{◌≡◌, ℕ, ◌+◌, ◌-◌, ◌^◌, ◌<◌, ◌≤◌, [], ◌∷◌, sym, ◌∙◌, ap, subst, arith, List, Result, Ok, Err, get_or_from_slice_get, map}
-use Rattle.rt_world.proofs.Words.{Some, slice_get, Note, IsRightPick, Meaning, RecordedView, desk_of, Whole, Fits, journal_at, noted, no_link, row_of, link_at}
+use Rattle.rt_world.proofs.Words.{Bool, true, false, Journal, None, Some, slice_get, Note, IsRightPick, Meaning, RecordedView, desk_of, Whole, Fits, journal_at, noted, no_link, row_of, link_at}
 use Rattle.rt_world.proofs.Words.{Parts, core_at, world_of, IsWorld, IsAtRest, created_count, return_reason, line, turns, CreatesQueue, with_notes}
 use Rattle.rt_world.proofs.Words.{IsHandBack}
 use Rattle.std.proofs.lemmas.Option.{slice_get_within}
+use Rattle.rt_ids.specs.Lawful.{IsTurnEnd}
 use Rattle.rt_ids.specs.Limits.{most_queues}
 use Rattle.rt_ids.specs.declared.note.Note.TheVariants as writes
 use Rattle.rt_taskqueue.specs.declared.queues.CreateError.{CreateError}
 use Rattle.rt_taskqueue.specs.declared.queues.CreateError.TheVariants.{TooMany, Memory}
+use Rattle.rt_world_links.specs.Between.{open_queue}
 use Rattle.rt_world_links.specs.OneTurn as one
 use Rattle.rt_world.specs.Opening.{CreatesAtOpening}
+use Rattle.rt_world.specs.Turns.{Ends}
 use Rattle.rt_world_links.proofs.LinkRows.{same_sent}
 use Rattle.rt_world_links.proofs.LinkSteps.{IsSenderOn, received-given}
 use Rattle.rt_world.proofs.WorldAfter.{rest_after}
-use Rattle.rt_world.proofs.CoreSteps.{cores_are, parts_now, receives, journal_is, core_sender, core_noted, core_unchanged}
+use Rattle.rt_world.proofs.CoreSteps.{burst_is, cores_are, parts_now, receives, journal_is, core_sender, core_noted, core_unchanged}
+
+-- what is so of a core's burst and of its journal is so of those of its world
+module _ {J T : Type 0} {meaning : Meaning J T} {old : Parts J T} (world : IsWorld meaning old) (core : ℕ) (there : core < old.cores) where
+  pub in_world : (Holds : ℕ → Journal T → Type 0) → Holds (core_at core old).core.bursts.burst (core_at core old).journal.notes → Holds old.burst (journal_at core (world_of old))
+  in_world Holds holds =
+      subst (λ burst. Holds burst (journal_at core (world_of old))) (burst_is world core there)
+      (subst (Holds (core_at core old).core.bursts.burst) (sym (journal_is world core there)) holds)
 
 -- a core that makes a step has each end beside it, and nothing is owed
 pub all_beside : {J T : Type 0} {meaning : Meaning J T} {old : Parts J T}
@@ -64,8 +74,8 @@ module _ {J T : Type 0} {meaning : Meaning J T} {old : Parts J T}
     ins = λ sender known. stays.ins.ins sender (subst (λ cores. sender ≤ cores) (sym (stays.seat.cores ∙ cores_are world core there)) known);
   })
 
-  pub quiet_at_rest : IsAtRest old → IsAtRest quiet
-  quiet_at_rest rest = rest_after old core now links rest stays.at_rest
+  pub quiet_at_rest : IsAtRest old → open_queue now ≡ None → IsAtRest quiet
+  quiet_at_rest rest no_turn = rest_after old core now links rest (record { nobody_out = stays.at_rest; no_turn = no_turn })
 
   -- nothing was sent
   same_lists : (world_of quiet).sent ≡ (world_of old).sent
@@ -86,7 +96,7 @@ module _ {J T : Type 0} {meaning : Meaning J T} {old : Parts J T}
     turn_left = subst (λ journal. turns journal < 2 ^ 64 - 1) (sym here) did.did.turn_left;
     queue = did.did.queue;
     runtime = did.did.runtime;
-    right = subst (IsRightPick did.did.queue did.did.runtime) (sym here) did.did.right;
+    right = in_world world core there (λ burst journal. IsRightPick burst did.did.queue did.did.runtime journal) did.did.right;
     name = did.name;
     others = did.did.others;
     first = ap (line did.did.queue) here ∙ did.did.first;
@@ -94,6 +104,16 @@ module _ {J T : Type 0} {meaning : Meaning J T} {old : Parts J T}
     returns = ap (return_reason did.did.queue) here ∙ did.did.returns;
     notes = quiet_noted (writes.Returned did.name did.reason ∷ writes.Pick did.did.queue did.did.runtime ∷ []) did.did.journal;
   }
+
+  -- the end of a turn is the world's
+  pub turn_ends : (form : Bool) → one.Ends form view now → Ends form core (world_of old) (world_of quiet)
+  turn_ends true ends = record {
+    queue = ends.did.queue;
+    time = ends.time;
+    end = in_world world core there (λ burst journal. IsTurnEnd burst ends.did.queue ends.time journal) ends.did.ends;
+    notes = quiet_noted (writes.Turned ends.did.queue ends.time ∷ []) ends.did.journal;
+  }
+  turn_ends false same = unchanged same
 
   -- the creation is the one of an opening
   pub creates_now : (weight : ℕ) (told : Result ℕ CreateError) → CreatesQueue weight view told now → CreatesAtOpening core weight (world_of old) told (world_of quiet)

@@ -39,7 +39,7 @@ pub use Rattle.rt_world.specs.Acts.{Acts, HasActed, IsActAt, IsActOf}
 pub use Rattle.rt_world.specs.Calls.{CallsAt}
 pub use Rattle.rt_world.specs.Collections.{Collects, Detaches, Redeems, WasAccepted, collected_notes, detached_reply, redeemed_reply, uncollected}
 pub use Rattle.rt_world.specs.Deliveries.{Delivers, IsDelivery, next_place}
-pub use Rattle.rt_world.specs.Inside.{IsAtRest, IsWorld, Parts, core_at, desk_at, desks, notes_at, seat_of, world_of}
+pub use Rattle.rt_world.specs.Inside.{IsAtRest, IsCoreAtRest, IsWorld, Parts, core_at, desk_at, desks, notes_at, seat_of, world_of}
 pub use Rattle.rt_world_links.specs.Links.{ChangesLink, link_at, no_link, row_of}
 pub use Rattle.rt_world_links.specs.OneTurn.{IsKeptBeside, none_owed}
 pub use Rattle.rt_world.specs.Opening.{HasAllLists, IsFresh}
@@ -48,7 +48,7 @@ pub use Rattle.rt_world.specs.Runs.{Happens, IsRun}
 pub use Rattle.rt_world.specs.Sends.{AreThere, Sends, actor_of, sent_reply}
 pub use Rattle.rt_world.specs.State.{WorldView, assembly_of, journal_at, noted, order_under, sent_at}
 pub use Rattle.rt_journal.specs.Stats.{TellsCore, TellsQueues}
-pub use Rattle.rt_world.specs.Turns.{IsHandBack, IsPoll, Turns, pick_notes}
+pub use Rattle.rt_world.specs.Turns.{IsHandBack, IsPoll, Turns, poll_notes}
 pub use Rattle.rt_world.specs.declared.event.Event.{Event}
 pub use Rattle.rt_world.specs.declared.event.Reply.{Reply}
 pub use Rattle.rt_world.specs.declared.model.acts.Act.{Act}

@@ -1,15 +1,15 @@
 -- A world stays one where one actor makes a step.
 use Rattle.rt_world.proofs.Words.{◌≡◌, ◌≢◌, ℕ, ◌<◌, ◌≤◌, List, length, refl, sym, ◌∙◌, ap, subst, arith, get_or, set, get_or-set_same, get_or-set_other}
-use Rattle.rt_world.proofs.Words.{None, Meaning, Whole, inward_of, RecordedView, IsRecorded, Fits, IsInOf, row_of, link_at, Parts, core_at, desks, desk_at}
+use Rattle.rt_world.proofs.Words.{IsCoreAtRest, Meaning, Whole, inward_of, RecordedView, IsRecorded, Fits, IsInOf, row_of, link_at, Parts, core_at, desks, desk_at}
 use Rattle.rt_world.proofs.Words.{IsWorld, IsAtRest, DeskView, IsWritten, terms_of_desk, opened_desk, opened_beside, seat_of}
 use Rattle.rt_world.proofs.Desks.{desk_count}
 use Rattle.rt_world_links.proofs.Places.{set_each, by_place}
 use Rattle.rt_world_links.proofs.LinkSteps.{OnlyReceived, OnlySent, IsSenderOn, sender_stays, in_stays}
 
--- no core has a job out, where the one that made a step has none
-pub rest_after : {J T : Type 0} (old : Parts J T) (core : ℕ) (now : RecordedView J T) (links : List (List (Whole J T))) → IsAtRest old → now.core.out ≡ None →
+-- each core is at rest, where the one that made a step is
+pub rest_after : {J T : Type 0} (old : Parts J T) (core : ℕ) (now : RecordedView J T) (links : List (List (Whole J T))) → IsAtRest old → IsCoreAtRest now →
     IsAtRest (record old { inside = set old.inside core now; links = links })
-rest_after old core now links rest out other there = set_each old.inside core now other (opened_beside 0 0 0 0) (λ view. view.core.out ≡ None) out (rest other there)
+rest_after old core now links rest its other there = set_each old.inside core now other (opened_beside 0 0 0 0 0) (λ view. IsCoreAtRest view) its (rest other there)
 
 -- a sender's end of each link is beside it
 pub world_sender : {J T : Type 0} {meaning : Meaning J T} {old : Parts J T} → IsWorld meaning old →
@@ -40,12 +40,12 @@ module _ {J T : Type 0} {meaning : Meaning J T} {old : Parts J T}
   module _ (step : IsStep) where
     desk_now : desk_at actor new ≡ desk
     desk_now =
-        ap (λ all. get_or all actor (opened_desk 0 0 0 0)) step.desks_are
-        ∙ get_or-set_same (desks old) actor desk (opened_desk 0 0 0 0) (omega (arith, desk_count old, world.all_there.cores_are, step.there))
+        ap (λ all. get_or all actor (opened_desk 0 0 0 0 0)) step.desks_are
+        ∙ get_or-set_same (desks old) actor desk (opened_desk 0 0 0 0 0) (omega (arith, desk_count old, world.all_there.cores_are, step.there))
 
     desk_elsewhere : (other : ℕ) → other ≢ actor → desk_at other new ≡ desk_at other old
     desk_elsewhere other away =
-        ap (λ all. get_or all other (opened_desk 0 0 0 0)) step.desks_are ∙ get_or-set_other (desks old) actor other desk (opened_desk 0 0 0 0) away
+        ap (λ all. get_or all other (opened_desk 0 0 0 0 0)) step.desks_are ∙ get_or-set_other (desks old) actor other desk (opened_desk 0 0 0 0 0) away
 
     seats_now : (other : ℕ) → other ≤ old.cores → desk_at other new ≡ seat_of other (desk_at other new) new
     seats_now =

@@ -14,12 +14,14 @@ use Rattle.rt_journal.specs.Ends.{IsInOf}
 use Rattle.rt_journal_desk.specs.Ends.{IsOutOf}
 use Rattle.rt_journal_desk.specs.Tickets.{HasLane}
 use Rattle.rt_world.specs.State.{WorldView}
+use Rattle.rt_world_links.specs.Between.{open_queue}
 use Rattle.rt_world_links.specs.Links.{row_of, link_at}
 
 -- the parts of a world: its cores, each beside its journal; the outside actor; and its links, by sender and then by core
 pub record Parts (J T : Type 0) : Type 0 where
   pub cores : ℕ
   pub cap : ℕ
+  pub burst : ℕ
   pub room : ℕ
   pub inside : List (RecordedView J T)
   pub outside : DeskView J T
@@ -27,14 +29,14 @@ pub record Parts (J T : Type 0) : Type 0 where
 
 module _ {J T : Type 0} where
   abbrev pub core_at : ℕ → Parts J T → RecordedView J T
-  core_at core parts = slice_index_or parts.inside core (opened_beside 0 0 0 0)
+  core_at core parts = slice_index_or parts.inside core (opened_beside 0 0 0 0 0)
 
   -- each actor's journal and what it says of its submissions: the cores by number, and then the outside actor
   abbrev pub desks : Parts J T → List (DeskView J T)
   desks parts = map desk_of parts.inside ++ parts.outside ∷ []
 
   abbrev pub desk_at : ℕ → Parts J T → DeskView J T
-  desk_at actor parts = slice_index_or (desks parts) actor (opened_desk 0 0 0 0)
+  desk_at actor parts = slice_index_or (desks parts) actor (opened_desk 0 0 0 0 0)
 
   abbrev pub notes_at : ℕ → Parts J T → Journal T
   notes_at actor parts = (desk_at actor parts).journal.notes
@@ -44,6 +46,7 @@ module _ {J T : Type 0} where
   world_of parts = record {
     cores = parts.cores;
     cap = parts.cap;
+    burst = parts.burst;
     room = parts.room;
     journals = map (λ desk. desk.journal.notes) (desks parts);
     sent = map (map (λ link. link.sent)) parts.links;
@@ -52,7 +55,7 @@ module _ {J T : Type 0} where
   -- this desk at the seat of this number
   abbrev pub seat_of : ℕ → DeskView J T → Parts J T → DeskView J T
   seat_of actor desk parts =
-      record { actor = actor; cores = parts.cores; cap = parts.cap; journal = record { notes = desk.journal.notes; room = parts.room }; lanes = desk.lanes }
+      record { actor = actor; cores = parts.cores; cap = parts.cap; burst = parts.burst; journal = record { notes = desk.journal.notes; room = parts.room }; lanes = desk.lanes }
 
   -- there are as many of each part as the numbers say, and each actor has its number
   pub record AreAllThere (parts : Parts J T) : Type 0 where
@@ -79,9 +82,14 @@ module _ {J T : Type 0} (meaning : Meaning J T) where
     pub beside : AreBeside (Fits meaning) parts
 
 module _ {J T : Type 0} where
-  -- no core has a job out
+  -- a core has no job out, and no turn of it is open
+  pub record IsCoreAtRest (view : RecordedView J T) : Type 0 where
+    pub nobody_out : view.core.out ≡ None
+    pub no_turn : open_queue view ≡ None
+
+  -- so it is of each core
   abbrev pub IsAtRest : Parts J T → Type 0
-  IsAtRest parts = (core : ℕ) → core < parts.cores → (core_at core parts).core.out ≡ None
+  IsAtRest parts = (core : ℕ) → core < parts.cores → IsCoreAtRest (core_at core parts)
 
 -- a list without an item, with the memory for so many
 pub record HasRoomFor {A : Type 0} (count : ℕ) (items : List A) (capacity : ℕ) : Type 0 where

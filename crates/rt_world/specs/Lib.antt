@@ -6,6 +6,7 @@ pub mod Acts
 pub mod Deliveries
 pub mod Receipts
 pub mod Calls
+pub mod Polls
 pub mod Turns
 pub mod Runs
 pub mod Inside

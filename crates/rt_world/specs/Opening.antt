@@ -6,19 +6,21 @@ use Rattle.rt_world.specs.declared.event.Event.{Event}
 use Rattle.rt_world.specs.declared.event.Event.TheVariants.{Send}
 use Rattle.rt_ids.specs.declared.note.Note.TheVariants.{Created}
 use Rattle.rt_ids.specs.Commands.{created_count}
-use Rattle.rt_ids.specs.Limits.{most_cores, most_capacity, most_queues, most_notes}
+use Rattle.rt_ids.specs.Limits.{most_cores, most_capacity, most_burst, most_queues, most_notes}
 use Rattle.rt_taskqueue.specs.declared.queues.CreateError.{CreateError}
 use Rattle.rt_taskqueue.specs.declared.queues.CreateError.TheVariants.{TooMany, Memory}
 use Rattle.rt_world.specs.declared.model.WorldError.{WorldError}
 use Rattle.rt_world.specs.declared.model.WorldError.TheVariants as why
 use Rattle.rt_world.specs.State.{WorldView, journal_at, sent_at, noted}
 
--- at least one core and one place in each link, and no more cores, places and notes than the limits allow
-pub record IsConfig (cores cap room : ℕ) : Type 0 where
+-- at least one core, one place in each link and one poll in each turn, and no more cores, places, polls and notes than the limits allow
+pub record IsConfig (cores cap burst room : ℕ) : Type 0 where
   pub some_core : 1 ≤ cores
   pub few_cores : cores ≤ most_cores
   pub some_cap : 1 ≤ cap
   pub low_cap : cap ≤ most_capacity
+  pub some_burst : 1 ≤ burst
+  pub low_burst : burst ≤ most_burst
   pub low_room : room ≤ most_notes
 
 -- a journal for each core and for the outside actor, and for each of them a list of orders to each core
@@ -34,9 +36,10 @@ pub record IsUnbegun {J T : Type 0} (world : WorldView J T) : Type 0 where
   pub opening : (actor : ℕ) → IsOpening (journal_at actor world)
 
 -- a world of these numbers in which nothing has happened and nothing was created
-pub record IsFresh {J T : Type 0} (cores cap room : ℕ) (world : WorldView J T) : Type 0 where
+pub record IsFresh {J T : Type 0} (cores cap burst room : ℕ) (world : WorldView J T) : Type 0 where
   pub cores_are : world.cores ≡ cores
   pub cap_is : world.cap ≡ cap
+  pub burst_is : world.burst ≡ burst
   pub room_is : world.room ≡ room
   pub lists : HasAllLists world
   pub no_note : (actor : ℕ) → journal_at actor world ≡ []
@@ -48,10 +51,10 @@ HasReadyEvent ready (Send sender core order) = ready order
 HasReadyEvent ready _ = Unit {0}
 
 -- what an opening answers: a fresh world, or why there is none
-abbrev pub Opens : {J T : Type 0} → ℕ → ℕ → ℕ → Result (WorldView J T) WorldError → Type 0
-Opens cores cap room (Ok world) = IsConfig cores cap room × IsFresh cores cap room world
-Opens cores cap room (Err why.BadConfig) = IsConfig cores cap room → ⊥
-Opens cores cap room (Err why.Memory) = IsConfig cores cap room
+abbrev pub Opens : {J T : Type 0} → ℕ → ℕ → ℕ → ℕ → Result (WorldView J T) WorldError → Type 0
+Opens cores cap burst room (Ok world) = IsConfig cores cap burst room × IsFresh cores cap burst room world
+Opens cores cap burst room (Err why.BadConfig) = IsConfig cores cap burst room → ⊥
+Opens cores cap burst room (Err why.Memory) = IsConfig cores cap burst room
 
 -- a queue is made before the first event, under the next number; a core that has as many queues as it may says so, else there was no memory
 abbrev pub CreatesAtOpening : {J T : Type 0} → ℕ → ℕ → WorldView J T → Result ℕ CreateError → WorldView J T → Type 0

@@ -8,10 +8,11 @@ use Rattle.rt_ids.specs.Assembly.{Assembly}
 pub use Rattle.rt_ids.specs.Orders.{without_job}
 use Rattle.rt_ids.specs.Terms.{Terms}
 
--- the number of cores, the capacity of each link and the room of each journal; the journals by actor; and the orders accepted, by sender and then by core, the oldest first
+-- the number of cores, the capacity of each link, how many polls a turn may have, and the room of each journal; the journals by actor; and the orders accepted, by sender and then by core, the oldest first
 pub record WorldView (J T : Type 0) : Type 0 where
   pub cores : ℕ
   pub cap : ℕ
+  pub burst : ℕ
   pub room : ℕ
   pub journals : List (Journal T)
   pub sent : List (List (List (Order J)))
@@ -22,7 +23,7 @@ module _ {J T : Type 0} where
 
   -- whose journal it is, and what holds of the whole house
   abbrev pub terms_at : ℕ → WorldView J T → Terms
-  terms_at actor world = record { actor = actor; cores = world.cores; cap = world.cap }
+  terms_at actor world = record { actor = actor; cores = world.cores; cap = world.cap; burst = world.burst }
 
   -- the orders accepted from an actor to a core
   abbrev pub sent_at : ℕ → ℕ → WorldView J T → List (Order J)
@@ -43,8 +44,8 @@ module _ {J T : Type 0} where
 
   -- the journals together
   abbrev pub assembly_of : WorldView J T → Assembly T
-  assembly_of world = record { cores = world.cores; cap = world.cap; journals = world.journals }
+  assembly_of world = record { cores = world.cores; cap = world.cap; burst = world.burst; journals = world.journals }
 
   -- fewer notes are free than the actor may need for one event
   abbrev pub IsNearlyFull : ℕ → WorldView J T → Type 0
-  IsNearlyFull actor world = world.room < length (journal_at actor world) + (3 * world.cores * world.cap + 4)
+  IsNearlyFull actor world = world.room < length (journal_at actor world) + (3 * world.cores * world.cap + 2 * world.burst + 2)

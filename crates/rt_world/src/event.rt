@@ -12,7 +12,8 @@ pub enum Event<J> {
     Send(ActorNo, CoreNo, Order<J>),
     /// The core takes the next submission of the actor.
     Deliver(CoreNo, ActorNo),
-    /// The core picks a queue and polls its first job once. The time, in nanoseconds, counts where the job tells none of its own.
+    /// The core picks a queue and polls its first job, and perhaps further ones, each once. The time, in nanoseconds, counts for each poll
+    /// whose job tells none of its own.
     Turn(CoreNo, u64),
     /// The core shuts the gate of the actor, once it is closed.
     Shut(CoreNo, ActorNo),

@@ -31,6 +31,7 @@ mod tickets;
 pub struct World<J: Task<Out = u64>, A: Allocator + Clone = Global> {
     cores: u8,
     cap: u16,
+    burst: u8,
     room: u32,
     /// The cores by number, each beside its journal.
     inside: Vec<Recorded<J, A>>,
@@ -50,21 +51,22 @@ impl<J: Task<Out = u64>, A: Allocator + Clone> Model for World<J, A> {
     ghost use Rattle.rt_world.specs.Inside.{world_of, IsWorld, IsAtRest, HasRoomFor};
     ghost use Rattle.rt_world.specs.Opening.{IsConfig};
 
-    ghost view = { λ w. world_of (record { cores = w.cores; cap = w.cap; room = w.room; inside = w.inside.items; outside = w.outside; links = w.links }) };
+    ghost view = { λ w. world_of (record { cores = w.cores; cap = w.cap; burst = w.burst; room = w.room; inside = w.inside.items; outside = w.outside; links = w.links }) };
 
     ghost invariant = { λ w.
-        IsConfig w.cores w.cap w.room
+        IsConfig w.cores w.cap w.burst w.room
         × IsWorld J.meaning
-        (record { cores = w.cores; cap = w.cap; room = w.room; inside = w.inside.items; outside = w.outside; links = w.links })
+        (record { cores = w.cores; cap = w.cap; burst = w.burst; room = w.room; inside = w.inside.items; outside = w.outside; links = w.links })
         × HasRoomFor (w.cores + 1) w.gathered.items (vec_capacity w.gathered)
-        × IsAtRest (record { cores = w.cores; cap = w.cap; room = w.room; inside = w.inside.items; outside = w.outside; links = w.links }) };
+        × IsAtRest (record { cores = w.cores; cap = w.cap; burst = w.burst; room = w.room; inside = w.inside.items; outside = w.outside; links = w.links }) };
 }
 
 /// Why a world can't be opened.
 #[derive(Clone, Copy, PartialEq, Eq, Debug, thiserror::Error)]
 pub enum WorldError {
-    /// There is no core, or no place in a link; or more cores, places or notes are asked for than the limits of rt_ids allow.
-    #[error("cores, capacity or room out of range")]
+    /// There is no core, no place in a link, or no poll in a turn; or more cores, places, polls or notes are asked for than the limits
+    /// of rt_ids allow.
+    #[error("cores, capacity, burst or room out of range")]
     BadConfig,
     /// There is no memory for all of it.
     #[error("out of memory")]
@@ -94,7 +96,7 @@ impl<J: Task<Out = u64>, A: Allocator + Clone> World<J, A> {
             gathered.push_reserved(core.into_journal());
         }
         gathered.push_reserved(self.outside.into_journal());
-        Assembly::of(self.cores, self.cap, gathered)
+        Assembly::of_burst(self.cores, self.cap, self.burst, gathered)
     }
 
     // The core of this number, beside its journal.
@@ -102,6 +104,7 @@ impl<J: Task<Out = u64>, A: Allocator + Clone> World<J, A> {
         requires { core < self.now.cores }
         ensures number { result.now.core.core ≡ core }
         ensures cores { result.now.core.cores ≡ self.now.cores }
+        ensures burst { result.now.core.bursts.burst ≡ self.now.burst }
         ensures notes { result.now.journal.notes ≡ journal_at core self.now }
         ensures room { result.now.journal.room ≡ self.now.room }
         ensures sound { IsRecorded J.meaning result.now }
@@ -114,6 +117,13 @@ impl<J: Task<Out = u64>, A: Allocator + Clone> World<J, A> {
         ensures { result ≡ self.now.cores }
     {
         self.cores
+    }
+
+    /// How many polls a turn may have.
+    pub fn burst(&self) -> u8
+        ensures { result ≡ self.now.burst }
+    {
+        self.burst
     }
 
     /// The notes of one actor, and the room that they have.

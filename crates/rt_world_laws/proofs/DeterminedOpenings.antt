@@ -2,7 +2,7 @@
 use Rattle.rt_world_laws.proofs.Words.{◌≡◌, ℕ, ◌+◌, ◌<◌, [], length, sym, ◌∙◌, ap, arith, get_or, WorldView, IsFresh}
 use Rattle.std.proofs.lemmas.List.{ext_get_or}
 
-module _ {J T : Type 0} (cores cap room : ℕ) (world other : WorldView J T) (fresh : IsFresh cores cap room world) (other_fresh : IsFresh cores cap room other) where
+module _ {J T : Type 0} (cores cap burst room : ℕ) (world other : WorldView J T) (fresh : IsFresh cores cap burst room world) (other_fresh : IsFresh cores cap burst room other) where
   same_cores : world.cores ≡ other.cores
   same_cores = fresh.cores_are ∙ sym other_fresh.cores_are
 
@@ -27,6 +27,7 @@ module _ {J T : Type 0} (cores cap room : ℕ) (world other : WorldView J T) (fr
   fresh_once = λ i. record {
     cores = same_cores i;
     cap = (fresh.cap_is ∙ sym other_fresh.cap_is) i;
+    burst = (fresh.burst_is ∙ sym other_fresh.burst_is) i;
     room = (fresh.room_is ∙ sym other_fresh.room_is) i;
     journals = same_journals i;
     sent = same_sent i;

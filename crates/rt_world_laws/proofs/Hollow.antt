@@ -7,4 +7,4 @@ no_lists world hollow lists =
     ⊎_elim (λ none. omega (arith, ap length none, lists.journals_are)) (λ none. omega (arith, ap length none, lists.senders_are)) hollow
 
 pub hollow_refused : (J T : Type 0) → HollowIsRefused J T
-hollow_refused J T cores cap room world hollow = ((λ fresh. no_lists world hollow fresh.lists), (λ unbegun. no_lists world hollow unbegun.lists))
+hollow_refused J T cores cap burst room world hollow = ((λ fresh. no_lists world hollow fresh.lists), (λ unbegun. no_lists world hollow unbegun.lists))

@@ -1,18 +1,19 @@
 -- What each event leaves: as many journals and lists of orders as before, each journal behind what it got, and no refusal told, if no queue is ordered.
-use Rattle.rt_world_laws.proofs.Words.{append_assoc, ◌≡◌, ℕ, ◌+◌, false, List, [], ◌∷◌, ◌++◌, length, refl, sym, ◌∙◌, ap, subst, inl, inr, ⊎_elim, get_or, set}
+use Rattle.rt_world_laws.proofs.Words.{append_assoc, ◌≡◌, ℕ, ◌+◌, Bool, true, false, List, [], ◌∷◌, ◌++◌, length, refl, sym, ◌∙◌, ap, subst, inl, inr, ⊎_elim, get_or, set}
 use Rattle.rt_world_laws.proofs.Words.{unwrap_or, true≢false, length-set, Some, slice_get, JobId, Note, Order, Journal, Meaning, Event, Reply, WorldView, journal_at}
 use Rattle.rt_world_laws.proofs.Words.{noted, Happens, Create, Reason, Unknown, Gone, Closed, Full, Spent, accepted_orders, name_started, is_told, outcome_note}
 use Rattle.rt_world_laws.proofs.Words.{Call, Makes, Submit, Send, Deliver, Turn, Shut, Collect, without_job, sent_at, with_sent, Sends, sent_reply, Delivers}
-use Rattle.rt_world_laws.proofs.Words.{next_place, CallsAt, pick_notes, settled_note, settled_of, stays_in_line, Turns, Shuts, collected_notes, uncollected, Collects, Redeems, Detaches}
+use Rattle.rt_world_laws.proofs.Words.{next_place, CallsAt, Ends, Further, IsPoll, poll_notes, settled_note, settled_of, stays_in_line, Turns, Shuts, collected_notes, uncollected, Collects, Redeems, Detaches}
 use Rattle.rt_world_laws.proofs.Words.{redeemed_reply, detached_reply, Steps, HasAllLists, tells_refusal, WasRefused, IsNoCreation, CallNoQueues, PollsOrderNone}
 use Rattle.std.proofs.lemmas.Bool.{false_from_ne_true}
+use Rattle.rt_ids.specs.Bursts.{has_bursts}
 use Rattle.rt_ids.specs.declared.note.Note.TheVariants as writes
 use Rattle.rt_jobs.specs.Calls.Call.{Redeem as RedeemCall, Detach as DetachCall}
 use Rattle.rt_world.specs.declared.event.Event.TheVariants.{Redeem, Detach}
 use Rattle.rt_world.specs.declared.event.Reply.TheVariants as reply
 use Rattle.rt_world_laws.specs.Creations.{OrdersNoQueue}
 use Rattle.rt_world_links.proofs.Places.{set_or, set_each}
-use Rattle.rt_world_laws.proofs.PlainNotes.{plain_after, collected_plain, pick_plain, settle_plain, delivery_plain, no_creation}
+use Rattle.rt_world_laws.proofs.PlainNotes.{plain_after, collected_plain, begun_plain, settle_plain, delivery_plain, no_creation}
 use Rattle.rt_link.proofs.Lists.{slice_get-with_last}
 
 -- as many rows as before, each as long as before
@@ -167,14 +168,30 @@ module _ {J : Type 0} (meaning : Meaning J ℕ) where
   called core (RedeemCall name answer ∷ calls) old new makes = later_then (redeems core name old makes.0 (redeemed_reply answer) makes.1) (called core calls makes.0 new makes.2)
   called core (DetachCall name answer ∷ calls) old new makes = later_then (detaches core name old makes.0 (detached_reply answer) makes.1) (called core calls makes.0 new makes.2)
 
+  -- what a poll does, where no refusal is told by the notes before its own
+  polls : (core spent queue : ℕ) (name : JobId) (begun : List (Note ℕ)) → tells_refusal begun ≡ false → (old new : WorldView J ℕ) → IsPoll meaning core spent queue name begun old new →
+      IsLater (PollsOrderNone meaning) old new
+  polls core spent queue name begun silent old new poll =
+      let start = poll_notes name begun (journal_at core old) in
+      later_then {middle = noted core start old}
+      (later_noted core start (λ none plain. begun_plain ℕ name (is_told name_started name (journal_at core old)) begun silent) refl)
+      (later_then (later_if (λ none. none _ _ _ _ _ poll.owed) (called core poll.calls (noted core start old) poll.posted poll.posts))
+      (later_noted core (settled_note name (unwrap_or poll.told spent) poll.step (journal_at core poll.posted) ∷ [])
+      (λ none plain. settle_plain name (unwrap_or poll.told spent) (settled_of poll.step (stays_in_line name (journal_at core poll.posted)))) poll.notes))
+
+  ends : {none : Type 0} (form : Bool) (core : ℕ) (old new : WorldView J ℕ) → Ends form core old new → IsLater none old new
+  ends true core old new did = later_noted core (writes.Turned did.queue did.time ∷ []) (λ none plain. refl) did.notes
+  ends false core old new same = later_same same
+
+  further : (core spent : ℕ) (later : List JobId) (old new : WorldView J ℕ) → Further meaning core spent later old new → IsLater (PollsOrderNone meaning) old new
+  further core spent [] old new did = ends (has_bursts old.burst) core old new did
+  further core spent (name ∷ later) old new did =
+      later_then {middle = did.0} (polls core spent did.1.queue name [] refl old did.0 did.1.poll) (further core spent later did.0 new did.2)
+
   turns : (core spent : ℕ) (old new : WorldView J ℕ) (answer : Reply J) → Turns meaning core spent old new answer → IsLater (PollsOrderNone meaning) old new
-  turns core spent old new reply.Noted (inl poll) =
-      let picked = pick_notes poll.name poll.queue poll.runtime (journal_at core old) in
-      later_then {middle = noted core picked old}
-      (later_noted core picked (λ none plain. pick_plain ℕ poll.name poll.queue poll.runtime (is_told name_started poll.name (journal_at core old))) refl)
-      (later_then (later_if (λ none. none _ _ _ _ _ poll.owed) (called core poll.calls (noted core picked old) poll.posted poll.posts))
-      (later_noted core (settled_note poll.name (unwrap_or poll.told spent) poll.step (journal_at core poll.posted) ∷ [])
-      (λ none plain. settle_plain poll.name (unwrap_or poll.told spent) (settled_of poll.step (stays_in_line poll.name (journal_at core poll.posted)))) poll.notes))
+  turns core spent old new reply.Noted (inl did) =
+      let first = did.first in
+      later_then {middle = did.mid} (polls core spent first.queue first.name (writes.Pick first.queue first.runtime ∷ []) refl old did.mid first.poll) (further core spent did.later did.mid new did.further)
   turns core spent old new reply.Noted (inr back) = later_noted core (back_notes back.name back.reason back.queue back.runtime) (λ none plain. refl) back.notes
   turns core spent old new reply.Idle happens = later_same happens.1
   turns core spent old new reply.Spent happens = later_same happens.2

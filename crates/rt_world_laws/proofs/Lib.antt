@@ -1,3 +1,4 @@
+pub mod BurstRow
 pub mod DeterminedCalls
 pub mod DeterminedOpenings
 pub mod DeterminedRefusals
@@ -9,6 +10,7 @@ pub mod Hollow
 pub mod KeptLists
 pub mod NoRefusals
 pub mod OwedCalls
+pub mod OwedPolls
 pub mod OwedRuns
 pub mod OwedWorlds
 pub mod PlainNotes

@@ -149,6 +149,7 @@ module _ {J T : Type 0} (sender core : ℕ) (order : Order J) (old new : WorldVi
   adds_sent = record {
     cores = ap (λ world. world.cores) is;
     cap = ap (λ world. world.cap) is;
+    burst = ap (λ world. world.burst) is;
     journals = journals;
     orders = λ which what was. (each which.from which.to).0 (which.number - 1) what was;
     gates = λ from at final shut. still_gates from at ∙ shut;
@@ -162,6 +163,7 @@ module _ {J T : Type 0} (actor : ℕ) (first more : List (Note T)) (old middle n
   adds_then one two = record {
     cores = two.cores ∙ one.cores;
     cap = two.cap ∙ one.cap;
+    burst = two.burst ∙ one.burst;
     journals =
         two.journals
         ∙ ((λ i. set (one.journals i) actor (more ++ own_journal actor first old middle one there i))

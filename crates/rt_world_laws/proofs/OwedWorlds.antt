@@ -25,6 +25,7 @@ pub record AreCounted {J T : Type 0} (world : WorldView J T) : Type 0 where
 pub record Adds {J T : Type 0} (actor : ℕ) (notes : List (Note T)) (old new : WorldView J T) : Type 0 where
   pub cores : new.cores ≡ old.cores
   pub cap : new.cap ≡ old.cap
+  pub burst : new.burst ≡ old.burst
   pub journals : new.journals ≡ set old.journals actor (notes ++ journal_at actor old)
   pub orders : (name : JobId) (order : Order J) → order_under name old ≡ Some order → order_under name new ≡ Some order
   pub gates : (sender core final : ℕ) → final_count sender (journal_at core old) ≡ Some final → final_count sender (journal_at core new) ≡ Some final
@@ -43,7 +44,7 @@ module _ {J T : Type 0} (actor : ℕ) (notes : List (Note T)) (old new : WorldVi
   own_journal there = ap (λ journals. get_or journals actor []) adds.journals ∙ get_or-set_same old.journals actor (notes ++ journal_at actor old) [] there
 
   pub same_terms : (other : ℕ) → terms_at other new ≡ terms_at other old
-  same_terms other = λ i. record { actor = other; cores = adds.cores i; cap = adds.cap i }
+  same_terms other = λ i. record { actor = other; cores = adds.cores i; cap = adds.cap i; burst = adds.burst i }
 
   -- no less is known of the links of any actor
   pub sees_no_less : (other : ℕ) → SeesNoLess (seen_of other old) (seen_of other new)
@@ -102,6 +103,7 @@ module _ {J T : Type 0} (actor : ℕ) (notes : List (Note T)) (old new : WorldVi
       record {
         cores = ap (λ world. world.cores) is;
         cap = ap (λ world. world.cap) is;
+        burst = ap (λ world. world.burst) is;
         journals = journals;
         orders = λ name order under. ap (λ sent. slice_get (get_or (get_or sent name.from []) name.to []) (name.number - 1)) sent ∙ under;
         gates = gates;

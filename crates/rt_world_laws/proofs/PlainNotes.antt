@@ -25,9 +25,9 @@ module _ (T : Type 0) where
   abbrev IsPlainAnswer : JobId → Order (Unit {0}) → Answer → Type 0
   IsPlainAnswer name order answer = tells_refusal {T = T} (with_effect (effect_note name.to order answer) (writes.Answered name answer ∷ [])) ≡ false
 
-  pub pick_plain : (name : JobId) (queue runtime : ℕ) (started : Bool) → tells_refusal {T = T} (poll_note name started ∷ writes.Pick queue runtime ∷ []) ≡ false
-  pick_plain name queue runtime true = refl
-  pick_plain name queue runtime false = refl
+  pub begun_plain : (name : JobId) (started : Bool) (begun : List (Note T)) → tells_refusal begun ≡ false → tells_refusal (poll_note name started ∷ begun) ≡ false
+  begun_plain name true begun plain = plain
+  begun_plain name false begun plain = plain
 
 module _ {T : Type 0} where
   pub plain_after : (notes rest : List (Note T)) → tells_refusal notes ≡ false → tells_refusal rest ≡ false → tells_refusal (notes ++ rest) ≡ false

@@ -85,11 +85,15 @@ module _ (T : Type 0) where
   back_still name reason queue runtime =
       record { settle = (refl, (refl, tt)); shut = ((λ sender. refl), ((λ sender. refl), tt)); send = ((λ core. refl), ((λ core. refl), tt)) }
 
-  pub pick_still : (name : JobId) (started : Bool) (queue runtime : ℕ) → AreStill {T = T} (poll_note name started ∷ writes.Pick queue runtime ∷ [])
-  pick_still name false queue runtime =
-      record { settle = (refl, (refl, tt)); shut = ((λ sender. refl), ((λ sender. refl), tt)); send = ((λ core. refl), ((λ core. refl), tt)) }
-  pick_still name true queue runtime =
-      record { settle = (refl, (refl, tt)); shut = ((λ sender. refl), ((λ sender. refl), tt)); send = ((λ core. refl), ((λ core. refl), tt)) }
+  pub pick_still : (queue runtime : ℕ) → AreStill {T = T} (writes.Pick queue runtime ∷ [])
+  pick_still queue runtime = record { settle = (refl, tt); shut = ((λ sender. refl), tt); send = ((λ core. refl), tt) }
+
+  pub begun_still : (name : JobId) (started : Bool) (begun : List (Note T)) → AreStill begun → AreStill (poll_note name started ∷ begun)
+  begun_still name false begun still = record { settle = (refl, still.settle); shut = ((λ sender. refl), still.shut); send = ((λ core. refl), still.send) }
+  begun_still name true begun still = record { settle = (refl, still.settle); shut = ((λ sender. refl), still.shut); send = ((λ core. refl), still.send) }
+
+  pub turned_still : (queue time : ℕ) → AreStill {T = T} (writes.Turned queue time ∷ [])
+  turned_still queue time = record { settle = (refl, tt); shut = ((λ sender. refl), tt); send = ((λ core. refl), tt) }
 
   pub settled_shuts_nothing : (name : JobId) (time : ℕ) (came : Settled T) → ShutNothing (settle_note name time came ∷ [])
   settled_shuts_nothing name time (settled.Finished out) = ((λ sender. refl), tt)

@@ -8,8 +8,8 @@ use Rattle.rt_world_laws.proofs.KeptLists.{later_noted}
 use Rattle.rt_world_links.proofs.Places.{none_anywhere, none_in_table, set_each}
 
 module _ {J T : Type 0} where
-  pub unbegun_fresh : (cores cap room : ℕ) (world : WorldView J T) → IsFresh cores cap room world → IsUnbegun world
-  unbegun_fresh cores cap room world fresh = record { lists = fresh.lists; no_order = fresh.no_order; opening = λ actor. subst IsOpening (sym (fresh.no_note actor)) tt }
+  pub unbegun_fresh : (cores cap burst room : ℕ) (world : WorldView J T) → IsFresh cores cap burst room world → IsUnbegun world
+  unbegun_fresh cores cap burst room world fresh = record { lists = fresh.lists; no_order = fresh.no_order; opening = λ actor. subst IsOpening (sym (fresh.no_note actor)) tt }
 
   -- one more queue
   unbegun_created : (core queue weight : ℕ) (world : WorldView J T) → IsUnbegun world → IsUnbegun (noted core (writes.Created queue weight ∷ []) world)
@@ -27,9 +27,9 @@ module _ {J T : Type 0} where
 
 module _ (J T : Type 0) where
   -- a fresh world of these numbers
-  abbrev pub first_world : ℕ → ℕ → ℕ → WorldView J T
-  first_world cores cap room =
-      record { cores = cores; cap = cap; room = room; journals = replicate (cores + 1) []; sent = replicate (cores + 1) (replicate cores []) }
+  abbrev pub first_world : ℕ → ℕ → ℕ → ℕ → WorldView J T
+  first_world cores cap burst room =
+      record { cores = cores; cap = cap; burst = burst; room = room; journals = replicate (cores + 1) []; sent = replicate (cores + 1) (replicate cores []) }
 
   none_of : {A : Type 0} (count place : ℕ) → get_or {A = List A} (replicate count []) place [] ≡ []
   none_of {A} count = none_anywhere (replicate count []) (λ place there. get_or-replicate count place [] [] (omega (arith, there, length-replicate {A = List A} count [])))
@@ -39,10 +39,11 @@ module _ (J T : Type 0) where
       let within : sender < cores + 1 = omega (arith, known, length-replicate {A = List (List (Order J))} (cores + 1) (replicate cores [])) in
       ap (λ row. get_or row core []) (get_or-replicate (cores + 1) sender (replicate cores []) [] within) ∙ none_of cores core)
 
-  pub fresh_first : (cores cap room : ℕ) → IsFresh cores cap room (first_world cores cap room)
-  fresh_first cores cap room = record {
+  pub fresh_first : (cores cap burst room : ℕ) → IsFresh cores cap burst room (first_world cores cap burst room)
+  fresh_first cores cap burst room = record {
     cores_are = refl;
     cap_is = refl;
+    burst_is = refl;
     room_is = refl;
     lists = record {
       journals_are = length-replicate (cores + 1) [];

@@ -41,7 +41,7 @@ pub use Rattle.rt_world.specs.Opening.{HasAllLists, IsFresh, IsUnbegun}
 pub use Rattle.rt_world.specs.Runs.{Happens, IsRun, Steps}
 pub use Rattle.rt_world.specs.Sends.{AreThere, Sends, actor_of, sent_reply}
 pub use Rattle.rt_world.specs.State.{IsNearlyFull, WorldView, assembly_of, journal_at, noted, order_under, sent_at, terms_at, with_sent, without_job}
-pub use Rattle.rt_world.specs.Turns.{IsHandBack, IsPoll, Turns, pick_notes, settle_note, settled_note}
+pub use Rattle.rt_world.specs.Turns.{Ends, Further, IsFirstPoll, IsFurtherPoll, IsHandBack, IsPoll, MakesPolls, Turns, poll_notes, settle_note, settled_note}
 pub use Rattle.rt_world.specs.declared.event.Event.TheVariants.{Collect, Deliver, Send, Shut, Turn}
 pub use Rattle.rt_world.specs.declared.event.Event.{Event}
 pub use Rattle.rt_world.specs.declared.event.Reply.{Reply}

@@ -14,44 +14,44 @@ use Rattle.rt_world_laws.proofs.RowRuns.{right_of_one, right_of_two, few_turns, 
 -- one job, from its submission to its answer
 pub one_job : OneJob
 one_job =
-    runs_just 1 4 [] _ _ _ (tt, (tt, (tt, tt))) refl (λ room enough.
+    runs_just 1 4 1 [] _ _ _ (tt, (tt, (tt, tt))) refl (λ room enough.
     sending (omega arith, omega arith) (λ full. omega arith) refl (omega arith) (omega arith) (omega arith) refl (
     noting 0 (writes.Took (name 0 0 1) 0 ∷ []) ((omega arith, omega arith), (λ full. omega arith), (Job 0 (job_of (poll.Done 40 7 ∷ [])), refl, writes.Took (name 0 0 1) 0 ∷ [], refl, refl)) (
-    polling 0 0 40 (name 0 0 1) [] (job_of (poll.Done 40 7 ∷ [])) (steps.Done 7) (omega arith) (λ full. not_full _ _ full enough refl) (omega arith)
-    (right_of_one _ _ _ refl refl refl (λ _. inr (refl, omega arith)) (λ other zero. rw zero)) refl refl refl (refl, refl, refl) refl (
+    polling 0 0 40 (name 0 0 1) [] (job_of (poll.Done 40 7 ∷ [])) (steps.Done 7) (omega arith) (λ full. not_full _ _ full enough refl) (omega arith) refl
+    (right_of_one 1 _ _ _ refl refl refl refl (λ _. inr (refl, omega arith)) (λ other zero. rw zero)) refl refl refl (refl, refl, refl) refl (
     no_more refl))))
 
 -- two queues of 1000 and 500 shares: the picks of six turns, and their notes
 pub two_queues : TwoQueues
 two_queues =
-    runs_just 1 4 ((0, 500) ∷ []) _ _ _ (tt, (tt, (tt, (tt, (tt, (tt, (tt, (tt, (tt, (tt, tt)))))))))) refl (λ room enough.
+    runs_just 1 4 1 ((0, 500) ∷ []) _ _ _ (tt, (tt, (tt, (tt, (tt, (tt, (tt, (tt, (tt, (tt, tt)))))))))) refl (λ room enough.
     sending (omega arith, omega arith) (λ full. omega arith) refl (omega arith) (omega arith) (omega arith) refl (
     sending (omega arith, omega arith) (λ full. omega arith) refl (omega arith) (omega arith) (omega arith) refl (
     noting 0 (writes.Took (name 0 0 1) 0 ∷ []) ((omega arith, omega arith), (λ full. omega arith), (Job 0 three_polls, refl, writes.Took (name 0 0 1) 0 ∷ [], refl, refl)) (
     noting 0 (writes.Took (name 0 0 2) 1 ∷ []) ((omega arith, omega arith), (λ full. omega arith), (Job 1 three_polls, refl, writes.Took (name 0 0 2) 1 ∷ [], refl, refl)) (
     -- both queues stand at nothing, and the lower number is picked
-    polling 0 0 30 (name 0 0 1) [] three_polls steps.Yield (omega arith) (λ full. not_full _ _ full enough refl) (omega arith)
-    (right_of_two _ _ _ refl refl refl (λ _. inr (refl, omega arith)) (λ _. inr (refl, omega arith)) (λ other zero one. rw (zero, one))) refl refl refl (refl, refl, refl) tt (
+    polling 0 0 30 (name 0 0 1) [] three_polls steps.Yield (omega arith) (λ full. not_full _ _ full enough refl) (omega arith) refl
+    (right_of_two 1 _ _ _ refl refl refl refl (λ _. inr (refl, omega arith)) (λ _. inr (refl, omega arith)) (λ other zero one. rw (zero, one))) refl refl refl (refl, refl, refl) tt (
     -- queue 0 paid 30
-    polling 1 0 30 (name 0 0 2) [] three_polls steps.Yield (omega arith) (λ full. not_full _ _ full enough refl) (omega arith)
-    (right_of_two _ _ _ refl refl refl (λ _. let less : 0 < 30 = omega arith in inl less) (λ _. inr (refl, omega arith)) (λ other zero one. rw (zero, one))) refl refl refl (refl, refl, refl) tt (
+    polling 1 0 30 (name 0 0 2) [] three_polls steps.Yield (omega arith) (λ full. not_full _ _ full enough refl) (omega arith) refl
+    (right_of_two 1 _ _ _ refl refl refl refl (λ _. let less : 0 < 30 = omega arith in inl less) (λ _. inr (refl, omega arith)) (λ other zero one. rw (zero, one))) refl refl refl (refl, refl, refl) tt (
     -- queue 1 paid 60
-    polling 0 30 30 (name 0 0 1) [] three_polls steps.Yield (omega arith) (λ full. not_full _ _ full enough refl) (omega arith)
-    (right_of_two _ _ _ refl refl refl (λ _. inr (refl, omega arith)) (λ _. let less : 30 < 60 = omega arith in inl less) (λ other zero one. rw (zero, one))) refl refl refl (refl, refl, refl) tt (
+    polling 0 30 30 (name 0 0 1) [] three_polls steps.Yield (omega arith) (λ full. not_full _ _ full enough refl) (omega arith) refl
+    (right_of_two 1 _ _ _ refl refl refl refl (λ _. inr (refl, omega arith)) (λ _. let less : 30 < 60 = omega arith in inl less) (λ other zero one. rw (zero, one))) refl refl refl (refl, refl, refl) tt (
     -- both queues stand at 60
-    polling 0 60 30 (name 0 0 1) [] three_polls (steps.Done 0) (omega arith) (λ full. not_full _ _ full enough refl) (omega arith)
-    (right_of_two _ _ _ refl refl refl (λ _. inr (refl, omega arith)) (λ _. inr (refl, omega arith)) (λ other zero one. rw (zero, one))) refl refl refl (refl, refl, refl) refl (
+    polling 0 60 30 (name 0 0 1) [] three_polls (steps.Done 0) (omega arith) (λ full. not_full _ _ full enough refl) (omega arith) refl
+    (right_of_two 1 _ _ _ refl refl refl refl (λ _. inr (refl, omega arith)) (λ _. inr (refl, omega arith)) (λ other zero one. rw (zero, one))) refl refl refl (refl, refl, refl) refl (
     -- queue 0 has no work any more
-    polling 1 60 30 (name 0 0 2) [] three_polls steps.Yield (omega arith) (λ full. not_full _ _ full enough refl) (omega arith)
-    (right_of_two _ _ _ refl refl refl (λ work. absurd (true≢false (sym work))) (λ _. inr (refl, omega arith)) (λ other zero one. rw (zero, one))) refl refl refl (refl, refl, refl) tt (
-    polling 1 120 30 (name 0 0 2) [] three_polls (steps.Done 0) (omega arith) (λ full. not_full _ _ full enough refl) (omega arith)
-    (right_of_two _ _ _ refl refl refl (λ work. absurd (true≢false (sym work))) (λ _. inr (refl, omega arith)) (λ other zero one. rw (zero, one))) refl refl refl (refl, refl, refl) refl (
+    polling 1 60 30 (name 0 0 2) [] three_polls steps.Yield (omega arith) (λ full. not_full _ _ full enough refl) (omega arith) refl
+    (right_of_two 1 _ _ _ refl refl refl refl (λ work. absurd (true≢false (sym work))) (λ _. inr (refl, omega arith)) (λ other zero one. rw (zero, one))) refl refl refl (refl, refl, refl) tt (
+    polling 1 120 30 (name 0 0 2) [] three_polls (steps.Done 0) (omega arith) (λ full. not_full _ _ full enough refl) (omega arith) refl
+    (right_of_two 1 _ _ _ refl refl refl refl (λ work. absurd (true≢false (sym work))) (λ _. inr (refl, omega arith)) (λ other zero one. rw (zero, one))) refl refl refl (refl, refl, refl) refl (
     no_more refl)))))))))))
 
 -- two senders of one core: each has its own link, and their jobs are polled in the order in which they came
 pub two_senders : TwoSenders
 two_senders =
-    runs_just 2 2 [] _ _ _ (tt, (tt, (tt, (tt, (tt, (tt, (tt, (tt, (tt, (tt, (tt, (tt, tt)))))))))))) refl (λ room enough.
+    runs_just 2 2 1 [] _ _ _ (tt, (tt, (tt, (tt, (tt, (tt, (tt, (tt, (tt, (tt, (tt, (tt, tt)))))))))))) refl (λ room enough.
     sending (omega arith, omega arith) (λ full. omega arith) refl (omega arith) (omega arith) (omega arith) refl (
     sending (omega arith, omega arith) (λ full. omega arith) refl (omega arith) (omega arith) (omega arith) refl (
     sending (omega arith, omega arith) (λ full. omega arith) refl (omega arith) (omega arith) (omega arith) refl (
@@ -61,12 +61,12 @@ two_senders =
     noting 0 (writes.Took (name 1 0 1) 0 ∷ []) ((omega arith, omega arith), (λ full. omega arith), (Job 0 (short_job 2), refl, writes.Took (name 1 0 1) 0 ∷ [], refl, refl)) (
     noting 0 (writes.Took (name 2 0 2) 0 ∷ []) ((omega arith, omega arith), (λ full. omega arith), (Job 0 (short_job 3), refl, writes.Took (name 2 0 2) 0 ∷ [], refl, refl)) (
     -- queue 0 alone has work, and pays 5 each time
-    polling 0 0 5 (name 2 0 1) (name 1 0 1 ∷ name 2 0 2 ∷ []) (short_job 1) (steps.Done 1) (omega arith) (λ full. not_full _ _ full enough refl) (omega arith)
-    (right_of_one _ _ _ refl refl refl (λ _. inr (refl, omega arith)) (λ other zero. rw zero)) refl refl refl (refl, refl, refl) refl (
-    polling 0 5 5 (name 1 0 1) (name 2 0 2 ∷ []) (short_job 2) (steps.Done 2) (omega arith) (λ full. not_full _ _ full enough refl) (omega arith)
-    (right_of_one _ _ _ refl refl refl (λ _. inr (refl, omega arith)) (λ other zero. rw zero)) refl refl refl (refl, refl, refl) refl (
-    polling 0 10 5 (name 2 0 2) [] (short_job 3) (steps.Done 3) (omega arith) (λ full. not_full _ _ full enough refl) (omega arith)
-    (right_of_one _ _ _ refl refl refl (λ _. inr (refl, omega arith)) (λ other zero. rw zero)) refl refl refl (refl, refl, refl) refl (
+    polling 0 0 5 (name 2 0 1) (name 1 0 1 ∷ name 2 0 2 ∷ []) (short_job 1) (steps.Done 1) (omega arith) (λ full. not_full _ _ full enough refl) (omega arith) refl
+    (right_of_one 1 _ _ _ refl refl refl refl (λ _. inr (refl, omega arith)) (λ other zero. rw zero)) refl refl refl (refl, refl, refl) refl (
+    polling 0 5 5 (name 1 0 1) (name 2 0 2 ∷ []) (short_job 2) (steps.Done 2) (omega arith) (λ full. not_full _ _ full enough refl) (omega arith) refl
+    (right_of_one 1 _ _ _ refl refl refl refl (λ _. inr (refl, omega arith)) (λ other zero. rw zero)) refl refl refl (refl, refl, refl) refl (
+    polling 0 10 5 (name 2 0 2) [] (short_job 3) (steps.Done 3) (omega arith) (λ full. not_full _ _ full enough refl) (omega arith) refl
+    (right_of_one 1 _ _ _ refl refl refl refl (λ _. inr (refl, omega arith)) (λ other zero. rw zero)) refl refl refl (refl, refl, refl) refl (
     -- nothing is left to deliver, and the other core has no work
     telling ((omega arith, omega arith), (λ full. omega arith), (refl, refl)) (
     telling (omega arith, (λ full. omega arith), (λ queue. refl, refl)) (
@@ -75,7 +75,7 @@ two_senders =
 -- a core closes, hands its job back and shuts its gates
 pub core_closes : CoreCloses
 core_closes =
-    runs_just 1 4 [] _ _ _ (tt, (tt, (tt, (tt, (tt, (tt, (tt, (tt, (tt, (tt, tt)))))))))) refl (λ room enough.
+    runs_just 1 4 1 [] _ _ _ (tt, (tt, (tt, (tt, (tt, (tt, (tt, (tt, (tt, (tt, tt)))))))))) refl (λ room enough.
     sending (omega arith, omega arith) (λ full. omega arith) refl (omega arith) (omega arith) (omega arith) refl (
     sending (omega arith, omega arith) (λ full. omega arith) refl (omega arith) (omega arith) tt refl (
     -- the core isn't closed yet
@@ -93,7 +93,7 @@ core_closes =
         turn_left = few_turns 0 (omega arith);
         queue = 0;
         runtime = 0;
-        right = right_of_one _ _ _ refl refl refl (λ _. inr (refl, omega arith)) (λ other zero. rw zero);
+        right = right_of_one 1 _ _ _ refl refl refl refl (λ _. inr (refl, omega arith)) (λ other zero. rw zero);
         name = name 1 0 1;
         others = [];
         first = refl;

@@ -15,7 +15,7 @@ use Rattle.rt_world_laws.specs.WorkedRows.{short_job}
 -- a core that isn't closed shuts no gate; a closed one shuts each once, at its count, behind which nothing is sent; and the job inside comes back
 abbrev pub CoreCloses : Type 0
 CoreCloses =
-    RunsJust 1 4 []
+    RunsJust 1 4 1 []
     (
     Send 1 0 (Job 0 (short_job 7)) ∷ Send 1 0 (CloseCore Return) ∷ Shut 0 1 ∷ Deliver 0 1 ∷ Deliver 0 1 ∷ Shut 0 1
     ∷ Send 1 0 (Job 0 (short_job 8)) ∷ Turn 0 0 ∷ Shut 0 0 ∷ Shut 0 0 ∷ []

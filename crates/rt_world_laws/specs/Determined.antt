@@ -71,4 +71,4 @@ module _ {J : Type 0} (meaning : Meaning J ℕ) where
 
 -- two fresh worlds of the same numbers are one
 abbrev pub OpeningIsDetermined : Type 0 → Type 0 → Type 0
-OpeningIsDetermined J T = (cores cap room : ℕ) (world other : WorldView J T) → IsFresh cores cap room world → IsFresh cores cap room other → world ≡ other
+OpeningIsDetermined J T = (cores cap burst room : ℕ) (world other : WorldView J T) → IsFresh cores cap burst room world → IsFresh cores cap burst room other → world ≡ other

@@ -10,8 +10,8 @@ use Rattle.rt_world.specs.Runs.{Happens}
 -- a world that has no journal, or no list of orders, isn't fresh, nor is it one before its first event
 abbrev pub HollowIsRefused : Type 0 → Type 0 → Type 0
 HollowIsRefused J T =
-    (cores cap room : ℕ) (world : WorldView J T) → (world.journals ≡ []) ⊎ (world.sent ≡ []) →
-    (IsFresh cores cap room world → ⊥) × (IsUnbegun world → ⊥)
+    (cores cap burst room : ℕ) (world : WorldView J T) → (world.journals ≡ []) ⊎ (world.sent ≡ []) →
+    (IsFresh cores cap burst room world → ⊥) × (IsUnbegun world → ⊥)
 
 module _ {J : Type 0} (meaning : Meaning J ℕ) where
   -- after each event there are as many lists as before

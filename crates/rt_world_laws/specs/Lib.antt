@@ -1,4 +1,5 @@
 pub mod Alike
+pub mod BurstRow
 pub mod ClosedRow
 pub mod Creations
 pub mod Determined

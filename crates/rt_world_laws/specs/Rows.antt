@@ -26,7 +26,7 @@ pub record HasOneRun (start : WorldView Script ℕ) (events : List (Event Script
   pub only : (other : WorldView Script ℕ) (others : List (Reply Script)) → IsScriptRun events start other others → (other.journals ≡ journals) × (others ≡ replies)
 
 -- the same, from each fresh world of these numbers, whose journals have some room, with these queues
-abbrev pub RunsJust : ℕ → ℕ → List (ℕ × ℕ) → List (Event Script) → List (Journal ℕ) → List (Reply Script) → Type 0
-RunsJust cores cap queues events journals replies =
-    (room : ℕ) (empty : WorldView Script ℕ) → 100 ≤ room → IsFresh cores cap room empty →
+abbrev pub RunsJust : ℕ → ℕ → ℕ → List (ℕ × ℕ) → List (Event Script) → List (Journal ℕ) → List (Reply Script) → Type 0
+RunsJust cores cap burst queues events journals replies =
+    (room : ℕ) (empty : WorldView Script ℕ) → 100 ≤ room → IsFresh cores cap burst room empty →
     HasOneRun (with_creations queues empty) events journals replies

@@ -14,7 +14,7 @@ use Rattle.rt_world_laws.specs.Rows.{name, job_of, RunsJust}
 -- one job, which is done after one poll: it makes just five notes
 abbrev pub OneJob : Type 0
 OneJob =
-    RunsJust 1 4 [] (Send 0 0 (Job 0 (job_of (poll.Done 40 7 ∷ []))) ∷ Deliver 0 0 ∷ Turn 0 0 ∷ [])
+    RunsJust 1 4 1 [] (Send 0 0 (Job 0 (job_of (poll.Done 40 7 ∷ []))) ∷ Deliver 0 0 ∷ Turn 0 0 ∷ [])
     ((Done (name 0 0 1) 40 7 ∷ Start (name 0 0 1) ∷ Pick 0 0 ∷ Took (name 0 0 1) 0 ∷ Sent (name 0 0 1) (Job 0 tt) ∷ []) ∷ [] ∷ [])
     (reply.Sent (name 0 0 1) ∷ reply.Noted ∷ reply.Noted ∷ [])
 
@@ -38,7 +38,7 @@ six_turns_notes =
 -- two queues of 1000 and 500 shares, each with a job of three polls
 abbrev pub TwoQueues : Type 0
 TwoQueues =
-    RunsJust 1 4 ((0, 500) ∷ []) (Send 0 0 (Job 0 three_polls) ∷ Send 0 0 (Job 1 three_polls) ∷ Deliver 0 0 ∷ Deliver 0 0 ∷ six_turns)
+    RunsJust 1 4 1 ((0, 500) ∷ []) (Send 0 0 (Job 0 three_polls) ∷ Send 0 0 (Job 1 three_polls) ∷ Deliver 0 0 ∷ Deliver 0 0 ∷ six_turns)
     (
     (
     six_turns_notes
@@ -58,7 +58,7 @@ short_job value = job_of (poll.Done 5 value ∷ [])
 -- two senders of one core, where each has its own link of capacity 2: the fourth order of the outside actor finds it full
 abbrev pub TwoSenders : Type 0
 TwoSenders =
-    RunsJust 2 2 []
+    RunsJust 2 2 1 []
     (
     Send 2 0 (Job 0 (short_job 1)) ∷ Send 1 0 (Job 0 (short_job 2)) ∷ Send 2 0 (Job 0 (short_job 3)) ∷ Send 2 0 (Job 0 (short_job 4))
     ∷ Deliver 0 2 ∷ Deliver 0 1 ∷ Deliver 0 2 ∷ Turn 0 0 ∷ Turn 0 0 ∷ Turn 0 0 ∷ Deliver 0 2 ∷ Turn 1 0 ∷ []

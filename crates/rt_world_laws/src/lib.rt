@@ -2,6 +2,7 @@
 #![tactic(auto)]
 
 ghost use Rattle.std.specs.Prelude.{ℕ};
+ghost use Rattle.rt_world_laws.specs.BurstRow.{TurnOfPolls};
 ghost use Rattle.rt_world_laws.specs.ClosedRow.{CoreCloses};
 ghost use Rattle.rt_world_laws.specs.Creations.{RunOfJobsIsDetermined};
 ghost use Rattle.rt_world_laws.specs.Determined.{AssemblyIsDetermined, OpeningIsDetermined, OwesOne, RunIsDetermined};
@@ -67,4 +68,9 @@ pub fn two_senders_in_their_order()
 /// A core that closes in mode `Return` hands its job back, and shuts each gate once, at its count.
 pub fn a_core_closes()
     ensures { CoreCloses }
+{}
+
+/// Where a turn may have four polls, a job of three polls has one pick, and its queue is charged once.
+pub fn a_turn_has_several_polls()
+    ensures { TurnOfPolls }
 {}

@@ -6,22 +6,22 @@ use Rattle.rt_journal_desk.proofs.LaneEnds.{fresh_has_lane}
 use Rattle.rt_world_links.proofs.LinkSteps.{IsSenderOn}
 
 -- the ends of a link that was just opened, beside actors that have noted nothing
-module _ {J T : Type 0} (fits : Order J → Outcome J T → Type 0) (sender core cores cap room : ℕ) where
-  out_of-opened : core < cores → IsOutOf {J = J} {T = T} core (opened_desk sender cores cap room) (out_of (fresh sender core cap 0)) 0
+module _ {J T : Type 0} (fits : Order J → Outcome J T → Type 0) (sender core cores cap room burst : ℕ) where
+  out_of-opened : core < cores → IsOutOf {J = J} {T = T} core (opened_desk sender cores cap room burst) (out_of (fresh sender core cap 0)) 0
   out_of-opened known =
       record { known = known; from = refl; to = refl; base = refl; capacity = refl; behind = omega arith; accepted = refl; outstanding = refl; collected = refl }
 
   sound_at_opening : SoundOut {J = J} {T = T} (out_of (fresh sender core cap 0)) 0
   sound_at_opening = record { numbered = omega arith; room = omega arith; credits = omega arith; behind = omega arith; within = omega arith }
 
-  pub fresh_sender : core < cores → IsSenderOn fits core (opened_desk sender cores cap room) (fresh sender core cap 0)
+  pub fresh_sender : core < cores → IsSenderOn fits core (opened_desk sender cores cap room burst) (fresh sender core cap 0)
   fresh_sender known = record {
     out = out_of-opened known;
-    lane = fresh_has_lane fits core sender cores cap room (out_of (fresh sender core cap 0)) known (refl, refl, refl, refl, refl, sound_at_opening);
+    lane = fresh_has_lane fits core sender cores cap room burst (out_of (fresh sender core cap 0)) known (refl, refl, refl, refl, refl, sound_at_opening);
   }
 
-module _ {J T : Type 0} (sender core cores cap room : ℕ) where
-  pub in_of-opened : sender ≤ cores → IsInOf {J = J} {T = T} sender (opened_beside core cores cap room) (inward_of (fresh sender core cap 0))
+module _ {J T : Type 0} (sender core cores cap room burst : ℕ) where
+  pub in_of-opened : sender ≤ cores → IsInOf {J = J} {T = T} sender (opened_beside core cores cap room burst) (inward_of (fresh sender core cap 0))
   in_of-opened known = record {
     known = known;
     from = refl;

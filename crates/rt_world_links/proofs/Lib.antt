@@ -8,4 +8,5 @@ pub mod SentLinks
 pub mod TakenLinks
 pub mod LentLinks
 pub mod OneTurn
+pub mod Between
 pub mod Posted

@@ -16,15 +16,15 @@ each-push Holds items item default count counted each last place below =
 
 module _ {J T : Type 0} where
   -- the first cores of those that are to be opened
-  pub record AreFirstOpened (count cores cap room : ℕ) (inside : List (RecordedView J T)) : Type 0 where
+  pub record AreFirstOpened (count cores cap room burst : ℕ) (inside : List (RecordedView J T)) : Type 0 where
     pub cores_are : length inside ≡ count
-    pub each_opened : (core : ℕ) → core < count → get_or inside core (opened_beside 0 0 0 0) ≡ opened_beside core cores cap room
+    pub each_opened : (core : ℕ) → core < count → get_or inside core (opened_beside 0 0 0 0 0) ≡ opened_beside core cores cap room burst
 
-  pub AreFirstOpened-push : (count cores cap room : ℕ) (inside : List (RecordedView J T)) (core : RecordedView J T) → AreFirstOpened count cores cap room inside →
-      core ≡ opened_beside count cores cap room → AreFirstOpened (count + 1) cores cap room (inside ++ core ∷ [])
-  AreFirstOpened-push count cores cap room inside core first is = record {
+  pub AreFirstOpened-push : (count cores cap room burst : ℕ) (inside : List (RecordedView J T)) (core : RecordedView J T) → AreFirstOpened count cores cap room burst inside →
+      core ≡ opened_beside count cores cap room burst → AreFirstOpened (count + 1) cores cap room burst (inside ++ core ∷ [])
+  AreFirstOpened-push count cores cap room burst inside core first is = record {
     cores_are = omega (arith, length_push inside core, first.cores_are);
-    each_opened = each-push (λ place view. view ≡ opened_beside place cores cap room) inside core (λ place. opened_beside 0 0 0 0) count first.cores_are first.each_opened is;
+    each_opened = each-push (λ place view. view ≡ opened_beside place cores cap room burst) inside core (λ place. opened_beside 0 0 0 0 0) count first.cores_are first.each_opened is;
   }
 
   -- a row of just opened links for each of the first senders

@@ -4,7 +4,7 @@ use Rattle.rt_journal.specs.Recorded.{RecordedView}
 use Rattle.rt_journal.specs.Steps.{opened_beside}
 
 module _ {J T : Type 0} where
-  -- a core of each number, just opened
-  pub record AreOpened (cores cap room : ℕ) (inside : List (RecordedView J T)) : Type 0 where
+  -- a core of each number, just opened, whose turns have at most so many polls
+  pub record AreOpened (cores cap room burst : ℕ) (inside : List (RecordedView J T)) : Type 0 where
     pub cores_are : length inside ≡ cores
-    pub each_opened : (core : ℕ) → core < cores → slice_index_or inside core (opened_beside 0 0 0 0) ≡ opened_beside core cores cap room
+    pub each_opened : (core : ℕ) → core < cores → slice_index_or inside core (opened_beside 0 0 0 0 0) ≡ opened_beside core cores cap room burst

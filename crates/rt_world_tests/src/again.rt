@@ -14,7 +14,7 @@ const TRIES: u32 = 1000;
 
 /// A world of one core, opened until memory isn't refused.
 fn opened(alloc: Global) -> Result<World<ScriptJob>, WorldError>
-    ensures { Opens 1 4 100 result }
+    ensures { Opens 1 4 1 100 result }
 {
     for _ in 0..TRIES {
         match World::try_new(alloc, alloc, 1, 4, 100) {

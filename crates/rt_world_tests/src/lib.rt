@@ -8,6 +8,8 @@ mod again;
 #[cfg(test)]
 mod boxed;
 #[cfg(test)]
+mod bursts;
+#[cfg(test)]
 mod closings;
 #[cfg(test)]
 mod journal;

@@ -13,7 +13,7 @@ use super::Core;
 use crate::delivery::Delivered;
 use crate::notes::{Notes, one_note, two_notes, with_effect};
 use crate::out::is_of_queue;
-use crate::ready::enter;
+use crate::ready::enter_placed;
 use crate::tally::place;
 use rt_ids::{Answer, JobId, Mode, Note, Order, QueueNo};
 use rt_jobs::Task;
@@ -127,7 +127,7 @@ impl<J: Task, A: Allocator + Clone> Core<J, A> {
         let tally = &mut self.tallies[place(queue)];
         let vr = placed(tally.runtime, self.floor);
         tally.runtime = vr;
-        enter(&mut self.queues, &mut self.ready, queue, vr);
+        enter_placed(&mut self.queues, &mut self.ready, &self.bursts, queue, vr);
     }
 
     pub(super) fn deliver_create(

@@ -6,7 +6,7 @@ ghost use Rattle.rt_core.specs.State.{is_working, IsBounded};
 ghost use Rattle.rt_core.specs.Closing.{EndsParks, EndsParksIf};
 
 use super::Core;
-use crate::ready::enter;
+use crate::ready::enter_placed;
 use crate::tally::place;
 use rt_ids::{Mode, QueueNo};
 use rt_jobs::Task;
@@ -86,6 +86,6 @@ impl<J: Task, A: Allocator + Clone> Core<J, A> {
         let tally = &mut self.tallies[place(queue)];
         let vr = placed(tally.runtime, self.floor);
         tally.runtime = vr;
-        enter(&mut self.queues, &mut self.ready, queue, vr);
+        enter_placed(&mut self.queues, &mut self.ready, &self.bursts, queue, vr);
     }
 }

@@ -13,11 +13,12 @@ use rt_jobs::Task;
 use std::alloc::Allocator;
 
 impl<J: Task, A: Allocator + Clone> Core<J, A> {
-    /// Picks where a job waits, none is out, and a turn is left.
+    /// Picks where a job waits, none is out, no turn is open, and a turn is left.
     pub(super) fn pick_first(&mut self) -> (Turn<J>, Notes<J::Out>)
     where
         J::Out: Copy,
         requires free { self.old.out ≡ None }
+        requires no_turn { self.old.bursts.open ≡ None }
         requires turns { self.old.turns < 2 ^ 64 - 1 }
         requires work { (queue : ℕ) × (waiting_of queue self.old.queues ≡ [] → ⊥) }
         ensures picks { Picks self.old (Ok result.0) self.new result.1.items }

@@ -1,15 +1,15 @@
-//! A job goes out to be polled, and comes back.
+//! A job goes out to be polled, or leaves for good.
 ghost use Rattle.std.specs.Prelude.{◌≡◌, ℕ, ◌-◌, ◌^◌, ◌<◌, [], length, IsSome, None};
 ghost use Rattle.rt_jobs.specs.Ready.{IsReady};
 ghost use Rattle.rt_taskqueue.specs.Queues.{queue_count, waiting_of};
 ghost use Rattle.rt_core.specs.State.{runtime_of, IsBounded};
 ghost use Rattle.rt_core.specs.Turns.{TakesOut};
 ghost use Rattle.rt_core.specs.Inside.{FitsTurns};
-ghost use Rattle.rt_core.specs.Steps.{IsOut, IsOutOf, LeavesOut, RejoinsOut, ParksOut, ReturnsOut, FinishesOut};
+ghost use Rattle.rt_core.specs.Steps.{IsOut, IsOutOf, LeavesOut, ReturnsOut};
 
 use super::Core;
 use crate::out::Out;
-use crate::ready::{enter, relist};
+use crate::ready::relist;
 use crate::tally::{Tally, place};
 use rt_ids::{JobId, Key, QueueNo};
 use rt_jobs::Task;
@@ -17,9 +17,11 @@ use std::alloc::Allocator;
 use std::snapshot::Snapshot;
 
 impl<J: Task, A: Allocator + Clone> Core<J, A> {
-    /// Takes out the first job of the queue of least key, with that key and whether the job was started.
+    /// Takes out the first job of the queue of least key, with that key and whether the job was started. Where a turn may have several
+    /// polls, the turn of the queue opens.
     pub(super) fn take_out(&mut self) -> (Key, JobId, bool, J)
         requires free { self.old.out ≡ None }
+        requires no_turn { self.old.bursts.open ≡ None }
         requires turns { self.old.turns < 2 ^ 64 - 1 }
         requires work { (queue : ℕ) × (waiting_of queue self.old.queues ≡ [] → ⊥) }
         ensures takes { TakesOut self.old result.1 result.0.queue result.2 result.3 self.new }
@@ -41,6 +43,8 @@ impl<J: Task, A: Allocator + Clone> Core<J, A> {
         self.tallies[place(queue)].selected += 1;
         self.floor = self.floor.max(vr);
         self.turns += 1;
+        let bursts = self.bursts.begun(queue);
+        self.bursts = bursts;
         let as_it_was = Snapshot::of(&job);
         let named = name;
         self.out = Some(Out {
@@ -50,60 +54,6 @@ impl<J: Task, A: Allocator + Clone> Core<J, A> {
             job: as_it_was,
         });
         (key, named, started, job)
-    }
-
-    /// The job that was out goes to the tail of its queue, with a wake that is kept or with none.
-    pub(super) fn rejoin_out(&mut self, job: J, time: u64, woken: bool) -> JobId
-        requires out { IsSome self.old.out }
-        requires ready { IsReady J.meaning job }
-        ensures rejoins { RejoinsOut self.old result woken job time self.new }
-        ensures bounded { IsBounded self.new }
-    {
-        let Some(out) = self.out.take() else {
-            unreachable!()
-        };
-        let queue = out.queue;
-        let shares = self.queues.shares(queue);
-        let tally = self.tallies[place(queue)].charged(time, &shares, 0);
-        self.tallies[place(queue)] = tally;
-        self.queues.push_back(queue, out.name, woken, job);
-        enter(&mut self.queues, &mut self.ready, queue, tally.runtime);
-        out.name
-    }
-
-    /// The job that was out is parked. Its queue may be picked again if another job waits in it.
-    pub(super) fn park_out(&mut self, job: J, time: u64) -> JobId
-        requires out { IsSome self.old.out }
-        requires ready { IsReady J.meaning job }
-        ensures parks { ParksOut self.old result job time self.new }
-        ensures bounded { IsBounded self.new }
-    {
-        let Some(out) = self.out.take() else {
-            unreachable!()
-        };
-        let queue = out.queue;
-        let shares = self.queues.shares(queue);
-        let tally = self.tallies[place(queue)].charged(time, &shares, 0);
-        self.tallies[place(queue)] = tally;
-        self.queues.park(queue, out.name, job);
-        let Some(slip) = self.queues.take_slip(queue) else {
-            unreachable!()
-        };
-        relist(&mut self.queues, &mut self.ready, slip, tally.runtime);
-        out.name
-    }
-
-    /// The job that was out is done.
-    pub(super) fn finish_out(&mut self, time: u64) -> JobId
-        requires { IsSome self.old.out }
-        ensures finishes { FinishesOut self.old result time self.new }
-        ensures bounded { IsBounded self.new }
-    {
-        let (name, queue) = self.who_is_out();
-        let shares = self.queues.shares(queue);
-        let tally = self.tallies[place(queue)].charged(time, &shares, 1);
-        self.let_go(queue, tally);
-        name
     }
 
     /// The job that was out is handed back.
@@ -119,7 +69,7 @@ impl<J: Task, A: Allocator + Clone> Core<J, A> {
     }
 
     /// The job that is out, and its queue.
-    fn who_is_out(&self) -> (JobId, QueueNo)
+    pub(super) fn who_is_out(&self) -> (JobId, QueueNo)
         requires { IsSome self.now.out }
         ensures { IsOut self.now result.0 result.1 }
     {
@@ -127,14 +77,16 @@ impl<J: Task, A: Allocator + Clone> Core<J, A> {
         (out.name, out.queue)
     }
 
-    /// The job that was out leaves for good, and its queue has this tally from then on. The queue may be picked again if a job waits in it.
-    fn let_go(&mut self, queue: QueueNo, tally: Tally)
+    /// The job that was out leaves for good, and its queue has this tally from then on. No turn is open then, and the queue may be picked
+    /// again if a job waits in it.
+    pub(super) fn let_go(&mut self, queue: QueueNo, tally: Tally)
         requires out { IsOutOf self.old queue }
         requires fits { FitsTurns self.old.turns 0 tally }
         ensures leaves { LeavesOut self.old queue tally self.new }
         ensures bounded { IsBounded self.new }
     {
         self.out = None;
+        self.bursts.open = None;
         self.tallies[place(queue)] = tally;
         self.inside -= 1;
         let Some(slip) = self.queues.take_slip(queue) else {

@@ -12,7 +12,7 @@ use super::Core;
 use crate::delivery::Delivered;
 use crate::notes::{Notes, one_note, two_notes};
 use crate::out::{Out, is_of_queue};
-use crate::ready::enter;
+use crate::ready::enter_placed;
 use crate::tally::place;
 use rt_ids::{ActorNo, Answer, JobId, Note, QueueNo};
 use rt_jobs::Task;
@@ -115,7 +115,7 @@ impl<J: Task, A: Allocator + Clone> Core<J, A> {
         let tally = &mut self.tallies[place(queue)];
         let vr = placed(tally.runtime, self.floor);
         tally.runtime = vr;
-        enter(&mut self.queues, &mut self.ready, queue, vr);
+        enter_placed(&mut self.queues, &mut self.ready, &self.bursts, queue, vr);
         true
     }
 }

@@ -1,5 +1,6 @@
-//! A whole turn with the job in its place.
-ghost use Rattle.std.specs.Prelude.{◌≡◌, ℕ, ◌-◌, ◌^◌, ◌<◌, [], Ok, None};
+//! The first poll of a turn with the job in its place.
+ghost use Rattle.std.specs.Prelude.{◌≡◌, ℕ, ◌-◌, ◌^◌, ◌<◌, [], Ok, None, false};
+ghost use Rattle.rt_ids.specs.Bursts.{has_bursts};
 ghost use Rattle.rt_ids.specs.Work.{number_if};
 ghost use Rattle.rt_jobs.specs.Steps.{is_done_step};
 ghost use Rattle.rt_taskqueue.specs.Queues.{waiting_of};
@@ -8,6 +9,7 @@ ghost use Rattle.rt_core.specs.State.{IsBounded};
 ghost use Rattle.rt_core.specs.Whole.{IsAhead, TellsAhead, TurnsFirst, TurnsWhole, pick_notes, settled_of, settle_notes};
 
 use super::Core;
+use crate::out::is_busy;
 use crate::ready::relist;
 use crate::tally::place;
 use crate::turn::{Ahead, Next, PickError};
@@ -16,7 +18,7 @@ use rt_taskqueue::Meter;
 use std::alloc::Allocator;
 
 /// How many more jobs are done after this step.
-fn ended<T>(step: &Step<T>) -> u64
+pub(super) fn ended<T>(step: &Step<T>) -> u64
     ensures { result ≡ number_if (is_done_step step.now) }
 {
     match step {
@@ -30,11 +32,11 @@ impl<J: Task, A: Allocator + Clone> Core<J, A> {
     ///
     /// # Errors
     ///
-    /// Those of `pick`: `Busy` where a job is out, else `Spent` where a queue has work and no turn is left.
+    /// Those of `pick`: `Busy` where a job is out or a turn is open, else `Spent` where a queue has work and no turn is left.
     pub fn ahead(&self) -> Result<Ahead, PickError>
         ensures { TellsAhead self.now result }
     {
-        if self.out.is_some() {
+        if is_busy(&self.out, &self.bursts) {
             return Err(PickError::Busy);
         }
         if self.ready.is_empty() {
@@ -53,9 +55,10 @@ impl<J: Task, A: Allocator + Clone> Core<J, A> {
         self.turns
     }
 
-    /// The same where a job waits, none is out, and a turn is left.
+    /// The same where a job waits, none is out, no turn is open, and a turn is left.
     fn first_ahead(&self) -> Ahead
         requires free { self.now.out ≡ None }
+        requires no_turn { self.now.bursts.open ≡ None }
         requires turns { self.now.turns < 2 ^ 64 - 1 }
         requires work { (queue : ℕ) × (waiting_of queue self.now.queues ≡ [] → ⊥) }
         ensures { TellsAhead self.now (Ok result) }
@@ -83,8 +86,8 @@ impl<J: Task, A: Allocator + Clone> Core<J, A> {
 }
 
 impl<J: Job, A: Allocator + Clone> Core<J, A> {
-    /// Makes the turn of the job that `ahead` told, with the job in its place: it is polled once with this post, and settled. The
-    /// answer: what the poll came to, and the time that counts, which is the told one or else `spent`.
+    /// Makes the first poll of the turn of the job that `ahead` told, with the job in its place: it is polled with this post, and settled.
+    /// Where a turn may have several polls, the turn stays open. The answer: what the poll came to, and the time that counts, which is the told one or else `spent`.
     ///
     /// The state is that of `pick`, `Ran::poll` and `settle` together. The caller notes the pick before it calls, and the settling
     /// behind what the poll noted at its post.
@@ -102,7 +105,7 @@ impl<J: Job, A: Allocator + Clone> Core<J, A> {
         self.turn_metered(next, post, &mut known)
     }
 
-    /// Makes that turn. The meter is started right before the poll, and asked right behind the poll. The meter's time counts if the job
+    /// Makes that poll. The meter is started right before the poll, and asked right behind the poll. The meter's time counts if the job
     /// told none.
     pub fn turn_metered<P: Post<J, J::Out>, M: Meter>(
         &mut self,
@@ -115,16 +118,21 @@ impl<J: Job, A: Allocator + Clone> Core<J, A> {
         ensures bounded { IsBounded self.new }
     {
         let _named = next;
+        if self.has_bursts() {
+            return self.turn_opening(post, meter);
+        }
         self.turn_first(post, meter)
     }
 
-    /// Polls the next job where it stands, and settles the poll. The answer: what the poll came to, and the time that counts.
+    /// Polls the next job where it stands, and settles the poll, which ends the turn. The answer: what the poll came to, and the time that counts.
     fn turn_first<P: Post<J, J::Out>, M: Meter>(
         &mut self,
         post: &mut P,
         meter: &mut M,
     ) -> (Step<J::Out>, u64)
         requires free { self.old.out ≡ None }
+        requires no_turn { self.old.bursts.open ≡ None }
+        requires single { has_bursts self.old.bursts.burst ≡ false }
         requires turns { self.old.turns < 2 ^ 64 - 1 }
         requires work { (queue : ℕ) × (waiting_of queue self.old.queues ≡ [] → ⊥) }
         ensures turns { MakesCalls P.Does post.old post.new (λ calls. (spent : ℕ) × M.Tells meter.old spent meter.new × TurnsFirst J.meaning self.old spent calls result.0 result.1 self.new) }

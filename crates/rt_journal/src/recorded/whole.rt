@@ -1,11 +1,15 @@
-//! A whole turn with the job in its place, beside its journal. The job may submit, redeem and detach.
-ghost use Rattle.std.specs.Prelude.{◌≡◌, ℕ, ◌+◌, ◌*◌, ◌<◌, ◌≤◌, None, length, sum_by};
+//! A whole turn with its jobs in their places, poll by poll, beside its journal. A job may submit, redeem and detach.
+ghost use Rattle.std.specs.Prelude.{◌≡◌, ℕ, ◌+◌, ◌*◌, ◌<◌, ◌≤◌, ◌++◌, None, IfSome, length, reverse, sum_by};
 ghost use Rattle.std.specs.Option.{option_map};
 ghost use Rattle.rt_taskqueue.specs.Fronts.{MakesCalls};
+ghost use Rattle.rt_ids.specs.Bursts.{polls_in_turn};
 ghost use Rattle.rt_core.specs.Whole.{IsAhead, TellsAhead, TurnsWhole, pick_notes, settled_of, settle_notes};
+ghost use Rattle.rt_core.specs.Bursts.{IsOver};
+ghost use Rattle.rt_core.specs.Further.{IsAheadInTurn, FollowsWhole, follow_notes};
 ghost use Rattle.rt_ids.specs.Outcomes.{outcome_note};
 ghost use Rattle.rt_link.specs.Fits.{Fits};
-ghost use Rattle.rt_journal_desk.specs.Submissions.{IsWritten, terms_of_desk};
+ghost use Rattle.rt_journal_desk.specs.Submissions.{IsWritten, desk_with, terms_of_desk};
+ghost use Rattle.rt_journal_desk.specs.Ends.{KeepsSent};
 ghost use Rattle.rt_journal.specs.Recorded.{IsRecorded, desk_of};
 ghost use Rattle.rt_journal.specs.Ends.{IsInOf, IsInOwing, Gives, LeavesOwed, told_under, IsSameSeat};
 ghost use Rattle.rt_journal.specs.Owed.{outcome_settled};
@@ -13,7 +17,8 @@ ghost use Rattle.rt_journal.specs.OwedPolls.{HasOwedPolls, seen_by};
 ghost use Rattle.rt_journal_desk.specs.Posts.{AreOutsOf, lends};
 ghost use Rattle.rt_journal_desk.specs.Calls.{Does};
 ghost use Rattle.rt_journal_desk.specs.Spending.{left_of};
-ghost use Rattle.rt_journal.specs.Whole.{IsPostingTurn, MayAnswer, TurnsNoted};
+ghost use Rattle.rt_journal.specs.Turns.{IsPick, IsFurther, NothingFollows};
+ghost use Rattle.rt_journal.specs.Whole.{IsPostingTurn, LeavesTurn, MayAnswer, TurnsNoted};
 
 use super::Recorded;
 use crate::given::{give_if, outcome_done};
@@ -34,6 +39,17 @@ fn picked_notes(next: &Next) -> [Note<u64>; 2]
         [Note::Pick(next.queue, next.vr), Note::Resume(next.name)]
     } else {
         [Note::Pick(next.queue, next.vr), Note::Start(next.name)]
+    }
+}
+
+/// The note that begins a further poll of this job.
+fn followed_notes(next: &Next) -> [Note<u64>; 1]
+    ensures { result ≡ follow_notes next.now.name next.now.started }
+{
+    if next.started {
+        [Note::Resume(next.name)]
+    } else {
+        [Note::Start(next.name)]
     }
 }
 
@@ -71,6 +87,56 @@ fn settled(step: &Step<u64>, woken: bool) -> Settled<u64>
     }
 }
 
+/// Notes the settling of the poll of this job. What the poll came to.
+fn note_settled<J: Task<Out = u64>>(
+    said: &mut RecordedDesk<J>,
+    next: &Next,
+    step: &Step<u64>,
+    time: u64,
+) -> Settled<u64>
+    requires room { length said.old.journal.notes < said.old.journal.room }
+    requires written { IsWritten (terms_of_desk said.old) (reverse (settle_notes next.now.name time step.now next.now.woken) ++ said.old.journal.notes) }
+    requires sent { KeepsSent said.old.journal.notes (reverse (settle_notes next.now.name time step.now next.now.woken) ++ said.old.journal.notes) }
+    ensures noted { said.new ≡ desk_with (reverse (settle_notes next.now.name time step.now next.now.woken)) said.old }
+    ensures settled { result ≡ settled_of step.now next.now.woken }
+{
+    let told = settled_notes(&next.name, time, step, next.woken);
+    said.write(&told);
+    settled(step, next.woken)
+}
+
+/// The desk and its ends, lent as a post. What stays in their places owns no memory, and nothing is dropped when they come back.
+fn lend_out<J: Job<Out = u64>, O: OutEnd<J> + Drop>(
+    alloc: Global,
+    said: &mut RecordedDesk<J>,
+    ends: &mut Vec<O, Global>,
+) -> RecordedPost<J, O>
+    requires outs { AreOutsOf (Fits J.meaning) O.out O.credited said.old ends.old.items }
+    requires spare { length said.old.journal.notes + sum_by left_of said.old.lanes < said.old.journal.room }
+    ensures { result ≡ lends said.old ends.old.items }
+{
+    let desk = mem::replace(said, RecordedDesk::nothing(alloc));
+    let lent = mem::replace(ends, Vec::new(alloc));
+    RecordedPost::lend_further(desk, lent)
+}
+
+/// Puts the desk and its ends back.
+fn put_back<J: Job<Out = u64>, O: OutEnd<J> + Drop>(
+    said: &mut RecordedDesk<J>,
+    ends: &mut Vec<O, Global>,
+    post: RecordedPost<J, O>,
+)
+    ensures back { lends said.new ends.new.items ≡ post }
+    ensures outs { AreOutsOf (Fits J.meaning) O.out O.credited said.new ends.new.items }
+    ensures room { length said.new.journal.notes < said.new.journal.room }
+    ensures written { IsWritten (terms_of_desk said.new) said.new.journal.notes }
+{
+    let (desk, lent) = post.into_parts();
+    desk.see_lanes();
+    mem::forget(mem::replace(said, desk));
+    mem::forget(mem::replace(ends, lent));
+}
+
 /// Polls the job that is told ahead where it stands, and settles its poll. The desk and the ends are lent to it for that long. The
 /// answer: what the poll came to, and the time that counts.
 fn turn_lent<J: Job<Out = u64>, A: Allocator + Clone, O: OutEnd<J> + Drop, M: Meter>(
@@ -83,24 +149,42 @@ fn turn_lent<J: Job<Out = u64>, A: Allocator + Clone, O: OutEnd<J> + Drop, M: Me
 ) -> (Step<u64>, u64)
     requires ahead { IsAhead core.old next.now.queue next.now.vr next.now.name next.now.started next.now.woken }
     requires outs { AreOutsOf (Fits J.meaning) O.out O.credited said.old ends.old.items }
-    requires room { length said.old.journal.notes + said.old.cores * (3 * said.old.cap) < said.old.journal.room }
+    requires spare { length said.old.journal.notes + sum_by left_of said.old.lanes < said.old.journal.room }
     ensures whole { MakesCalls (Does (Fits J.meaning) O.out O.credited O.untouched) (lends said.old ends.old.items) (lends said.new ends.new.items) (λ calls.
         (spent : ℕ) × M.Tells meter.old spent meter.new × TurnsWhole J.meaning core.old spent calls next.now.name next.now.queue next.now.started
         (pick_notes next.now.queue next.now.vr next.now.name next.now.started) (settled_of result.0 next.now.woken) (settle_notes next.now.name result.1 result.0 next.now.woken) core.new) }
     ensures outs { AreOutsOf (Fits J.meaning) O.out O.credited said.new ends.new.items }
-    ensures few { sum_by left_of said.old.lanes ≤ said.old.cores * (3 * said.old.cap) }
     ensures room { length said.new.journal.notes < said.new.journal.room }
     ensures written { IsWritten (terms_of_desk said.new) said.new.journal.notes }
 {
-    // What stays in their places owns no memory, and nothing is dropped when they come back.
-    let desk = mem::replace(said, RecordedDesk::nothing(alloc));
-    let lent = mem::replace(ends, Vec::new(alloc));
-    let mut post = RecordedPost::lend(desk, lent);
+    let mut post = lend_out(alloc, said, ends);
     let (step, time) = core.turn_metered(next, &mut post, meter);
-    let (desk, lent) = post.into_parts();
-    desk.see_lanes();
-    mem::forget(mem::replace(said, desk));
-    mem::forget(mem::replace(ends, lent));
+    put_back(said, ends, post);
+    (step, time)
+}
+
+/// The same for a further poll, of the job that is told ahead in the open turn.
+fn further_lent<J: Job<Out = u64>, A: Allocator + Clone, O: OutEnd<J> + Drop, M: Meter>(
+    alloc: Global,
+    core: &mut Core<J, A>,
+    said: &mut RecordedDesk<J>,
+    ends: &mut Vec<O, Global>,
+    next: &Next,
+    meter: &mut M,
+) -> (Step<u64>, u64)
+    requires ahead { IsAheadInTurn core.old next.now.queue next.now.vr next.now.name next.now.started next.now.woken }
+    requires outs { AreOutsOf (Fits J.meaning) O.out O.credited said.old ends.old.items }
+    requires spare { length said.old.journal.notes + sum_by left_of said.old.lanes < said.old.journal.room }
+    ensures whole { MakesCalls (Does (Fits J.meaning) O.out O.credited O.untouched) (lends said.old ends.old.items) (lends said.new ends.new.items) (λ calls.
+        (spent : ℕ) × M.Tells meter.old spent meter.new × FollowsWhole J.meaning core.old spent calls next.now.name next.now.queue next.now.started
+        (follow_notes next.now.name next.now.started) (settled_of result.0 next.now.woken) (settle_notes next.now.name result.1 result.0 next.now.woken) core.new) }
+    ensures outs { AreOutsOf (Fits J.meaning) O.out O.credited said.new ends.new.items }
+    ensures room { length said.new.journal.notes < said.new.journal.room }
+    ensures written { IsWritten (terms_of_desk said.new) said.new.journal.notes }
+{
+    let mut post = lend_out(alloc, said, ends);
+    let (step, time) = core.turn_further_metered(next, &mut post, meter);
+    put_back(said, ends, post);
     (step, time)
 }
 
@@ -115,10 +199,20 @@ impl<J: Task<Out = u64>, A: Allocator + Clone> Recorded<J, A> {
     {
         self.core.ahead()
     }
+
+    /// The job of a further poll of the open turn. None where `follow` would answer None. Nothing changes.
+    pub fn ahead_in_turn(&self) -> Option<Next>
+        ensures ahead { IfSome result (λ next. IsAheadInTurn self.now.core next.queue next.vr next.name next.started next.woken) }
+        ensures over { result ≡ None → IsOver self.now.core }
+        ensures nothing { result ≡ None → NothingFollows self.now }
+    {
+        self.core.ahead_in_turn()
+    }
 }
 
 impl<J: Job<Out = u64>, A: Allocator + Clone> Recorded<J, A> {
-    /// Makes the turn of the job that `ahead` told, with the job in its place. Its pick is noted, it is polled once and lent the desk and
+    /// Makes the first poll of the turn of the job that `ahead` told, with the job in its place. If turns may have several polls, the turn
+    /// stays open: `further_posting` makes the next poll, and `end_turn` ends the turn. The job's pick is noted, it is polled once and lent the desk and
     /// its ends for that long, what it posts is noted, and its settling. If the job told no time of its own, that of the meter counts,
     /// which is started right before the poll and asked right after it. The outcome of a job that is done is owed: `give_done` gives it.
     pub fn turn_posting<O: OutEnd<J> + Drop, M: Meter>(
@@ -131,13 +225,16 @@ impl<J: Job<Out = u64>, A: Allocator + Clone> Recorded<J, A> {
         requires ahead { IsAhead self.old.core next.now.queue next.now.vr next.now.name next.now.started next.now.woken }
         requires outs { AreOutsOf (Fits J.meaning) O.out O.credited (desk_of self.old) ends.old.items }
         requires room { length self.old.journal.notes + self.old.core.cores * (3 * self.old.cap) + 3 ≤ self.old.journal.room }
-        ensures turns { IsPostingTurn J.meaning (Does (Fits J.meaning) O.out O.credited O.untouched) O.out O.untouched (λ time. M.Tells meter.old time meter.new)
+        ensures turns { IsPostingTurn J.meaning IsPick (Does (Fits J.meaning) O.out O.credited O.untouched) O.out O.untouched (λ time. M.Tells meter.old time meter.new)
             self.old ends.old.items next.now.name next.now.queue next.now.started result self.new ends.new.items }
         ensures owed { HasOwedPolls J.meaning (seen_by O.out ends.old.items) self.old → HasOwedPolls J.meaning (seen_by O.out ends.new.items) self.new }
         ensures owes { (sender : ℕ) → LeavesOwed sender (told_under next.now.name (option_map outcome_note (outcome_settled {J = J} result)) sender) self.old self.new }
         ensures may_answer { MayAnswer J.meaning self.new.took next.now.name result }
         ensures outs { AreOutsOf (Fits J.meaning) O.out O.credited (desk_of self.new) ends.new.items }
         ensures few { length self.new.journal.notes ≤ length self.old.journal.notes + self.old.core.cores * (3 * self.old.cap) + 3 }
+        ensures spends { length self.new.journal.notes + sum_by left_of self.new.lanes ≤ length self.old.journal.notes + sum_by left_of self.old.lanes + 3 }
+        ensures left { sum_by left_of self.old.lanes ≤ self.old.core.cores * (3 * self.old.cap) }
+        ensures in_turn { LeavesTurn self.new.core.bursts.burst next.now.queue 1 self.new.journal.notes }
         ensures at_rest { self.new.core.out ≡ None }
         ensures took { self.new.took ≡ self.old.took }
         ensures seat { IsSameSeat self.old self.new }
@@ -157,17 +254,68 @@ impl<J: Job<Out = u64>, A: Allocator + Clone> Recorded<J, A> {
         requires ahead { IsAhead self.old.core next.now.queue next.now.vr next.now.name next.now.started next.now.woken }
         requires outs { AreOutsOf (Fits J.meaning) O.out O.credited (desk_of self.old) ends.old.items }
         requires room { length self.old.journal.notes + self.old.core.cores * (3 * self.old.cap) + 3 ≤ self.old.journal.room }
-        ensures { TurnsNoted J.meaning O.out O.credited O.untouched (λ time. M.Tells meter.old time meter.new)
-            self.old ends.old.items next.now.name next.now.queue next.now.started result self.new ends.new.items }
+        ensures { TurnsNoted J.meaning IsPick O.out O.credited O.untouched (λ time. M.Tells meter.old time meter.new)
+            3 1 self.old ends.old.items next.now.name next.now.queue next.now.started result self.new ends.new.items }
     {
         // There are fewer notes than turns that a core can make.
         let _room = self.said.journal().room();
+        self.said.see_lanes();
         let picked = picked_notes(next);
         self.said.write(&picked);
         let (step, time) = turn_lent(alloc, &mut self.core, &mut self.said, ends, next, meter);
-        let told = settled_notes(&next.name, time, &step, next.woken);
-        self.said.write(&told);
-        settled(&step, next.woken)
+        note_settled(&mut self.said, next, &step, time)
+    }
+
+    /// Makes a further poll of the open turn, of the job that `ahead_in_turn` told, with the job in its place. Its beginning is noted, what
+    /// it posts, and its settling. The time and the outcome are as in `turn_posting`. There is room for each note that may be posted
+    /// before the next outcome is collected, and for two more.
+    pub fn further_posting<O: OutEnd<J> + Drop, M: Meter>(
+        &mut self,
+        alloc: Global,
+        ends: &mut Vec<O, Global>,
+        next: &Next,
+        meter: &mut M,
+    ) -> Settled<u64>
+        requires ahead { IsAheadInTurn self.old.core next.now.queue next.now.vr next.now.name next.now.started next.now.woken }
+        requires outs { AreOutsOf (Fits J.meaning) O.out O.credited (desk_of self.old) ends.old.items }
+        requires room { length self.old.journal.notes + sum_by left_of self.old.lanes + 2 ≤ self.old.journal.room }
+        ensures turns { IsPostingTurn J.meaning IsFurther (Does (Fits J.meaning) O.out O.credited O.untouched) O.out O.untouched (λ time. M.Tells meter.old time meter.new)
+            self.old ends.old.items next.now.name next.now.queue next.now.started result self.new ends.new.items }
+        ensures owed { HasOwedPolls J.meaning (seen_by O.out ends.old.items) self.old → HasOwedPolls J.meaning (seen_by O.out ends.new.items) self.new }
+        ensures owes { (sender : ℕ) → LeavesOwed sender (told_under next.now.name (option_map outcome_note (outcome_settled {J = J} result)) sender) self.old self.new }
+        ensures may_answer { MayAnswer J.meaning self.new.took next.now.name result }
+        ensures outs { AreOutsOf (Fits J.meaning) O.out O.credited (desk_of self.new) ends.new.items }
+        ensures few { length self.new.journal.notes ≤ length self.old.journal.notes + self.old.core.cores * (3 * self.old.cap) + 2 }
+        ensures spends { length self.new.journal.notes + sum_by left_of self.new.lanes ≤ length self.old.journal.notes + sum_by left_of self.old.lanes + 2 }
+        ensures left { sum_by left_of self.old.lanes ≤ self.old.core.cores * (3 * self.old.cap) }
+        ensures in_turn { LeavesTurn self.new.core.bursts.burst next.now.queue (polls_in_turn self.old.journal.notes + 1) self.new.journal.notes }
+        ensures at_rest { self.new.core.out ≡ None }
+        ensures took { self.new.took ≡ self.old.took }
+        ensures seat { IsSameSeat self.old self.new }
+        ensures sound { IsRecorded J.meaning self.new }
+    {
+        self.further_noted(alloc, ends, next, meter)
+    }
+
+    /// Notes the beginning, makes the poll, and notes its settling.
+    fn further_noted<O: OutEnd<J> + Drop, M: Meter>(
+        &mut self,
+        alloc: Global,
+        ends: &mut Vec<O, Global>,
+        next: &Next,
+        meter: &mut M,
+    ) -> Settled<u64>
+        requires ahead { IsAheadInTurn self.old.core next.now.queue next.now.vr next.now.name next.now.started next.now.woken }
+        requires outs { AreOutsOf (Fits J.meaning) O.out O.credited (desk_of self.old) ends.old.items }
+        requires room { length self.old.journal.notes + sum_by left_of self.old.lanes + 2 ≤ self.old.journal.room }
+        ensures { TurnsNoted J.meaning IsFurther O.out O.credited O.untouched (λ time. M.Tells meter.old time meter.new)
+            2 (polls_in_turn self.old.journal.notes + 1) self.old ends.old.items next.now.name next.now.queue next.now.started result self.new ends.new.items }
+    {
+        self.said.see_lanes();
+        let begun = followed_notes(next);
+        self.said.write(&begun);
+        let (step, time) = further_lent(alloc, &mut self.core, &mut self.said, ends, next, meter);
+        note_settled(&mut self.said, next, &step, time)
     }
 
     /// Gives the outcome of a turn on the end of the job's sender, if the job is done.

@@ -35,9 +35,10 @@ impl<J: Task<Out = u64>, A: Allocator + Clone> World<J, A> {
     /// Whether the actor's journal has fewer notes free than one event may need.
     fn is_nearly_full(&self, actor: ActorNo) -> bool
         requires { actor ≤ self.now.cores }
-        ensures { IsTrue result ↔ IsNearlyFull actor self.now }
+        ensures full { IsTrue result ↔ IsNearlyFull actor self.now }
+        ensures some { 1 ≤ self.now.burst }
     {
-        let needed = 3 * self.cores as u32 * self.cap as u32 + 4;
+        let needed = 3 * self.cores as u32 * self.cap as u32 + 2 * self.burst as u32 + 2;
         self.journal(actor).free() < needed
     }
 }
@@ -47,8 +48,8 @@ impl<J: Job + Task<Out = u64>, A: Allocator + Clone> World<J, A> {
     ///
     /// # Errors
     ///
-    /// An event whose actor or core doesn't exist (`NoActor`), or whose actor's journal has fewer than `3 * cores * cap + 4` notes
-    /// free (`NoRoom`), changes nothing and comes back.
+    /// An event whose actor or core doesn't exist (`NoActor`), or whose actor's journal has fewer than `3 * cores * cap + 2 * burst + 2`
+    /// notes free (`NoRoom`), changes nothing and comes back.
     pub fn step(&mut self, event: Event<J>) -> Reply<J>
         requires ready { HasReadyEvent (HasReadyJob J.meaning) event }
         ensures { Happens J.meaning event self.old self.new result }

@@ -17,7 +17,7 @@ impl<J: Task<Out = u64>, A: Allocator + Clone> World<J, A> {
     pub fn stats(&self, core: CoreNo) -> Option<(CoreStats, ArrayVec<QueueStats, 256>)>
         ensures missing { IsNone result ↔ (self.now.cores ≤ core) }
         ensures core { IfSome result (λ told. TellsCore self.now.cores (journal_at core self.now) told.0) }
-        ensures queues { IfSome result (λ told. TellsQueues (journal_at core self.now) (array_vec_len told.1) told.1.items) }
+        ensures queues { IfSome result (λ told. TellsQueues self.now.burst (journal_at core self.now) (array_vec_len told.1) told.1.items) }
     {
         if core.0 >= self.cores {
             return None;

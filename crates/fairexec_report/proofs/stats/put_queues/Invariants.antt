@@ -7,4 +7,4 @@ use Rattle.fairexec_report.proofs.stats.put_queues.Given as goal
 
 abbrev pub invariant-loop-queue : goal.invariant-loop-queue
 invariant-loop-queue l =
-    (journal : Notes ℕ) → KnowsSums l.sums journal → string_bytes l.page ≡ string_bytes l.initial.page ++ queues_below l.queue l.core journal
+    (burst : ℕ) (journal : Notes ℕ) → KnowsSums burst l.sums journal → string_bytes l.page ≡ string_bytes l.initial.page ++ queues_below l.queue l.core burst journal

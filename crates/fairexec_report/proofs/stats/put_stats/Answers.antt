@@ -7,13 +7,13 @@ use Rattle.fairexec_report.proofs.stats.put_stats.Goals as goal
 pub returns : goal.returns
 returns c =
     let notes = c.args.journal.now.notes in
-    let core = c.in_ok-put_core.ensures notes c.in_ok-sums.ensures in
+    let core = c.in_ok-put_core.ensures c.args.burst notes c.in_ok-sums.ensures in
     let line = core_text c.args.core (core_stats core.drained notes) in
-    let lines = queues_below 256 c.args.core notes in
+    let lines = queues_below 256 c.args.core c.args.burst notes in
     on_ok_weaker c.put_queues.result
     (λ told. (
       line ++ lines,
       record { drained = core.drained; right = core.right; told = refl },
-      told notes c.in_ok-sums.ensures ∙ (ap (λ page. page ++ lines) core.put ∙ append_assoc _ line lines),
+      told c.args.burst notes c.in_ok-sums.ensures ∙ (ap (λ page. page ++ lines) core.put ∙ append_assoc _ line lines),
     ))
     c.put_queues.ensures

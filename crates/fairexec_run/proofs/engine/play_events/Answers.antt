@@ -20,20 +20,20 @@ pub returns-in_err-page-clause-err : goal.returns-in_err-page-clause-err
 returns-in_err-page-clause-err g c = OnErr-any c.from_residual-in_err-page.result (inl (Keeps-refl (g.S.Sink.contents c.args.sink.now)))
 
 pub print_events-requires-clause-roomy : goal.print_events-requires-clause-roomy
-print_events-requires-clause-roomy g c = opened_roomy _ _ c.as_slice.result.now c.in_ok-model.model c.in_ok-model.ensures.ok
+print_events-requires-clause-roomy g c = opened_roomy _ _ _ c.as_slice.result.now c.in_ok-model.model c.in_ok-model.ensures.ok c.args.script.sized c.args.script.bursts
 
 pub print_events-requires-clause-there : goal.print_events-requires-clause-there
-print_events-requires-clause-there g c = opened_events _ _ c.as_slice.result.now c.in_ok-model.model c.in_ok-model.ensures.ok c.args.script.events.items c.args.script.happen
+print_events-requires-clause-there g c = opened_events _ _ _ c.as_slice.result.now c.in_ok-model.model c.in_ok-model.ensures.ok c.args.script.events.items c.args.script.happen
 
 pub returns-in_err-print_events-clause-err : goal.returns-in_err-print_events-clause-err
 returns-in_err-print_events-clause-err g c =
-    let opened = subst (λ queues. IsOpened c.args.script.cores c.args.script.cap queues c.in_ok-model.model) c.as_slice.ensures.value c.in_ok-model.ensures.ok in
+    let opened = subst (λ queues. IsOpened c.args.script.cores c.args.script.cap c.args.script.burst queues c.in_ok-model.model) c.as_slice.ensures.value c.in_ok-model.ensures.ok in
     OnErr-any c.from_residual-in_err-print_events.result
     (first_begun (drafted c.args.script) _ _ refl c.in_ok-model.model opened _ c.in_ok-page.ensures.bytes _ c.args.stats _ c.in_err-print_events.ensures.err)
 
 pub returns-clause-ok : goal.returns-clause-ok
 returns-clause-ok g c =
-    let opened = subst (λ queues. IsOpened c.args.script.cores c.args.script.cap queues c.in_ok-model.model) c.as_slice.ensures.value c.in_ok-model.ensures.ok in
+    let opened = subst (λ queues. IsOpened c.args.script.cores c.args.script.cap c.args.script.burst queues c.in_ok-model.model) c.as_slice.ensures.value c.in_ok-model.ensures.ok in
     on_ok_weaker c.print_rear.result
     (
     events_printed (drafted c.args.script) _ _ refl c.in_ok-model.model opened _ c.in_ok-page.ensures.bytes (g.S.Sink.contents c.args.sink.now) c.print_events.new.model _ _ c.in_ok-print_events.ensures.ok c.complete.ensures c.joined.ensures c.sound.ensures
@@ -43,7 +43,7 @@ returns-clause-ok g c =
 
 pub returns-clause-err : goal.returns-clause-err
 returns-clause-err g c =
-    let opened = subst (λ queues. IsOpened c.args.script.cores c.args.script.cap queues c.in_ok-model.model) c.as_slice.ensures.value c.in_ok-model.ensures.ok in
+    let opened = subst (λ queues. IsOpened c.args.script.cores c.args.script.cap c.args.script.burst queues c.in_ok-model.model) c.as_slice.ensures.value c.in_ok-model.ensures.ok in
     on_err_weaker c.print_rear.result
     (
     events_begun (drafted c.args.script) _ _ refl c.in_ok-model.model opened _ c.in_ok-page.ensures.bytes (g.S.Sink.contents c.args.sink.now) c.print_events.new.model _ _ c.in_ok-print_events.ensures.ok c.complete.ensures c.joined.ensures c.sound.ensures

@@ -11,14 +11,14 @@ loop-core-init g c = record { stats = no_stats (c.args.assembly.now) (string_byt
 
 pub loop-core-preserved : goal.loop-core-preserved
 loop-core-preserved g c = record {
-  stats = stats_more (c.args.assembly.now) c.loop-core.core _ c.cores-cores.ensures.value _ c.journal.ensures _ _ _ _ c.loop-core.invariant.stats _ _ c.in_ok-print_core.ensures.ok;
+  stats = stats_more (c.args.assembly.now) c.loop-core.core _ _ c.cores-cores.ensures.value c.burst-burst.ensures _ c.journal.ensures _ _ _ _ c.loop-core.invariant.stats _ _ c.in_ok-print_core.ensures.ok;
   tried = no_fewer _ _ _ c.loop-core.invariant.tried c.print_core.ensures.tried;
 }
 
 pub returns-in_err-print_core-clause-err : goal.returns-in_err-print_core-clause-err
 returns-in_err-print_core-clause-err g c =
     OnErr-any c.from_residual.result
-    (stats_stop (c.args.assembly.now) c.loop-core.core _ c.cores-cores.ensures.value _ c.journal.ensures _ _ _ _ c.loop-core.invariant.stats _ (omega arith) c.in_err-print_core.ensures.err)
+    (stats_stop (c.args.assembly.now) c.loop-core.core _ _ c.cores-cores.ensures.value c.burst-burst.ensures _ c.journal.ensures _ _ _ _ c.loop-core.invariant.stats _ (omega arith) c.in_err-print_core.ensures.err)
 
 pub returns-clause-ok : goal.returns-clause-ok
 returns-clause-ok g c = stats_whole (c.args.assembly.now) c.loop-core.core _ _ _ _ (let all = c.cores-cores.ensures.value in omega arith) c.loop-core.invariant.stats

@@ -13,14 +13,14 @@ loop-core-init g c = record { stats = no_stats (assembly_of c.args.model.now) (s
 
 pub loop-core-preserved : goal.loop-core-preserved
 loop-core-preserved g c = record {
-  stats = stats_more (assembly_of c.args.model.now) c.loop-core.core _ c.cores-cores.ensures _ (c.journal.ensures.notes ∙ sym (unwrap_or-slice_get c.args.model.now.journals c.loop-core.core [])) _ _ _ _ c.loop-core.invariant.stats _ _ c.in_ok-print_core.ensures.ok;
+  stats = stats_more (assembly_of c.args.model.now) c.loop-core.core _ _ c.cores-cores.ensures c.burst-burst.ensures _ (c.journal.ensures.notes ∙ sym (unwrap_or-slice_get c.args.model.now.journals c.loop-core.core [])) _ _ _ _ c.loop-core.invariant.stats _ _ c.in_ok-print_core.ensures.ok;
   tried = no_fewer _ _ _ c.loop-core.invariant.tried c.print_core.ensures.tried;
 }
 
 pub returns-in_err-print_core-clause-err : goal.returns-in_err-print_core-clause-err
 returns-in_err-print_core-clause-err g c =
     OnErr-any c.from_residual.result
-    (stats_stop (assembly_of c.args.model.now) c.loop-core.core _ c.cores-cores.ensures _ (c.journal.ensures.notes ∙ sym (unwrap_or-slice_get c.args.model.now.journals c.loop-core.core [])) _ _ _ _ c.loop-core.invariant.stats _ (omega arith) c.in_err-print_core.ensures.err)
+    (stats_stop (assembly_of c.args.model.now) c.loop-core.core _ _ c.cores-cores.ensures c.burst-burst.ensures _ (c.journal.ensures.notes ∙ sym (unwrap_or-slice_get c.args.model.now.journals c.loop-core.core [])) _ _ _ _ c.loop-core.invariant.stats _ (omega arith) c.in_err-print_core.ensures.err)
 
 pub returns-clause-ok : goal.returns-clause-ok
 returns-clause-ok g c = stats_whole (assembly_of c.args.model.now) c.loop-core.core _ _ _ _ (let all = c.cores-cores.ensures in omega arith) c.loop-core.invariant.stats

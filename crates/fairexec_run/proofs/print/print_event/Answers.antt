@@ -1,7 +1,12 @@
 use Rattle.std.proofs.Common.{sym, ◌∙◌, append-nil, string_bytes, None, Some, arith}
 use Rattle.std.proofs.lemmas.Result.{on_ok_weaker}
-use Rattle.fairexec_run.proofs.EventTexts.{happened, notes_printed, quiet_printed}
+use Rattle.fairexec_run.proofs.EventTexts.{happened, notes_printed, quiet_printed, still_there}
 use Rattle.fairexec_run.proofs.print.print_event.Goals as goal
+
+pub journal-journal-requires : goal.journal-journal-requires
+journal-journal-requires c =
+    still_there c.args.event c.args.model.now c.step-reply.new.self c.step-reply.result (happened _ c.args.event c.args.model.now c.step-reply.new.self c.step-reply.result c.event_of.ensures c.step-reply.ensures) c.requires.roomy c.requires.there
+    c.ends_of-ends.result c.ends_of-ends.ensures
 
 pub returns-then-len-before-clause-ok : goal.returns-then-len-before-clause-ok
 returns-then-len-before-clause-ok c =

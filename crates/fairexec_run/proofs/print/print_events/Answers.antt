@@ -17,7 +17,7 @@ print_event-requires g c =
     let within = turn.0 in
     let short = c.requires.short in
     record {
-      roomy = roomy_here _ _ _ c.loop-event.model c.loop-event.invariant.roomy (omega arith);
+      roomy = roomy_here _ _ _ _ c.loop-event.model c.loop-event.invariant.roomy (omega arith);
       there = subst (λ cores. IsEventOf cores c.in-Some.event) (sym c.loop-event.invariant.roomy.cores_are) (subst (IsEventOf c.args.model.now.cores) (sym turn.1) (c.requires.there _ c.in-Some.event turn.0));
     }
 
@@ -28,7 +28,7 @@ loop-event-preserved-in-Continue-branch-2 g c =
     let more = writes_more c.loop-event.yielded _ _ _ _ _ _ c.loop-event.invariant.writes c.in-Some.event _ _ one.0 one.1 one.2 in
     record {
       writes = writes_out _ _ _ _ _ _ _ more _ _ c.in_ok-print_page.ensures.ok c.in_ok-print_page.ensures.empty;
-      roomy = roomy_more _ _ _ _ c.in-Some.event _ _ one.0 c.loop-event.invariant.roomy one.1 (omega arith);
+      roomy = roomy_more _ _ _ _ _ c.in-Some.event _ _ one.0 c.loop-event.invariant.roomy one.1 (omega arith);
       tried = no_fewer _ _ _ c.loop-event.invariant.tried c.print_page.ensures.tried;
     }
 
@@ -38,7 +38,7 @@ loop-event-preserved g c =
     let count : length (c.loop-event.yielded ++ c.in-Some.event ∷ []) ≡ length c.loop-event.yielded + 1 = length-append c.loop-event.yielded (c.in-Some.event ∷ []) in
     record {
       writes = writes_more c.loop-event.yielded _ _ _ _ _ _ c.loop-event.invariant.writes c.in-Some.event _ _ one.0 one.1 one.2;
-      roomy = roomy_more _ _ _ _ c.in-Some.event _ _ one.0 c.loop-event.invariant.roomy one.1 (omega arith);
+      roomy = roomy_more _ _ _ _ _ c.in-Some.event _ _ one.0 c.loop-event.invariant.roomy one.1 (omega arith);
       tried = c.loop-event.invariant.tried;
     }
 

@@ -11,7 +11,7 @@ pub offer_all-requires : goal.offer_all-requires
 offer_all-requires g c =
     let started = c.in_ok-house.ensures.ok in
     let script = c.args.script in
-    let idle = started_of script.cores script.cap script.queues.items c.in_ok-house.house started script.sized in
+    let idle = started_of script.cores script.cap script.burst script.queues.items c.in_ok-house.house started script.sized in
     let cores = ap (λ desk. desk.cores) started.desk in
     let cap = ap (λ desk. desk.cap) started.desk in
     record {
@@ -37,7 +37,7 @@ returns-clause-ok g c =
       starts = c.in_ok-house.ensures.ok;
       offers = offers;
       finishes = c.in-Ok.ensures;
-      opened = opened script.cores script.cap script.queues.items _ c.in_ok-house.house c.close_all.new.house _ c.in_ok-house.ensures.ok offers c.in-Ok.ensures;
-      heard = heard script.cores script.cap script.queues.items _ c.in_ok-house.house c.close_all.new.house _ c.in_ok-house.ensures.ok offers c.in-Ok.ensures;
-      answered = answered script.cores script.cap script.queues.items _ c.in_ok-house.house c.close_all.new.house _ c.in_ok-house.ensures.ok offers c.in-Ok.ensures;
+      opened = opened script.cores script.cap script.burst script.queues.items _ c.in_ok-house.house c.close_all.new.house _ c.in_ok-house.ensures.ok offers c.in-Ok.ensures;
+      heard = heard script.cores script.cap script.burst script.queues.items _ c.in_ok-house.house c.close_all.new.house _ c.in_ok-house.ensures.ok offers c.in-Ok.ensures;
+      answered = answered script.cores script.cap script.burst script.queues.items _ c.in_ok-house.house c.close_all.new.house _ c.in_ok-house.ensures.ok offers c.in-Ok.ensures;
     }

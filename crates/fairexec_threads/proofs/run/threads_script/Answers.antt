@@ -9,4 +9,4 @@ returns-in-Ok-clause-done g c = record {
 }
 
 pub returns-in-Ok-clause-sound : goal.returns-in-Ok-clause-sound
-returns-in-Ok-clause-sound g c = told_sound _ _ _ _ c.in_ok-assembly.assembly c.args.journal c.args.stats _ _ _ c.in_ok-assembly.ensures.ok c.in-Ok.ensures.done
+returns-in-Ok-clause-sound g c = told_sound _ _ _ _ _ c.in_ok-assembly.assembly c.args.journal c.args.stats _ _ _ c.in_ok-assembly.ensures.ok c.in-Ok.ensures.done

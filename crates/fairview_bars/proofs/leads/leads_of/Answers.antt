@@ -8,7 +8,7 @@ use Rattle.fairview_bars.proofs.leads.leads_of.Goals as goal
 
 pub loop-place-init : goal.loop-place-init
 loop-place-init c = record {
-  standing = subst (λ (journal : Journal ℕ). KnowsStanding c.new-standing.result journal) (sym (at_start c.args.journal.now.notes)) c.new-standing.ensures;
+  standing = subst (λ (journal : Journal ℕ). KnowsStanding c.args.burst c.new-standing.result journal) (sym (at_start c.args.journal.now.notes)) c.new-standing.ensures;
   told = rw (at_start c.args.journal.now.notes) c.new-told.ensures.items;
 }
 
@@ -18,13 +18,13 @@ loop-place-preserved c =
     let before = at_place c.loop-place.place notes in
     let short : length before < greatest_count = omega (arith, length-at_place c.loop-place.place notes, c.len-place-end.ensures.value, c.len-place-end.ensures.limits) in
     record {
-      standing = subst (λ (journal : Journal ℕ). KnowsStanding c.add.new.self journal) (sym c.note_at-note.ensures) (c.in_ok-add.ensures before short c.loop-place.invariant.standing);
+      standing = subst (λ (journal : Journal ℕ). KnowsStanding c.args.burst c.add.new.self journal) (sym c.note_at-note.ensures) (c.in_ok-add.ensures c.args.burst before short c.loop-place.invariant.standing);
       told =
-          subst (λ (journal : Journal ℕ). c.push_lead.new.leads.items ≡ leads c.args.first c.args.second journal) (sym c.note_at-note.ensures)
-          (c.in_ok-push_lead.ensures ∙ (λ i. with_last (c.loop-place.invariant.told i) (c.lead.ensures before short c.loop-place.invariant.standing i)));
+          subst (λ (journal : Journal ℕ). c.push_lead.new.leads.items ≡ leads c.args.burst c.args.first c.args.second journal) (sym c.note_at-note.ensures)
+          (c.in_ok-push_lead.ensures ∙ (λ i. with_last (c.loop-place.invariant.told i) (c.lead.ensures c.args.burst before short c.loop-place.invariant.standing i)));
     }
 
 pub returns : goal.returns
 returns c =
-    whole_walk (λ journal. c.loop-place.told.items ≡ leads c.args.first c.args.second journal) c.args.journal.now.notes c.loop-place.place (omega arith)
+    whole_walk (λ journal. c.loop-place.told.items ≡ leads c.args.burst c.args.first c.args.second journal) c.args.journal.now.notes c.loop-place.place (omega arith)
     c.loop-place.invariant.told

@@ -6,6 +6,6 @@ use Rattle.fairview_bars.proofs.leads.leads_of.Given as goal
 
 abbrev pub invariant-loop-place : goal.invariant-loop-place
 invariant-loop-place l = record {
-  standing : KnowsStanding l.standing (at_place l.place l.journal.notes);
-  told : l.told.items ≡ leads l.first l.second (at_place l.place l.journal.notes);
+  standing : KnowsStanding l.burst l.standing (at_place l.place l.journal.notes);
+  told : l.told.items ≡ leads l.burst l.first l.second (at_place l.place l.journal.notes);
 }

@@ -13,7 +13,7 @@ loop-place-init c =
     let none = sym (at_start c.args.journal.now.notes) in
     record {
       stretch =
-          subst (λ (journal : Journal ℕ). KnowsStretch c.args.panel.now.first c.args.panel.now.second c.new-stretch.result journal) none
+          subst (λ (journal : Journal ℕ). KnowsStretch c.args.panel.now.burst c.args.panel.now.first c.args.panel.now.second c.new-stretch.result journal) none
           (c.new-stretch.ensures c.args.panel.now.first c.args.panel.now.second);
       sized = c.in_ok-columns.ensures.sized;
       each = subst (λ (journal : Journal ℕ). AreColumns c.args.panel.now c.in_ok-columns.columns.items journal) none c.in_ok-columns.ensures.each;
@@ -25,13 +25,13 @@ loop-place-preserved c =
     let notes = c.args.journal.now.notes in
     let before = at_place c.loop-place.place notes in
     let short : length before < greatest_count = omega (arith, length-at_place c.loop-place.place notes, c.len-place-end.ensures.value, c.len-place-end.ensures.limits) in
-    let knows = c.in_ok-add.ensures before short c.loop-place.invariant.stretch in
+    let knows = c.in_ok-add.ensures panel.burst before short c.loop-place.invariant.stretch in
     record {
-      stretch = subst (λ (journal : Journal ℕ). KnowsStretch panel.first panel.second c.add.new.self journal) (sym c.note_at-note.ensures) knows;
+      stretch = subst (λ (journal : Journal ℕ). KnowsStretch panel.burst panel.first panel.second c.add.new.self journal) (sym c.note_at-note.ensures) knows;
       sized = c.mark.ensures.sized;
       each =
           subst (λ (journal : Journal ℕ). AreColumns panel c.mark.new.columns.items journal) (sym c.note_at-note.ensures)
-          (columns_next panel c.loop-place.columns.items c.mark.new.columns.items c.note_at-note.result before c.lag-lag.result (c.lag-lag.ensures before knows) c.mark.ensures.each
+          (columns_next panel c.loop-place.columns.items c.mark.new.columns.items c.note_at-note.result before c.lag-lag.result (c.lag-lag.ensures panel.burst before knows) c.mark.ensures.each
           c.loop-place.invariant.each);
     }
 

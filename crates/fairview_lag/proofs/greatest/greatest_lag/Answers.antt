@@ -10,7 +10,7 @@ use Rattle.fairview_lag.proofs.greatest.greatest_lag.Goals as goal
 pub loop-place-init : goal.loop-place-init
 loop-place-init c = record {
   stretch =
-      subst (λ (journal : Journal ℕ). KnowsStretch c.args.first c.args.second c.new-stretch.result journal) (sym (at_start c.args.journal.now.notes))
+      subst (λ (journal : Journal ℕ). KnowsStretch c.args.burst c.args.first c.args.second c.new-stretch.result journal) (sym (at_start c.args.journal.now.notes))
       (c.new-stretch.ensures c.args.first c.args.second);
   greatest = rw (at_start c.args.journal.now.notes) refl;
 }
@@ -20,16 +20,16 @@ loop-place-preserved c =
     let notes = c.args.journal.now.notes in
     let before = at_place c.loop-place.place notes in
     let short : length before < greatest_count = omega (arith, length-at_place c.loop-place.place notes, c.len-place-end.ensures.value, c.len-place-end.ensures.limits) in
-    let knows = c.in_ok-add.ensures before short c.loop-place.invariant.stretch in
+    let knows = c.in_ok-add.ensures c.args.burst before short c.loop-place.invariant.stretch in
     record {
       stretch =
-          subst (λ (journal : Journal ℕ). KnowsStretch c.args.first c.args.second c.add.new.self journal) (sym c.note_at-note.ensures) knows;
+          subst (λ (journal : Journal ℕ). KnowsStretch c.args.burst c.args.first c.args.second c.add.new.self journal) (sym c.note_at-note.ensures) knows;
       greatest =
-          subst (λ (journal : Journal ℕ). c.further-greatest.result ≡ greatest_lag c.args.first c.args.second journal) (sym c.note_at-note.ensures)
-          (c.further-greatest.ensures ∙ (λ i. further (c.loop-place.invariant.greatest i) (c.lag.ensures before knows i)));
+          subst (λ (journal : Journal ℕ). c.further-greatest.result ≡ greatest_lag c.args.burst c.args.first c.args.second journal) (sym c.note_at-note.ensures)
+          (c.further-greatest.ensures ∙ (λ i. further (c.loop-place.invariant.greatest i) (c.lag.ensures c.args.burst before knows i)));
     }
 
 pub returns : goal.returns
 returns c =
-    whole_walk (λ journal. c.loop-place.greatest ≡ greatest_lag c.args.first c.args.second journal) c.args.journal.now.notes c.loop-place.place (omega arith)
+    whole_walk (λ journal. c.loop-place.greatest ≡ greatest_lag c.args.burst c.args.first c.args.second journal) c.args.journal.now.notes c.loop-place.place (omega arith)
     c.loop-place.invariant.greatest

@@ -7,6 +7,6 @@ use Rattle.fairview_lag.proofs.greatest.greatest_lag.Given as goal
 
 abbrev pub invariant-loop-place : goal.invariant-loop-place
 invariant-loop-place l = record {
-  stretch : KnowsStretch l.first l.second l.stretch (at_place l.place l.journal.notes);
-  greatest : l.greatest ≡ greatest_lag l.first l.second (at_place l.place l.journal.notes);
+  stretch : KnowsStretch l.burst l.first l.second l.stretch (at_place l.place l.journal.notes);
+  greatest : l.greatest ≡ greatest_lag l.burst l.first l.second (at_place l.place l.journal.notes);
 }

@@ -6,4 +6,4 @@ use Rattle.fairview_lag.specs.Pairs.{core_pairs}
 use Rattle.fairview_lag.proofs.pairs.lags_of_run.Given as goal
 
 abbrev pub invariant-loop-core : goal.invariant-loop-core
-invariant-loop-core l = l.pairs.items ≡ lists_below (λ core. core_pairs core (journal_of core l.assembly)) l.core
+invariant-loop-core l = l.pairs.items ≡ lists_below (λ core. core_pairs l.assembly.burst core (journal_of core l.assembly)) l.core

@@ -5,4 +5,4 @@ use Rattle.fairview_lag.specs.Pairs.{pairs_with}
 use Rattle.fairview_lag.proofs.pairs.push_core.Given as goal
 
 abbrev pub invariant-loop-second : goal.invariant-loop-second
-invariant-loop-second l = l.pairs.items ≡ l.initial.pairs.items ++ lists_below (λ second. pairs_with l.core second l.journal.notes) l.second
+invariant-loop-second l = l.pairs.items ≡ l.initial.pairs.items ++ lists_below (λ second. pairs_with l.burst l.core second l.journal.notes) l.second

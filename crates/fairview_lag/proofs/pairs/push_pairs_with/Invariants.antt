@@ -5,4 +5,4 @@ use Rattle.fairview_lag.specs.Pairs.{pair_told}
 use Rattle.fairview_lag.proofs.pairs.push_pairs_with.Given as goal
 
 abbrev pub invariant-loop-first : goal.invariant-loop-first
-invariant-loop-first l = l.pairs.items ≡ l.initial.pairs.items ++ lists_below (λ first. one_of (pair_told l.core first l.second l.journal.notes)) l.first
+invariant-loop-first l = l.pairs.items ≡ l.initial.pairs.items ++ lists_below (λ first. one_of (pair_told l.burst l.core first l.second l.journal.notes)) l.first

@@ -4,4 +4,4 @@ use Rattle.fairview_bars.specs.Leads.{KnowsStanding}
 use Rattle.fairview_lag.proofs.panel.standing_of.Given as goal
 
 abbrev pub invariant-loop-place : goal.invariant-loop-place
-invariant-loop-place l = KnowsStanding l.standing (at_place l.place l.journal.notes)
+invariant-loop-place l = KnowsStanding l.burst l.standing (at_place l.place l.journal.notes)

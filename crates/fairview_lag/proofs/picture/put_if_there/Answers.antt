@@ -9,7 +9,7 @@ pub returns-then-pair-cores : goal.returns-then-pair-cores
 returns-then-pair-cores c =
     let core : c.pair.inside.0.0.0 ≡ c.args.pair.now.core = ap (λ (pair : PairLag). pair.core) c.pair.view_is in
     let there : c.args.pair.now.core < c.args.assembly.now.cores = omega (arith, c.cores.ensures.value, c.if-pair-cores.true, core) in
-    let told = panel_there c.args.index c.args.pair.now c.args.assembly.now c.journal-journal.result.now.notes there
+    let told = panel_there c.burst.result c.args.index c.args.pair.now c.args.assembly.now c.journal-journal.result.now.notes c.burst.ensures there
     (c.journal-journal.ensures ∙ ap (λ (number : ℕ). journal_of number c.args.assembly.now) core) in
     on_ok_weaker c.put_panel.result (λ put. put ∙ ap (λ (text : List ℕ). string_bytes c.args.page.now ++ text) told) c.put_panel.ensures
 

@@ -6,12 +6,12 @@ use Rattle.fairview_lag.proofs.stretch.begun_after.Goals as goal
 
 pub returns-then-are_together : goal.returns-then-are_together
 returns-then-are_together c =
-    λ note before knows is.
-    some_if (are_together c.args.first c.args.second (note ∷ before)) c.begun_by.result (begun_of c.args.first c.args.second (note ∷ before))
-    (sym (c.are_together.ensures (note ∷ before) knows) ∙ c.if-are_together.true) (c.begun_by.ensures note before knows is)
+    λ burst note before knows is.
+    some_if (are_together c.args.first c.args.second (note ∷ before)) c.begun_by.result (begun_of burst c.args.first c.args.second (note ∷ before))
+    (sym (c.are_together.ensures burst (note ∷ before) knows) ∙ c.if-are_together.true) (c.begun_by.ensures burst note before knows is)
 
 pub returns-else-are_together : goal.returns-else-are_together
 returns-else-are_together c =
-    λ note before knows is.
-    none_if (are_together c.args.first c.args.second (note ∷ before)) (begun_of c.args.first c.args.second (note ∷ before))
-    (sym (c.are_together.ensures (note ∷ before) knows) ∙ c.if-are_together.false)
+    λ burst note before knows is.
+    none_if (are_together c.args.first c.args.second (note ∷ before)) (begun_of burst c.args.first c.args.second (note ∷ before))
+    (sym (c.are_together.ensures burst (note ∷ before) knows) ∙ c.if-are_together.false)

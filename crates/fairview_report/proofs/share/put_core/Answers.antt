@@ -10,7 +10,7 @@ returns c =
     on_ok_weaker c.put_queues.result
     (
     λ put.
-    put notes c.in_ok-shares.ensures
-    ∙ ap (λ (clock : Clock). string_bytes c.args.page.now ++ queues_text c.args.form c.args.core clock.time notes) c.clock_of-busy.ensures
+    put c.args.burst notes c.in_ok-shares.ensures
+    ∙ ap (λ (clock : Clock). string_bytes c.args.page.now ++ queues_text c.args.form c.args.burst c.args.core clock.time notes) c.clock_of-busy.ensures
     )
     c.put_queues.ensures

@@ -9,4 +9,4 @@ use Rattle.fairview_report.proofs.share.put_queues.Given as goal
 
 abbrev pub invariant-loop-queue : goal.invariant-loop-queue
 invariant-loop-queue l =
-    (journal : Notes ℕ) → KnowsShares l.shares journal → string_bytes l.page ≡ string_bytes l.initial.page ++ lists_below (λ queue. row_text l.form l.core l.busy queue (queue_share queue journal)) l.queue
+    (burst : ℕ) (journal : Notes ℕ) → KnowsShares burst l.shares journal → string_bytes l.page ≡ string_bytes l.initial.page ++ lists_below (λ queue. row_text l.form l.core l.busy queue (queue_share burst queue journal)) l.queue

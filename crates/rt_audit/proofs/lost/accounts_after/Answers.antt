@@ -7,7 +7,8 @@ use Rattle.rt_audit.proofs.lost.accounts_after.Goals as goal
 
 pub loop-place-init : goal.loop-place-init
 loop-place-init c =
-    subst (λ (before : Journal ℕ). KnowsAccounts c.new-accounts.result before) (sym (at_start c.args.journal.now.notes)) c.new-accounts.ensures
+    subst (λ (before : Journal ℕ). KnowsAccounts c.args.burst c.new-accounts.result before) (sym (at_start c.args.journal.now.notes))
+    (c.new-accounts.ensures c.args.burst)
 
 pub loop-place-preserved : goal.loop-place-preserved
 loop-place-preserved c =
@@ -15,9 +16,9 @@ loop-place-preserved c =
     let read : length before < greatest_count =
     omega (arith, length-at_place c.loop-place.place c.args.journal.now.notes, c.loop-place-test.true, c.len-place-end.type_inv) in
     let facts = c.fact-fact.ensures c.args.journal.now.notes _ _ c.requires (omega arith) c.note_at-note.ensures in
-    subst (λ (journal : Journal ℕ). KnowsAccounts c.add.new.self journal) (sym c.note_at-note.ensures)
+    subst (λ (journal : Journal ℕ). KnowsAccounts c.args.burst c.add.new.self journal) (sym c.note_at-note.ensures)
     (c.add.ensures.known before (c.spot.ensures before facts) read c.loop-place.invariant)
 
 pub returns : goal.returns
 returns c =
-    whole_walk (λ journal. KnowsAccounts c.loop-place.accounts journal) c.args.journal.now.notes c.loop-place.place (omega arith) c.loop-place.invariant
+    whole_walk (λ journal. KnowsAccounts c.args.burst c.loop-place.accounts journal) c.args.journal.now.notes c.loop-place.place (omega arith) c.loop-place.invariant

@@ -22,7 +22,7 @@ returns-then-not-is_idle-clause-kept c =
     let notes = c.journal-journal.ensures ∙ ap (λ (actor : ℕ). journal_of actor c.args.assembly.now) c.core.view_is in
     let here = subst (λ (journal : Journal ℕ). IsDrained c.args.assembly.now.cores journal) (sym notes) drained in
     let idle : c.is_idle.result ≡ true =
-    c.is_idle.ensures.only c.journal-journal.result.now.notes c.accounts_after-accounts.ensures
+    c.is_idle.ensures.only c.burst.result c.journal-journal.result.now.notes c.accounts_after-accounts.ensures
     (λ queue. record {
       idle = false_from_ne_true (has_work queue c.journal-journal.result.now.notes) (here.idle queue);
       nobody_parked = here.nobody_parked queue;
@@ -39,7 +39,7 @@ pub returns-clause-only : goal.returns-clause-only
 returns-clause-only c =
     λ ended.
     let notes = c.journal-journal.ensures ∙ ap (λ (actor : ℕ). journal_of actor c.args.assembly.now) c.core.view_is in
-    let nobody = c.is_idle.ensures.right c.journal-journal.result.now.notes c.accounts_after-accounts.ensures c.if-not-is_idle.false in
+    let nobody = c.is_idle.ensures.right c.burst.result c.journal-journal.result.now.notes c.accounts_after-accounts.ensures c.if-not-is_idle.false in
     let drained : IsDrained c.args.assembly.now.cores c.journal-journal.result.now.notes =
     record {
       delivered_all = λ sender within. c.are_emptied.ensures.right c.if-not-are_emptied.false sender (omega (arith, within, c.cores-count.ensures.value));

@@ -1,5 +1,6 @@
 use Rattle.std.proofs.Common.{◌≡◌, ℕ, sym, subst, arith, below_more}
 use Rattle.std.specs.Prelude.{None}
+use Rattle.rt_ids.specs.Assembly.{journal_of}
 use Rattle.rt_ids.specs.Clauses.{PicksRight, queue_just_picked}
 use Rattle.rt_ids.specs.Journal.{Journal, EachNote}
 use Rattle.rt_ids.specs.Terms.{terms_of}
@@ -16,8 +17,12 @@ picks_fault-requires c =
 pub loop-core-preserved : goal.loop-core-preserved
 loop-core-preserved c =
     let kept =
-    subst (λ (journal : Journal ℕ). EachNote PicksRight journal × (queue_just_picked journal ≡ None)) c.journal-journal.ensures
-    (c.picks_fault.ensures.kept c.in_default.is) in
+    subst (λ (burst : ℕ). EachNote (PicksRight burst) (journal_of c.loop-core.core c.args.assembly.now) × (queue_just_picked (journal_of c.loop-core.core c.args.assembly.now) ≡ None))
+    c.burst.ensures
+    (
+    subst (λ (journal : Journal ℕ). EachNote (PicksRight c.burst.result) journal × (queue_just_picked journal ≡ None)) c.journal-journal.ensures
+    (c.picks_fault.ensures.kept c.in_default.is)
+    ) in
     below_more (PicksOf c.args.assembly.now) c.loop-core.core c.loop-core.invariant (record { notes = kept.0; last_followed = kept.1 })
 
 pub returns-in-Some-clause-named : goal.returns-in-Some-clause-named
@@ -25,10 +30,13 @@ returns-in-Some-clause-named c = record {
   within = omega arith;
   before = c.loop-core.invariant;
   here =
-      subst (λ (journal : Journal ℕ). IsPickFault journal c.in-Some.line) c.journal-journal.ensures
+      subst (λ (burst : ℕ). IsPickFault burst (journal_of c.loop-core.core c.args.assembly.now) c.in-Some.line) c.burst.ensures
+      (
+      subst (λ (journal : Journal ℕ). IsPickFault c.burst.result journal c.in-Some.line) c.journal-journal.ensures
       (
       c.in-Some.ensures.named (terms_of c.loop-core.core c.args.assembly.now)
       (rw c.journal-journal.ensures (c.requires.spelled.notes c.loop-core.core (omega arith)))
+      )
       );
 }
 

@@ -5,18 +5,18 @@ use Rattle.rt_audit_picks.proofs.PickSteps.{none_left}
 use Rattle.rt_audit_picks.proofs.picks.line_at.Goals as goal
 
 pub returns-then-is_followed : goal.returns-then-is_followed
-returns-then-is_followed c = λ before knows facts. inr (refl, inr (c.is_followed.ensures.right before knows facts c.if-is_followed.true))
+returns-then-is_followed c = λ burst before knows facts. inr (refl, inr (c.is_followed.ensures.right burst before knows facts c.if-is_followed.true))
 
 pub returns-then-is_some : goal.returns-then-is_some
 returns-then-is_some c =
-    λ before knows facts.
+    λ burst before knows facts.
     inl (
       refl,
       ap is_some knows.picked ∙ (sym c.is_some.ensures ∙ c.if-is_some.true),
-      λ follows. both_ways c.is_followed.result c.if-is_followed.false (c.is_followed.ensures.only before knows facts follows),
+      λ follows. both_ways c.is_followed.result c.if-is_followed.false (c.is_followed.ensures.only burst before knows facts follows),
     )
 
 pub returns-else-is_some : goal.returns-else-is_some
 returns-else-is_some c =
-    λ before knows facts.
+    λ burst before knows facts.
     inr (refl, inl (knows.picked ∙ none_left c.args.turns.now.picked (sym c.is_some.ensures ∙ c.if-is_some.false)))

@@ -13,7 +13,8 @@ returns-then-is_in_turn-clause-right c =
         turn = turn.1.turn;
         followed = turn.1.followed;
         settles = settles c.args.turns.now.out before knows.out c.args.note.now fits.0 fits.1;
-        awake = awake before c.args.note.now fits.1;
+        awake = awake c.args.burst before c.args.note.now fits.1;
+        in_turn = turn.2;
       },
       fits.0,
     )
@@ -21,7 +22,8 @@ returns-then-is_in_turn-clause-right c =
 pub returns-then-is_in_turn-clause-only : goal.returns-then-is_in_turn-clause-only
 returns-then-is_in_turn-clause-only c =
     λ before knows facts below each right.
-    c.is_settled.ensures.only before facts (fits c.args.turns.now.out before knows.out each c.args.note.now right) (fits_parks before c.args.note.now right)
+    c.is_settled.ensures.only before facts (fits c.args.burst c.args.turns.now.out before knows.out each c.args.note.now right)
+    (fits_parks c.args.burst before c.args.note.now right)
 
 pub returns-else-is_in_turn-clause-only : goal.returns-else-is_in_turn-clause-only
 returns-else-is_in_turn-clause-only c =
@@ -29,5 +31,5 @@ returns-else-is_in_turn-clause-only c =
     absurd
     (
     both_ways c.is_in_turn.result c.if-is_in_turn.false
-    (c.is_in_turn.ensures.only before knows facts below right.right (record { turn = right.turn; followed = right.followed }))
+    (c.is_in_turn.ensures.only before knows facts below right.right (record { turn = right.turn; followed = right.followed }) right.in_turn)
     )

@@ -1,5 +1,6 @@
 use Rattle.rt_journal.proofs.PollsRefused.{polls_refused, one_is_owed}
 use Rattle.rt_journal.proofs.RefusalsCounted.{refusals_counted}
+use Rattle.rt_journal.proofs.TurnsRefused.{further_polls_counted}
 use Rattle.rt_journal.proofs.laws.bad_polls_are_refused.Goals as goal
 
 pub returns-clause-refused : goal.returns-clause-refused
@@ -10,3 +11,6 @@ returns-clause-owed c = one_is_owed
 
 pub returns-clause-counted : goal.returns-clause-counted
 returns-clause-counted c = refusals_counted
+
+pub returns-clause-further : goal.returns-clause-further
+returns-clause-further c = further_polls_counted

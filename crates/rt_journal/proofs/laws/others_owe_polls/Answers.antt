@@ -1,6 +1,6 @@
 use Rattle.rt_journal.specs.OwedPolls.{seen_by}
 use Rattle.rt_journal.proofs.OwedTurns.{seen_got}
-use Rattle.rt_journal.proofs.OwedSteps.{delivers_keep, creates_keep, shuts_keep, closes_keep, picks_keep, collects_keep}
+use Rattle.rt_journal.proofs.OwedSteps.{delivers_keep, creates_keep, shuts_keep, closes_keep, picks_keep, follows_keep, ends_keep, collects_keep}
 use Rattle.rt_journal.proofs.OwedSteps.{submits_keep, redeems_keep, detaches_keep}
 use Rattle.rt_journal.proofs.laws.others_owe_polls.Goals as goal
 
@@ -17,6 +17,8 @@ returns-clause-steps g c ends old new =
         gate = shuts_keep meaning seen old new seat;
         closing = closes_keep meaning seen old new seat;
         pick = picks_keep meaning seen old new seat;
+        further = follows_keep meaning seen old new seat;
+        end = ends_keep meaning seen old new seat;
       },
       λ rest. record {
         collection = collects_keep meaning seen old new rest;

@@ -2,4 +2,4 @@ use Rattle.rt_journal.proofs.Together.{together_joined}
 use Rattle.rt_journal.proofs.laws.recorded_are_joined.Goals as goal
 
 pub returns : goal.returns
-returns g c cores cap desk core out credited inward assembly are is = together_joined cores cap desk core out credited inward assembly are is
+returns g c cores cap burst desk core out credited inward assembly are is = together_joined cores cap burst desk core out credited inward assembly are is

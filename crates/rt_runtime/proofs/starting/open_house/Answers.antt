@@ -5,16 +5,16 @@ use Rattle.rt_runtime.proofs.starting.open_house.Goals as goal
 
 pub open_workers-requires-clause-each : goal.open_workers-requires-clause-each
 open_workers-requires-clause-each g c =
-    may_open c.args.config.now.cores c.args.config.now.cap c.args.config.now.room c.args.config.now.queues.items c.in-Ok.all.items c.pop.new.self.items c.in-Some.outside c.in-Some.ensures.items c.in-Ok.ensures.grid c.in-Ok.ensures.fresh
+    may_open c.args.config.now.cores c.args.config.now.cap c.args.config.now.burst c.args.config.now.room c.args.config.now.queues.items c.in-Ok.all.items c.pop.new.self.items c.in-Some.outside c.in-Some.ensures.items c.in-Ok.ensures.grid c.in-Ok.ensures.fresh
     _ _ c.requires
 
 pub returns-clause-house : goal.returns-clause-house
 returns-clause-house g c =
-    opened_house c.args.config.now.cores c.args.config.now.cap c.args.config.now.room c.args.config.now.queues.items c.in-Ok.all.items c.pop.new.self.items c.in-Some.outside c.in-Some.ensures.items c.in-Ok.ensures.grid c.in-Ok.ensures.fresh
+    opened_house c.args.config.now.cores c.args.config.now.cap c.args.config.now.burst c.args.config.now.room c.args.config.now.queues.items c.in-Ok.all.items c.pop.new.self.items c.in-Some.outside c.in-Some.ensures.items c.in-Ok.ensures.grid c.in-Ok.ensures.fresh
     (map (λ worker. worker.linked) c.in_ok-workers.workers.items) c.in_ok-workers.ensures.opened
 
 pub returns-clause-shared : goal.returns-clause-shared
 returns-clause-shared g c =
     c.in_ok-workers.ensures.bells
     ∙ same_of_each _ c.pop.new.self.items c.args.config.now.cores
-    (front_count c.args.config.now.cores c.args.config.now.cap c.args.config.now.room c.args.config.now.queues.items c.in-Ok.all.items c.pop.new.self.items c.in-Some.outside c.in-Some.ensures.items c.in-Ok.ensures.grid c.in-Ok.ensures.fresh)
+    (front_count c.args.config.now.cores c.args.config.now.cap c.args.config.now.burst c.args.config.now.room c.args.config.now.queues.items c.in-Ok.all.items c.pop.new.self.items c.in-Some.outside c.in-Some.ensures.items c.in-Ok.ensures.grid c.in-Ok.ensures.fresh)

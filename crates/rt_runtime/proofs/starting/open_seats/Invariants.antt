@@ -7,5 +7,5 @@ use Rattle.rt_runtime.proofs.starting.open_seats.Given as goal
 abbrev pub invariant-loop-seat : goal.invariant-loop-seat
 invariant-loop-seat g l = record {
   reserved : length l.fn.seats.items ≤ vec_capacity l.workers;
-  made : IsMade (λ seat worker. IsWiredWith (IsOpenedWith l.config.cores l.config.cap l.config.room l.config.queues.items seat.ends) seat.clock seat.gate l.bells.names worker) l.fn.seats.items (into_iter_items l.seat-iterator) (into_iter_len l.seat-iterator) l.workers.items;
+  made : IsMade (λ seat worker. IsWiredWith (IsOpenedWith l.config.cores l.config.cap l.config.burst l.config.room l.config.queues.items seat.ends) seat.clock seat.gate l.bells.names worker) l.fn.seats.items (into_iter_items l.seat-iterator) (into_iter_len l.seat-iterator) l.workers.items;
 }

@@ -8,12 +8,12 @@ use Rattle.rt_runtime.proofs.starting.open_workers.Goals as goal
 
 pub open_seats-requires-clause-each : goal.open_seats-requires-clause-each
 open_seats-requires-clause-each g c =
-    let opening = AreOpening c.args.config.now.cores c.args.config.now.cap c.args.config.now.room c.args.config.now.queues.items in
+    let opening = AreOpening c.args.config.now.cores c.args.config.now.cap c.args.config.now.burst c.args.config.now.room c.args.config.now.queues.items in
     all_of_map (λ seat. seat.ends) opening c.in_ok-seats.seats.items (subst (All opening) (sym c.in_ok-seats.ensures.ends) c.requires.each)
 
 pub returns-clause-opened : goal.returns-clause-opened
 returns-clause-opened g c =
-    let opened_with = IsOpenedWith c.args.config.now.cores c.args.config.now.cap c.args.config.now.room c.args.config.now.queues.items in
+    let opened_with = IsOpenedWith c.args.config.now.cores c.args.config.now.cap c.args.config.now.burst c.args.config.now.room c.args.config.now.queues.items in
     if_ok _ _ (λ opened both. subst (λ all. Together opened_with all (map (λ worker. worker.linked) opened.items)) c.in_ok-seats.ensures.ends
     (together_maps (λ seat. seat.ends) (λ worker. worker.linked) _ opened_with (λ seat worker wired. wired.linked) c.in_ok-seats.seats.items opened.items both))
     c.open_seats.result c.open_seats.ensures

@@ -5,8 +5,8 @@ use Rattle.rt_ring_mesh.specs.Grid.{ends_at}
 use Rattle.rt_runtime_worker.proofs.laws.ended_are_joined.Goals as goal
 
 pub returns : goal.returns
-returns g c cores cap workers outside assembly have is = (
-  c.recorded_are_joined.ensures cores cap (desk_among workers outside) (λ core. (worker_at core workers).recorded)
+returns g c cores cap burst workers outside assembly have is = (
+  c.recorded_are_joined.ensures cores cap burst (desk_among workers outside) (λ core. (worker_at core workers).recorded)
       (λ sender core. (out_at core (ends_at sender (all_ends workers outside))).out)
       (λ sender core. (out_at core (ends_at sender (all_ends workers outside))).credited)
       (λ sender core. (in_at sender (ends_at core (all_ends workers outside))).inward)

@@ -12,7 +12,8 @@ turn_posting-requires-clause-outs g c =
 
 pub returns-clause-polls : goal.returns-clause-polls
 returns-clause-polls g c =
-    turn_polls c.args.recorded.now c.turn_posting.new.self c.args.ends.now _ c.ends.view_is c.turn_posting.new.ends.items _ _ _ c.turn_posting.result c.turn_posting.ensures.turns c.turn_posting.ensures.few
+    turn_polls 3 1 c.args.recorded.now c.turn_posting.new.self c.args.ends.now _ c.ends.view_is c.turn_posting.new.ends.items _ _ _ c.turn_posting.result c.turn_posting.ensures.turns c.turn_posting.ensures.few
+    c.turn_posting.ensures.spends c.turn_posting.ensures.left c.turn_posting.ensures.in_turn c.turn_posting.ensures.seat
 
 pub returns-clause-owing : goal.returns-clause-owing
 returns-clause-owing g c =

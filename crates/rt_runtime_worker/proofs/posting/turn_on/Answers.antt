@@ -2,8 +2,7 @@ use Rattle.std.proofs.Common.{arith}
 use Rattle.rt_ring_mesh.proofs.Using.{ends_along}
 use Rattle.rt_runtime_worker.proofs.Along.{sees_along}
 use Rattle.rt_runtime_worker.proofs.Posted.{polls_again}
-use Rattle.rt_runtime_worker.proofs.Openings.{opening_polled}
-use Rattle.rt_runtime_worker.proofs.Growing.{grows_polled}
+use Rattle.rt_runtime_worker.proofs.PollNotes.{poll_grows, poll_opens, writes_first}
 use Rattle.rt_runtime_worker.proofs.posting.turn_on.Goals as goal
 
 pub done_on-requires-clause-known : goal.done_on-requires-clause-known
@@ -18,8 +17,8 @@ returns-clause-stays g c = record {
   seat = c.post_turn-settled.ensures.seat;
   ends = ends_along c.args.ends.now c.post_turn-settled.new.ends c.done_on.new.ends c.post_turn-settled.ensures.ends c.done_on.ensures.ends;
   sees = sees_along c.args.ends.now c.post_turn-settled.new.ends c.done_on.new.ends c.post_turn-settled.ensures.sees c.done_on.ensures.sees;
-  opening = opening_polled _ _ c.post_turn-settled.ensures.polls;
-  grows = grows_polled _ _ c.post_turn-settled.ensures.polls;
+  opening = poll_opens _ _ _ (writes_first _ _ _ c.post_turn-settled.ensures.polls);
+  grows = poll_grows _ _ _ (writes_first _ _ _ c.post_turn-settled.ensures.polls);
 }
 
 pub done_on-requires-clause-polls : goal.done_on-requires-clause-polls

@@ -5,7 +5,7 @@ use Rattle.rt_world_links.proofs.cores.open_cores.Goals as goal
 pub loop-core-preserved : goal.loop-core-preserved
 loop-core-preserved g c = (
   omega (arith, c.loop-core.invariant.0, c.push_reserved.ensures.capacity),
-  rw c.push_reserved.ensures.items (AreFirstOpened-push c.loop-core.core c.args.cores c.args.cap c.args.room _ _ c.loop-core.invariant.1 c.in_ok-opened.ensures.opened),
+  rw c.push_reserved.ensures.items (AreFirstOpened-push c.loop-core.core c.args.cores c.args.cap c.args.room c.args.burst _ _ c.loop-core.invariant.1 c.in_ok-opened.ensures.opened),
 )
 
 pub loop-core-init : goal.loop-core-init

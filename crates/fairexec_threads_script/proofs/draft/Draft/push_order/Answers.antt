@@ -13,7 +13,7 @@ pub invariant_of-self-2 : goal.invariant_of-self-2
 invariant_of-self-2 c =
     let more = polls_more c.self.inside.orders.items (c.args.core, c.args.order) in
     rw c.in_ok-push.ensures.items (
-      order_more (record { size = c.self.inside.size; queues = c.self.inside.queues.items; orders = c.self.inside.orders.items }) (c.args.core, c.args.order) c.self.invariant.0 (rw (← c.self.view_is) at c.requires.told) (rw (← c.self.view_is) at c.requires.room),
+      order_more (record { size = c.self.inside.size; burst = c.self.inside.burst; queues = c.self.inside.queues.items; orders = c.self.inside.orders.items }) (c.args.core, c.args.order) c.self.invariant.0 (rw (← c.self.view_is) at c.requires.told) (rw (← c.self.view_is) at c.requires.room),
       ap (λ n. n + c.args.polls) c.self.invariant.1 ∙ ap (λ n. polls_in c.self.inside.orders.items + n) c.requires.polls ∙ sym more,
       rw c.self.invariant.1 (rw (← c.self.view_is) at c.requires.few),
       sent_counted _ _ (c.args.core, c.args.order) _ _ _ c.self.invariant.3 c.add.ensures,

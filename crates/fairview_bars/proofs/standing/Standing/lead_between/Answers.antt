@@ -6,7 +6,7 @@ use Rattle.fairview_bars.proofs.standing.Standing.lead_between.Goals as goal
 
 pub returns : goal.returns
 returns c =
-    λ before short knows.
+    λ burst before short knows.
     let turn = next_turn before c.args.self.now.clock c.saturating_add.result short c.saturating_add.ensures knows.clock in
     let first = ap (λ (account : Account). account.virtual_runtime) c.of.ensures ∙ (knows.accounts.each c.args.first).runtime in
     let second = ap (λ (account : Account). account.virtual_runtime) c.of-2.ensures ∙ (knows.accounts.each c.args.second).runtime in

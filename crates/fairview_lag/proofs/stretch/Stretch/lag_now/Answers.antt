@@ -7,11 +7,11 @@ use Rattle.fairview_lag.proofs.stretch.Stretch.lag_now.Goals as goal
 
 pub returns-in-Some : goal.returns-in-Some
 returns-in-Some c =
-    λ journal knows.
-    some_told (are_together c.args.first c.args.second journal) c.in-Some.begun (begun_of c.args.first c.args.second journal) c.lag_since.result
-    (lag c.args.first c.args.second journal) (sym c.in-Some.is ∙ knows.begun) (c.lag_since.ensures journal knows.standing)
+    λ burst journal knows.
+    some_told (are_together c.args.first c.args.second journal) c.in-Some.begun (begun_of burst c.args.first c.args.second journal) c.lag_since.result
+    (lag burst c.args.first c.args.second journal) (sym c.in-Some.is ∙ knows.begun) (c.lag_since.ensures burst journal knows.standing)
 
 pub returns-in-None : goal.returns-in-None
 returns-in-None c =
-    λ journal knows.
-    none_told (are_together c.args.first c.args.second journal) (begun_of c.args.first c.args.second journal) (lag c.args.first c.args.second journal) (sym c.in-None.is ∙ knows.begun)
+    λ burst journal knows.
+    none_told (are_together c.args.first c.args.second journal) (begun_of burst c.args.first c.args.second journal) (lag burst c.args.first c.args.second journal) (sym c.in-None.is ∙ knows.begun)

@@ -1,23 +1,24 @@
 use Rattle.std.proofs.Common.{◌≡◌, ◌<◌, ◌≤◌, false, None, refl, sym, ◌∙◌, ap, subst, arith, length, length-set}
-use Rattle.std.specs.Prelude.{Bool, List, slice_set, slice_index_or}
-use Rattle.std.proofs.lemmas.List.Elements.{All-set}
+use Rattle.std.specs.Prelude.{Bool, List, slice_index_or}
 use Rattle.rt_ids.specs.declared.names.JobId.{JobId}
 use Rattle.rt_taskqueue.specs.Queues.{queue_count, mode_of}
 use Rattle.rt_core.specs.declared.tally.Tally.{Tally}
 use Rattle.rt_taskqueue.specs.Slips.{queues_alone}
-use Rattle.rt_core.specs.State.{CoreView, inside_count, is_any, is_working}
+use Rattle.rt_core.specs.State.{CoreView, inside_count, is_working}
+use Rattle.rt_core.specs.Bursts.{queue_open}
+use Rattle.rt_ids.specs.Names.{is_number}
 use Rattle.rt_core.specs.Inside.{core_view, job_out, unsettled_count, FitsTurns}
-use Rattle.rt_core.proofs.Entries.{is_any-push}
 use Rattle.rt_core.proofs.Listed.{LacksQueue-from_none}
 use Rattle.rt_core.proofs.Fits.{placed_fits}
-use Rattle.rt_core.proofs.Parts.{KeepsCounts-enters, IsListed-activates, IsPollable-pushed, idle_entry}
-use Rattle.rt_core.proofs.SlipsKept.{KeepsSlips-same, KeepsSlips-inserted, slip_there}
+use Rattle.rt_core.proofs.Entered.{IsCore-entered}
+use Rattle.rt_core.proofs.Parts.{idle_entry}
+use Rattle.rt_core.proofs.SlipsKept.{slip_there}
 use Rattle.rt_core.proofs.one_core.Core.activate.Goals as goal
 
-pub enter-requires : goal.enter-requires
-enter-requires g c =
+pub enter_placed-requires : goal.enter_placed-requires
+enter_placed-requires g c =
     let inside = c.self.inside in
-    let old = core_view inside.core inside.cores (queues_alone inside.queues) inside.tallies.items inside.floor inside.turns (job_out inside.out) inside.senders inside.mode in
+    let old = core_view inside.core inside.cores (queues_alone inside.queues) inside.tallies.items inside.floor inside.turns (job_out inside.out) inside.senders inside.mode inside.bursts in
     let idle = subst (λ (view : CoreView g.row.J.Denot). is_working c.args.queue view ≡ false) (sym c.self.view_is) c.requires.idle in
     let exists = subst (λ (view : CoreView g.row.J.Denot). c.args.queue < queue_count view.queues) (sym c.self.view_is) c.requires.exists in
     let none = c.self.invariant.listed.at c.args.queue ∙ idle_entry old c.args.queue idle in
@@ -33,13 +34,13 @@ invariant_of-self g c =
     let inside = c.self.inside in
     let core = c.self.invariant in
     let back = sym c.self.view_is in
-    let polls = unsettled_count (core_view inside.core inside.cores (queues_alone inside.queues) inside.tallies.items inside.floor inside.turns (job_out inside.out) inside.senders inside.mode) in
+    let old = core_view inside.core inside.cores (queues_alone inside.queues) inside.tallies.items inside.floor inside.turns (job_out inside.out) inside.senders inside.mode inside.bursts in
+    let polls = unsettled_count old in
     let idle = subst (λ (view : CoreView g.row.J.Denot). is_working c.args.queue view ≡ false) back c.requires.idle in
     let room = subst (λ (view : CoreView g.row.J.Denot). inside_count view < view.queues.room) back c.requires.room in
     let exists = subst (λ (view : CoreView g.row.J.Denot). c.args.queue < queue_count view.queues) back c.requires.exists in
     let space : inside.inside < inside.room = omega (arith, core.counted.all_inside, core.counted.same_room, room) in
-    let within : c.args.queue < length inside.tallies.items = omega (arith, core.counted.tallies, exists) in
-    let there : c.place.result < length inside.tallies.items = omega (arith, c.place.ensures) in
+    let there : c.place.result < length inside.tallies.items = omega (arith, c.place.ensures, core.counted.tallies, exists) in
     let was = c.index_mut-tally.result.now in
     let tally : Tally = record { runtime = c.placed-vr.result; selected = was.selected; time = was.time; finished = was.finished; returned = was.returned } in
     let before : FitsTurns inside.turns polls was =
@@ -47,16 +48,9 @@ invariant_of-self g c =
     let fits : FitsTurns inside.turns polls tally =
     subst (λ runtime. FitsTurns inside.turns polls (record was { runtime = runtime })) (sym c.placed-vr.ensures) (placed_fits inside.turns polls inside.floor was false before core.turns.floor) in
     let joins = c.admit.ensures.joins in
-    let none = core.listed.at c.args.queue ∙ idle_entry (core_view inside.core inside.cores (queues_alone inside.queues) inside.tallies.items inside.floor inside.turns (job_out inside.out) inside.senders inside.mode) c.args.queue idle in
-    let lacks = LacksQueue-from_none c.args.queue inside.ready.keys none in
-    rw (c.count.ensures, c.enter.ensures.keys, c.enter.ensures.given) (record {
-      counted = KeepsCounts-enters _ _ _ _ _ c.args.queue c.args.name (record { started = false; woken = false }) c.args.job c.admit.ensures.joins.queues c.admit.ensures.limits space refl refl (length-set _ _ _) (length-set _ _ _) core.counted;
-      listed = IsListed-activates _ _ _ (record { vr = c.placed-vr.result; queue = c.args.queue }) tally joins.queues.others (ap is_any joins.queues.changed ∙ is_any-push _ _) refl
-          (ap (λ at. slice_set inside.tallies.items at tally) c.place.ensures) within refl idle core.listed;
-      slipped = KeepsSlips-inserted _ _ _ (record { vr = c.placed-vr.result; queue = c.args.queue }) (omega (arith, exists, joins.queues.same_count)) lacks (KeepsSlips-same _ _ _ _ _ joins.queues.same_count joins.slips core.slipped);
-      pollable = IsPollable-pushed _ _ _ c.args.queue c.args.name (record { started = false; woken = false }) c.args.job c.admit.ensures.joins.queues c.requires.ready core.pollable;
-      turns = record { tallies = All-set (FitsTurns inside.turns polls) inside.tallies.items c.place.result tally fits core.turns.tallies; floor = core.turns.floor };
-    })
+    rw (c.count.ensures, c.enter_placed.ensures.keys, c.enter_placed.ensures.given, joins.slips, c.place.ensures)
+    (IsCore-entered g.J.Task.meaning old (queues_alone c.admit.new.self) _ inside.queues.slips inside.ready.keys inside.inside inside.room inside.tallies.cap core (record { vr = c.placed-vr.result; queue = c.args.queue }) tally
+    c.args.name (record { started = false; woken = false }) c.args.job joins.queues c.admit.ensures.limits c.requires.ready space (length-set _ _ _) idle exists refl fits (is_number c.args.queue (queue_open inside.bursts.open)) refl)
 
 pub count-requires : goal.count-requires
 count-requires g c =

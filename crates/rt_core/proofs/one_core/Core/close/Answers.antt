@@ -11,12 +11,12 @@ returns-then-not-closes-clause-closes g c = rw (← c.self.view_is) (sym c.close
 pub returns-then-not-closes-clause-bounded : goal.returns-then-not-closes-clause-bounded
 returns-then-not-closes-clause-bounded g c =
     let inside = c.self.inside in
-    rw (← c.self.view_is) (IsBounded-from_turns (core_view inside.core inside.cores (queues_alone inside.queues) inside.tallies.items inside.floor inside.turns (job_out inside.out) inside.senders inside.mode) c.self.invariant.turns)
+    rw (← c.self.view_is) (IsBounded-from_turns (core_view inside.core inside.cores (queues_alone inside.queues) inside.tallies.items inside.floor inside.turns (job_out inside.out) inside.senders inside.mode inside.bursts) c.self.invariant.turns)
 
 pub invariant_of-self : goal.invariant_of-self
 invariant_of-self g c =
     let inside = c.self.inside in
-    let old = core_view inside.core inside.cores (queues_alone inside.queues) inside.tallies.items inside.floor inside.turns (job_out inside.out) inside.senders inside.mode in
+    let old = core_view inside.core inside.cores (queues_alone inside.queues) inside.tallies.items inside.floor inside.turns (job_out inside.out) inside.senders inside.mode inside.bursts in
     IsCore-closed _ old inside.senders.gates (Some c.args.mode) _ _ _ _ _ c.self.invariant
 
 pub returns-clause-closes : goal.returns-clause-closes

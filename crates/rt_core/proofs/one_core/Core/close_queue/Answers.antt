@@ -9,6 +9,7 @@ use Rattle.rt_core.proofs.Fits.{IsBounded-from_turns}
 use Rattle.rt_core.proofs.Outcomes.{past_if_not}
 use Rattle.rt_core.proofs.Parts.{IsPollable-same}
 use Rattle.rt_core.proofs.SlipsKept.{KeepsSlips-same}
+use Rattle.rt_core.proofs.Turning.{KeepsTurn-same}
 use Rattle.rt_core.proofs.one_core.Core.close_queue.Goals as goal
 
 pub returns-then-not-has_queue-clause-closes : goal.returns-then-not-has_queue-clause-closes
@@ -18,7 +19,7 @@ returns-then-not-has_queue-clause-closes g c =
 pub returns-then-not-has_queue-clause-bounded : goal.returns-then-not-has_queue-clause-bounded
 returns-then-not-has_queue-clause-bounded g c =
     let inside = c.self.inside in
-    rw (← c.self.view_is) (IsBounded-from_turns (core_view inside.core inside.cores (queues_alone inside.queues) inside.tallies.items inside.floor inside.turns (job_out inside.out) inside.senders inside.mode) c.self.invariant.turns)
+    rw (← c.self.view_is) (IsBounded-from_turns (core_view inside.core inside.cores (queues_alone inside.queues) inside.tallies.items inside.floor inside.turns (job_out inside.out) inside.senders inside.mode inside.bursts) c.self.invariant.turns)
 
 pub mode-requires : goal.mode-requires
 mode-requires g c = record {
@@ -33,7 +34,7 @@ returns-then-not-closes-clause-closes g c =
 pub returns-then-not-closes-clause-bounded : goal.returns-then-not-closes-clause-bounded
 returns-then-not-closes-clause-bounded g c =
     let inside = c.self.inside in
-    rw (← c.self.view_is) (IsBounded-from_turns (core_view inside.core inside.cores (queues_alone inside.queues) inside.tallies.items inside.floor inside.turns (job_out inside.out) inside.senders inside.mode) c.self.invariant.turns)
+    rw (← c.self.view_is) (IsBounded-from_turns (core_view inside.core inside.cores (queues_alone inside.queues) inside.tallies.items inside.floor inside.turns (job_out inside.out) inside.senders inside.mode inside.bursts) c.self.invariant.turns)
 
 pub close-requires : goal.close-requires
 close-requires g c = record {
@@ -44,7 +45,7 @@ pub invariant_of-self : goal.invariant_of-self
 invariant_of-self g c =
     let inside = c.self.inside in
     let core = c.self.invariant in
-    let old = core_view inside.core inside.cores (queues_alone inside.queues) inside.tallies.items inside.floor inside.turns (job_out inside.out) inside.senders inside.mode in
+    let old = core_view inside.core inside.cores (queues_alone inside.queues) inside.tallies.items inside.floor inside.turns (job_out inside.out) inside.senders inside.mode inside.bursts in
     let did = sym c.closes.ensures ∙ c.if-not-closes.false in
     let closed = c.close.ensures.closed (c.close.ensures.told ∙ ap (λ was. closes was c.args.mode) (sym c.mode.ensures) ∙ did) in
     record {
@@ -53,6 +54,7 @@ invariant_of-self g c =
       slipped = KeepsSlips-same _ _ _ _ _ closed.queues.same_count closed.slips core.slipped;
       pollable = IsPollable-same _ old _ closed.queues.same_lines closed.queues.same_parks core.pollable;
       turns = record { tallies = core.turns.tallies; floor = core.turns.floor };
+      turning = KeepsTurn-same old _ refl refl (omega (arith, closed.queues.same_count)) core.turning;
     }
 
 pub end_queue_parks_for-requires : goal.end_queue_parks_for-requires
@@ -70,7 +72,7 @@ returns-clause-closes g c =
     let closed = c.close.ensures.closed (c.close.ensures.told ∙ ap (λ was. closes was c.args.mode) (sym c.mode.ensures) ∙ did) in
     let exists : c.args.queue < queue_count (queues_alone inside.queues) =
     subst (λ (view : CoreView g.row.J.Denot). c.args.queue < queue_count view.queues) (sym c.self.view_is) (c.has_queue.ensures.0 c.if-not-has_queue.false) in
-    let mid = core_view inside.core inside.cores (queues_alone c.close.new.self) inside.tallies.items inside.floor inside.turns (job_out inside.out) inside.senders inside.mode in
+    let mid = core_view inside.core inside.cores (queues_alone c.close.new.self) inside.tallies.items inside.floor inside.turns (job_out inside.out) inside.senders inside.mode inside.bursts in
     rw (← c.self.view_is) (
       ap (λ was. closes was c.args.mode) (sym c.mode.ensures) ∙ did,
       (mid, record { exists = exists; closed = closed.queues; rest = refl }, c.end_queue_parks_for.ensures.ends),

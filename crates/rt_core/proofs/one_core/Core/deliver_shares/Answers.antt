@@ -10,6 +10,7 @@ use Rattle.rt_core.proofs.Outcomes.{past_if_not}
 use Rattle.rt_core.proofs.Parts.{IsPollable-same}
 use Rattle.rt_core.proofs.Counting.{KeepsCounts-weighs, IsListed-same}
 use Rattle.rt_core.proofs.SlipsKept.{KeepsSlips-same}
+use Rattle.rt_core.proofs.Turning.{KeepsTurn-same}
 use Rattle.rt_core.proofs.one_core.Core.deliver_shares.Goals as goal
 
 pub invariant_of-self : goal.invariant_of-self
@@ -22,6 +23,7 @@ invariant_of-self g c =
       slipped = KeepsSlips-same _ _ _ _ _ given.same_count c.set_shares.ensures.given.slips core.slipped;
       pollable = IsPollable-same _ _ _ given.same_lines given.same_parks core.pollable;
       turns = record { tallies = core.turns.tallies; floor = core.turns.floor };
+      turning = KeepsTurn-same _ _ refl refl (omega (arith, given.same_count)) core.turning;
     })
 
 pub returns-clause-delivers : goal.returns-clause-delivers
@@ -31,7 +33,7 @@ returns-clause-delivers g c =
     subst (λ (view : CoreView g.row.J.Denot). c.args.queue < queue_count view.queues) (sym c.self.view_is) (c.has_queue.ensures.0 c.if-not-has_queue.false) in
     let gates = ap (λ (senders : SendersView). senders.gates) c.count-2.ensures in
     rw (← c.self.view_is) (
-      record { exists = exists; shares = c.set_shares.ensures.given.queues; rest = λ i. core_view inside.core inside.cores (queues_alone c.set_shares.new.self) inside.tallies.items inside.floor inside.turns (job_out inside.out) (record { delivered = c.count-2.new.self.delivered; gates = gates i }) inside.mode },
+      record { exists = exists; shares = c.set_shares.ensures.given.queues; rest = λ i. core_view inside.core inside.cores (queues_alone c.set_shares.new.self) inside.tallies.items inside.floor inside.turns (job_out inside.out) (record { delivered = c.count-2.new.self.delivered; gates = gates i }) inside.mode inside.bursts },
       (let v = c.name.view_is in let counted = ap (λ (senders : SendersView). senders.delivered) c.count-2.ensures in search rules),
       c.two_notes.ensures,
     )
@@ -40,7 +42,7 @@ pub returns-clause-bounded : goal.returns-clause-bounded
 returns-clause-bounded g c =
     let inside = c.self.inside in
     let core = c.self.invariant in
-    IsBounded-from_turns (core_view inside.core inside.cores (queues_alone c.set_shares.new.self) inside.tallies.items inside.floor inside.turns (job_out inside.out) inside.senders inside.mode) (record {
+    IsBounded-from_turns (core_view inside.core inside.cores (queues_alone c.set_shares.new.self) inside.tallies.items inside.floor inside.turns (job_out inside.out) inside.senders inside.mode inside.bursts) (record {
       tallies = core.turns.tallies;
       floor = core.turns.floor;
     })

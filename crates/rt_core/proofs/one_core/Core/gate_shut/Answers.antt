@@ -10,13 +10,13 @@ use Rattle.rt_core.proofs.one_core.Core.gate_shut.Goals as goal
 pub invariant_of-self : goal.invariant_of-self
 invariant_of-self g c =
     let inside = c.self.inside in
-    let old = core_view inside.core inside.cores (queues_alone inside.queues) inside.tallies.items inside.floor inside.turns (job_out inside.out) inside.senders inside.mode in
+    let old = core_view inside.core inside.cores (queues_alone inside.queues) inside.tallies.items inside.floor inside.turns (job_out inside.out) inside.senders inside.mode inside.bursts in
     rw c.shut.ensures (IsCore-closed _ old _ inside.mode _ _ _ _ _ c.self.invariant)
 
 pub returns-clause-bounded : goal.returns-clause-bounded
 returns-clause-bounded g c =
     let inside = c.self.inside in
-    let old = core_view inside.core inside.cores (queues_alone inside.queues) inside.tallies.items inside.floor inside.turns (job_out inside.out) inside.senders inside.mode in
+    let old = core_view inside.core inside.cores (queues_alone inside.queues) inside.tallies.items inside.floor inside.turns (job_out inside.out) inside.senders inside.mode inside.bursts in
     IsBounded-from_turns old c.self.invariant.turns
 
 pub shut-requires : goal.shut-requires
@@ -28,7 +28,7 @@ pub returns-clause-shuts : goal.returns-clause-shuts
 returns-clause-shuts g c =
     let inside = c.self.inside in
     let shut = c.shut.ensures ∙ ap (λ from. record inside.senders { gates = slice_set inside.senders.gates from (Some c.args.count) }) (c.from-2.ensures ∙ c.from.view_is) in
-    rw (← c.self.view_is) (λ i. core_view inside.core inside.cores (queues_alone inside.queues) inside.tallies.items inside.floor inside.turns (job_out inside.out) (shut i) inside.mode, c.one_note.ensures)
+    rw (← c.self.view_is) (λ i. core_view inside.core inside.cores (queues_alone inside.queues) inside.tallies.items inside.floor inside.turns (job_out inside.out) (shut i) inside.mode inside.bursts, c.one_note.ensures)
 
 pub one_note-requires : goal.one_note-requires
 one_note-requires g c = assumption

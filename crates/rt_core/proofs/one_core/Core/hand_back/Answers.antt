@@ -13,7 +13,7 @@ returns-clause-returns g c =
     let inside = c.self.inside in
     let core = c.self.invariant in
     let old = c.args.self.now in
-    let view = core_view inside.core inside.cores (queues_alone inside.queues) inside.tallies.items inside.floor inside.turns (job_out inside.out) inside.senders inside.mode in
+    let view = core_view inside.core inside.cores (queues_alone inside.queues) inside.tallies.items inside.floor inside.turns (job_out inside.out) inside.senders inside.mode inside.bursts in
     let who = c.who_is_out-queue.ensures in
     let out = who.0 in
     let exists = some_inside view inside.inside inside.room inside.tallies.cap out (ap (λ (v : CoreView g.row.J.Denot). v.out) c.self.view_is ∙ who.1) core.counted in
@@ -23,4 +23,4 @@ returns-clause-returns g c =
     let read = subst (λ (tallies : List Tally). was ≡ slice_index_or tallies c.place.result was) tallies_are c.index-tally.ensures in
     let written = ap (λ at. slice_set old.tallies at (record was { returned = was.returned + 1 })) who.3
     ∙ ap (λ (tally : Tally). slice_set old.tallies out.queue (record tally { returned = tally.returned + 1 })) (tally_read old.tallies c.place.result out.queue was (c.place.ensures ∙ who.3) within read) in
-    record { out = out; was_out = who.1; rest = c.let_go.ensures.leaves ∙ (λ i. record old { tallies = written i; out = None }) }
+    record { out = out; was_out = who.1; rest = c.let_go.ensures.leaves ∙ (λ i. record old { tallies = written i; out = None; bursts = record (old.bursts) { «open» = None } }) }

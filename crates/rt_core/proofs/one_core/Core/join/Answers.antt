@@ -8,6 +8,7 @@ use Rattle.rt_core.proofs.Entries.{is_any-push}
 use Rattle.rt_core.proofs.Fits.{IsBounded-from_turns}
 use Rattle.rt_core.proofs.Parts.{KeepsCounts-enters, IsListed-joins, IsPollable-pushed}
 use Rattle.rt_core.proofs.SlipsKept.{KeepsSlips-same}
+use Rattle.rt_core.proofs.Turning.{KeepsTurn-same}
 use Rattle.rt_core.proofs.one_core.Core.join.Goals as goal
 
 pub invariant_of-self : goal.invariant_of-self
@@ -24,6 +25,7 @@ invariant_of-self g c =
       slipped = KeepsSlips-same _ _ _ _ _ joins.queues.same_count joins.slips old.slipped;
       pollable = IsPollable-pushed _ _ _ c.args.queue c.args.name (record { started = false; woken = false }) c.args.job joins.queues c.requires.ready old.pollable;
       turns = record { tallies = old.turns.tallies; floor = old.turns.floor };
+      turning = KeepsTurn-same _ _ refl refl (omega (arith, joins.queues.same_count)) old.turning;
     })
 
 pub overflow_add-self : goal.overflow_add-self
@@ -51,7 +53,7 @@ pub returns-clause-bounded : goal.returns-clause-bounded
 returns-clause-bounded g c =
     let inside = c.self.inside in
     let core = c.self.invariant in
-    IsBounded-from_turns (core_view inside.core inside.cores (queues_alone c.admit.new.self) inside.tallies.items inside.floor inside.turns (job_out inside.out) c.count.new.self inside.mode) (record {
+    IsBounded-from_turns (core_view inside.core inside.cores (queues_alone c.admit.new.self) inside.tallies.items inside.floor inside.turns (job_out inside.out) c.count.new.self inside.mode inside.bursts) (record {
       tallies = core.turns.tallies;
       floor = core.turns.floor;
     })

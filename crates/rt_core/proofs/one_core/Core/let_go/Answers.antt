@@ -21,7 +21,7 @@ use Rattle.rt_core.proofs.one_core.Core.let_go.Goals.{After-place, After-relist}
 abbrev old_of : (g : Over) (c : After-place g) → CoreView g.row.J.Denot
 old_of g c =
     let inside = c.self.inside in
-    core_view inside.core inside.cores (queues_alone inside.queues) inside.tallies.items inside.floor inside.turns (job_out inside.out) inside.senders inside.mode
+    core_view inside.core inside.cores (queues_alone inside.queues) inside.tallies.items inside.floor inside.turns (job_out inside.out) inside.senders inside.mode inside.bursts
 
 -- its job that is out is of this queue
 out_of : (g : Over) (c : After-place g) → IsOutOf (old_of g c) c.args.queue
@@ -60,7 +60,7 @@ relist-requires g c =
 abbrev new_of : (g : Over) (c : After-relist g) → CoreView g.row.J.Denot
 new_of g c =
     let inside = c.self.inside in
-    core_view inside.core inside.cores (queues_alone inside.queues) (slice_set inside.tallies.items c.place.result c.args.tally) inside.floor inside.turns None inside.senders inside.mode
+    core_view inside.core inside.cores (queues_alone inside.queues) (slice_set inside.tallies.items c.place.result c.args.tally) inside.floor inside.turns None inside.senders inside.mode (record (inside.bursts) { «open» = None })
 
 core_of : (g : Over) (c : After-relist g) → IsCore g.J.Task.meaning (new_of g c)
     (slips_after (is_any (waiting_of c.args.queue (queues_alone c.self.inside.queues))) c.args.queue c.self.inside.queues.slips)
@@ -74,7 +74,7 @@ core_of g c =
     let any : ℕ → Bool = λ queue. is_any (waiting_of queue (queues_alone inside.queues)) in
     subst (λ (queue : ℕ). IsCore g.J.Task.meaning (new_of g c) (slips_after (any queue) queue inside.queues.slips) (keys_after (any queue) c.args.tally.runtime queue inside.ready.keys) (inside.inside - 1) inside.room inside.tallies.cap) (sym out.2)
     (IsCore-ended g.J.Task.meaning (old_of g at) (new_of g c) inside.queues.slips inside.ready.keys inside.inside inside.room inside.tallies.cap out.0 c.args.tally (any out.0.queue)
-    c.self.invariant out.1 refl refl tallies fits refl refl refl refl refl)
+    c.self.invariant out.1 refl refl refl tallies fits refl refl refl refl refl)
 
 pub invariant_of-self : goal.invariant_of-self
 invariant_of-self g c =
@@ -85,6 +85,6 @@ pub returns : goal.returns
 returns g c =
     let inside = c.self.inside in
     rw (← c.self.view_is, c.relist.ensures.slips, c.take_slip.ensures.given) (record {
-      leaves = λ i. core_view inside.core inside.cores (queues_alone inside.queues) (slice_set inside.tallies.items (c.place.ensures i) c.args.tally) inside.floor inside.turns None inside.senders inside.mode;
+      leaves = λ i. core_view inside.core inside.cores (queues_alone inside.queues) (slice_set inside.tallies.items (c.place.ensures i) c.args.tally) inside.floor inside.turns None inside.senders inside.mode (record (inside.bursts) { «open» = None });
       bounded = IsBounded-from_turns (new_of g c) (core_of g c).turns;
     })

@@ -3,37 +3,39 @@ use Rattle.rt_taskqueue.specs.Slips.{queues_alone}
 use Rattle.rt_core.specs.Inside.{core_view, job_out}
 use Rattle.std.proofs.lemmas.Bool.{true≢false}
 use Rattle.rt_core.proofs.Fits.{IsBounded-from_turns}
-use Rattle.rt_core.proofs.Counting.{job_out-none, some_job_out}
+use Rattle.rt_core.proofs.Held.{held_none, free_if_not_held, busy_if_held}
 use Rattle.rt_core.proofs.Picking.{idle_if_no_key, work_if_key}
 use Rattle.rt_core.proofs.one_core.Core.pick.Goals as goal
 
-pub returns-then-is_some-clause-picks : goal.returns-then-is_some-clause-picks
-returns-then-is_some-clause-picks g c =
-    rw (← c.self.view_is) (some_job_out c.self.inside.out (sym c.is_some.ensures ∙ c.if-is_some.true), refl, c.new.ensures)
+pub returns-then-is_busy-clause-picks : goal.returns-then-is_busy-clause-picks
+returns-then-is_busy-clause-picks g c =
+    rw (← c.self.view_is) (busy_if_held (job_out c.self.inside.out) c.self.inside.bursts.open (sym c.is_busy.ensures ∙ c.if-is_busy.true), refl, c.new.ensures)
 
 pub returns-then-is_empty-clause-picks : goal.returns-then-is_empty-clause-picks
 returns-then-is_empty-clause-picks g c =
     let inside = c.self.inside in
-    let view = core_view inside.core inside.cores (queues_alone inside.queues) inside.tallies.items inside.floor inside.turns (job_out inside.out) inside.senders inside.mode in
-    let free = job_out-none inside.out (sym c.is_some.ensures ∙ c.if-is_some.false) in
+    let view = core_view inside.core inside.cores (queues_alone inside.queues) inside.tallies.items inside.floor inside.turns (job_out inside.out) inside.senders inside.mode inside.bursts in
+    let free = free_if_not_held (job_out inside.out) inside.bursts.open (sym c.is_busy.ensures ∙ c.if-is_busy.false) in
+    let held = held_none view free.0 free.1 in
     let none : inside.ready.keys ≡ [] = c.is_empty.ensures.0 c.if-is_empty.true in
-    rw (← c.self.view_is) (free, idle_if_no_key view inside.ready.keys none free c.self.invariant.listed, refl, c.new-then-is_empty.ensures)
+    rw (← c.self.view_is) (free.0, free.1, idle_if_no_key view inside.ready.keys none held c.self.invariant.listed, refl, c.new-then-is_empty.ensures)
 
 pub returns-then-self-clause-picks : goal.returns-then-self-clause-picks
 returns-then-self-clause-picks g c =
     let inside = c.self.inside in
-    let view = core_view inside.core inside.cores (queues_alone inside.queues) inside.tallies.items inside.floor inside.turns (job_out inside.out) inside.senders inside.mode in
-    let free = job_out-none inside.out (sym c.is_some.ensures ∙ c.if-is_some.false) in
+    let view = core_view inside.core inside.cores (queues_alone inside.queues) inside.tallies.items inside.floor inside.turns (job_out inside.out) inside.senders inside.mode inside.bursts in
+    let free = free_if_not_held (job_out inside.out) inside.bursts.open (sym c.is_busy.ensures ∙ c.if-is_busy.false) in
+    let held = held_none view free.0 free.1 in
     let some : inside.ready.keys ≡ [] → ⊥ = λ none. true≢false (sym (c.is_empty.ensures.1 none) ∙ c.if-is_empty.false) in
-    rw (← c.self.view_is) (free, c.if-self.true, work_if_key view inside.ready.keys some free c.self.invariant.listed, refl, c.new-then-self.ensures)
+    rw (← c.self.view_is) (free.0, free.1, c.if-self.true, work_if_key view inside.ready.keys some held c.self.invariant.listed, refl, c.new-then-self.ensures)
 
-pub returns-then-is_some-clause-ready : goal.returns-then-is_some-clause-ready
-returns-then-is_some-clause-ready g c = tt
+pub returns-then-is_busy-clause-ready : goal.returns-then-is_busy-clause-ready
+returns-then-is_busy-clause-ready g c = tt
 
-pub returns-then-is_some-clause-bounded : goal.returns-then-is_some-clause-bounded
-returns-then-is_some-clause-bounded g c =
+pub returns-then-is_busy-clause-bounded : goal.returns-then-is_busy-clause-bounded
+returns-then-is_busy-clause-bounded g c =
     let inside = c.self.inside in
-    let view = core_view inside.core inside.cores (queues_alone inside.queues) inside.tallies.items inside.floor inside.turns (job_out inside.out) inside.senders inside.mode in
+    let view = core_view inside.core inside.cores (queues_alone inside.queues) inside.tallies.items inside.floor inside.turns (job_out inside.out) inside.senders inside.mode inside.bursts in
     rw (← c.self.view_is) (IsBounded-from_turns view c.self.invariant.turns)
 
 pub returns-then-is_empty-clause-ready : goal.returns-then-is_empty-clause-ready
@@ -42,7 +44,7 @@ returns-then-is_empty-clause-ready g c = tt
 pub returns-then-is_empty-clause-bounded : goal.returns-then-is_empty-clause-bounded
 returns-then-is_empty-clause-bounded g c =
     let inside = c.self.inside in
-    let view = core_view inside.core inside.cores (queues_alone inside.queues) inside.tallies.items inside.floor inside.turns (job_out inside.out) inside.senders inside.mode in
+    let view = core_view inside.core inside.cores (queues_alone inside.queues) inside.tallies.items inside.floor inside.turns (job_out inside.out) inside.senders inside.mode inside.bursts in
     rw (← c.self.view_is) (IsBounded-from_turns view c.self.invariant.turns)
 
 pub returns-then-self-clause-ready : goal.returns-then-self-clause-ready
@@ -51,16 +53,17 @@ returns-then-self-clause-ready g c = tt
 pub returns-then-self-clause-bounded : goal.returns-then-self-clause-bounded
 returns-then-self-clause-bounded g c =
     let inside = c.self.inside in
-    let view = core_view inside.core inside.cores (queues_alone inside.queues) inside.tallies.items inside.floor inside.turns (job_out inside.out) inside.senders inside.mode in
+    let view = core_view inside.core inside.cores (queues_alone inside.queues) inside.tallies.items inside.floor inside.turns (job_out inside.out) inside.senders inside.mode inside.bursts in
     rw (← c.self.view_is) (IsBounded-from_turns view c.self.invariant.turns)
 
 pub pick_first-turn-requires : goal.pick_first-turn-requires
 pick_first-turn-requires g c =
     let inside = c.self.inside in
-    let view = core_view inside.core inside.cores (queues_alone inside.queues) inside.tallies.items inside.floor inside.turns (job_out inside.out) inside.senders inside.mode in
-    let free = job_out-none inside.out (sym c.is_some.ensures ∙ c.if-is_some.false) in
+    let view = core_view inside.core inside.cores (queues_alone inside.queues) inside.tallies.items inside.floor inside.turns (job_out inside.out) inside.senders inside.mode inside.bursts in
+    let free = free_if_not_held (job_out inside.out) inside.bursts.open (sym c.is_busy.ensures ∙ c.if-is_busy.false) in
+    let held = held_none view free.0 free.1 in
     let some : inside.ready.keys ≡ [] → ⊥ = λ none. true≢false (sym (c.is_empty.ensures.1 none) ∙ c.if-is_empty.false) in
-    (assumption, rw (← c.self.view_is) (free, (omega (arith, c.self.ranges), work_if_key view inside.ready.keys some free c.self.invariant.listed)))
+    (assumption, rw (← c.self.view_is) (free.0, (free.1, (omega (arith, c.self.ranges), work_if_key view inside.ready.keys some held c.self.invariant.listed))))
 
 pub returns-clause-picks : goal.returns-clause-picks
 returns-clause-picks g c = c.pick_first-turn.ensures.picks

@@ -28,7 +28,7 @@ returns-in-None-false-clause-picks g c =
     (taken, kept, c.two_notes-notes-in-None-false.ensures ∙ ap (λ (vr : ℕ). notes.Pick out.result.0.queue vr ∷ notes.Start out.result.1 ∷ []) out.ensures.at)
 
 pub take_out-started-requires : goal.take_out-started-requires
-take_out-started-requires g c = record { free = c.requires.free; turns = c.requires.turns; work = c.requires.work }
+take_out-started-requires g c = record { free = c.requires.free; no_turn = c.requires.no_turn; turns = c.requires.turns; work = c.requires.work }
 
 pub return_reason-requires : goal.return_reason-requires
 return_reason-requires g c = c.take_out-started.ensures.exists

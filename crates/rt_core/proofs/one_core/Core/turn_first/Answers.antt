@@ -1,17 +1,24 @@
 use Rattle.std.proofs.Common.{◌≡◌, ℕ, ◌+◌, ◌-◌, ◌^◌, ◌<◌, Bool, true, false, List, [], length, None, refl, sym, ◌∙◌, ap, subst, arith}
 use Rattle.std.specs.Prelude.{slice_index_or, slice_set}
 use Rattle.rt_jobs.specs.Steps.{is_done_step}
-use Rattle.rt_taskqueue.specs.Queues.{queue_count, waiting_of}
+use Rattle.rt_taskqueue.specs.Queues.{queue_count, waiting_of, shares_of}
 use Rattle.rt_taskqueue.specs.Slips.{queues_alone}
 use Rattle.rt_core.specs.declared.tally.Tally.{Tally}
 use Rattle.rt_core.specs.State.{CoreView, is_any, tally_of}
+use Rattle.rt_core.specs.declared.bursts.Bursts.{Bursts}
+use Rattle.rt_core.specs.Bursts.{begun, queue_held}
+use Rattle.rt_core.specs.Whole.{TurnsFirst}
+use Rattle.rt_ids.specs.Bursts.{has_bursts}
+use Rattle.rt_ids.specs.Work.{number_if}
 use Rattle.rt_core.specs.Inside.{core_view, job_out, KeepsSlips, FitsTurns}
 use Rattle.rt_core.specs.Relisted.{keys_after, slips_after}
-use Rattle.rt_core.proofs.Charging.{after_poll, tally_read}
+use Rattle.rt_core.proofs.Charging.{after_poll, tally_read, charged_single}
+use Rattle.rt_core.proofs.Held.{held_none}
+use Rattle.rt_core.proofs.Turning.{begun_single}
 use Rattle.rt_core.proofs.Picking.{first_waits, some_keys}
 use Rattle.rt_core.proofs.SlipsKept.{slip_out}
 use Rattle.rt_core.proofs.Whole.{front_ready, one_at_most, turned_count}
-use Rattle.rt_core.proofs.WholeTurn.{first_exists, first_fits, HasTurned, one_inside, IsCore-turned_as, IsBounded-turned, TurnsFirst-turned}
+use Rattle.rt_core.proofs.WholeTurn.{picked_tally, after_turn, same_bursts, first_exists, first_fits, HasTurned, one_inside, IsCore-turned_as, IsBounded-turned, TurnsFirst-turned}
 use Rattle.rt_core.proofs.one_core.Core.turn_first.Given.{Over}
 use Rattle.rt_core.proofs.one_core.Core.turn_first.Goals as goal
 use Rattle.rt_core.proofs.one_core.Core.turn_first.Goals.{In-Some, After-turned-tally}
@@ -20,18 +27,27 @@ use Rattle.rt_core.proofs.one_core.Core.turn_first.Goals.{In-Some, After-turned-
 abbrev old_of : (g : Over) (c : In-Some g) → CoreView g.row.J.Denot
 old_of g c =
     let inside = c.self.inside in
-    core_view inside.core inside.cores (queues_alone inside.queues) inside.tallies.items inside.floor inside.turns (job_out inside.out) inside.senders inside.mode
+    core_view inside.core inside.cores (queues_alone inside.queues) inside.tallies.items inside.floor inside.turns (job_out inside.out) inside.senders inside.mode inside.bursts
 
--- none is out, and a turn is left
+-- none is out, no turn is open, and a turn is left
 free : (g : Over) (c : In-Some g) → job_out c.self.inside.out ≡ None
 free g c = subst (λ (view : CoreView g.row.J.Denot). view.out ≡ None) (sym c.self.view_is) c.requires.free
+
+no_turn : (g : Over) (c : In-Some g) → c.self.inside.bursts.open ≡ None
+no_turn g c = subst (λ (view : CoreView g.row.J.Denot). view.bursts.open ≡ None) (sym c.self.view_is) c.requires.no_turn
+
+single : (g : Over) (c : In-Some g) → has_bursts c.self.inside.bursts.burst ≡ false
+single g c = subst (λ (view : CoreView g.row.J.Denot). has_bursts view.bursts.burst ≡ false) (sym c.self.view_is) c.requires.single
+
+none_held : (g : Over) (c : In-Some g) → queue_held (old_of g c) ≡ None
+none_held g c = held_none (old_of g c) (free g c) (no_turn g c)
 
 left : (g : Over) (c : In-Some g) → c.self.inside.turns < 2 ^ 64 - 1
 left g c = subst (λ (view : CoreView g.row.J.Denot). view.turns < 2 ^ 64 - 1) (sym c.self.view_is) c.requires.turns
 
 -- the queue of the first key exists
 exists : (g : Over) (c : In-Some g) → c.in-Some.key.queue < queue_count (queues_alone c.self.inside.queues)
-exists g c = first_exists (old_of g c) c.self.inside.ready.keys c.in-Some.key c.take_least.new.self.keys c.in-Some.ensures.least c.self.invariant.listed (free g c)
+exists g c = first_exists (old_of g c) c.self.inside.ready.keys c.in-Some.key c.take_least.new.self.keys c.in-Some.ensures.least c.self.invariant.listed (none_held g c)
 
 -- what is read at its place
 read : (g : Over) (c : In-Some g) (place : ℕ) → place ≡ c.in-Some.key.queue → (was : Tally) → was ≡ slice_index_or c.self.inside.tallies.items place was → was ≡ tally_of c.in-Some.key.queue (old_of g c)
@@ -43,7 +59,7 @@ read g c place at was found =
 fits : (g : Over) (c : In-Some g) → FitsTurns c.self.inside.turns 0 (tally_of c.in-Some.key.queue (old_of g c))
 fits g c =
     let inside = c.self.inside in
-    first_fits g.J.Task.meaning (old_of g c) inside.queues.slips inside.ready.keys inside.inside inside.room inside.tallies.cap c.in-Some.key.queue c.self.invariant (free g c)
+    first_fits g.J.Task.meaning (old_of g c) inside.queues.slips inside.ready.keys inside.inside inside.room inside.tallies.cap c.in-Some.key.queue c.self.invariant (none_held g c)
 
 pub turn_front-step-requires : goal.turn_front-step-requires
 turn_front-step-requires g c =
@@ -53,7 +69,7 @@ turn_front-step-requires g c =
     record {
       exists = exists g at;
       ready = front_ready g.J.Task.meaning (waiting_of queue (queues_alone c.self.inside.queues))
-          (first_waits (old_of g at) c.self.inside.ready.keys c.in-Some.key c.take_least.new.self.keys c.in-Some.ensures.least core.listed (free g at)) (core.pollable.at queue);
+          (first_waits (old_of g at) c.self.inside.ready.keys c.in-Some.key c.take_least.new.self.keys c.in-Some.ensures.least core.listed (none_held g at)) (core.pollable.at queue);
     }
 
 pub index-requires : goal.index-requires
@@ -67,7 +83,6 @@ turned-tally-requires g c =
     let at = (goal.at.turned-tally-requires g c).In-Some in
     record {
       fits = (c.self.inside.turns, left g at, subst (FitsTurns c.self.inside.turns 0) (sym (read g at c.place.result c.place.ensures c.index.result.now c.index.ensures)) (fits g at));
-      few = omega (arith, c.ended-done.ensures, one_at_most (is_done_step c.turn_front-step.result.0));
     }
 
 pub relist-requires : goal.relist-requires
@@ -85,12 +100,19 @@ relist-requires g c =
     }
 
 -- what is known once the slip has its place again
-turn_of : (g : Over) (c : After-turned-tally g) → job_out c.self.inside.out ≡ None → c.index.result.now ≡ tally_of c.in-Some.key.queue (core_view c.self.inside.core c.self.inside.cores (queues_alone c.self.inside.queues) c.self.inside.tallies.items c.self.inside.floor c.self.inside.turns (job_out c.self.inside.out) c.self.inside.senders c.self.inside.mode) →
+turn_of : (g : Over) (c : After-turned-tally g) → job_out c.self.inside.out ≡ None → c.self.inside.bursts.open ≡ None → has_bursts c.self.inside.bursts.burst ≡ false →
+    c.index.result.now ≡ tally_of c.in-Some.key.queue (core_view c.self.inside.core c.self.inside.cores (queues_alone c.self.inside.queues) c.self.inside.tallies.items
+    c.self.inside.floor c.self.inside.turns (job_out c.self.inside.out) c.self.inside.senders c.self.inside.mode c.self.inside.bursts) →
     HasTurned g.J.Task.meaning
-    (core_view c.self.inside.core c.self.inside.cores (queues_alone c.self.inside.queues) c.self.inside.tallies.items c.self.inside.floor c.self.inside.turns (job_out c.self.inside.out) c.self.inside.senders c.self.inside.mode)
+    (core_view c.self.inside.core c.self.inside.cores (queues_alone c.self.inside.queues) c.self.inside.tallies.items c.self.inside.floor c.self.inside.turns (job_out c.self.inside.out) c.self.inside.senders c.self.inside.mode c.self.inside.bursts)
     c.self.inside.queues.slips c.self.inside.ready.keys c.self.inside.inside c.self.inside.room c.self.inside.tallies.cap c.in-Some.key c.turn_front-step.ensures.turns.0 c.turn_front-step.result.0 c.turn_front-step.result.1
     c.unwrap_or-time.result c.turned-tally.result (queues_alone c.turn_front-step.new.self)
-turn_of g c free known =
+turn_of g c free no_turn single known =
+    let inside = c.self.inside in
+    let key = c.in-Some.key in
+    let old = core_view inside.core inside.cores (queues_alone inside.queues) inside.tallies.items inside.floor inside.turns (job_out inside.out) inside.senders inside.mode inside.bursts in
+    let weight = shares_of key.queue (queues_alone c.turn_front-step.new.self) in
+    let ended = number_if (is_done_step c.turn_front-step.result.0) in
     let was = c.index.result.now in
     let value : c.turned-tally.result ≡ after_poll (record was { selected = was.selected + 1 }) c.unwrap_or-time.result c.shares-shares.result c.ended-done.result = c.turned-tally.ensures.value in
     record {
@@ -100,26 +122,33 @@ turn_of g c free known =
       absent = c.in-Some.ensures.absent;
       rising = c.take_least.ensures.rising;
       free = free;
+      no_turn = no_turn;
       turned = c.turn_front-step.ensures.turns.2;
       limits = c.turn_front-step.ensures.limits;
-      charged = value ∙ (λ i. after_poll (record (known i) { selected = (known i).selected + 1 }) c.unwrap_or-time.result (c.shares-shares.ensures i) (c.ended-done.ensures i));
-      fits = subst (λ (one : Tally). FitsTurns c.self.inside.turns 0 one → FitsTurns (c.self.inside.turns + 1) 0 c.turned-tally.result) known (c.turned-tally.ensures.fits c.self.inside.turns);
+      charged = value ∙ (λ i. after_poll (record (known i) { selected = (known i).selected + 1 }) c.unwrap_or-time.result (c.shares-shares.ensures i) (c.ended-done.ensures i))
+          ∙ charged_single (begun key.queue inside.bursts).open c.unwrap_or-time.result weight ended (picked_tally old key.queue) (begun_single key.queue inside.bursts single ∙ no_turn);
     }
+
+-- the tally fits then
+fits_then : (g : Over) (c : After-turned-tally g) (before : Tally) → c.index.result.now ≡ before → FitsTurns c.self.inside.turns 0 before → FitsTurns (c.self.inside.turns + 1) 0 c.turned-tally.result
+fits_then g c before known fits = c.turned-tally.ensures.fits c.self.inside.turns (subst (FitsTurns c.self.inside.turns 0) (sym known) fits)
 
 pub invariant_of-self : goal.invariant_of-self
 unfolding turn_of
 invariant_of-self g c =
     let some = (goal.at.invariant_of-self g c).In-Some in
-    let turn = turn_of g (goal.at.invariant_of-self g c).After-turned-tally (free g some) (read g some c.place.result c.place.ensures c.index.result.now c.index.ensures) in
+    let known = read g some c.place.result c.place.ensures c.index.result.now c.index.ensures in
+    let turn = turn_of g (goal.at.invariant_of-self g c).After-turned-tally (free g some) (no_turn g some) (single g some) known in
     let inside = c.self.inside in
     let key = c.in-Some.key in
     let queues = c.turn_front-step.new.self in
-    let old = core_view inside.core inside.cores (queues_alone inside.queues) inside.tallies.items inside.floor inside.turns (job_out inside.out) inside.senders inside.mode in
+    let old = core_view inside.core inside.cores (queues_alone inside.queues) inside.tallies.items inside.floor inside.turns (job_out inside.out) inside.senders inside.mode inside.bursts in
     let slip = c.in-Some.ensures.slip in
     let tally = c.turned-tally.result in
     IsCore-turned_as g.J.Task.meaning old inside.queues.slips inside.ready.keys inside.inside inside.room inside.tallies.cap key c.turn_front-step.ensures.turns.0
-    c.turn_front-step.result.0 c.turn_front-step.result.1 c.unwrap_or-time.result tally (queues_alone queues) turn _ _ _ _
-    (λ i. core_view inside.core inside.cores (queues_alone (c.relist.ensures.slips i)) (slice_set inside.tallies.items (c.place-2.ensures i) tally) (c.max-self-inside.ensures i) (inside.turns + 1) (job_out inside.out) inside.senders inside.mode)
+    c.turn_front-step.result.0 c.turn_front-step.result.1 c.unwrap_or-time.result tally (queues_alone queues) turn (single g some) (fits_then g (goal.at.invariant_of-self g c).After-turned-tally (tally_of key.queue old) known (fits g some)) _ _ _ _
+    (λ i. core_view inside.core inside.cores (queues_alone (c.relist.ensures.slips i)) (slice_set inside.tallies.items (c.place-2.ensures i) tally) (c.max-self-inside.ensures i) (inside.turns + 1) (job_out inside.out) inside.senders inside.mode
+    (same_bursts old key.queue c.unwrap_or-time.result (single g some) (no_turn g some) i))
     (ap (λ lines. lines.slips) c.relist.ensures.slips ∙ (λ i. slips_after (is_any (waiting_of (slip i) (queues_alone queues))) (slip i) (slice_set (c.turn_front-step.ensures.slips i) (slip i) true)))
     (c.relist.ensures.keys ∙ (λ i. keys_after (is_any (waiting_of (slip i) (queues_alone queues))) tally.runtime (slip i) c.take_least.new.self.keys))
     (ap (λ count. inside.inside - count) c.ended-done.ensures)
@@ -127,35 +156,40 @@ invariant_of-self g c =
 pub returns : goal.returns
 returns g c =
     let some = (goal.at.returns g c).In-Some in
-    let turn = turn_of g (goal.at.returns g c).After-turned-tally (free g some) (read g some c.place.result c.place.ensures c.index.result.now c.index.ensures) in
+    let known = read g some c.place.result c.place.ensures c.index.result.now c.index.ensures in
+    let turn = turn_of g (goal.at.returns g c).After-turned-tally (free g some) (no_turn g some) (single g some) known in
     let inside = c.self.inside in
     let key = c.in-Some.key in
     let queues = c.turn_front-step.new.self in
     let turns = c.turn_front-step.ensures.turns in
-    let old = core_view inside.core inside.cores (queues_alone inside.queues) inside.tallies.items inside.floor inside.turns (job_out inside.out) inside.senders inside.mode in
+    let old = core_view inside.core inside.cores (queues_alone inside.queues) inside.tallies.items inside.floor inside.turns (job_out inside.out) inside.senders inside.mode inside.bursts in
     let bounded = IsBounded-turned g.J.Task.meaning old inside.queues.slips inside.ready.keys inside.inside inside.room inside.tallies.cap key turns.0
-    c.turn_front-step.result.0 c.turn_front-step.result.1 c.unwrap_or-time.result c.turned-tally.result (queues_alone queues) turn in
+    c.turn_front-step.result.0 c.turn_front-step.result.1 c.unwrap_or-time.result c.turned-tally.result (queues_alone queues) turn (single g some) (fits_then g (goal.at.returns g c).After-turned-tally (tally_of key.queue old) known (fits g some)) in
     let first = TurnsFirst-turned g.J.Task.meaning old inside.queues.slips inside.ready.keys inside.inside inside.room inside.tallies.cap key turns.0
     c.turn_front-step.result.0 c.turn_front-step.result.1 c.unwrap_or-time.result c.turned-tally.result (queues_alone queues) turn c.turn_front-step.result.2 c.unwrap_or-time.ensures in
+    let same = same_bursts old key.queue c.unwrap_or-time.result (single g some) (no_turn g some) in
+    let whole = subst (λ (bursts : Bursts). TurnsFirst g.J.Task.meaning old c.turn_front-step.result.2 turns.0 c.turn_front-step.result.0 c.unwrap_or-time.result (after_turn old key c.turned-tally.result (queues_alone queues) bursts)) (sym same) first in
     rw (← c.self.view_is, c.relist.ensures.slips, c.place-2.ensures, c.max-self-inside.ensures) (record {
-      turns = (turns.0, turns.1, (c.turn_front-step.result.2, c.turn_front-step.ensures.tells, first));
+      turns = (turns.0, turns.1, (c.turn_front-step.result.2, c.turn_front-step.ensures.tells, whole));
       bounded = bounded;
     })
 
 pub unreachable-requires : goal.unreachable-requires
 unreachable-requires g c =
     let inside = c.self.inside in
-    let old = core_view inside.core inside.cores (queues_alone inside.queues) inside.tallies.items inside.floor inside.turns (job_out inside.out) inside.senders inside.mode in
+    let old = core_view inside.core inside.cores (queues_alone inside.queues) inside.tallies.items inside.floor inside.turns (job_out inside.out) inside.senders inside.mode inside.bursts in
     let free : job_out inside.out ≡ None = subst (λ (view : CoreView g.row.J.Denot). view.out ≡ None) (sym c.self.view_is) c.requires.free in
+    let no_turn : inside.bursts.open ≡ None = subst (λ (view : CoreView g.row.J.Denot). view.bursts.open ≡ None) (sym c.self.view_is) c.requires.no_turn in
     let work = subst (λ (view : CoreView g.row.J.Denot). (queue : ℕ) × (waiting_of queue view.queues ≡ [] → ⊥)) (sym c.self.view_is) c.requires.work in
-    some_keys old inside.ready.keys free c.self.invariant.listed work (c.in_default.ensures.empty.0 refl)
+    some_keys old inside.ready.keys (held_none old free no_turn) c.self.invariant.listed work (c.in_default.ensures.empty.0 refl)
 
 pub overflow_sub-self : goal.overflow_sub-self
 overflow_sub-self g c =
     let some = (goal.at.overflow_sub-self g c).In-Some in
-    let turn = turn_of g (goal.at.overflow_sub-self g c).After-turned-tally (free g some) (read g some c.place.result c.place.ensures c.index.result.now c.index.ensures) in
+    let known = read g some c.place.result c.place.ensures c.index.result.now c.index.ensures in
+    let turn = turn_of g (goal.at.overflow_sub-self g c).After-turned-tally (free g some) (no_turn g some) (single g some) known in
     let inside = c.self.inside in
-    let old = core_view inside.core inside.cores (queues_alone inside.queues) inside.tallies.items inside.floor inside.turns (job_out inside.out) inside.senders inside.mode in
+    let old = core_view inside.core inside.cores (queues_alone inside.queues) inside.tallies.items inside.floor inside.turns (job_out inside.out) inside.senders inside.mode inside.bursts in
     let one = one_inside g.J.Task.meaning old inside.queues.slips inside.ready.keys inside.inside inside.room inside.tallies.cap c.in-Some.key c.turn_front-step.ensures.turns.0
     c.turn_front-step.result.0 c.turn_front-step.result.1 c.unwrap_or-time.result c.turned-tally.result (queues_alone c.turn_front-step.new.self) turn in
     omega (arith, one, c.ended-done.ensures, one_at_most (is_done_step c.turn_front-step.result.0))

@@ -28,7 +28,7 @@ returns-in-Some g c =
     let beside = subst (λ from. IsInOf from c.receive-outcome.new.self (g.I.InEnd.inward c.give_if.new.end)) (ap (λ name. name.from) took.takes.2) now in
     let others = rest_keep c.args.self.now c.receive-outcome.new.self c.in-Some.envelope next received.receives received.seat c.receive-outcome.result received.gives (g.I.InEnd.inward c.args.end.now) taken took.takes in
     let outs = keeps_outs (desk_of c.args.self.now) (desk_of c.receive-outcome.new.self)
-    (λ i. record { actor = received.seat.number i; cores = received.seat.cores i; cap = received.seat.cap i; journal = c.receive-outcome.new.self.journal; lanes = c.receive-outcome.new.self.lanes }) received.receives.lists.sent in
+    (λ i. record { actor = received.seat.number i; cores = received.seat.cores i; cap = received.seat.cap i; burst = received.seat.burst i; journal = c.receive-outcome.new.self.journal; lanes = c.receive-outcome.new.self.lanes }) received.receives.lists.sent in
     assumption (delivers, beside, others, outs, c.give_if.ensures.untouched ∙ took.untouched)
 
 pub returns-in-None-clause-beside : goal.returns-in-None-clause-beside

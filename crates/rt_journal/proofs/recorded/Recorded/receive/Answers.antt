@@ -28,7 +28,8 @@ invariant_of-self g c =
     _ (λ i. record { cap = (said_is i).cap; core = c.deliver-delivered.new.self; journal = (said_is i).journal; took = c.with-self-inside.ensures i; lanes = (said_is i).lanes }) in (
       now.sound,
       desk_is c.write.new.self c.deliver-delivered.new.self c.self.inside.took.items (ap (λ desk. desk.actor) said_is ∙ (ap (λ desk. desk.actor) c.self.invariant.1 ∙ sym now.seat.number))
-          (ap (λ desk. desk.cores) said_is ∙ (ap (λ desk. desk.cores) c.self.invariant.1 ∙ sym now.seat.cores)),
+          (ap (λ desk. desk.cores) said_is ∙ (ap (λ desk. desk.cores) c.self.invariant.1 ∙ sym now.seat.cores))
+          (ap (λ desk. desk.burst) said_is ∙ (ap (λ desk. desk.burst) c.self.invariant.1 ∙ sym now.seat.burst)),
     )
 
 pub returns : goal.returns

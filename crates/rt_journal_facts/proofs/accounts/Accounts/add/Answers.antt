@@ -25,11 +25,11 @@ returns-clause-known c =
           let floor = ap (λ (it : Accounts). it.floor) w.self-is ∙ (w.wake_all.ensures.floor ∙ floors) in
           let floor_is = c.max-self.ensures ∙ (λ i. max (floor i) (c.runtime_picked.ensures i)) in
           let fits_floor : old.floor ≤ greatest_runtime = omega (arith, floor, c.max-self.ensures, c.max-self.type_inv) in
-          all_known old _ spot note before fits short knows fits_floor (omega arith)
+          all_known c.args.burst old _ spot note before fits short knows fits_floor (omega arith)
           (
           λ queue.
           ap (λ (it : Accounts). account_of it queue) w.self-is ∙
-          each_ended old c.release.new.self c.change.new.self spot note c.release.ensures.each c.change.ensures.each c.release.ensures.floor w.wake_all.new.self
+          each_ended c.args.burst old c.release.new.self c.change.new.self spot note c.release.ensures.each c.change.ensures.each c.release.ensures.floor w.wake_all.new.self
           before fits knows ended
           (
           λ other holds.
@@ -45,11 +45,11 @@ returns-clause-known c =
           let floor_is = c.max-self.ensures ∙ (λ i. max (floor i) (c.runtime_picked.ensures i)) in
           let fits_floor : old.floor ≤ greatest_runtime = omega (arith, floor, c.max-self.ensures, c.max-self.type_inv) in
           let queues = ap (λ (it : Accounts). it.queues) w.self-is ∙ w.remember.ensures.queues in
-          all_known old _ spot note before fits short knows fits_floor (omega arith)
+          all_known c.args.burst old _ spot note before fits short knows fits_floor (omega arith)
           (
           λ queue.
           rw queues
-          (each_going old c.release.new.self c.change.new.self spot note c.release.ensures.each c.change.ensures.each c.release.ensures.floor going queue)
+          (each_going c.args.burst old c.release.new.self c.change.new.self spot note c.release.ensures.each c.change.ensures.each c.release.ensures.floor going queue)
           )
           floor_is
           (
@@ -72,7 +72,7 @@ returns-clause-others c =
     λ before knows queue apart.
     let old = c.args.self.now in
     let alone =
-    left_alone old c.release.new.self c.change.new.self c.args.spot.now c.args.note.now c.release.ensures.each c.change.ensures.each c.release.ensures.floor queue
+    left_alone c.args.burst old c.release.new.self c.change.new.self c.args.spot.now c.args.note.now c.release.ensures.each c.change.ensures.each c.release.ensures.floor queue
     apart.not_own apart.not_parked in
     elim c.if-core_ended.branch [
       | then-core_ended w ↦

@@ -3,8 +3,8 @@ use Rattle.rt_journal_facts.proofs.AllAccounts.{all_fresh}
 use Rattle.rt_journal_facts.proofs.accounts.Accounts.new.Goals as goal
 
 pub returns : goal.returns
-returns c = record {
-  each = λ queue. all_fresh 256 queue c.new.result c.new.ensures;
+returns c = λ burst. record {
+  each = λ queue. all_fresh burst 256 queue c.new.result c.new.ensures;
   floor = refl;
   recent = λ queue some. absurd (omega (arith, some));
 }

@@ -5,8 +5,8 @@ use Rattle.rt_journal_read.specs.Drafts.{Drafted, IsDraft, raised_to}
 use Rattle.rt_journal_read.proofs.DraftLemmas.{assembled, passed_count, raised_is}
 use Rattle.rt_journal_read.proofs.draft.Draft.into_assembly.Goals as goal
 
-pub of-requires : goal.of-requires
-of-requires c =
+pub of_burst-requires : goal.of_burst-requires
+of_burst-requires c =
     let draft = c.args.self in
     let whole : IsDraft draft = subst IsDraft c.self.view_is c.self.invariant in
     let counted = passed_count draft whole.actors in
@@ -25,9 +25,10 @@ returns-clause-ok c =
     let draft = c.args.self in
     let told = λ (j : Journal ℕ). j.notes in
     let passed = c.in_ok-raise_to.ensures.ok ∙ ap (λ n. raised_to n draft) (ap (λ (d : Drafted). d.cores) c.self.view_is) in
-    c.of.ensures
-    ∙ assembled draft c.raise_to.new.self c.self-2.inside.cores c.self-2.inside.cap (map told c.push.new.self.items) c.self-2.inside.notes.notes passed
+    c.of_burst.ensures
+    ∙ assembled draft c.raise_to.new.self c.self-2.inside.cores c.self-2.inside.cap c.self-2.inside.burst (map told c.push.new.self.items) c.self-2.inside.notes.notes passed
     (ap (λ (d : Drafted). d.cores) c.self-2.view_is)
     (ap (λ (d : Drafted). d.cap) c.self-2.view_is)
+    (ap (λ (d : Drafted). d.burst) c.self-2.view_is)
     (ap (map told) c.in_ok-push.ensures.items ∙ map-append told c.self-2.inside.earlier.items (c.self-2.inside.notes ∷ []) ∙ ap (λ (d : Drafted). d.earlier ++ c.self-2.inside.notes.notes ∷ []) c.self-2.view_is)
     (ap (λ (d : Drafted). d.notes) c.self-2.view_is)

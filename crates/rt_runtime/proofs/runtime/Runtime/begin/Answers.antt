@@ -24,14 +24,16 @@ pub invariant_of-result : goal.invariant_of-result
 invariant_of-result g c =
     let desk = c.in-Ok-open_outside.ensures.desk in
     let numbers = c.requires.numbers in (
-      started c.args.config.now.cores c.args.config.now.cap c.args.config.now.room c.args.config.now.queues.items (map (λ worker. worker.linked) c.in-Ok-start.team) c.in-Ok.ends c.in-Ok-open_outside.desk c.in-Ok-open_outside.closing.items
-          (subst (λ workers. IsHouse c.args.config.now.cores c.args.config.now.cap c.args.config.now.room c.args.config.now.queues.items (map (λ worker. worker.linked) workers) c.in-Ok.ends) (sym c.in-Ok-start.ensures.ok) c.in-Ok.ensures.house) desk
+      started c.args.config.now.cores c.args.config.now.cap c.args.config.now.burst c.args.config.now.room c.args.config.now.queues.items (map (λ worker. worker.linked) c.in-Ok-start.team) c.in-Ok.ends c.in-Ok-open_outside.desk c.in-Ok-open_outside.closing.items
+          (subst (λ workers. IsHouse c.args.config.now.cores c.args.config.now.cap c.args.config.now.burst c.args.config.now.room c.args.config.now.queues.items (map (λ worker. worker.linked) workers) c.in-Ok.ends) (sym c.in-Ok-start.ensures.ok) c.in-Ok.ensures.house) desk
           c.in-Ok-open_outside.ensures.written c.in-Ok-open_outside.ensures.closing c.of-bells.result (map (λ worker. worker.bells) c.in-Ok-start.team) (ap (λ rung. rung.times) c.of-bells.ensures ∙ c.in-Ok.ensures.bells)
           (record {
             some_core = omega (arith, numbers.some_core);
             few_cores = numbers.cores_most;
             some_place = omega (arith, numbers.some_place);
             few_places = numbers.places_most;
+            some_poll = omega (arith, numbers.some_poll);
+            few_polls = numbers.polls_most;
           })
           (Fits g.J.Task.meaning),
       (record {
@@ -54,6 +56,6 @@ returns-in-Ok-start g c = record {
   count = ap (λ workers. length (map (λ worker. worker.linked) workers)) c.in-Ok-start.ensures.ok ∙ c.in-Ok.ensures.house.count;
   ends = c.in-Ok.ensures.house.outs;
   fresh = c.in-Ok.ensures.house.fresh;
-  none = none_submitted c.args.config.now.cores c.args.config.now.cap c.args.config.now.room c.args.config.now.queues.items (map (λ worker. worker.linked) c.in-Ok.workers.items) c.in-Ok.ends c.in-Ok.ensures.house;
+  none = none_submitted c.args.config.now.cores c.args.config.now.cap c.args.config.now.burst c.args.config.now.room c.args.config.now.queues.items (map (λ worker. worker.linked) c.in-Ok.workers.items) c.in-Ok.ends c.in-Ok.ensures.house;
   have_queues = subst (λ workers. HaveQueues c.args.config.now.cores c.args.config.now.queues.items (map (λ worker. worker.linked) workers)) (sym c.in-Ok-start.ensures.ok) c.in-Ok.ensures.house.have_queues;
 }

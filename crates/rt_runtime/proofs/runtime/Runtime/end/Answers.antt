@@ -39,8 +39,8 @@ pub returns : goal.returns
 returns g c =
     subst (λ view. HasFinished g.J.Task.meaning view c.assemble-assembly.result) c.self.view_is
     (subst (HasFinished g.J.Task.meaning _) (sym c.assemble-assembly.ensures.assembly)
-    (finished_as g.J.Task.meaning _ c.self.invariant.0 c.join.result.items (its_kept c.self.inside.team c.join.result.items c.join.ensures) c.part_all-all.ensures.parts.ended c.self.inside.cores c.self.inside.cap c.push_reserved.new.self.items c.push_reserved-2.new.self.items
-    c.self.invariant.1.cores_are c.self.invariant.1.cap_is (c.push_reserved.ensures.items ∙ ap (λ ends. ends ++ c.self.inside.ends ∷ []) c.part_all-all.ensures.parts.ends_are)
+    (finished_as g.J.Task.meaning _ c.self.invariant.0 c.join.result.items (its_kept c.self.inside.team c.join.result.items c.join.ensures) c.part_all-all.ensures.parts.ended c.self.inside.cores c.self.inside.cap c.burst-burst.result c.push_reserved.new.self.items c.push_reserved-2.new.self.items
+    c.self.invariant.1.cores_are c.self.invariant.1.cap_is c.burst-burst.ensures (c.push_reserved.ensures.items ∙ ap (λ ends. ends ++ c.self.inside.ends ∷ []) c.part_all-all.ensures.parts.ends_are)
     (c.push_reserved-2.ensures.items ∙ (ap (λ journal. c.part_all-all.result.1.items ++ journal ∷ []) c.into_journal.ensures ∙ ap (λ journals. journals ++ c.self.inside.desk.journal ∷ []) c.part_all-all.ensures.parts.journals_are))
     c.assemble-assembly.ensures.reunited c.ended_are_joined.ensures c.joining_is_sound.ensures c.joined_are_spelled.ensures
     (subst (λ view. (core : ℕ) → core < length view.closing → closing_at core view ≡ true) (sym c.self.view_is) c.requires)))

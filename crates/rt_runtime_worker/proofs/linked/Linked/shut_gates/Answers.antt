@@ -1,6 +1,6 @@
 use Rattle.std.proofs.Common.{refl, sym, subst, ap, arith}
 use Rattle.std.specs.Prelude.{IsSome}
-use Rattle.rt_runtime_worker.specs.Linked.{IsLinked}
+use Rattle.rt_runtime_worker.specs.Linked.{IsBetweenTurns, IsLinked, LinkedView}
 use Rattle.rt_runtime_worker.proofs.Gated.{shuts_none, shuts_more}
 use Rattle.rt_runtime_worker.specs.Rounds.{TellsNotes}
 use Rattle.rt_runtime_worker.proofs.Telling.{tells_true, tells_false}
@@ -12,6 +12,7 @@ loop-sender-init g c = record {
   first = shuts_none c.args.self.now;
   tells = refl;
   linked = subst (IsLinked g.J.Task.meaning) c.self.view_is c.self.invariant.0;
+  between = subst (λ (view : LinkedView _ _). IsBetweenTurns view.recorded) c.self.view_is c.self.invariant.2;
   end = omega (arith, c.self.invariant.1, ap (λ view. view.recorded.core.cores) c.self.view_is);
 }
 
@@ -32,5 +33,6 @@ loop-sender-preserved g c = record {
         (subst (λ found. TellsNotes found c.loop-sender.self.recorded.journal.notes c.shut_if_open.new.self.recorded.journal.notes) w.if-shut_if_open.false c.shut_if_open.ensures.tells))
   ];
   linked = c.shut_if_open.ensures.linked;
+  between = c.shut_if_open.ensures.between;
   end = c.loop-sender.invariant.end;
 }

@@ -1,5 +1,5 @@
 use Rattle.std.proofs.Common.{sym, subst, ◌∙◌}
-use Rattle.rt_runtime_worker.specs.Linked.{IsLinked}
+use Rattle.rt_runtime_worker.specs.Linked.{IsBetweenTurns, IsLinked, LinkedView}
 use Rattle.rt_runtime_worker.proofs.Gated.{leaves_then, leaves_else}
 use Rattle.rt_runtime_worker.proofs.linked.Linked.shut_if_open.Goals.{then-not-shut, else-not-shut}
 use Rattle.rt_runtime_worker.proofs.linked.Linked.shut_if_open.Goals as goal
@@ -13,3 +13,6 @@ returns-clause-leaves g c =
 
 pub returns-clause-linked : goal.returns-clause-linked
 returns-clause-linked g c = subst (IsLinked g.J.Task.meaning) c.self-2.view_is c.self-2.invariant.0
+
+pub returns-clause-between : goal.returns-clause-between
+returns-clause-between g c = subst (λ (view : LinkedView _ _). IsBetweenTurns view.recorded) c.self-2.view_is c.self-2.invariant.2

@@ -1,6 +1,5 @@
 use Rattle.std.proofs.Common.{◌≡◌, ℕ, ◌-◌, ◌^◌, false, true, refl, sym, ◌∙◌, subst}
 use Rattle.std.specs.Prelude.{Ok, Err}
-use Rattle.rt_ids.specs.declared.names.JobId.{JobId}
 use Rattle.rt_ids.specs.Picks.{turns}
 use Rattle.rt_ids.specs.Work.{has_work}
 use Rattle.rt_core.specs.declared.turn.Ahead.{Ahead}
@@ -8,45 +7,34 @@ use Rattle.rt_core.specs.declared.turn.PickError.{PickError}
 use Rattle.rt_core.specs.Whole.{TellsAhead}
 use Rattle.rt_runtime_worker.specs.Linked.{LinkedView, IsLinked, StaysLinked}
 use Rattle.rt_journal.proofs.Ahead.{idle, all_used}
-use Rattle.rt_runtime_worker.specs.Steps.{HandsBack, PollsOne}
+use Rattle.rt_runtime_worker.specs.Bursts.{MakesTurn, turn_view}
+use Rattle.rt_runtime_worker.specs.Steps.{HandsBack}
+use Rattle.rt_runtime_worker.specs.declared.turn.Made.TheVariants.{Polled}
 use Rattle.rt_runtime_worker.specs.Rooms.{HasTurnRoom}
 use Rattle.rt_runtime_worker.proofs.Along.{stays_same}
-use Rattle.rt_runtime_worker.proofs.InPlace.{ahead_known, ahead_room}
+use Rattle.rt_runtime_worker.proofs.InPlace.{ahead_room}
 use Rattle.rt_runtime_worker.proofs.linked.Linked.turn.Goals as goal
 
-pub turn_on-requires-clause-ahead : goal.turn_on-requires-clause-ahead
-turn_on-requires-clause-ahead g c = rw c.in-Ok-Job.field-0-is at c.in-Ok-Job.ensures
+pub poll_through-requires-clause-ahead : goal.poll_through-requires-clause-ahead
+poll_through-requires-clause-ahead g c = rw c.in-Ok-Job.field-0-is at c.in-Ok-Job.ensures
 
-pub turn_on-requires-clause-beside : goal.turn_on-requires-clause-beside
-turn_on-requires-clause-beside g c = c.self.invariant.0.beside
+pub poll_through-requires-clause-linked : goal.poll_through-requires-clause-linked
+poll_through-requires-clause-linked g c = c.self.invariant.0
 
-pub turn_on-requires-clause-owed : goal.turn_on-requires-clause-owed
-turn_on-requires-clause-owed g c = c.self.invariant.0.owed
-
-pub turn_on-requires-clause-known : goal.turn_on-requires-clause-known
-turn_on-requires-clause-known g c =
-    let next = c.in-Ok-Job.next in
-    ahead_known c.self.inside.recorded c.self.invariant.0.recorded next.queue next.vr next.name next.started next.woken (rw c.in-Ok-Job.field-0-is at c.in-Ok-Job.ensures)
-
-pub turn_on-requires-clause-core : goal.turn_on-requires-clause-core
-turn_on-requires-clause-core g c = c.ask-leave.ensures.core ∙ (c.number_of-core.ensures ∙ c.self.invariant.0.beside.number)
-
-pub turn_on-requires-clause-room : goal.turn_on-requires-clause-room
-turn_on-requires-clause-room g c =
+pub poll_through-requires-clause-room : goal.poll_through-requires-clause-room
+poll_through-requires-clause-room g c =
     let next = c.in-Ok-Job.next in
     ahead_room c.self.inside.recorded c.self.invariant.0.recorded next.queue next.vr next.name next.started next.woken (rw c.in-Ok-Job.field-0-is at c.in-Ok-Job.ensures)
     (subst (λ (view : LinkedView _ _). HasTurnRoom view.recorded) (sym c.self.view_is) c.requires.room)
 
 pub returns-in-Ok-Job-clause-makes : goal.returns-in-Ok-Job-clause-makes
 returns-in-Ok-Job-clause-makes g c =
-    subst (λ (old : LinkedView _ _). (name : JobId) × PollsOne g.J.Task.meaning (λ time. g.M.Meter.Tells c.args.meter.now time c.turn_on.new.meter) name old (record { recorded = c.turn_on.new.recorded; ends = c.turn_on.new.ends }) × g.G.Gate.Asked c.args.gate.now old.recorded.core.core name c.ask-leave.new.gate) c.self.view_is
-    (c.in-Ok-Job.next.name, c.turn_on.ensures.polls, subst (λ core. g.G.Gate.Asked c.args.gate.now core c.in-Ok-Job.next.name c.ask-leave.new.gate) (c.number_of-core.ensures ∙ c.self.invariant.0.beside.number) c.ask-leave.ensures.asked)
+    subst (λ (old : LinkedView _ _). MakesTurn g.J.Task.meaning g.M.Meter.Tells g.G.Gate.Asked (turn_view old c.args.meter.now c.args.gate.now) Polled
+    (turn_view (record { recorded = c.poll_through.new.recorded; ends = c.poll_through.new.ends }) c.poll_through.new.meter c.poll_through.new.gate)) c.self.view_is
+    (c.in-Ok-Job.next.name, c.poll_through.ensures.polls.0, c.poll_through.ensures.polls.1, c.poll_through.ensures.polls.2)
 
 pub returns-in-Ok-Job-clause-stays : goal.returns-in-Ok-Job-clause-stays
-returns-in-Ok-Job-clause-stays g c = subst (λ (old : LinkedView _ _). StaysLinked old (record { recorded = c.turn_on.new.recorded; ends = c.turn_on.new.ends })) c.self.view_is c.turn_on.ensures.stays
-
-pub returns-in-Ok-Job-clause-linked : goal.returns-in-Ok-Job-clause-linked
-returns-in-Ok-Job-clause-linked g c = c.turn_on.ensures.linked
+returns-in-Ok-Job-clause-stays g c = subst (λ (old : LinkedView _ _). StaysLinked old (record { recorded = c.poll_through.new.recorded; ends = c.poll_through.new.ends })) c.self.view_is c.poll_through.ensures.stays
 
 pub hand_back-requires-clause-ahead : goal.hand_back-requires-clause-ahead
 hand_back-requires-clause-ahead g c = subst (λ (one : Ahead). TellsAhead c.self.inside.recorded.core (Ok one)) c.in-Ok-Back.field-0-is c.in-Ok-Back.ensures
@@ -69,7 +57,7 @@ returns-in-Ok-Back-clause-linked g c = c.hand_back.ensures.linked
 pub returns-in-Ok-Idle-clause-makes : goal.returns-in-Ok-Idle-clause-makes
 returns-in-Ok-Idle-clause-makes g c =
     let told = subst (λ (one : Ahead). TellsAhead c.self.inside.recorded.core (Ok one)) c.in-Ok-Idle.field-0-is c.in-Ok-Idle.ensures in (
-      subst (λ (view : LinkedView _ _). (queue : ℕ) → has_work queue view.recorded.journal.notes ≡ false) c.self.view_is (idle c.self.inside.recorded c.self.invariant.0.recorded told.0 told.1),
+      subst (λ (view : LinkedView _ _). (queue : ℕ) → has_work queue view.recorded.journal.notes ≡ false) c.self.view_is (idle c.self.inside.recorded c.self.invariant.0.recorded told.0 told.2),
       refl,
       (refl, refl),
     )

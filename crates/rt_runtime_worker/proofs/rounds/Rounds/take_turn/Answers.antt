@@ -1,8 +1,9 @@
 use Rattle.std.proofs.Common.{◌≡◌, ◌≤◌, drop, length, ◌∙◌, ap, arith}
 use Rattle.std.specs.Prelude.{reverse}
 use Rattle.rt_runtime_worker.specs.Bells.{BellsView, rung_for}
+use Rattle.rt_runtime_worker.specs.Readings.{TimesNext}
 use Rattle.rt_runtime_worker.proofs.Growing.{no_shorter}
-use Rattle.rt_runtime_worker.proofs.Looked.{turns_kept, watch_of}
+use Rattle.rt_runtime_worker.proofs.Looked.{turns_seen, watch_of}
 use Rattle.rt_runtime_worker.proofs.Rung.{are_rung}
 use Rattle.rt_runtime_worker.proofs.rounds.Rounds.take_turn.Goals as goal
 
@@ -22,4 +23,5 @@ returns-clause-rung g c =
     ∙ ap (λ count. rung_for (drop count (reverse c.take_turn-turned.new.self.linked.recorded.journal.notes)) c.args.self.now.bells.rings) before))
 
 pub returns-clause-takes : goal.returns-clause-takes
-returns-clause-takes g c = turns_kept _ _ _ (λ (kept : (c.take_turn-turned.new.gate ≡ c.args.self.now.gate) × (c.take_turn-turned.new.meter ≡ c.args.self.now.watch)). (kept.0, ap watch_of kept.1)) c.take_turn-turned.ensures.takes
+returns-clause-takes g c =
+    turns_seen g.J.Task.meaning _ (TimesNext g.C.Clock.Reads) g.G.Gate.Asked watch_of (λ meter time later told. told) c.args.self.now.watch c.take_turn-turned.new.meter c.args.self.now.gate c.take_turn-turned.new.gate c.take_turn-turned.ensures.takes

@@ -8,7 +8,7 @@ use Rattle.rt_runtime_worker.proofs.served.Served.close_gates.Goals as goal
 pub invariant_of-self : goal.invariant_of-self
 invariant_of-self g c =
     subst (λ ending. IsServed g.J.Task.meaning (record { linked = c.shut_gates.new.self; ending = ending })) (sym c.if-self.false)
-    (shuts_served c.self.inside.linked c.shut_gates.new.self c.shut_gates.ensures.linked c.shut_gates.ensures.shuts
+    (shuts_served c.self.inside.linked c.shut_gates.new.self c.shut_gates.ensures.linked c.shut_gates.ensures.between c.shut_gates.ensures.shuts
     (subst (λ ending. IsReady ending c.self.inside.linked.recorded) c.if-self.false (subst (λ view. IsReady view.ending view.linked.recorded) (sym c.self.view_is) c.look.ensures.ready))
     c.self.invariant.acts)
 

@@ -3,10 +3,12 @@ use Rattle.rt_runtime_worker.specs.Rooms.{IsReady}
 use Rattle.rt_runtime_worker.proofs.Spare.{turn_room}
 use Rattle.rt_runtime_worker.proofs.Serving.{turned_served}
 use Rattle.rt_runtime_worker.specs.Ended.{ServedView}
-use Rattle.rt_runtime_worker.specs.Steps.{MakesTurn}
+use Rattle.rt_runtime_worker.specs.Bursts.{MakesTurn, turn_view}
 use Rattle.rt_runtime_worker.specs.Rounds.{StepsServed, is_turn}
-use Rattle.rt_runtime_worker.proofs.Telling.{looked_steps, turned_tells}
-use Rattle.rt_runtime_worker.proofs.Asking.{asks_between, turn_asks}
+use Rattle.rt_runtime_worker.proofs.Telling.{looked_steps}
+use Rattle.rt_runtime_worker.proofs.Asking.{asks_between}
+use Rattle.rt_runtime_worker.proofs.TurnAsks.{turn_asks}
+use Rattle.rt_runtime_worker.proofs.TurnNotes.{turned_tells}
 use Rattle.rt_runtime_worker.specs.Asks.{polls_of, NotesNoPoll}
 use Rattle.rt_runtime_worker.proofs.served.Served.take_turn.Goals as goal
 
@@ -17,14 +19,15 @@ turn-requires g c = record {
 
 pub invariant_of-self : goal.invariant_of-self
 invariant_of-self g c =
-    turned_served c.self.inside.linked c.turn.new.self c.self.invariant.linked c.turn.ensures.linked c.turn.ensures.stays.seat (λ time. g.M.Meter.Tells c.args.meter.now time c.turn.new.meter) (λ core name. g.G.Gate.Asked c.args.gate.now core name c.turn.new.gate) ((c.turn.new.gate ≡ c.args.gate.now) × (c.turn.new.meter ≡ c.args.meter.now)) c.turn.result c.self.inside.ending c.turn.ensures.makes
+    turned_served c.self.inside.linked c.turn.new.self c.self.invariant.linked c.turn.ensures.linked c.self.invariant.between c.turn.ensures.between c.turn.ensures.stays.seat g.M.Meter.Tells g.G.Gate.Asked c.args.meter.now c.turn.new.meter
+    c.args.gate.now c.turn.new.gate c.turn.result c.self.inside.ending c.turn.ensures.makes
     (subst (λ view. IsReady view.ending view.linked.recorded) (sym c.self.view_is) c.look.ensures.ready) c.self.invariant.acts
 
 pub returns-clause-steps : goal.returns-clause-steps
 returns-clause-steps g c =
     subst (λ some. StepsServed c.args.self.now some (record { linked = c.turn.new.self; ending = c.self.inside.ending })) (sym c.is_work.ensures)
     (looked_steps c.args.self.now c.look.new.self (record { linked = c.self.inside.linked; ending = c.self.inside.ending }) c.turn.new.self (is_turn c.turn.result) c.self.view_is c.look.ensures.looks c.look.ensures.stays c.turn.ensures.stays
-    (turned_tells g.J.Task.meaning c.self.inside.linked c.turn.new.self (λ time. g.M.Meter.Tells c.args.meter.now time c.turn.new.meter) (λ core name. g.G.Gate.Asked c.args.gate.now core name c.turn.new.gate) ((c.turn.new.gate ≡ c.args.gate.now) × (c.turn.new.meter ≡ c.args.meter.now)) c.turn.result c.turn.ensures.makes))
+    (turned_tells g.J.Task.meaning g.M.Meter.Tells g.G.Gate.Asked (turn_view c.self.inside.linked c.args.meter.now c.args.gate.now) (turn_view c.turn.new.self c.turn.new.meter c.turn.new.gate) c.turn.result c.turn.ensures.makes))
 
 pub returns-clause-takes : goal.returns-clause-takes
 returns-clause-takes g c = record {
@@ -35,7 +38,7 @@ returns-clause-takes g c = record {
   ended = ap (λ (view : ServedView _ _). view.ending) c.self.view_is;
   made = c.turn.result;
   makes =
-      subst (λ (view : ServedView _ _). MakesTurn g.J.Task.meaning (λ time. g.M.Meter.Tells c.args.meter.now time c.turn.new.meter) (λ core name. g.G.Gate.Asked c.args.gate.now core name c.turn.new.gate) ((c.turn.new.gate ≡ c.args.gate.now) × (c.turn.new.meter ≡ c.args.meter.now)) view.linked c.turn.result c.turn.new.self)
+      subst (λ (view : ServedView _ _). MakesTurn g.J.Task.meaning g.M.Meter.Tells g.G.Gate.Asked (turn_view view.linked c.args.meter.now c.args.gate.now) c.turn.result (turn_view c.turn.new.self c.turn.new.meter c.turn.new.gate))
       c.self.view_is c.turn.ensures.makes;
   answer = c.is_work.ensures;
 }
@@ -46,4 +49,4 @@ returns-clause-asks g c =
     let core : c.self.inside.linked.recorded.core.core ≡ c.args.self.now.linked.recorded.core.core = ap (λ (view : ServedView _ _). view.linked.recorded.core.core) c.self.view_is ∙ c.look.ensures.stays.seat.number in
     asks_between g.G.Gate.Asked c.args.self.now.linked.recorded.core.core c.self.inside.linked.recorded.core.core c.args.self.now.linked.recorded.journal.notes c.self.inside.linked.recorded.journal.notes c.turn.new.self.recorded.journal.notes c.turn.new.self.recorded.journal.notes
     c.args.gate.now c.args.gate.now c.turn.new.gate c.turn.new.gate core refl refl none refl
-    (turn_asks g.G.Gate.Asked g.J.Task.meaning (λ time. g.M.Meter.Tells c.args.meter.now time c.turn.new.meter) c.self.inside.linked c.turn.new.self c.args.gate.now c.turn.new.gate (c.turn.new.meter ≡ c.args.meter.now) c.turn.result c.turn.ensures.makes)
+    (turn_asks g.J.Task.meaning g.M.Meter.Tells g.G.Gate.Asked (turn_view c.self.inside.linked c.args.meter.now c.args.gate.now) (turn_view c.turn.new.self c.turn.new.meter c.turn.new.gate) c.turn.result c.turn.ensures.makes)

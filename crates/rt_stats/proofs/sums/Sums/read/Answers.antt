@@ -13,14 +13,14 @@ loop-place-preserved c =
     record {
       within = omega (arith, c.loop-place-test.true, c.min-end.ensures);
       known =
-          λ knows.
-          subst (λ (before : Journal ℕ). KnowsSums c.add.new.self before) (sym c.note_at-note.ensures)
-          (c.in_ok-add.ensures _ read (c.loop-place.invariant.known knows));
+          λ burst knows.
+          subst (λ (before : Journal ℕ). KnowsSums burst c.add.new.self before) (sym c.note_at-note.ensures)
+          (c.in_ok-add.ensures burst _ read (c.loop-place.invariant.known burst knows));
     }
 
 pub returns : goal.returns
 returns c =
-    λ knows.
-    subst (λ (before : Journal ℕ). KnowsSums c.loop-place.self before)
+    λ burst knows.
+    subst (λ (before : Journal ℕ). KnowsSums burst c.loop-place.self before)
     (same_place c.loop-place.place c.args.to c.args.journal.now.notes (omega (arith, c.loop-place-test.false, c.min-end.ensures)) c.loop-place.invariant.within)
-    (c.loop-place.invariant.known knows)
+    (c.loop-place.invariant.known burst knows)

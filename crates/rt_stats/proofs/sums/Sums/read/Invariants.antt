@@ -1,4 +1,4 @@
-use Rattle.std.proofs.Common.{◌≤◌}
+use Rattle.std.proofs.Common.{ℕ, ◌≤◌}
 use Rattle.rt_ids.specs.Journal.{at_place}
 use Rattle.rt_stats.specs.Walks.{KnowsSums}
 use Rattle.rt_stats.proofs.sums.Sums.read.Given as goal
@@ -6,5 +6,5 @@ use Rattle.rt_stats.proofs.sums.Sums.read.Given as goal
 abbrev pub invariant-loop-place : goal.invariant-loop-place
 invariant-loop-place l = record {
   within : l.place ≤ l.to;
-  known : KnowsSums l.fn.self (at_place l.from l.journal.notes) → KnowsSums l.self (at_place l.place l.journal.notes);
+  known : (burst : ℕ) → KnowsSums burst l.fn.self (at_place l.from l.journal.notes) → KnowsSums burst l.self (at_place l.place l.journal.notes);
 }

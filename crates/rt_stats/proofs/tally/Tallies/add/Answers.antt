@@ -15,9 +15,9 @@ returns-in-Some c =
     ap (λ (account : Account). account.shares)
     (c.of-account.ensures ∙ ap (λ at. get_or c.args.accounts.now.queues at fresh_account) (sym c.queue.view_is)) ∙
     (accounts.each index).shares in
-    tallies_after_one c.args.note.now before c.args.self.now.queues knows index c.cost_told-cost.result c.add.new.self (omega arith) short
+    tallies_after_one c.args.burst c.args.note.now before c.args.self.now.queues knows index c.cost_told-cost.result c.add.new.self (omega arith) short
     c.cost_told-cost.ensures.bounded (sym noted ∙ (c.in-Some.is ∙ ap Some (sym c.queue.view_is)))
     (c.cost_told-cost.ensures.value ∙ ap (λ at. cost_told {T = ℕ} at c.args.note.now) weight)
     (c.add.ensures ∙
-    ap (tally_after {T = ℕ} c.cost_told-cost.result c.args.note.now)
+    ap (tally_after {T = ℕ} c.args.burst c.cost_told-cost.result c.args.note.now)
     (c.of-tally.ensures ∙ ap (λ at. get_or c.args.self.now.queues at no_tally) (sym c.queue.view_is)))

@@ -6,5 +6,5 @@ use Rattle.rt_stats.proofs.tally.Tallies.new.Goals as goal
 
 pub returns : goal.returns
 returns c =
-    λ queue.
-    none_knows queue (get_or (replicate 256 c.new.result) queue no_tally) (all_alike 256 queue c.new.result no_tally c.new.ensures)
+    λ burst queue.
+    none_knows burst queue (get_or (replicate 256 c.new.result) queue no_tally) (all_alike 256 queue c.new.result no_tally c.new.ensures)

@@ -7,7 +7,7 @@ use Rattle.rt_world.proofs.model.World.act.Goals as goal
 use Rattle.rt_world.proofs.model.World.act.Goals.{After-index_mut-actor}
 
 abbrev old : (g : Over) (c : After-index_mut-actor g) → Parts g.row.J.Denot ℕ
-old g c = record { cores = c.self.inside.cores; cap = c.self.inside.cap; room = c.self.inside.room; inside = c.self.inside.inside.items; outside = c.self.inside.outside; links = c.self.inside.links }
+old g c = record { cores = c.self.inside.cores; cap = c.self.inside.cap; burst = c.self.inside.burst; room = c.self.inside.room; inside = c.self.inside.inside.items; outside = c.self.inside.outside; links = c.self.inside.links }
 
 pub link_mut-link-requires : goal.link_mut-link-requires
 link_mut-link-requires g c =

@@ -4,7 +4,7 @@ use Rattle.rt_world.proofs.Gathered.{journals_of, gathered_count, gathered_are}
 use Rattle.rt_world.proofs.WorldSound.{world_joined, world_sound}
 use Rattle.rt_world.proofs.model.World.into_assembly.Given.{Over}
 use Rattle.rt_world.proofs.model.World.into_assembly.Goals as goal
-use Rattle.rt_world.proofs.model.World.into_assembly.Goals.{In-None, After-push_reserved-2, After-of}
+use Rattle.rt_world.proofs.model.World.into_assembly.Goals.{In-None, After-push_reserved-2, After-of_burst}
 
 pub push_reserved-requires : goal.push_reserved-requires
 push_reserved-requires g c =
@@ -44,14 +44,14 @@ all_gathered g c yielded_are =
     ∙ (ap (λ front. front ++ c.into_journal-2.result ∷ []) (c.loop-core.invariant.0 ∙ ap (λ cores. journals_of cores) yielded_are)
     ∙ ap (λ last. journals_of c.self.inside.inside.items ++ last ∷ []) c.into_journal-2.ensures)
 
-abbrev parts : (g : Over) (c : After-of g) → Parts g.row.J.Denot ℕ
-parts g c = record { cores = c.self.inside.cores; cap = c.self.inside.cap; room = c.self.inside.room; inside = c.self.inside.inside.items; outside = c.self.inside.outside; links = c.self.inside.links }
+abbrev parts : (g : Over) (c : After-of_burst g) → Parts g.row.J.Denot ℕ
+parts g c = record { cores = c.self.inside.cores; cap = c.self.inside.cap; burst = c.self.inside.burst; room = c.self.inside.room; inside = c.self.inside.inside.items; outside = c.self.inside.outside; links = c.self.inside.links }
 
 -- the assembly is the world's
-value : (g : Over) (c : After-of g) → c.push_reserved-2.new.self.items ≡ journals_of c.self.inside.inside.items ++ c.self.inside.outside.journal ∷ [] →
-    c.of.result ≡ assembly_of (world_of (parts g c))
+value : (g : Over) (c : After-of_burst g) → c.push_reserved-2.new.self.items ≡ journals_of c.self.inside.inside.items ++ c.self.inside.outside.journal ∷ [] →
+    c.of_burst.result ≡ assembly_of (world_of (parts g c))
 value g c items_are =
-    c.of.ensures ∙ (λ i. record { cores = c.self.inside.cores; cap = c.self.inside.cap; journals = (ap (map (λ journal. journal.notes)) items_are ∙ gathered_are (parts g c)) i })
+    c.of_burst.ensures ∙ (λ i. record { cores = c.self.inside.cores; cap = c.self.inside.cap; burst = c.self.inside.burst; journals = (ap (map (λ journal. journal.notes)) items_are ∙ gathered_are (parts g c)) i })
 
 pub push_reserved-requires-2 : goal.push_reserved-requires-2
 push_reserved-requires-2 g c =
@@ -66,18 +66,18 @@ push_reserved-requires-2 g c =
       ap (λ world. world.cores) c.self.view_is,
     )
 
-pub of-requires : goal.of-requires
-of-requires g c =
-    let at = goal.at.of-requires g c in
+pub of_burst-requires : goal.of_burst-requires
+of_burst-requires g c =
+    let at = goal.at.of_burst-requires g c in
     let items_are = all_gathered g at.After-push_reserved-2 (all_yielded g at.In-None) in
-    ap length items_are ∙ (gathered_count (record { cores = c.self.inside.cores; cap = c.self.inside.cap; room = c.self.inside.room; inside = c.self.inside.inside.items; outside = c.self.inside.outside; links = c.self.inside.links }) ∙ ap (λ count. count + 1) c.self.invariant.1.all_there.cores_are)
+    ap length items_are ∙ (gathered_count (record { cores = c.self.inside.cores; cap = c.self.inside.cap; burst = c.self.inside.burst; room = c.self.inside.room; inside = c.self.inside.inside.items; outside = c.self.inside.outside; links = c.self.inside.links }) ∙ ap (λ count. count + 1) c.self.invariant.1.all_there.cores_are)
 
 pub returns : goal.returns
 returns g c =
     let at = goal.at.returns g c in
-    let is = value g at.After-of (all_gathered g at.After-push_reserved-2 (all_yielded g at.In-None)) in
+    let is = value g at.After-of_burst (all_gathered g at.After-push_reserved-2 (all_yielded g at.In-None)) in
     record {
       value = is ∙ ap (λ world. assembly_of world) c.self.view_is;
-      sound = subst IsSound (sym is) (world_sound (parts g at.After-of) c.self.invariant.1 c.self.invariant.3);
-      joined = subst AreJoined (sym is) (world_joined (parts g at.After-of) c.self.invariant.1 c.self.invariant.3);
+      sound = subst IsSound (sym is) (world_sound (parts g at.After-of_burst) c.self.invariant.1 c.self.invariant.3);
+      joined = subst AreJoined (sym is) (world_joined (parts g at.After-of_burst) c.self.invariant.1 c.self.invariant.3);
     }

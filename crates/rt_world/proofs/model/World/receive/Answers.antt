@@ -16,7 +16,7 @@ link_mut-link-requires g c =
     }
 
 abbrev old : (g : Over) (c : After-index_mut g) → Parts g.row.J.Denot ℕ
-old g c = record { cores = c.self.inside.cores; cap = c.self.inside.cap; room = c.self.inside.room; inside = c.self.inside.inside.items; outside = c.self.inside.outside; links = c.self.inside.links }
+old g c = record { cores = c.self.inside.cores; cap = c.self.inside.cap; burst = c.self.inside.burst; room = c.self.inside.room; inside = c.self.inside.inside.items; outside = c.self.inside.outside; links = c.self.inside.links }
 
 -- the core that receives, and the link of the sender
 by : (g : Over) (c : After-index_mut g) → IsReceiving (old g c) c.args.from c.args.core c.index_mut.result.now c.link_mut-link.result.now

@@ -1,4 +1,4 @@
-use Rattle.rt_world.proofs.Words.{◌≡◌, ℕ, Journal, CoreStats, ap, subst, arith, true≢false, TellsCore, TellsQueues}
+use Rattle.rt_world.proofs.Words.{◌≡◌, ℕ, Journal, CoreStats, ap, subst, arith, true≢false, journal_at, TellsCore, TellsQueues}
 use Rattle.arrayvec.specs.ArrayVec.{array_vec_len}
 use Rattle.rt_world.proofs.model.World.stats.Goals as goal
 
@@ -12,5 +12,6 @@ returns g c =
     record {
       missing = ((λ none. absurd (true≢false none)), (λ past. absurd (omega (arith, past, c.if-core-self.false, c.core.view_is, ap (λ world. world.cores) c.self.view_is))));
       core = told_of its.cores its.notes told.core;
-      queues = subst (λ notes. TellsQueues notes (array_vec_len c.told_stats.result.1) c.told_stats.result.1.items) its.notes told.queues;
+      queues = subst (λ burst. TellsQueues burst (journal_at c.args.core c.args.self.now) (array_vec_len c.told_stats.result.1) c.told_stats.result.1.items) its.burst
+          (subst (λ notes. TellsQueues c.recorded.result.now.core.bursts.burst notes (array_vec_len c.told_stats.result.1) c.told_stats.result.1.items) its.notes told.queues);
     }

@@ -1,27 +1,42 @@
-use Rattle.rt_world.proofs.Words.{◌≡◌, ℕ, ◌<◌, ◌+◌, ◌*◌, ◌∙◌, ap, arith}
+use Rattle.std.specs.Prelude.{max}
+use Rattle.rt_world.proofs.Words.{◌≡◌, ℕ, ◌<◌, ◌≤◌, ◌+◌, ◌*◌, ◌∙◌, ap, arith, Bool, true, false}
 use Rattle.std.proofs.Math.Nat.{mul_comm, mul_assoc}
-use Rattle.rt_world.proofs.CoreSteps.{viewed, free, cores_are, core_cap}
+use Rattle.rt_ids.specs.Bursts.{has_bursts}
+use Rattle.rt_ids.specs.Work.{number_if}
+use Rattle.rt_world_links.specs.Between.{turn_notes}
+use Rattle.rt_world.proofs.CoreSteps.{viewed, free, burst_is, cores_are, core_cap}
 use Rattle.rt_world.proofs.Turning.{all_beside, all_outs}
-use Rattle.rt_world.proofs.Polling.{turns_now}
+use Rattle.rt_world.proofs.WholeTurns.{turned_at_rest, turns_now}
 use Rattle.rt_world.proofs.model.World.turn.Goals as goal
 
 -- the notes that the calls of a poll may make, said otherwise
 calls_fit : (cores cap its_cores its_cap : ℕ) → its_cores ≡ cores → its_cap ≡ cap → 3 * cores * cap ≡ its_cores * (3 * its_cap)
 calls_fit cores cap its_cores its_cap one two = rw (one, two) (ap (λ count. count * cap) (mul_comm 3 cores) ∙ mul_assoc cores 3 cap)
 
+-- the notes of a whole turn, besides those of its calls, fit into the room that is left for them
+turn_fits : (burst : ℕ) → 1 ≤ burst → turn_notes burst ≤ 2 * burst + 2
+turn_fits burst some = by_form (has_bursts burst)
+  where
+    by_form : (form : Bool) → 1 + 2 * max burst 1 + number_if form ≤ 2 * burst + 2
+    by_form true = omega arith
+    by_form false = omega arith
+
 pub turn_of-requires : goal.turn_of-requires
 turn_of-requires g c =
     let there : c.args.core < c.self.inside.cores = omega (arith, c.requires.core, ap (λ world. world.cores) c.self.view_is) in
     let world = c.self.invariant.1 in
     let view = viewed world c.args.core there _ c.core.view_is c.index_mut.ensures.value in
-    let places = free world c.args.core there c.self.view_is view (3 * c.args.self.now.cores * c.args.self.now.cap + 4) c.requires.room in
+    let places = free world c.args.core there c.self.view_is view (3 * c.args.self.now.cores * c.args.self.now.cap + 2 * c.args.self.now.burst + 2) c.requires.room in
     let cores = ap (λ at. at.core.cores) view ∙ cores_are world c.args.core there in
     let fit = calls_fit c.args.self.now.cores c.args.self.now.cap c.index_mut.result.now.core.cores c.index_mut.result.now.cap (cores ∙ ap (λ world. world.cores) c.self.view_is)
     (ap (λ at. at.cap) view ∙ (core_cap world c.args.core there ∙ ap (λ world. world.cap) c.self.view_is)) in
+    let burst : c.index_mut.result.now.core.bursts.burst ≡ c.args.self.now.burst = ap (λ at. at.core.bursts.burst) view ∙ (burst_is world c.args.core there ∙ ap (λ world. world.burst) c.self.view_is) in
+    let few : turn_notes c.index_mut.result.now.core.bursts.burst ≤ 2 * c.args.self.now.burst + 2 = rw burst (turn_fits c.args.self.now.burst (omega (arith, c.self.invariant.0.some_burst, ap (λ world. world.burst) c.self.view_is))) in
     rw view (record {
       number = omega (arith, cores_are world c.args.core there, there);
-      free = c.self.invariant.3 c.args.core there;
-      room = rw (← view) (omega (arith, places, fit));
+      free = (c.self.invariant.3 c.args.core there).nobody_out;
+      no_turn = (c.self.invariant.3 c.args.core there).no_turn;
+      room = rw (← view) (omega (arith, places, fit, few));
       sound = world.recorded c.args.core there;
       outs = all_outs world c.args.core there;
       beside = all_beside world c.args.core there;
@@ -31,12 +46,13 @@ pub invariant_of-self : goal.invariant_of-self
 invariant_of-self g c =
     let there : c.args.core < c.self.inside.cores = omega (arith, c.requires.core, ap (λ world. world.cores) c.self.view_is) in
     let view = viewed c.self.invariant.1 c.args.core there _ c.core.view_is c.index_mut.ensures.value in
-    let turned = turns_now c.self.invariant.1 c.args.core there c.args.spent c.turn_of.new.core _ c.turn_of.result (rw view at c.turn_of.ensures) in
-    rw c.core.view_is (c.self.invariant.0, turned.holds, c.self.invariant.2, turned.at_rest c.self.invariant.3)
+    let turned = turns_now c.self.invariant.1 c.args.core there c.args.spent c.turn_of.new.core _ c.turn_of.result (rw view at c.turn_of.ensures.turns) in
+    rw c.core.view_is
+    (c.self.invariant.0, turned.holds, c.self.invariant.2, turned_at_rest c.self.invariant.1 c.args.core there c.args.spent c.turn_of.new.core c.turn_of.new.links c.self.invariant.3 turned.free c.turn_of.ensures.no_turn)
 
 pub returns : goal.returns
 returns g c =
     let there : c.args.core < c.self.inside.cores = omega (arith, c.requires.core, ap (λ world. world.cores) c.self.view_is) in
     let view = viewed c.self.invariant.1 c.args.core there _ c.core.view_is c.index_mut.ensures.value in
     rw (← c.self.view_is, c.core.view_is, c.reply_for.ensures)
-    (turns_now c.self.invariant.1 c.args.core there c.args.spent c.turn_of.new.core _ c.turn_of.result (rw view at c.turn_of.ensures)).does
+    (turns_now c.self.invariant.1 c.args.core there c.args.spent c.turn_of.new.core _ c.turn_of.result (rw view at c.turn_of.ensures.turns)).does

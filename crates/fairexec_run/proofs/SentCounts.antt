@@ -1,0 +1,285 @@
+-- A lawful journal has few submissions, where its links agree: a core was sent at most as many as it was delivered, and as many more as its link holds.
+use Rattle.std.proofs.Common.{◌≡◌, ◌≤◌, ◌<◌, ◌⊎◌, inl, inr, ℕ, zero, suc, ◌+◌, ◌*◌, Bool, true, false, cond, [], ◌∷◌, ◌++◌, length, refl, sym, ap, subst, ◌∙◌, arith, zero-add}
+use Rattle.std.specs.Prelude.{◌==◌, ◌||◌, ◌&&◌, not, nat_lt, Option, Some, None, count_by}
+use Rattle.std.proofs.lemmas.Bool.{eqb-true, eqb-false, eq-eqb, ltb-true, ltb-false, lt-ltb}
+use Rattle.std.proofs.lemmas.List.Sums.{sum_by-append}
+use Rattle.rt_ids.specs.declared.names.JobId.{JobId}
+use Rattle.rt_ids.specs.declared.note.Note.{Note}
+use Rattle.rt_ids.specs.declared.note.Note.TheVariants.{Sent, Took, Back, Answered, Done, Returned, Collected, Redeemed}
+use Rattle.rt_ids.specs.declared.note.OutcomeNote.{OutcomeNote}
+use Rattle.rt_ids.specs.Assembly.{Assembly, first_under, journal_of}
+use Rattle.rt_ids.specs.Filters.{Outcomes, accepted_orders, delivered_names, name_delivered, given_outcomes, outcome_given, collected_outcomes, outcome_collected, name_ended}
+use Rattle.rt_ids.specs.Joining.{AreJoined}
+use Rattle.rt_ids.specs.Journal.{Journal, EachNote, with_last, is_told}
+use Rattle.rt_ids.specs.Lawful.{MayStand, MayFollow}
+use Rattle.rt_ids.specs.Names.{same_name}
+use Rattle.rt_ids.specs.Outstanding.{name_collected, name_redeemed, is_outstanding, outstanding_count}
+use Rattle.rt_ids.specs.Terms.{Terms, terms_of}
+use Rattle.rt_ids.specs.Work.{number_if}
+use Rattle.rt_ids.proofs.Known.{IsOld, known_of, next_old}
+use Rattle.rt_ids.proofs.NameLemmas.{one_name, same_as_itself}
+use Rattle.rt_ids.proofs.Told.{grows, length-with_last_if}
+use Rattle.fairexec_run.specs.Counts.{name_sent, sent_count, delivered_count}
+use Rattle.fairexec_run.proofs.Growing.{lt_or_le}
+
+-- an outcome under a number up to this one, if there is an outcome
+abbrev IsUpTo : ℕ → Option (JobId × OutcomeNote ℕ) → Type 0
+IsUpTo most None = Unit {0}
+IsUpTo most (Some entry) = entry.0.number ≤ most
+
+-- each of these is
+abbrev AreUpTo : ℕ → Outcomes ℕ → Type 0
+AreUpTo most [] = Unit {0}
+AreUpTo most (entry ∷ entries) = (entry.0.number ≤ most) × AreUpTo most entries
+
+up_to_more : (most more : ℕ) (entries : Outcomes ℕ) → most ≤ more → AreUpTo most entries → AreUpTo more entries
+up_to_more most more [] within all = tt
+up_to_more most more (entry ∷ entries) within all = let one = all.0 in (omega arith, up_to_more most more entries within all.1)
+
+up_to_front : (most : ℕ) (front rest : Outcomes ℕ) → AreUpTo most (front ++ rest) → AreUpTo most front
+up_to_front most [] rest all = tt
+up_to_front most (entry ∷ front) rest all = (all.0, up_to_front most front rest all.1)
+
+up_to_append : (most : ℕ) (front : Outcomes ℕ) (last : JobId × OutcomeNote ℕ) → AreUpTo most front → last.0.number ≤ most → AreUpTo most (front ++ last ∷ [])
+up_to_append most [] last all one = (one, tt)
+up_to_append most (entry ∷ front) last all one = (all.0, up_to_append most front last all.1 one)
+
+up_to_last : (most : ℕ) (entries : Outcomes ℕ) (more : Option (JobId × OutcomeNote ℕ)) → AreUpTo most entries → IsUpTo most more → AreUpTo most (with_last entries more)
+up_to_last most entries None all one = all
+up_to_last most entries (Some entry) all one = up_to_append most entries entry all one
+
+last_up_to : (most : ℕ) (front : Outcomes ℕ) (last : JobId × OutcomeNote ℕ) → AreUpTo most (front ++ last ∷ []) → last.0.number ≤ most
+last_up_to most [] last all = all.0
+last_up_to most (entry ∷ front) last all = last_up_to most front last all.1
+
+up_to_parts : (most : ℕ) (entries : Outcomes ℕ) (more : Option (JobId × OutcomeNote ℕ)) → AreUpTo most (with_last entries more) → AreUpTo most entries × IsUpTo most more
+up_to_parts most entries None all = (all, tt)
+up_to_parts most entries (Some entry) all = (up_to_front most entries (entry ∷ []) all, last_up_to most entries entry all)
+
+-- what stands under a name among them
+first_up_to : (most : ℕ) (name : JobId) (entries : Outcomes ℕ) (outcome : OutcomeNote ℕ) → AreUpTo most entries → first_under name entries ≡ Some outcome → name.number ≤ most
+first_up_to most name [] outcome all found = cc
+first_up_to most name (entry ∷ entries) outcome all found = by_test (same_name name entry.0) refl found (first_up_to most name entries outcome all.1)
+  where
+    by_test : (test : Bool) → same_name name entry.0 ≡ test → cond test (Some entry.1) (first_under name entries) ≡ Some outcome → (first_under name entries ≡ Some outcome → name.number ≤ most) → name.number ≤ most
+    by_test true same found rest = subst (λ one. one.number ≤ most) (sym (one_name name entry.0 same)) all.0
+    by_test false apart found rest = rest found
+
+-- an outcome that is collected has such a name
+told_up_to : (most : ℕ) (name : JobId) (journal : Journal ℕ) → AreUpTo most (collected_outcomes name.to journal) → is_told name_collected name journal ≡ true → name.number ≤ most
+told_up_to most name [] all told = cc
+told_up_to most name (note ∷ before) all told =
+    by_note note (up_to_parts most (collected_outcomes name.to before) (outcome_collected name.to note) all) told (told_up_to most name before)
+  where
+    by_note : (note : Note ℕ) → AreUpTo most (collected_outcomes name.to before) × IsUpTo most (outcome_collected name.to note) → is_told name_collected name (note ∷ before) ≡ true →
+        (AreUpTo most (collected_outcomes name.to before) → is_told name_collected name before ≡ true → name.number ≤ most) → name.number ≤ most
+    by_note (Collected other outcome) parts told rest = by_test (same_name name other) refl told
+      where
+        by_test : (test : Bool) → same_name name other ≡ test → (test || is_told name_collected name before) ≡ true → name.number ≤ most
+        by_test true same told =
+            let one = one_name name other same in
+            let here : (other.to == name.to) ≡ true = eq-eqb other.to name.to (ap (λ n. n.to) (sym one)) in
+            subst (λ n. n.number ≤ most) (sym one) (subst (λ test. IsUpTo most (cond test (Some (other, outcome)) None)) here parts.1)
+        by_test false apart told = rest parts.0 told
+    by_note _ parts told rest = rest parts.0 told
+
+-- and so has one that is redeemed
+redeemed_up_to : (terms : Terms) (most : ℕ) (name : JobId) (journal : Journal ℕ) → EachNote (MayStand terms) journal → AreUpTo most (collected_outcomes name.to journal) →
+    is_told name_redeemed name journal ≡ true → name.number ≤ most
+redeemed_up_to terms most name [] notes all told = cc
+redeemed_up_to terms most name (note ∷ before) notes all told =
+    by_note note (notes.0).may_follow (up_to_parts most (collected_outcomes name.to before) (outcome_collected name.to note) all).0 told (redeemed_up_to terms most name before notes.1)
+  where
+    by_note : (note : Note ℕ) → MayFollow terms note before → AreUpTo most (collected_outcomes name.to before) → is_told name_redeemed name (note ∷ before) ≡ true →
+        (AreUpTo most (collected_outcomes name.to before) → is_told name_redeemed name before ≡ true → name.number ≤ most) → name.number ≤ most
+    by_note (Redeemed other outcome) law all told rest = by_test (same_name name other) refl told
+      where
+        by_test : (test : Bool) → same_name name other ≡ test → (test || is_told name_redeemed name before) ≡ true → name.number ≤ most
+        by_test true same told =
+            let one = one_name name other same in
+            let found : first_under name (collected_outcomes name.to before) ≡ Some outcome = subst (λ n. first_under n (collected_outcomes n.to before) ≡ Some outcome) (sym one) law.collected in
+            first_up_to most name (collected_outcomes name.to before) outcome all found
+        by_test false apart told = rest all told
+    by_note _ law all told rest = rest all told
+
+-- so a submission under a greater number is outstanding
+outstanding_past : (terms : Terms) (most : ℕ) (name : JobId) (journal : Journal ℕ) → EachNote (MayStand terms) journal → AreUpTo most (collected_outcomes name.to journal) → most < name.number →
+    is_outstanding name journal ≡ true
+outstanding_past terms most name journal notes all past =
+    by_tests (is_told name_redeemed name journal) _ (is_told name_collected name journal)
+    (λ told. let late = redeemed_up_to terms most name journal notes all told in omega arith)
+    (λ told. let late = told_up_to most name journal all told in omega arith)
+  where
+    by_tests : (redeemed detached collected : Bool) → (redeemed ≡ true → ⊥) → (collected ≡ true → ⊥) → not (redeemed || detached && collected) ≡ true
+    by_tests true detached collected not_redeemed not_collected = absurd (not_redeemed refl)
+    by_tests false true true not_redeemed not_collected = absurd (not_collected refl)
+    by_tests false true false not_redeemed not_collected = refl
+    by_tests false false collected not_redeemed not_collected = refl
+
+-- what a core gave is under the names that it was delivered
+given_up_to : (terms : Terms) (actor : ℕ) (journal : Journal ℕ) → EachNote (MayStand terms) journal → AreUpTo (length (delivered_names actor journal)) (given_outcomes actor journal)
+given_up_to terms actor [] notes = tt
+given_up_to terms actor (note ∷ before) notes =
+    up_to_last _ (given_outcomes actor before) (outcome_given actor note)
+    (up_to_more _ _ (given_outcomes actor before) (grows (delivered_names actor before) (name_delivered actor note)) (given_up_to terms actor before notes.1))
+    (by_note note notes)
+  where
+    as_given : (journal : Journal ℕ) (name : JobId) (what : OutcomeNote ℕ) → IsOld name journal → (test : Bool) → (name.from == actor) ≡ test → IsUpTo (length (delivered_names actor journal)) (cond test (Some (name, what)) None)
+    as_given journal name what old true here = subst (λ from. name.number ≤ length (delivered_names from journal)) (eqb-true name.from actor here) old
+    as_given journal name what old false apart = tt
+
+    ended_old : (note : Note ℕ) (name : JobId) → EachNote (MayStand terms) (note ∷ before) → name_ended note ≡ Some name → IsOld name (note ∷ before)
+    ended_old note name notes ends = (known_of terms (note ∷ before) notes).ended_old name (rw (ends, same_as_itself name) refl)
+
+    by_note : (note : Note ℕ) → EachNote (MayStand terms) (note ∷ before) → IsUpTo (length (delivered_names actor (note ∷ before))) (outcome_given actor note)
+    by_note (Done name time value) notes = as_given (Done name time value ∷ before) name _ (ended_old (Done name time value) name notes refl) (name.from == actor) refl
+    by_note (Back name reason) notes = as_given (Back name reason ∷ before) name _ (ended_old (Back name reason) name notes refl) (name.from == actor) refl
+    by_note (Returned name reason) notes = as_given (Returned name reason ∷ before) name _ (ended_old (Returned name reason) name notes refl) (name.from == actor) refl
+    by_note (Answered name answer) notes =
+        as_given (Answered name answer ∷ before) name _ (next_old terms name before (name_delivered {T = ℕ} name.from (Answered name answer)) ((notes.0).may_follow).0 refl) (name.from == actor) refl
+    by_note _ notes = tt
+
+-- of the orders that a core was sent, those under greater numbers have the property
+accepted_many : (terms : Terms) (core most : ℕ) (has : JobId → Bool) (journal : Journal ℕ) → EachNote (MayStand terms) journal → ((name : JobId) → name.to ≡ core → most < name.number → has name ≡ true) →
+    length (accepted_orders core journal) ≤ most + count_by (λ sent. has sent.0) (accepted_orders core journal)
+accepted_many terms core most has [] notes past = omega arith
+accepted_many terms core most has (note ∷ before) notes past = by_note note (notes.0).may_follow (accepted_many terms core most has before notes.1 past)
+  where
+    by_note : (note : Note ℕ) → MayFollow terms note before → length (accepted_orders core before) ≤ most + count_by (λ sent. has sent.0) (accepted_orders core before) →
+        length (accepted_orders core (note ∷ before)) ≤ most + count_by (λ sent. has sent.0) (accepted_orders core (note ∷ before))
+    by_note (Sent name order) law few = by_test (name.to == core) refl
+      where
+        one_more : (here : name.to ≡ core) → (most < name.number) ⊎ (name.number ≤ most) → (passes : Bool) → has name ≡ passes →
+            length (accepted_orders core before ++ (name, order) ∷ []) ≤ most + (count_by (λ sent. has sent.0) (accepted_orders core before) + cond passes 1 0)
+        one_more here (inl late) true is = let count = length-with_last_if (accepted_orders core before) (name, order) true in omega arith
+        one_more here (inl late) false is = let passes = past name here late in cc
+        one_more here (inr early) passes is =
+            let count = length-with_last_if (accepted_orders core before) (name, order) true in
+            let next : name.number ≡ length (accepted_orders core before) + 1 = subst (λ to. name.number ≡ length (accepted_orders to before) + 1) here law.next in
+            omega arith
+
+        by_test : (test : Bool) → (name.to == core) ≡ test →
+            length (with_last (accepted_orders core before) (cond test (Some (name, order)) None)) ≤ most + count_by (λ sent. has sent.0) (with_last (accepted_orders core before) (cond test (Some (name, order)) None))
+        by_test true is =
+            let more = one_more (eqb-true name.to core is) (lt_or_le most name.number) (has name) refl in
+            let both : count_by (λ sent. has sent.0) (accepted_orders core before ++ (name, order) ∷ []) ≡ count_by (λ sent. has sent.0) (accepted_orders core before) + cond (has name) 1 0 =
+            sum_by-append (λ sent. cond (has sent.0) 1 0) (accepted_orders core before) ((name, order) ∷ []) ∙ ap (λ n. count_by (λ sent. has sent.0) (accepted_orders core before) + n) (zero-add (cond (has name) 1 0)) in
+            omega arith
+        by_test false is = few
+    by_note _ law few = few
+
+-- a core was sent as many as its outcomes tell, and as many more as its link holds
+sent_few : (terms : Terms) (core most : ℕ) (journal : Journal ℕ) → EachNote (MayStand terms) journal → AreUpTo most (collected_outcomes core journal) → length (accepted_orders core journal) ≤ most + terms.cap
+sent_few terms core most [] notes all = omega arith
+sent_few terms core most (note ∷ before) notes all =
+    by_note note (notes.0).may_follow (up_to_parts most (collected_outcomes core before) (outcome_collected core note) all).0 (sent_few terms core most before notes.1)
+  where
+    by_note : (note : Note ℕ) → MayFollow terms note before → AreUpTo most (collected_outcomes core before) → (AreUpTo most (collected_outcomes core before) → length (accepted_orders core before) ≤ most + terms.cap) →
+        length (accepted_orders core (note ∷ before)) ≤ most + terms.cap
+    by_note (Sent name order) law all rest = by_test (name.to == core) refl
+      where
+        by_test : (test : Bool) → (name.to == core) ≡ test → length (with_last (accepted_orders core before) (cond test (Some (name, order)) None)) ≤ most + terms.cap
+        by_test true is =
+            let credit : outstanding_count core before < terms.cap = subst (λ to. outstanding_count to before < terms.cap) (eqb-true name.to core is) law.credit in
+            let many = accepted_many terms core most (λ other. is_outstanding other before) before notes.1
+            (λ other here past. outstanding_past terms most other before notes.1 (subst (λ to. AreUpTo most (collected_outcomes to before)) (sym here) all) past) in
+            let count = length-with_last_if (accepted_orders core before) (name, order) true in
+            omega arith
+        by_test false is = rest all
+    by_note _ law all rest = rest all
+
+-- by what the core was delivered
+sent_to : (assembly : Assembly ℕ) → AreJoined assembly → (sender core : ℕ) → sender ≤ assembly.cores → core < assembly.cores →
+    length (accepted_orders core (journal_of sender assembly)) ≤ length (delivered_names sender (journal_of core assembly)) + assembly.cap
+sent_to assembly joined sender core there here =
+    let within : core ≤ assembly.cores = omega arith in
+    let front = joined.links.collections sender core there here in
+    let given = given_up_to (terms_of core assembly) sender (journal_of core assembly) (joined.lawful core within).notes in
+    sent_few (terms_of sender assembly) core _ (journal_of sender assembly) (joined.lawful sender there).notes
+    (up_to_front _ (collected_outcomes core (journal_of sender assembly)) front.0 (subst (AreUpTo (length (delivered_names sender (journal_of core assembly)))) front.1 given))
+
+-- what was delivered of one sender is a part of what was delivered
+delivered_few : (sender : ℕ) (journal : Journal ℕ) → length (delivered_names sender journal) ≤ delivered_count journal
+delivered_few sender [] = omega arith
+delivered_few sender (note ∷ before) = by_note note (delivered_few sender before)
+  where
+    one_more : (name : JobId) (test : Bool) → length (delivered_names sender before) ≤ delivered_count before → length (with_last (delivered_names sender before) (cond test (Some name) None)) ≤ 1 + delivered_count before
+    one_more name true few = let count = length-with_last_if (delivered_names sender before) name true in omega arith
+    one_more name false few = omega arith
+
+    by_note : (note : Note ℕ) → length (delivered_names sender before) ≤ delivered_count before → length (delivered_names sender (note ∷ before)) ≤ delivered_count (note ∷ before)
+    by_note (Took name queue) few = one_more name (name.from == sender) few
+    by_note (Back name reason) few = one_more name (name.from == sender) few
+    by_note (Answered name answer) few = one_more name (name.from == sender) few
+    by_note _ few = omega arith
+
+-- one for a submission to one of the first cores
+abbrev below : ℕ → Option JobId → ℕ
+below core None = 0
+below core (Some name) = number_if (nat_lt name.to core)
+
+-- how many submissions to the first cores the notes tell
+abbrev sent_below : ℕ → Journal ℕ → ℕ
+sent_below core [] = 0
+sent_below core (note ∷ before) = below core (name_sent note) + sent_below core before
+
+none_below : (journal : Journal ℕ) → sent_below 0 journal ≤ 0
+none_below [] = omega arith
+none_below (note ∷ before) = let one = by_name (name_sent note) in let rest = none_below before in omega arith
+  where
+    by_test : (to : ℕ) (test : Bool) → nat_lt to 0 ≡ test → number_if test ≤ 0
+    by_test to true is = absurd (let low = ltb-true to 0 is in omega arith)
+    by_test to false is = omega arith
+
+    by_name : (name : Option JobId) → below 0 name ≤ 0
+    by_name None = omega arith
+    by_name (Some name) = by_test name.to (nat_lt name.to 0) refl
+
+-- one core more
+next_below : (core : ℕ) (journal : Journal ℕ) → sent_below (suc core) journal ≤ sent_below core journal + length (accepted_orders core journal)
+next_below core [] = omega arith
+next_below core (note ∷ before) = by_note note (next_below core before)
+  where
+    by_tests : (to : ℕ) (next first here : Bool) → nat_lt to (suc core) ≡ next → nat_lt to core ≡ first → (to == core) ≡ here → number_if next ≤ number_if first + number_if here
+    by_tests to false first here next_is first_is here_is = omega arith
+    by_tests to true true here next_is first_is here_is = omega arith
+    by_tests to true false true next_is first_is here_is = omega arith
+    by_tests to true false false next_is first_is here_is =
+        absurd (eqb-false to core here_is (let low = ltb-true to (suc core) next_is in let high = ltb-false to core first_is in omega arith))
+
+    by_note : (note : Note ℕ) → sent_below (suc core) before ≤ sent_below core before + length (accepted_orders core before) → sent_below (suc core) (note ∷ before) ≤ sent_below core (note ∷ before) + length (accepted_orders core (note ∷ before))
+    by_note (Sent name order) few =
+        let one = by_tests name.to (nat_lt name.to (suc core)) (nat_lt name.to core) (name.to == core) refl refl refl in
+        let count = length-with_last_if (accepted_orders core before) (name, order) (name.to == core) in
+        omega arith
+    by_note _ few = omega arith
+
+few_below : (most count : ℕ) (journal : Journal ℕ) → most ≤ 5119 → ((core : ℕ) → core < count → length (accepted_orders core journal) ≤ most) → sent_below count journal ≤ 5119 * count
+few_below most zero journal within each = let none = none_below journal in omega arith
+few_below most (suc count) journal within each =
+    let rest = few_below most count journal within (λ core low. each core (omega arith)) in
+    let next = next_below count journal in
+    let last = each count (omega arith) in
+    omega arith
+
+-- each submission is to one of the cores
+all_below : (terms : Terms) (journal : Journal ℕ) → EachNote (MayStand terms) journal → sent_count journal ≤ sent_below terms.cores journal
+all_below terms [] notes = omega arith
+all_below terms (note ∷ before) notes = by_note note (notes.0).may_follow (all_below terms before notes.1)
+  where
+    by_note : (note : Note ℕ) → MayFollow terms note before → sent_count before ≤ sent_below terms.cores before → sent_count (note ∷ before) ≤ sent_below terms.cores (note ∷ before)
+    by_note (Sent name order) law few = let low : nat_lt name.to terms.cores ≡ true = lt-ltb name.to terms.cores law.receiver in rw low (omega arith)
+    by_note _ law few = omega arith
+
+-- an actor of a system within its limits, whose cores were delivered few orders, has few submissions
+pub sent_within : (assembly : Assembly ℕ) → AreJoined assembly → (sender : ℕ) → sender ≤ assembly.cores → assembly.cores ≤ 16 → assembly.cap ≤ 1024 →
+    ((core : ℕ) → delivered_count (journal_of core assembly) ≤ 4095) → sent_count (journal_of sender assembly) ≤ 81904
+sent_within assembly joined sender there cores cap each =
+    let all = all_below (terms_of sender assembly) (journal_of sender assembly) (joined.lawful sender there).notes in
+    let few = few_below 5119 assembly.cores (journal_of sender assembly) (omega arith)
+    (λ core low.
+    let sent = sent_to assembly joined sender core there low in
+    let some = delivered_few sender (journal_of core assembly) in
+    let delivered = each core in
+    omega arith) in
+    omega arith

@@ -1,0 +1,22 @@
+-- Further polls were made, one after another, and the turn is open with room for what is left of it.
+use Rattle.std.proofs.Common.{◌-◌, List}
+use Rattle.std.specs.Prelude.{IsSome}
+use Rattle.rt_ids.specs.declared.names.JobId.{JobId}
+use Rattle.rt_ids.specs.Bursts.{polls_in_turn, queue_in_turn}
+use Rattle.rt_runtime_worker.specs.Bursts.{PollsOn, turn_view}
+use Rattle.rt_runtime_worker.specs.Linked.{IsLinked, StaysLinked}
+use Rattle.rt_runtime_worker.specs.Rooms.{HasRestRoom}
+use Rattle.rt_runtime_worker.proofs.bursts.poll_on.Given as goal
+
+abbrev pub invariant-loop-next : goal.invariant-loop-next
+invariant-loop-next g l = record {
+  polls : (polls : List JobId) × PollsOn g.J.Task.meaning g.M.Meter.Tells g.G.Gate.Asked polls (turn_view (record { recorded = l.fn.recorded; ends = l.fn.ends }) l.fn.meter l.fn.gate)
+      (turn_view (record { recorded = l.recorded; ends = l.ends }) l.meter l.gate);
+  linked : IsLinked g.J.Task.meaning (record { recorded = l.recorded; ends = l.ends });
+  is_open : IsSome (queue_in_turn l.recorded.core.bursts.burst l.recorded.journal.notes);
+  room : HasRestRoom l.recorded;
+  stays : StaysLinked (record { recorded = l.fn.recorded; ends = l.fn.ends }) (record { recorded = l.recorded; ends = l.ends });
+}
+
+abbrev pub decreases-loop-next : goal.decreases-loop-next
+decreases-loop-next g l = l.recorded.core.bursts.burst - polls_in_turn l.recorded.journal.notes
