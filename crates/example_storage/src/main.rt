@@ -1,15 +1,16 @@
 //! A storage node on two cores: reads in the foreground, compaction in the background.
 //!
 //! A new program copies this one: its kinds of work as one type (work.rt), a runtime with shares, submissions, their outcomes, and
-//! the journals at the end. It prints what became of the work and whether the journals are sound. The statistics go to standard
-//! error, since times differ from run to run.
+//! the journals at the end. Whatever comes of the work, the cores are closed and the journals put together. It prints what became of the
+//! work and whether the journals are sound. The statistics go to standard error, since times differ from run to run, and so does why an
+//! order was refused, and which core closed by itself.
 #![tactic(auto)]
 
 use fairexec_report::put_stats;
 use rt_audit::{Verdict, audit};
-use rt_ids::{ActorNo, CoreNo, Mode, Order, Outcome, QueueNo};
-use rt_journal::Assembly;
-use rt_runtime::{Config, NoGate, Runtime, SystemClock};
+use rt_ids::{ActorNo, CoreNo, Mode, Note, Order, Outcome, QueueNo, Ticket};
+use rt_journal::{Assembly, Journal};
+use rt_runtime::{Config, NoGate, Runtime, SubmitError, SystemClock};
 use rt_shares::Shares;
 use std::alloc::{AllocError, Global};
 use std::process::ExitCode;
@@ -66,23 +67,44 @@ where
     Node::start(rt, alloc, config, clocks, gates).ok()
 }
 
+/// The ticket of an order that was submitted. Standard error tells why it was refused, if it was: its core has closed, or the journal of the
+/// caller is full.
+fn accepted<R: Eprint>(
+    rt: &R,
+    core: CoreNo,
+    answer: Result<Ticket, SubmitError<Work>>,
+) -> Option<Ticket> {
+    match answer {
+        Ok(ticket) => Some(ticket),
+        Err(error) => {
+            let core = core.0;
+            let _ = eprintln!(rt; "an order for core {core} was refused: {error}");
+            None
+        }
+    }
+}
+
 /// Submits a compaction of so many blocks, and nobody waits for it.
-fn compact<R: Drop>(node: &mut Node<R>, core: CoreNo, blocks: u32) -> bool {
+fn compact<R: Eprint + Drop>(rt: &R, node: &mut Node<R>, core: CoreNo, blocks: u32) -> bool {
     let job = Work::Compact {
         blocks,
         left: blocks,
     };
-    match node.submit(core, Order::Job(COMPACTION, job)) {
-        Ok(ticket) => node.detach(ticket).is_ok(),
-        Err(_) => false,
+    match accepted(rt, core, node.submit(core, Order::Job(COMPACTION, job))) {
+        Some(ticket) => node.detach(ticket).is_ok(),
+        None => false,
     }
 }
 
-/// Reads the value of a key.
-fn read<R: Wait + Drop>(rt: &R, node: &mut Node<R>, core: CoreNo, key: u32) -> Option<u64> {
-    let Ok(ticket) = node.submit(core, Order::Job(READS, Work::Read { key })) else {
-        return None;
-    };
+/// Reads the value of a key. None if the read was refused or handed back.
+fn read<R: Wait + Eprint + Drop>(
+    rt: &R,
+    node: &mut Node<R>,
+    core: CoreNo,
+    key: u32,
+) -> Option<u64> {
+    let order = Order::Job(READS, Work::Read { key });
+    let ticket = accepted(rt, core, node.submit(core, order))?;
     match node.wait(rt, ticket) {
         Ok(Outcome::Finished(value)) => Some(value),
         _ => None,
@@ -91,19 +113,17 @@ fn read<R: Wait + Drop>(rt: &R, node: &mut Node<R>, core: CoreNo, key: u32) -> O
 
 /// Commits a key: core 0 writes it, and its job parks until core 1 has answered. Whoever hears that answer wakes the job, so it is polled
 /// twice and never in vain. A wake that comes before the park is kept.
-fn commit<R: Wait + Drop>(rt: &R, node: &mut Node<R>, key: u32) -> Option<u64> {
+fn commit<R: Wait + Eprint + Drop>(rt: &R, node: &mut Node<R>, key: u32) -> Option<u64> {
     let job = Work::Commit {
         key,
         is_written: false,
     };
-    let Ok(ticket) = node.submit(CoreNo(0), Order::Job(READS, job)) else {
-        return None;
-    };
+    let order = Order::Job(READS, job);
+    let ticket = accepted(rt, CoreNo(0), node.submit(CoreNo(0), order))?;
     let name = ticket.name();
     let _value = read(rt, node, CoreNo(1), key)?;
-    let Ok(woken) = node.submit(CoreNo(0), Order::Wake(name.from, name.number)) else {
-        return None;
-    };
+    let wake = Order::Wake(name.from, name.number);
+    let woken = accepted(rt, CoreNo(0), node.submit(CoreNo(0), wake))?;
     if node.detach(woken).is_err() {
         return None;
     }
@@ -114,10 +134,10 @@ fn commit<R: Wait + Drop>(rt: &R, node: &mut Node<R>, key: u32) -> Option<u64> {
 }
 
 /// Does the work of the day: a compaction on each core, and reads beside it. The sum of what was read.
-fn serve<R: Wait + Drop>(rt: &R, node: &mut Node<R>) -> Option<u64> {
+fn serve<R: Wait + Eprint + Drop>(rt: &R, node: &mut Node<R>) -> Option<u64> {
     let mut sum: u64 = 0;
     for core in 0..CORES {
-        if !compact(node, CoreNo(core), 1000) {
+        if !compact(rt, node, CoreNo(core), 1000) {
             return None;
         }
     }
@@ -128,18 +148,52 @@ fn serve<R: Wait + Drop>(rt: &R, node: &mut Node<R>) -> Option<u64> {
     Some(sum)
 }
 
-/// Closes the cores, which finish their work, and puts the journals together. None where a core was left open.
-fn finish<R: Threads + Wait + Drop>(rt: &R, node: Node<R>) -> Option<Assembly>
+/// The work of the day and a commit. What was read, and the key that was committed. None where an order was refused or handed back.
+fn do_work<R: Wait + Eprint + Drop>(rt: &R, node: &mut Node<R>) -> Option<(u64, u64)> {
+    let sum = serve(rt, node)?;
+    let key = commit(rt, node, 7)?;
+    Some((sum, key))
+}
+
+/// Closes the cores, waits until they have ended, and puts the journals together. A core that has closed by itself refuses the order, and
+/// counts as closed, too.
+fn finish<R>(rt: &R, node: Node<R>, mode: Mode) -> Option<Assembly>
 where
-    R: Clock,
+    R: Threads + Wait + Clock + Eprint + Drop,
 {
     let mut node = node;
     for core in 0..CORES {
-        if node.close_core(CoreNo(core), Mode::Finish).is_err() {
-            return None;
+        let core = CoreNo(core);
+        let _ticket = accepted(rt, core, node.close_core(core, mode));
+    }
+    match node.finish(rt) {
+        Ok(assembly) => Some(assembly),
+        Err(error) => {
+            let _ = eprintln!(rt; "{error}");
+            None
         }
     }
-    node.finish(rt).ok()
+}
+
+/// Whether a core closed by itself, as it does if its journal is short. An order that closes it is answered just before.
+fn closed_by_itself(journal: &Journal<u64>) -> bool {
+    let mut is_ordered = false;
+    for note in journal.as_slice() {
+        if matches!(note, Note::CoreClosed(_)) && !is_ordered {
+            return true;
+        }
+        is_ordered = matches!(note, Note::Answered(_, _));
+    }
+    false
+}
+
+/// Tells which cores had a short journal.
+fn tell_short<R: Eprint>(rt: &R, assembly: &Assembly) {
+    for core in 0..assembly.cores() {
+        if closed_by_itself(assembly.journal(ActorNo(core))) {
+            let _ = eprintln!(rt; "core {core} closed by itself, since its journal was short");
+        }
+    }
 }
 
 /// The statistics of each core and its queues, as text.
@@ -159,23 +213,38 @@ fn statistics(alloc: Global, assembly: &Assembly) -> Result<String, AllocError> 
     Ok(page)
 }
 
-/// Serves, finishes, and tells. Whether all went well and the journals are sound.
+/// Tells what became of the work.
+fn tell_work<R: Print>(rt: &R, done: Option<(u64, u64)>) -> Option<()> {
+    if let Some((sum, key)) = done {
+        println!(rt; "read {sum}").ok()?;
+        println!(rt; "committed {key}").ok()?;
+    }
+    Some(())
+}
+
+/// Works, finishes, and tells. Whether all went well and the journals are sound.
+///
+/// Work that was broken off may have left a job parked, for which a core in mode `Finish` would wait. Mode `Return` hands it back.
 fn run<R>(rt: &R) -> Option<bool>
 where
     R: Threads + Wait + Clock + Copy + Drop + Send + Print + Eprint + AllocGlobal + 'static,
 {
     let alloc = rt.alloc();
     let mut node = start(*rt, alloc)?;
-    let sum = serve(rt, &mut node)?;
-    let key = commit(rt, &mut node, 7)?;
-    let assembly = finish(rt, node)?;
+    let done = do_work(rt, &mut node);
+    let mode = if done.is_some() {
+        Mode::Finish
+    } else {
+        Mode::Return
+    };
+    let assembly = finish(rt, node, mode)?;
+    tell_short(rt, &assembly);
     let page = statistics(alloc, &assembly).ok()?;
     eprint!(rt; "{page}").ok()?;
-    println!(rt; "read {sum}").ok()?;
-    println!(rt; "committed {key}").ok()?;
+    tell_work(rt, done)?;
     let sound = matches!(audit(alloc, &assembly), Ok(Verdict::Sound));
     println!(rt; "{}", if sound { "sound" } else { "not sound" }).ok()?;
-    Some(sound)
+    Some(sound && done.is_some())
 }
 
 fn main(rt: HostRuntime) -> ExitCode {

@@ -13,7 +13,7 @@ use Rattle.rt_ids.proofs.Prefixes.{IsPrefix-along}
 use Rattle.rt_link.proofs.Lists.{slice_get-seen}
 use Rattle.rt_ids.specs.Assembly.{IsPrefix}
 use Rattle.rt_journal_desk.specs.Submissions.{DeskView, Submits}
-use Rattle.rt_runtime.specs.Calls.{IsStarted, HasFinished}
+use Rattle.rt_runtime.specs.Calls.{IsStarted, HasFinished, MayActWhole, orders_told}
 use Rattle.rt_runtime.specs.Sends.{SendsTo, accepted}
 use Rattle.rt_runtime.specs.State.{RuntimeView, submitted, submitted_under}
 use Rattle.rt_runtime_config.specs.Configs.{Entry}
@@ -55,7 +55,7 @@ module _ (ended : View) (assembly : Assembly ℕ) (finishes : HasFinished script
       let counted : 0 < name.number = omega (arith, next) in
       submitted_told script_meaning ended assembly name told.1 from there counted
       (slice_get-seen (submitted name.to ended) (submitted name.to between) (all_before rest between ended others name.to) (name.number - 1) told.1 named)
-      finishes
+      (orders_told {J = Script} {meaning = script_meaning} {may = MayActWhole ended} {view = ended} {assembly = assembly} finishes)
 
   all_answered : (orders : List Told) (old : View) (offers : OffersAll orders old ended) → old.desk.actor ≡ ended.desk.cores → old.desk.cores ≡ ended.desk.cores → AreAnswered orders old ended offers assembly
   all_answered [] old offers actor cores = tt

@@ -1,5 +1,5 @@
 -- What orders that are sent one after another change.
-use Rattle.std.proofs.Common.{◌≡◌, ◌≢◌, ℕ, zero, suc, ◌+◌, ◌≤◌, ◌<◌, ◌++◌, ◌==◌, ◌||◌, eqb, cond, Bool, true, false, List, [], ◌∷◌, length, length-append, Some, None, Result, Ok, Err, refl, sym, ap, subst, ◌∙◌, arith, zero-add, get_or-set_same, get_or-set_other, length-set}
+use Rattle.std.proofs.Common.{◌≡◌, ◌≢◌, inl, inr, ℕ, zero, suc, ◌+◌, ◌≤◌, ◌<◌, ◌++◌, ◌==◌, ◌||◌, eqb, cond, Bool, true, false, List, [], ◌∷◌, length, length-append, Some, None, Result, Ok, Err, refl, sym, ap, subst, ◌∙◌, arith, zero-add, get_or-set_same, get_or-set_other, length-set}
 use Rattle.std.proofs.lemmas.Bool.Decides.{nat_tests}
 use Rattle.std.proofs.lemmas.List.{length-replicate}
 use Rattle.std.proofs.lemmas.List.Sums.{sum_by-cons, sum_by-append}
@@ -22,7 +22,7 @@ use Rattle.fairexec_threads.specs.Rooms.{room_of}
 use Rattle.rt_jobs.specs.Scripts.{Script}
 use Rattle.rt_runtime.specs.declared.error.SubmitError.{SubmitError}
 use Rattle.rt_runtime.specs.declared.error.SubmitError.TheVariants.{JournalFull, Send}
-use Rattle.rt_runtime.specs.Sends.{SendsTo, SubmitsTo, tells_closing}
+use Rattle.rt_runtime.specs.Sends.{MakesRoom, Sends, SendsTo, SubmitsTo, tells_closing}
 use Rattle.rt_runtime.specs.State.{RuntimeView, closing_at}
 use Rattle.fairexec_threads_script.specs.Drafts.{Told, orders_to}
 use Rattle.fairexec_threads.specs.Counting.{sent_to, IsOfScript, HasPlace, CanClose, AreClosedBelow}
@@ -43,10 +43,22 @@ of_error core order old (Spent back) new there place sends =
     absurd (omega (arith, spent, here, small))
 of_error core order old (NoCore back) new there place sends = absurd sends.submits
 
+-- there is room for the send, so nothing is passed on first
+none_passed : (each core : ℕ) (old mid : View) → each ≤ 3 → HasPlace core old → MakesRoom each old mid → mid ≡ old
+none_passed each core old mid some place (inl (room, same)) = same
+none_passed each core old mid some place (inr (full, passed)) = let room = has_room each core old some place in absurd (omega (arith, full, room))
+
+sends_at_once : (each core : ℕ) (order : Order Script) (old mid : View) (answer : Result JobId (SendError Script)) (new : View) → each ≤ 3 → core < old.desk.cores → HasPlace core old → MakesRoom each old mid → Sends core order mid answer new → SendsTo core order old answer new
+sends_at_once each core order old mid answer new some there place room sends =
+    let here : Sends core order old answer new = subst (λ (view : View). Sends core order view answer new) (none_passed each core old mid some place room) sends in
+    here.there there
+
 pub offered : (each core : ℕ) (order : Order Script) (old : View) (answer : Result JobId (SubmitError Script)) (new : View) → each ≤ 3 → core < old.desk.cores → HasPlace core old → SubmitsTo each core order old answer new → Offers (core, order) old new
-offered each core order old (Ok name) new some there place submits = record { there = there; answer = Ok name; taken = tt; sends = submits.1.there there }
+offered each core order old (Ok name) new some there place (mid, room, sends) =
+    record { there = there; answer = Ok name; taken = tt; sends = sends_at_once each core order old mid (Ok name) new some there place room sends }
 offered each core order old (Err (JournalFull back)) new some there place submits = let full = submits.0 in let room = has_room each core old some place in absurd (omega (arith, full, room))
-offered each core order old (Err (Send error)) new some there place submits = of_error core order old error new there place (submits.1.there there)
+offered each core order old (Err (Send error)) new some there place (mid, room, sends) =
+    of_error core order old error new there place (sends_at_once each core order old mid (Err error) new some there place room sends)
 
 -- one more at the end, if it is told
 last_length : {A : Type 0} (told : Bool) (xs : List A) (x : A) → length (with_last xs (cond told (Some x) None)) ≡ length xs + cond told 1 0
@@ -115,7 +127,7 @@ grows (told ∷ rest) old new (between, one, others) =
       cores = later.cores ∙ ap (λ (desk : DeskView Script ℕ). desk.cores) sends.stays.desk;
       cap = later.cap ∙ ap (λ (desk : DeskView Script ℕ). desk.cap) sends.stays.desk;
       burst = later.burst ∙ ap (λ (desk : DeskView Script ℕ). desk.burst) sends.stays.desk;
-      room = later.room ∙ ap (λ (desk : DeskView Script ℕ). desk.journal.room) sends.stays.desk;
+      room = later.room ∙ ap (λ (journal : JournalView ℕ). journal.room) sends.passes.journal;
       workers = later.workers ∙ sends.stays.workers;
       spare = later.spare ∙ sends.stays.room;
       closings = later.closings ∙ (ap length sends.closing ∙ length-set old.closing told.0 _);

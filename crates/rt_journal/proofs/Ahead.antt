@@ -5,11 +5,12 @@ use Rattle.rt_journal.proofs.Names.{no_work, work_of_line, Meaning, waiting_of, 
 use Rattle.rt_journal.proofs.Names.{Busy, CoreView, runtime_of, TakesOut, TellsAhead, some_front, IsJobOut}
 use Rattle.rt_journal.proofs.Names.{RecordedView, IsRecorded, terms_at, IsBack, ◌+◌, ◌<◌, ◌≤◌, ◌++◌, length, add-zero}
 use Rattle.rt_journal.proofs.Names.{◌==◌, Some, is_some, same_Some, most_turns, Pick, Job}
-use Rattle.rt_journal.proofs.Names.{Reason, Journal, is_told, pick_count, number_if, length-with_last_if, if_from}
+use Rattle.rt_journal.proofs.Names.{Reason, Journal, is_told, number_if, length-with_last_if, if_from}
 use Rattle.rt_journal.proofs.Names.{name_ended, given_outcomes, held_count, inside_count, HandsBack, polls_made}
 use Rattle.rt_journal.proofs.Names.{poll_note, HasTask, note_taken, sum_upto, given_count, IsPick, IsHandBack}
 use Rattle.rt_journal.proofs.Names.{owed_back, known_of, among, same_as_itself, without_job, option_map, QueuesView}
 use Rattle.rt_journal.proofs.Names.{Line, Marks, none-some, JobOut, CorePicks, names_of, Returned, Picks}
+use Rattle.rt_core.specs.declared.turn.Ahead.{Ahead}
 use Rattle.rt_core.specs.declared.turn.Ahead.TheVariants as ahead
 use Rattle.rt_core.specs.declared.turn.Turn.TheVariants.{Back}
 use Rattle.rt_core.specs.declared.turn.PickError.TheVariants.{Spent}
@@ -64,6 +65,12 @@ module _ {J T : Type 0} {meaning : Meaning J T} (view : RecordedView J T) (recor
   pub all_used : TellsAhead view.core (Err Spent) → (turns view.journal.notes ≡ 2 ^ 64 - 1) × ((queue : ℕ) × (has_work queue view.journal.notes ≡ true))
   all_used told = (sym recorded.kept.agrees.turns ∙ told.2, (told.3.0, works told.3.0 told.3.1))
 
+  -- where a job waits, a turn is left, if the core tells ahead what the next pick comes to
+  pub left_ahead : (told : Ahead) → TellsAhead view.core (Ok told) → (queue : ℕ) → (waiting_of queue view.core.queues ≡ [] → ⊥) → turns view.journal.notes < most_turns
+  left_ahead (ahead.Job next) is queue some = omega (arith, is.left, recorded.kept.agrees.turns)
+  left_ahead ahead.Back is queue some = omega (arith, is.4, recorded.kept.agrees.turns)
+  left_ahead ahead.Idle is queue some = absurd (some (is.2 queue))
+
   -- a turn that is open in the core is open in the journal
   pub open_told : (view.core.bursts.open ≡ None → ⊥) → IsSome (queue_in_turn view.core.bursts.burst view.journal.notes)
   open_told some = by_turn view.core.bursts.open refl recorded.kept.agrees.turn
@@ -72,13 +79,10 @@ module _ {J T : Type 0} {meaning : Meaning J T} (view : RecordedView J T) (recor
       by_turn None none is = absurd (some none)
       by_turn (Some turn) at is = subst IsSome (sym is.0) refl
 
-pick_at_most_one : {T : Type 0} (note : Note T) → pick_count note ≤ 1
-pick_at_most_one note = grind arith
-
--- each turn has its pick among the notes
-pub turns-within : {T : Type 0} (journal : Journal T) → turns journal ≤ length journal
-turns-within [] = omega arith
-turns-within (note ∷ before) = omega (arith, pick_at_most_one note, turns-within before)
+  -- an error that is told ahead is that of the pick
+  pub none_picked : (why : PickError) → TellsAhead view.core (Err why) → Picks meaning view (Err why) view
+  none_picked Busy told = (⊎_elim (λ out. inl out) (λ turn. inr (open_told turn)) told, refl)
+  none_picked Spent told = let used = all_used told in (used.0, used.1, refl)
 
 -- the notes of a poll that begins settle none
 no_polls : {T : Type 0} (which name : JobId) (queue runtime : ℕ) (was_started : Bool) (journal : Journal T) →
@@ -86,7 +90,7 @@ no_polls : {T : Type 0} (which name : JobId) (queue runtime : ℕ) (was_started 
 no_polls which name queue runtime was_started journal = grind arith
 
 module _ {J T : Type 0} {meaning : Meaning J T}
-    (old : RecordedView J T) (recorded : IsRecorded meaning old) (left : turns old.journal.notes < most_turns) where
+    (old : RecordedView J T) (recorded : IsRecorded meaning old) (left : (queue : ℕ) → (waiting_of queue old.core.queues ≡ [] → ⊥) → turns old.journal.notes < most_turns) where
   abbrev notes : Journal T
   notes = old.journal.notes
 
@@ -94,6 +98,9 @@ module _ {J T : Type 0} {meaning : Meaning J T}
   module _ (name : JobId) (queue : ℕ) (marks : Marks) (job : J) (queues : QueuesView J) (front : LeavesFront old.core name queue marks job queues) (next : IsNext old.core queue) where
     abbrev runtime : ℕ
     runtime = runtime_of queue old.core
+
+    left_now : turns notes < most_turns
+    left_now = left queue (some_front (waiting_of queue old.core.queues) (name, marks, job) front.others front.first)
 
     abbrev is : KnowsFront (terms_at old) old.core name queue marks job queues front.others notes
     is = knows_front (terms_at old) old.core name queue marks job queues notes recorded.kept front
@@ -115,7 +122,7 @@ module _ {J T : Type 0} {meaning : Meaning J T}
         let given = sum_upto-same (given_count (written ++ notes)) (given_count notes) old.core.cores (λ sender. ap length (quiet.given sender)) in
         let fewer : held_count queues + 1 + sum_upto (given_count (written ++ notes)) old.core.cores ≤ inside_count old.core + sum_upto (given_count notes) old.core.cores = omega (arith, one_less, given) in
         assumption (
-          kept-picked (terms_at old) old.core name queue marks job queues notes recorded.kept front next keeps left,
+          kept-picked (terms_at old) old.core name queue marks job queues notes recorded.kept front next keeps left_now,
           front.line.same_room,
           still_tasks old recorded name queue marks job queues front written unpolled its_view refl,
           λ (out : JobOut J) (at : Some (record { name = name; queue = queue; woken = marks.woken; job = job }) ≡ Some out). subst (λ out. HasTask meaning old.took (written ++ notes) out.queue out.name out.job) (same_Some _ out at) task,
@@ -124,7 +131,7 @@ module _ {J T : Type 0} {meaning : Meaning J T}
     pick_is : core_says.return_reason queue old.core ≡ None → IsPick old name queue marks.started job (stepped old its_view written)
     pick_is keeps = record {
       nobody_out = front.free;
-      turn_left = left;
+      turn_left = left_now;
       runtime = runtime;
       right = right_pick (terms_at old) old.core name queue marks job queues notes recorded.kept front next;
       others = names_of front.others;
@@ -149,7 +156,7 @@ module _ {J T : Type 0} {meaning : Meaning J T}
     handed : (reason : Reason) → core_says.return_reason queue old.core ≡ Some reason →
         IsQuietStep old (returned_view old.core queue queues) (back reason) meaning everyone (λ sender. if_from sender name (name, outcomes.Returned reason))
     handed reason returns = record {
-      kept = kept-returned (terms_at old) old.core name queue marks job queues notes recorded.kept front next reason returns left;
+      kept = kept-returned (terms_at old) old.core name queue marks job queues notes recorded.kept front next reason returns left_now;
       number = refl;
       cores = refl;
       burst = refl;
@@ -173,7 +180,7 @@ module _ {J T : Type 0} {meaning : Meaning J T}
         let task = its_task old recorded name queue marks job queues front (back reason) (unpolled_back reason) in
         record {
           nobody_out = front.free;
-          turn_left = left;
+          turn_left = left_now;
           queue = queue;
           runtime = runtime;
           right = right_pick (terms_at old) old.core name queue marks job queues notes recorded.kept front next;
@@ -213,5 +220,5 @@ module _ {J T : Type 0} {meaning : Meaning J T}
         (done_so does.2 (handed name queue does.0.marks job core.queues (given_back does.0) does.0.next reason does.1) (omega arith) (handed_is name queue does.0.marks job core.queues (given_back does.0) does.0.next reason does.1))
     picked_did (Ok (Back name reason _)) told does = absurd does
     picked_did (Ok Idle) told does = nothing_did recorded does.3 does.4 (idle old recorded does.0 does.2, refl)
-    picked_did (Err Busy) told does = nothing_did recorded does.1 does.2 (⊎_elim (λ out. inl out) (λ turn. inr (open_told old recorded turn)) does.0, refl)
-    picked_did (Err Spent) told does = nothing_did recorded does.4 does.5 (sym recorded.kept.agrees.turns ∙ does.2, (does.3.0, works old recorded does.3.0 does.3.1), refl)
+    picked_did (Err Busy) told does = nothing_did recorded does.1 does.2 (none_picked old recorded Busy does.0)
+    picked_did (Err Spent) told does = nothing_did recorded does.4 does.5 (none_picked old recorded Spent (does.0, does.1, does.2, does.3))

@@ -53,8 +53,8 @@ module _ {J T : Type 0} {meaning : Meaning J T}
       where
         by_start : (marked : Bool) (notes : List (Note T)) → CorePicks {T = T} core (Ok (goes_out name queue marked job)) mid notes →
             HasDone meaning (view_of core took said) mid everyone nobody 2 (λ old new. IsPick old name queue marked job new) notes
-        by_start false notes picks = picked_did (view_of core took said) invariant.0 left mid (Ok (Start name queue job)) notes picks
-        by_start true notes picks = picked_did (view_of core took said) invariant.0 left mid (Ok (Resume name queue job)) notes picks
+        by_start false notes picks = picked_did (view_of core took said) invariant.0 (λ queue some. left) mid (Ok (Start name queue job)) notes picks
+        by_start true notes picks = picked_did (view_of core took said) invariant.0 (λ queue some. left) mid (Ok (Resume name queue job)) notes picks
 
     -- a further job of the open turn, with its note
     pub did_follow : (job : J) (mid : CoreView J) → CoreFollows {T = T} core (Some (goes_out name queue started job)) mid (follow_notes name started) →
@@ -215,6 +215,7 @@ module _ {J T E : Type 0} {meaning : Meaning J T} (laws : IsMeaning meaning) (be
             other.cap ∙ (ap (λ desk. desk.cap) rest ∙ one.cap),
             other.burst ∙ one.burst,
             other.room ∙ (ap (λ desk. desk.journal.room) rest ∙ one.room),
+            other.passed ∙ (ap (λ desk. desk.journal.passed) rest ∙ one.passed),
           )
 
       in_turn : LeavesTurn core_now.bursts.burst queue polls new.journal.notes

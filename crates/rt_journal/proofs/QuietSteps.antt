@@ -108,7 +108,7 @@ module _ {J T : Type 0} {meaning : Meaning J T}
   }
 
   pub seat_step : IsSameSeat old new
-  seat_step = record { number = step.number; cores = step.cores; cap = refl; burst = step.burst; room = refl }
+  seat_step = record { number = step.number; cores = step.cores; cap = refl; burst = step.burst; room = refl; passed = refl }
 
   pub ins_step : (sender : ℕ) → keeps sender → LeavesOwed sender (gives sender) old new
   ins_step sender kept = keeps_in old new seat_step sender _ (step.quiet.given sender) (step.quiet.gates sender kept) (step.ungiven sender) (ap length (step.quiet.delivered sender)) (λ name order from at. at)

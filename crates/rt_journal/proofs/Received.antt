@@ -219,7 +219,7 @@ module _ {J T : Type 0} {meaning : Meaning J T} (laws : IsMeaning meaning)
     pub received_now : HasReceived meaning envelope told old new
     received_now = subst (HasReceived meaning envelope told old) (sym is) (record {
       sound = recorded_now laws old recorded envelope told core (reverse written) done next;
-      seat = record { number = done.number; cores = done.cores; cap = refl; burst = done.burst; room = refl };
+      seat = record { number = done.number; cores = done.cores; cap = refl; burst = done.burst; room = refl; passed = refl };
       receives = record { notes = reverse written; delivery = done.delivery; journal = refl; took = refl; out = done.out; lists = done.lists; delivered = done.delivered };
       gives = done.given;
       stands = here laws old recorded envelope told core (reverse written) done next;

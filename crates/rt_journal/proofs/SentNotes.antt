@@ -93,7 +93,7 @@ module _ {J T : Type 0} (old : RecordedView J T) (longer : Journal T) (lanes : L
 
     pub ins_silent : (sender : ℕ) → KeepsIn sender old new
     ins_silent sender =
-        keeps_in old new (record { number = refl; cores = refl; cap = refl; burst = refl; room = refl }) sender None (silent.given sender) (silent.gates sender) (λ inward is. tt) (ap length (silent.delivered sender)) (λ which order from at. at)
+        keeps_in old new (record { number = refl; cores = refl; cap = refl; burst = refl; room = refl; passed = refl }) sender None (silent.given sender) (silent.gates sender) (λ inward is. tt) (ap length (silent.delivered sender)) (λ which order from at. at)
 
 -- what each call of the desk writes
 module _ {J T : Type 0} (said now : DeskView J T) where

@@ -151,11 +151,11 @@ module _ {J T : Type 0} {meaning : Meaning J T} (view : RecordedView J T) (recor
   waits queue = waits_told queue ∙ sym (waiting_is_line (terms_at view) queue view.journal.notes recorded.kept.notes)
 
   -- there are fewer notes than jobs that a core counts as done
-  finished_fits : length view.journal.notes < 2 ^ 32 → (queue : ℕ) → finished_count queue view.journal.notes ≡ counted_up (finished_count queue view.journal.notes)
+  finished_fits : length view.journal.notes < 2 ^ 64 → (queue : ℕ) → finished_count queue view.journal.notes ≡ counted_up (finished_count queue view.journal.notes)
   finished_fits few queue = omega (arith, finished-within queue view.journal.notes, few)
 
   -- all numbers of a queue
-  sums_of : length view.journal.notes < 2 ^ 32 → (queue : ℕ) → queue < queue_count view.core.queues → queue_stats queue view.core ≡ stats_of view.core.bursts.burst queue view.journal.notes
+  sums_of : length view.journal.notes < 2 ^ 64 → (queue : ℕ) → queue < queue_count view.core.queues → queue_stats queue view.core ≡ stats_of view.core.bursts.burst queue view.journal.notes
   sums_of few queue within = λ i. record {
     shares = recorded.kept.agrees.weights queue within i;
     selected = (recorded.kept.agrees.figures queue i).selected;
@@ -166,7 +166,7 @@ module _ {J T : Type 0} {meaning : Meaning J T} (view : RecordedView J T) (recor
     returned = (recorded.kept.agrees.figures queue i).returned;
   }
 
-  pub queues_told : length view.journal.notes < 2 ^ 32 → (count : ℕ) (told : List QueueStats) → count ≡ queue_count view.core.queues →
+  pub queues_told : length view.journal.notes < 2 ^ 64 → (count : ℕ) (told : List QueueStats) → count ≡ queue_count view.core.queues →
       ((queue : ℕ) → queue < queue_count view.core.queues → slice_get told queue ≡ Some (queue_stats queue view.core)) → TellsQueues view.core.bursts.burst view.journal.notes count told
   queues_told few count told count_is at = record {
     count_is = count_is ∙ recorded.kept.agrees.last;

@@ -52,10 +52,11 @@ module _ {J T : Type 0} where
   abbrev pub KeepsIn : ℕ → RecordedView J T → RecordedView J T → Type 0
   KeepsIn sender old new = LeavesOwed sender None old new
 
-  -- what no step changes: the numbers of the core, of the cores, of places and of a turn's polls, and the room of the journal
+  -- what no step changes: the numbers of the core, of the cores, of places and of a turn's polls, the room of the journal, and what it passed on
   pub record IsSameSeat (old new : RecordedView J T) : Type 0 where
     pub number : new.core.core ≡ old.core.core
     pub cores : new.core.cores ≡ old.core.cores
     pub cap : new.cap ≡ old.cap
     pub burst : new.core.bursts.burst ≡ old.core.bursts.burst
     pub room : new.journal.room ≡ old.journal.room
+    pub passed : new.journal.passed ≡ old.journal.passed

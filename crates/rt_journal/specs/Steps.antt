@@ -34,7 +34,7 @@ module _ {J T : Type 0} where
   opened_beside core cores cap room burst = record {
     cap = cap;
     core = opened core cores ((cores + 1) * cap) 0 burst;
-    journal = record { notes = []; room = room };
+    journal = record { notes = []; passed = []; room = room };
     took = [];
     lanes = replicate cores (fresh_lane cap);
   }

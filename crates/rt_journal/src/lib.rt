@@ -8,5 +8,5 @@ pub mod stats;
 
 pub use recorded::Recorded;
 pub use rt_journal_desk::{RecordedDesk, RecordedPost, desk, post};
-pub use rt_journal_notes::{Assembly, Journal};
+pub use rt_journal_notes::{Assembly, Journal, Refused, RunningJournal, Sink};
 pub use stats::told_stats;

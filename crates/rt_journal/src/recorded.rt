@@ -11,6 +11,7 @@ ghost use Rattle.std.specs.Option.{option_map};
 ghost use Rattle.rt_ids.specs.declared.note.OutcomeNote.TheVariants.{Returned};
 ghost use Rattle.rt_ids.specs.declared.order.Outcome.TheVariants as outcome;
 ghost use Rattle.rt_ids.specs.Outcomes.{outcome_note};
+ghost use Rattle.rt_journal_notes.specs.Passing.{KeepsRefusals, PassesOn};
 ghost use Rattle.rt_link.specs.Calls.{Shuts};
 ghost use Rattle.rt_link.specs.Fits.{Fits};
 ghost use Rattle.rt_journal.specs.Recorded.{IsRecorded, desk_of, order_taken};
@@ -23,11 +24,12 @@ ghost use Rattle.rt_journal.specs.Owed.{IsSentUnder, OwesSettled, outcome_settle
 
 use crate::given::{give_if, outcome_done, outcome_of};
 use rt_core::{Core, PickError, Settled, Turn};
+use rt_history::History;
 use rt_ids::{ActorNo, CoreNo, Envelope, JobId, Mode, Order, Outcome, QueueNo, Reason};
 use rt_jobs::{Ran, Task};
 use rt_journal_desk::RecordedDesk;
-use rt_journal_notes::Journal;
-use rt_link::{History, InEnd};
+use rt_journal_notes::{Refused, RunningJournal, Sink};
+use rt_link::InEnd;
 use rt_shares::Shares;
 use rt_taskqueue::CreateError;
 use std::alloc::{AllocError, Allocator, Global};
@@ -106,7 +108,7 @@ impl<J: Task<Out = u64>, A: Allocator + Clone> Recorded<J, A> {
     }
 
     /// The notes of this actor.
-    pub fn journal(&self) -> &Journal<u64>
+    pub fn journal(&self) -> &RunningJournal<u64>
         ensures { result.now ≡ self.now.journal }
     {
         self.said.journal()
@@ -119,8 +121,23 @@ impl<J: Task<Out = u64>, A: Allocator + Clone> Recorded<J, A> {
         self.said.prefault();
     }
 
+    /// Hands all notes that are kept to the sink, so that their places are free again. A sink that refuses leaves all as it was.
+    ///
+    /// # Errors
+    ///
+    /// `Refused` where the sink refuses.
+    pub fn pass_on<S: Sink>(&mut self, sink: &mut S) -> Result<(), Refused>
+        requires { S.has sink.old ≡ self.old.journal.passed }
+        ensures passes { PassesOn S.has S.refused self.old.journal sink.old result self.new.journal sink.new }
+        ensures refusals { KeepsRefusals S.refused sink.old sink.new }
+        ensures rest { self.new ≡ record self.old { journal = self.new.journal } }
+        ensures sound { IsRecorded J.meaning self.new }
+    {
+        self.said.pass_on(sink)
+    }
+
     /// The notes alone.
-    pub fn into_journal(self) -> Journal<u64>
+    pub fn into_journal(self) -> RunningJournal<u64>
         ensures { result ≡ self.journal }
     {
         let Recorded { said, .. } = self;
@@ -295,8 +312,10 @@ impl<J: Task<Out = u64>, A: Allocator + Clone> Recorded<J, A> {
         ensures lanes { self.new.lanes ≡ self.old.lanes }
         ensures sound { IsRecorded J.meaning self.new }
     {
-        // There are fewer notes than turns that a core can make.
-        let _room = self.said.journal().room();
+        // An error is told ahead. Where there is none, a turn is left for each queue that has work.
+        if let Err(error) = self.core.ahead() {
+            return Err(error);
+        }
         let (picked, notes) = self.core.pick();
         self.said.write(notes.as_slice());
         picked

@@ -1,5 +1,6 @@
 //! What a core beside its journal tells of itself in numbers: the sums over the journal.
 
+ghost use Rattle.std.specs.Prelude.{◌^◌, ◌<◌, length};
 ghost use Rattle.arrayvec.specs.ArrayVec.{array_vec_len};
 ghost use Rattle.rt_journal.specs.Recorded.{IsRecorded};
 ghost use Rattle.rt_journal.specs.Stats.{TellsCore, TellsQueues};
@@ -10,15 +11,13 @@ use rt_ids::{CoreStats, QueueStats};
 use rt_jobs::Task;
 use std::alloc::Allocator;
 
-/// The numbers of the core and of its queues, by number. Times are in nanoseconds.
+/// The numbers of the core and of its queues, by number. Times are in nanoseconds. A count of jobs that are done stays at 2^64 - 1; a journal of fewer notes tells of fewer jobs.
 pub fn told_stats<J: Task<Out = u64>, A: Allocator + Clone>(
     recorded: &Recorded<J, A>,
 ) -> (CoreStats, ArrayVec<QueueStats, 256>)
     requires sound { IsRecorded J.meaning recorded.now }
     ensures core { TellsCore recorded.now.core.cores recorded.now.journal.notes result.0 }
-    ensures queues { TellsQueues recorded.now.core.bursts.burst recorded.now.journal.notes (array_vec_len result.1) result.1.items }
+    ensures queues { length recorded.now.journal.notes < 2 ^ 64 → TellsQueues recorded.now.core.bursts.burst recorded.now.journal.notes (array_vec_len result.1) result.1.items }
 {
-    // There are fewer notes than jobs that a core counts as done.
-    let _room = recorded.journal().room();
     recorded.core().stats()
 }

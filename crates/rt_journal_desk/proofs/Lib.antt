@@ -1,4 +1,5 @@
 pub mod Names
+pub mod Passed
 pub mod NumberedOrders
 pub mod OutEnds
 pub mod LaneNotes

@@ -34,7 +34,7 @@ module _ {J T : Type 0} where
   -- a desk whose actor has noted nothing
   abbrev pub opened_desk : ℕ → ℕ → ℕ → ℕ → ℕ → DeskView J T
   opened_desk actor cores cap room burst =
-      record { actor = actor; cores = cores; cap = cap; burst = burst; journal = record { notes = []; room = room }; lanes = replicate cores (fresh_lane cap) }
+      record { actor = actor; cores = cores; cap = cap; burst = burst; journal = record { notes = []; passed = []; room = room }; lanes = replicate cores (fresh_lane cap) }
 
   -- its journal is longer by these notes, the newest first
   abbrev pub desk_with : List (Note T) → DeskView J T → DeskView J T

@@ -7,6 +7,7 @@ ghost use Rattle.rt_jobs.specs.Ready.{HasReadyJob};
 ghost use Rattle.rt_link.specs.Calls.{Sends};
 ghost use Rattle.rt_link.specs.Fits.{Fits};
 ghost use Rattle.rt_desk.specs.Lanes.{fresh_lane, IsGot, FitsSent};
+ghost use Rattle.rt_journal_notes.specs.Passing.{KeepsRefusals, PassesOn};
 ghost use Rattle.rt_journal_desk.specs.Submissions.{opened_desk, terms_of_desk, desk_with, IsWritten, Submits, numbered};
 ghost use Rattle.rt_journal_desk.specs.Ends.{IsOutOf, KeepsOut, KeepsSent};
 ghost use Rattle.rt_journal_desk.specs.Tickets.{HasLane, KnowsLanes, StaysBeside, RefusesTicket, RedeemsTicket, DetachesTicket, CollectsFrom, GetsAll, GetsNext};
@@ -15,7 +16,7 @@ ghost use Rattle.rt_journal_desk.specs.Spending.{Spends, HoldsSome, booked};
 use rt_desk::lane::Lane;
 use rt_ids::{ActorNo, CoreNo, JobId, Note, Order, Outcome, SendError, Ticket, TicketError};
 use rt_jobs::Task;
-use rt_journal_notes::Journal;
+use rt_journal_notes::{Refused, RunningJournal, Sink};
 use rt_link::OutEnd;
 use std::alloc::{AllocError, Global};
 use std::marker::Model;
@@ -27,7 +28,7 @@ pub struct RecordedDesk<J: Task<Out = u64>> {
     cores: u8,
     cap: u16,
     burst: u8,
-    journal: Journal<u64>,
+    journal: RunningJournal<u64>,
     lanes: Vec<Lane<J>, Global>,
 }
 
@@ -76,7 +77,7 @@ impl<J: Task<Out = u64>> RecordedDesk<J> {
         ensures written { IfOk result (λ desk. IsWritten (terms_of_desk desk) desk.journal.notes) }
     {
         let lanes = open_lanes(alloc, cores, cap)?;
-        let journal = Journal::try_with_room(alloc, room)?;
+        let journal = RunningJournal::try_with_room(alloc, room)?;
         Ok(RecordedDesk {
             actor,
             cores,
@@ -96,7 +97,7 @@ impl<J: Task<Out = u64>> RecordedDesk<J> {
             cores: 0,
             cap: 0,
             burst: 1,
-            journal: Journal::of(Vec::new(alloc)),
+            journal: RunningJournal::nothing(alloc),
             lanes: Vec::new(alloc),
         }
     }
@@ -116,7 +117,7 @@ impl<J: Task<Out = u64>> RecordedDesk<J> {
     }
 
     /// The notes of this actor.
-    pub fn journal(&self) -> &Journal<u64>
+    pub fn journal(&self) -> &RunningJournal<u64>
         ensures { result.now ≡ self.now.journal }
     {
         &self.journal
@@ -129,8 +130,22 @@ impl<J: Task<Out = u64>> RecordedDesk<J> {
         self.journal.prefault();
     }
 
+    /// Hands all notes that are kept to the sink, so that their places are free again. A sink that refuses leaves all as it was.
+    ///
+    /// # Errors
+    ///
+    /// `Refused` where the sink refuses.
+    pub fn pass_on<S: Sink>(&mut self, sink: &mut S) -> Result<(), Refused>
+        requires { S.has sink.old ≡ self.old.journal.passed }
+        ensures passes { PassesOn S.has S.refused self.old.journal sink.old result self.new.journal sink.new }
+        ensures refusals { KeepsRefusals S.refused sink.old sink.new }
+        ensures rest { self.new ≡ record self.old { journal = self.new.journal } }
+    {
+        self.journal.pass_on(sink)
+    }
+
     /// The notes alone.
-    pub fn into_journal(self) -> Journal<u64>
+    pub fn into_journal(self) -> RunningJournal<u64>
         ensures { result ≡ self.journal }
     {
         self.journal

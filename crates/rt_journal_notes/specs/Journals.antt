@@ -1,11 +1,12 @@
 -- The notes of one actor, as a caller sees them.
-use Rattle.std.specs.Prelude.{ℕ, ◌-◌, ◌≤◌, List, length, reverse}
+use Rattle.std.specs.Prelude.{ℕ, ◌+◌, ◌-◌, ◌≤◌, List, [], ◌++◌, length, reverse}
 use Rattle.rt_ids.specs.declared.note.Note.{Note}
 use Rattle.rt_ids.specs.Journal.{Journal}
 
--- the notes, the newest first, and how many there may be in all
+-- the notes, the newest first; those of them that were passed on; and how many there may be in all, until more are passed on
 pub record JournalView (T : Type 0) : Type 0 where
   pub notes : Journal T
+  pub passed : Journal T
   pub room : ℕ
 
 module _ {T : Type 0} where
@@ -17,9 +18,21 @@ module _ {T : Type 0} where
   abbrev pub IsWithinRoom : JournalView T → Type 0
   IsWithinRoom journal = length journal.notes ≤ journal.room
 
-  -- the journal of these notes, the oldest first
+  -- the journal of these notes, the oldest first, of which none was passed on
   abbrev pub journal_of_notes : ℕ → List (Note T) → JournalView T
-  journal_of_notes room notes = record { notes = reverse notes; room = room }
+  journal_of_notes room notes = record { notes = reverse notes; passed = []; room = room }
+
+  -- the journal of these notes behind those that were passed on, the oldest first; so many of them may be kept
+  abbrev pub journal_behind : List (Note T) → ℕ → Journal T → JournalView T
+  journal_behind passed places notes = record { notes = notes ++ reverse passed; passed = reverse passed; room = length passed + places }
+
+  -- how many notes may be kept
+  abbrev pub places_of : JournalView T → ℕ
+  places_of journal = journal.room - length journal.passed
+
+  -- all notes are passed on, and there may be as many more as were kept
+  abbrev pub passed_all : JournalView T → JournalView T
+  passed_all journal = record { notes = journal.notes; passed = journal.notes; room = length journal.notes + places_of journal }
 
   -- all notes have room, and the room has its memory
   pub record IsReserved (room capacity : ℕ) (notes : List (Note T)) : Type 0 where

@@ -1,6 +1,6 @@
 //! The notes of one actor.
 
-ghost use Rattle.std.specs.Prelude.{◌≡◌, ◌↔◌, ◌+◌, ◌<◌, ◌≤◌, [], ◌∷◌, ◌++◌, length, reverse, slice_get, IfOk, IsTrue, OnErr, OnOk};
+ghost use Rattle.std.specs.Prelude.{◌≡◌, ◌↔◌, ◌+◌, ◌<◌, ◌≤◌, [], ◌∷◌, ◌++◌, length, max, reverse, slice_get, IfOk, IsTrue, OnErr, OnOk};
 ghost use Rattle.rt_ids.specs.Limits.{most_notes};
 ghost use Rattle.rt_journal_notes.specs.Journals.{free_notes, IsWithinRoom};
 
@@ -8,7 +8,7 @@ use rt_ids::Note;
 use std::alloc::{AllocError, Global};
 use std::marker::Model;
 
-/// The notes of one actor. The opening and `try_push` ask for memory, and no other call does; no clause says so.
+/// The notes of one actor. The opening, `try_push` and `try_reserve` ask for memory, and no other call does; no clause says so.
 ///
 /// A contract sees the list of the notes, the newest first, and how many there may be in all.
 #[derive(Drop)]
@@ -33,7 +33,7 @@ impl<T: Copy> Model for Journal<T> {
 impl<T: Copy> Journal<T> {
     /// Takes the memory for this many notes.
     pub fn try_with_room(alloc: Global, room: u32) -> Result<Self, AllocError>
-        ensures { IfOk result (λ journal. journal ≡ record { notes = []; room = room }) }
+        ensures { IfOk result (λ journal. journal ≡ record { notes = []; passed = []; room = room }) }
     {
         let notes = Vec::with_capacity(alloc, room as usize)?;
         Ok(Journal { notes, room })
@@ -43,6 +43,7 @@ impl<T: Copy> Journal<T> {
     pub fn of(notes: Vec<Note<T>>) -> Self
         requires { length notes.items ≤ most_notes }
         ensures notes { result.notes ≡ reverse notes.items }
+        ensures passed { result.passed ≡ [] }
         ensures room { result.room ≡ length notes.items }
     {
         let room = notes.len() as u32;
@@ -81,6 +82,18 @@ impl<T: Copy> Journal<T> {
         Ok(())
     }
 
+    /// Makes room for this many more notes, and takes their memory.
+    pub fn try_reserve(&mut self, more: u32) -> Result<(), AllocError>
+        requires few { length self.old.notes + more ≤ most_notes }
+        ensures ok { OnOk result (self.new ≡ record self.old { room = max (length self.old.notes + more) self.old.room }) }
+        ensures err { OnErr result (self.new ≡ self.old) }
+    {
+        self.notes.reserve(more as usize)?;
+        let room = self.notes.len() as u32 + more;
+        self.room = room.max(self.room);
+        Ok(())
+    }
+
     /// Adds these notes one after another, so that the last of them is the newest.
     pub fn push_all(&mut self, notes: &[Note<T>])
         requires free { length self.old.notes + length notes.now ≤ self.old.room }
@@ -92,10 +105,18 @@ impl<T: Copy> Journal<T> {
         }
     }
 
+    /// Takes all notes away. Their memory stays.
+    pub fn clear(&mut self)
+        ensures { self.new ≡ record self.old { notes = [] } }
+    {
+        self.notes.clear();
+    }
+
     /// How many notes there may be in all.
     pub fn room(&self) -> u32
         ensures value { result ≡ self.now.room }
         ensures limits { IsWithinRoom self.now }
+        ensures whole { self.now.passed ≡ [] }
     {
         self.room
     }

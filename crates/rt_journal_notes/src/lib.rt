@@ -5,9 +5,13 @@ pub mod assembly;
 pub mod journal;
 pub mod names;
 mod outcomes;
+pub mod running;
+pub mod sink;
 pub mod spelled;
 
 pub use assembly::Assembly;
 pub use journal::Journal;
 pub use names::same_name;
 pub use rt_ids::{Note, OutcomeNote};
+pub use running::RunningJournal;
+pub use sink::{Refused, Sink, Whole};

@@ -5,7 +5,7 @@ use rt_journal_notes::{Journal, Note};
 use std::test::Fail;
 
 /// A note that tells this number.
-fn pick(runtime: u128) -> Note<u64> {
+pub fn pick(runtime: u128) -> Note<u64> {
     Note::Pick(QueueNo(0), runtime)
 }
 
@@ -31,6 +31,18 @@ fn a_journal_grows_past_its_room(rt: HostRuntime) -> Result<(), Fail> {
     journal.push(pick(1));
     journal.try_push(pick(2))?;
     assert!(rt; has_two(&journal, 2));
+    Ok(())
+}
+
+#[test]
+fn a_journal_makes_room(rt: HostRuntime) -> Result<(), Fail> {
+    let mut journal = Journal::of(vec![in rt.alloc(); pick(1)]?);
+    journal.try_reserve(4)?;
+    journal.push(pick(2));
+    assert!(rt; has_two(&journal, 5) && journal.free() == 3);
+    journal.try_reserve(2)?;
+    journal.clear();
+    assert!(rt; journal.is_empty() && journal.room() == 5);
     Ok(())
 }
 

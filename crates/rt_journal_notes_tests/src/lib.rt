@@ -7,3 +7,5 @@ mod bursts;
 mod journals;
 #[cfg(test)]
 mod outcomes;
+#[cfg(test)]
+mod passing;

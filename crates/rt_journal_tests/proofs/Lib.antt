@@ -1,3 +1,4 @@
 mod Owing
 mod Fresh
 mod OneOut
+mod PassedEnds

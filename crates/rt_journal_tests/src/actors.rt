@@ -10,7 +10,7 @@ ghost use Rattle.rt_link.specs.Whole.{fresh, inward_of, out_of};
 use rt_core::Turn;
 use rt_ids::{ActorNo, CoreNo, JobId, Note, Order, Outcome, QueueNo, Ticket, TicketError};
 use rt_jobs::{NoPost, Ran, ScriptJob, Task};
-use rt_journal::{Journal, Recorded, RecordedDesk};
+use rt_journal::{Recorded, RecordedDesk, RunningJournal};
 use rt_link::{InEnd, OutEnd, PlainLink};
 use std::alloc::{AllocError, Global};
 use std::marker::Model;
@@ -41,9 +41,9 @@ pub const SECOND: JobId = JobId {
     number: 2,
 };
 
-/// Whether these are the notes, the oldest first.
-pub fn tells(journal: &Journal<u64>, notes: &[Note<u64>]) -> bool {
-    journal.as_slice() == notes
+/// Whether these are the notes that are kept, the oldest first.
+pub fn tells(journal: &RunningJournal<u64>, notes: &[Note<u64>]) -> bool {
+    journal.kept().as_slice() == notes
 }
 
 /// Sends an order on a plain link that has a place for it.

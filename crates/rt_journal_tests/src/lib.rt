@@ -8,6 +8,8 @@ mod bursts;
 #[cfg(test)]
 mod parks;
 #[cfg(test)]
+mod passes;
+#[cfg(test)]
 mod poster;
 #[cfg(test)]
 mod posts;

@@ -65,7 +65,7 @@ const LET_GO: [Note<u64>; 2] = [
 ];
 
 /// A job for queue 0 that answers 7 at its first poll, of 10 ns.
-fn job() -> Order<ScriptJob>
+pub fn job() -> Order<ScriptJob>
     ensures { HasReadyJob ⟦<ScriptJob as Task>⟧.meaning result }
 {
     Order::Job(QUEUE, ScriptJob::done(10, 7))

@@ -6,7 +6,7 @@ use Rattle.circular_buffer.specs.Buffer.{Buffer, buffer}
 use Rattle.circular_buffer.proofs.Places.{slice_get-drop}
 use Rattle.rt_ids.specs.declared.order.Order.{Order}
 use Rattle.rt_ids.specs.declared.order.Outcome.{Outcome}
-use Rattle.rt_link.specs.declared.history.History.{History}
+use Rattle.rt_history.specs.declared.history.History.{History}
 use Rattle.rt_link.specs.declared.plain.PlainLink.TheInside.{Inside}
 use Rattle.rt_link.specs.Calls.{MayGive}
 use Rattle.rt_link.specs.Whole.{inward_of, IsLink}

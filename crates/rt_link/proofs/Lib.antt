@@ -1,4 +1,3 @@
-pub mod Walks
 pub mod Lists
 pub mod Pigeonhole
 pub mod Numbers

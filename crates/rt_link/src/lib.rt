@@ -2,10 +2,8 @@
 #![tactic(auto)]
 
 pub mod ends;
-mod history;
 pub mod plain;
 
 pub use ends::{InEnd, Inward, OutEnd, Outward};
-pub use history::History;
 pub use plain::{PlainLink, Whole};
 pub use rt_ids::LAST_NUMBER;

@@ -8,8 +8,8 @@ ghost use Rattle.rt_link.specs.Fits.{Fits};
 ghost use Rattle.rt_link.specs.Whole.{fresh, out_of, inward_of, kept_by_sender, kept_by_receiver, IsLink};
 
 use crate::ends::{InEnd, OutEnd};
-use crate::history::History;
 use circular_buffer::HeapCircularBuffer;
+use rt_history::History;
 use rt_ids::{ActorNo, CoreNo, Envelope, JobId, LAST_NUMBER, Order, Outcome, SendError};
 use rt_jobs::Task;
 use std::alloc::{AllocError, Global};

@@ -79,7 +79,8 @@ module _ {J T : Type 0} where
         let here : get_or view.desk.lanes core lane ≡ lane = get_or_from_slice_get view.desk.lanes core lane lane at_core in
         omega (arith, all_three has.lane.entries, has.lane_of.outstanding, (is.outside.outs core low).outstanding, ap due_of same, ap due_of here)
 
-    due_all : sum_by due_of view.desk.lanes ≤ 2 * outstanding_upto view.desk.journal.notes view.desk.cores
+    -- no more than two notes are due of each submission that is outstanding
+    pub due_all : sum_by due_of view.desk.lanes ≤ 2 * outstanding_upto view.desk.journal.notes view.desk.cores
     due_all =
         let all = sum_within due_of (λ core. outstanding_count core view.desk.journal.notes) view.desk.lanes due_few in
         omega (arith, all, upto_is view.desk.journal.notes view.desk.cores, ap (upto (λ core. outstanding_count core view.desk.journal.notes)) is.lanes_are)

@@ -12,7 +12,8 @@ use Rattle.std.below.core.specs.contracts.clone.Clone+copy.TheImpl.{ghosts as co
 use Rattle.rt_timeline.proofs.tree.Tree.TheLaws.TheKnot as tree
 use Rattle.rt_desk.proofs.trie.Trie.TheLaws.TheKnot as trie
 use Rattle.rt_desk.specs.contracts.lane.Lane.{the_row as lane}
-use Rattle.rt_journal_notes.proofs.journal.Journal.TheSendSync as journal
+use Rattle.rt_journal_notes.specs.declared.sink.Sink.{Ghosts as Passes}
+use Rattle.rt_journal_notes.proofs.running.RunningJournal.TheSendSync as journal
 use Rattle.rt_ring_mesh.proofs.ends.Ends.TheSendSync as ends
 use Rattle.rt_core.specs.contracts.one_core.Core.{the_row as core}
 use Rattle.rt_journal_desk.specs.contracts.desk.RecordedDesk.{the_row as desk}
@@ -38,8 +39,9 @@ module _ (T : RattleType) (t : Ghosts (param 0 T).Denot ℕ) (j : IsSend (param 
   linked_send : IsSend (linked (param 0 T) t)
   linked_send = search (recorded_send, ends.the_send, crosses, sendable) depth 60 fits 20000
 
-  pub ended_send : IsSend (ended (param 0 T) t)
-  ended_send = search (linked_send, crosses, sendable) depth 60 fits 20000
+  module _ (S : RattleType) (sink : Passes (param 3 S).Denot) (s : IsSend (param 3 S)) where
+    pub ended_send : IsSend (ended (param 0 T) (param 3 S) t sink)
+    ended_send = search (linked_send, crosses, sendable) depth 60 fits 20000
 
-  pub worker_send : (C G : RattleType) → IsSend (param 1 C) → IsSend (param 2 G) → IsSend (worker (param 0 T) (param 1 C) (param 2 G) t)
-  worker_send C G c g = search (linked_send, bell.the_send, crosses, sendable) depth 60 fits 20000
+    pub worker_send : (C G : RattleType) → IsSend (param 1 C) → IsSend (param 2 G) → IsSend (worker (param 0 T) (param 1 C) (param 2 G) (param 3 S) t sink)
+    worker_send C G c g = search (linked_send, bell.the_send, crosses, sendable) depth 60 fits 20000

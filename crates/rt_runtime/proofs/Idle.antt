@@ -1,5 +1,5 @@
 -- Steps that submit nothing, one behind another, and tickets that are pending meanwhile.
-use Rattle.std.proofs.Common.{◌≡◌, ℕ, ◌+◌, ◌<◌, List, [], ◌∷◌, ◌++◌, length, take, get_or, add-one, refl, sym, ◌∙◌, ap, subst, Err}
+use Rattle.std.proofs.Common.{◌≡◌, ℕ, ◌+◌, ◌<◌, List, [], ◌∷◌, ◌++◌, length, take, get_or, add-one, refl, sym, ◌∙◌, ap, subst, append_assoc, Err}
 use Rattle.std.proofs.lemmas.List.Elements.{All-nil, All-push}
 use Rattle.std.proofs.Math.Seq.{take-suc}
 use Rattle.std.specs.Prelude.{All}
@@ -7,21 +7,37 @@ use Rattle.rt_ids.specs.declared.names.JobId.{JobId}
 use Rattle.rt_ids.specs.declared.names.TicketError.TheVariants.{Pending}
 use Rattle.rt_ids.specs.declared.order.Order.{Order}
 use Rattle.rt_ids.specs.declared.order.Outcome.{Outcome}
+use Rattle.rt_ids.specs.declared.note.Note.{Note}
+use Rattle.rt_journal_notes.specs.Journals.{JournalView}
 use Rattle.rt_journal_desk.specs.Submissions.{DeskView}
 use Rattle.rt_journal_desk.specs.Tickets.{RefusesTicket}
+use Rattle.rt_runtime_worker.specs.Linked.{Grows}
 use Rattle.rt_runtime.specs.State.{RuntimeView, StaysRunning, SubmitsNothing}
 use Rattle.rt_runtime.specs.Tickets.{RedeemsHere}
 use Rattle.rt_runtime.specs.Waiting.{AreAllPending}
+
+-- newer notes behind newer ones
+grows_then : {T : Type 0} (old between new : List (Note T)) → Grows old between → Grows between new → Grows old new
+grows_then old between new first later = (later.0 ++ first.0, later.1 ∙ (ap (λ notes. later.0 ++ notes) first.1 ∙ sym (append_assoc later.0 first.0 old)))
 
 module _ {J T : Type 0} where
   pub nothing_same : (old new : RuntimeView J T) → new ≡ old → SubmitsNothing old new
   nothing_same old new same =
       subst (λ (view : RuntimeView J T). SubmitsNothing old view) (sym same)
-      (record { orders = λ core. refl; gates = λ core. refl; closing = refl; rung = refl; stays = record { desk = refl; workers = refl; room = refl; bells = refl; names = refl } })
+      (record {
+        orders = λ core. refl;
+        gates = λ core. refl;
+        closing = refl;
+        rung = refl;
+        passes = record { journal = refl; refused = refl };
+        stays = record { desk = refl; places = refl; grows = ([], refl); workers = refl; room = refl; bells = refl; names = refl };
+      })
 
   stays_then : (old between new : RuntimeView J T) → StaysRunning old between → StaysRunning between new → StaysRunning old new
   stays_then old between new first later = record {
-    desk = later.desk ∙ ap (λ (desk : DeskView J T). record desk { journal = record desk.journal { notes = new.desk.journal.notes }; lanes = new.desk.lanes }) first.desk;
+    desk = later.desk ∙ ap (λ (desk : DeskView J T). record desk { journal = new.desk.journal; lanes = new.desk.lanes }) first.desk;
+    places = later.places ∙ first.places;
+    grows = grows_then old.desk.journal.notes between.desk.journal.notes new.desk.journal.notes first.grows later.grows;
     workers = later.workers ∙ first.workers;
     room = later.room ∙ first.room;
     bells = later.bells ∙ first.bells;
@@ -34,6 +50,10 @@ module _ {J T : Type 0} where
     gates = λ core. later.gates core ∙ first.gates core;
     closing = later.closing ∙ first.closing;
     rung = later.rung ∙ first.rung;
+    passes = record {
+      journal = later.passes.journal ∙ ap (λ (journal : JournalView T). record journal { notes = new.desk.journal.notes }) first.passes.journal;
+      refused = later.passes.refused ∙ first.passes.refused;
+    };
     stays = stays_then old between new first.stays later.stays;
   }
 

@@ -4,7 +4,7 @@ use Rattle.std.specs.Prelude.{IsTrue}
 use Rattle.std.proofs.lemmas.Bool.{cases_lt}
 use Rattle.rt_runtime.specs.State.{RuntimeView}
 use Rattle.rt_runtime.specs.Tickets.{Collects}
-use Rattle.rt_runtime.specs.Waiting.{CollectsOnly, CollectsSome, InARow, TriesInVain, Waits}
+use Rattle.rt_runtime.specs.Waiting.{CollectsOnly, CollectsSome, InARow, Waits}
 
 module _ {J T : Type 0} where
   -- more of them behind some

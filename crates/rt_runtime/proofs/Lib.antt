@@ -1,4 +1,3 @@
-pub mod Parted
 pub mod Orders
 pub mod Fitting
 pub mod Outcomes
@@ -11,13 +10,17 @@ pub mod Polled
 pub mod PollsOwed
 mod PollsRefused
 pub mod Finished
+pub mod AllPassed
+pub mod WholeJournals
+pub mod SinksTold
 pub mod Booked
+pub mod HandedOn
 pub mod Dealt
 pub mod Started
 pub mod Collected
 pub mod Sent
 mod Closing
 pub mod Redeemed
-mod Refused
+mod OrdersBack
 pub mod Crosses
 pub mod WrongAnswers

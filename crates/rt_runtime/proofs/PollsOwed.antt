@@ -1,13 +1,9 @@
 -- A finish tells of a job that the caller submitted only polls that its task owes.
-use Rattle.std.proofs.Common.{◌≡◌, ℕ, ◌+◌, ◌≤◌, Bool, true, false, List, [], ◌∷◌, ◌++◌, refl, sym, ◌∙◌, ap, subst}
-use Rattle.std.specs.Prelude.{Option}
+use Rattle.std.proofs.Common.{◌≡◌, ℕ, ◌+◌, Bool, true, false, List, [], ◌∷◌, ◌++◌, refl, sym, ◌∙◌, ap, subst}
 use Rattle.rt_ids.specs.declared.names.JobId.{JobId}
 use Rattle.rt_ids.specs.declared.note.Note.{Note}
-use Rattle.rt_ids.specs.declared.order.Order.{Order}
 use Rattle.rt_ids.specs.declared.order.Order.TheVariants.{Job}
-use Rattle.rt_ids.specs.Assembly.{Assembly, journal_of}
 use Rattle.rt_ids.specs.Journal.{Journal, EachNote}
-use Rattle.rt_ids.specs.Lines.{name_settled}
 use Rattle.rt_ids.specs.Terms.{Terms}
 use Rattle.rt_jobs.specs.Meanings.{Meaning}
 use Rattle.rt_jobs.specs.declared.job.Step.{Step}
@@ -17,10 +13,8 @@ use Rattle.rt_journal.specs.OwedPolls.{IsOwedPoll, IsPollOf, PollIsOwed}
 use Rattle.rt_journal.specs.Polls.{poll_note, polls_made, settle_note}
 use Rattle.rt_journal.specs.RightAnswers.{Seen, posted_notes}
 use Rattle.rt_journal.proofs.OwedNotes.{SettleNothing, polls_made-longer, posted_settle_nothing}
-use Rattle.rt_runtime.specs.Calls.{HasFinished}
-use Rattle.rt_runtime.specs.Laws.{TellsPoll, ToldPollsAreOwed, UnowedPollsAreRefused}
+use Rattle.rt_runtime.specs.Laws.{ToldPollsAreOwed, UnowedPollsAreRefused}
 use Rattle.rt_runtime.specs.Outcomes.{Orders, seen_at_end}
-use Rattle.rt_runtime.specs.State.{RuntimeView}
 use Rattle.rt_runtime.proofs.WrongAnswers.{the_callers}
 
 each_at : {T : Type 0} (P : Note T → Journal T → Type 0) (later : List (Note T)) (note : Note T) (before : Journal T) → EachNote P (later ++ note ∷ before) → P note before

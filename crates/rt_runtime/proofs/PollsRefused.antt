@@ -1,5 +1,5 @@
 -- Polls that no finish tells: one more than the job owes, and a yield of a job that answers at once.
-use Rattle.std.proofs.Common.{◌≡◌, ℕ, ◌+◌, ◌<◌, List, false, arith}
+use Rattle.std.proofs.Common.{◌≡◌, ℕ, ◌<◌, List, false, arith}
 use Rattle.std.specs.Prelude.{Option, None}
 use Rattle.rt_ids.specs.declared.names.JobId.{JobId}
 use Rattle.rt_ids.specs.Assembly.{Assembly}
@@ -9,8 +9,8 @@ use Rattle.rt_jobs.specs.Steps.{AnswersAtOnce, IfUndone}
 use Rattle.rt_jobs.specs.declared.job.Step.{Step}
 use Rattle.rt_jobs.specs.declared.job.Step.TheVariants.{Yield}
 use Rattle.rt_journal.specs.Polls.{polls_made}
-use Rattle.rt_runtime.specs.Calls.{HasFinished}
 use Rattle.rt_runtime.specs.Laws.{TellsPoll}
+use Rattle.rt_runtime.specs.Outcomes.{TellsOrders}
 use Rattle.rt_runtime.specs.State.{RuntimeView}
 use Rattle.rt_runtime.proofs.PollsOwed.{unowed_polls_refused}
 
@@ -27,12 +27,12 @@ yielding = record {
 }
 
 -- a third yield of a job that yields twice
-third_yield_refused : (view : RuntimeView ℕ ℕ) (assembly : Assembly ℕ) (name : JobId) (tells : TellsPoll view assembly name 2 Yield) → polls_made name tells.before ≡ 2 → HasFinished yielding view assembly → ⊥
+third_yield_refused : (view : RuntimeView ℕ ℕ) (assembly : Assembly ℕ) (name : JobId) (tells : TellsPoll view assembly name 2 Yield) → polls_made name tells.before ≡ 2 → TellsOrders yielding view assembly → ⊥
 third_yield_refused view assembly name tells twice finished =
     unowed_polls_refused yielding view assembly name 2 Yield tells (λ calls told owed. omega (arith, owed, twice)) finished
 
 -- a yield of a job that answers at once
 yield_refused : {J : Type 0} (meaning : Meaning J ℕ) → ((job : J) (made : ℕ) (calls : List (Call J ℕ)) (step : Step ℕ) (told : Option ℕ) → meaning.polls job made calls step told → AnswersAtOnce calls step told) →
-    (view : RuntimeView J ℕ) (assembly : Assembly ℕ) (name : JobId) (job : J) → TellsPoll view assembly name job Yield → HasFinished meaning view assembly → ⊥
+    (view : RuntimeView J ℕ) (assembly : Assembly ℕ) (name : JobId) (job : J) → TellsPoll view assembly name job Yield → TellsOrders meaning view assembly → ⊥
 yield_refused meaning at_once view assembly name job tells finished =
     unowed_polls_refused meaning view assembly name job Yield tells (λ calls told owed. let done = (at_once job _ calls Yield told owed).1 in absurd cc) finished

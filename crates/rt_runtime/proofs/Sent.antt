@@ -7,13 +7,15 @@ use Rattle.rt_ring.proofs.Windows.{slice_get-last}
 use Rattle.rt_ring.specs.declared.ring_out.Sending.{Sending}
 use Rattle.rt_ids.specs.declared.order.Order.{Order}
 use Rattle.rt_ids.specs.declared.order.Outcome.{Outcome}
+use Rattle.rt_ids.specs.declared.note.Note.TheVariants as writes
+use Rattle.rt_ids.specs.Orders.{without_job}
 use Rattle.rt_ids.specs.Spelled.{IsWithinLimits}
 use Rattle.rt_ids.specs.declared.names.JobId.{JobId}
 use Rattle.rt_ids.specs.declared.order.SendError.{SendError}
 use Rattle.rt_ids.specs.declared.order.SendError.TheVariants.{Closed, Full, Spent, NoCore}
 use Rattle.rt_link.specs.declared.ends.Outward.{Outward}
 use Rattle.rt_link.specs.Calls.{Sends}
-use Rattle.rt_journal_desk.specs.Submissions.{DeskView, numbered}
+use Rattle.rt_journal_desk.specs.Submissions.{DeskView, Submits, numbered}
 use Rattle.rt_journal_desk.specs.Ends.{IsOutOf}
 use Rattle.rt_journal_desk.specs.Spending.{booked}
 use Rattle.rt_journal_desk.specs.Tickets.{GetsAll, HasLane, StaysBeside}
@@ -21,7 +23,9 @@ use Rattle.rt_ring_mesh.specs.Ends.{EndsView, SameEnds, out_at, no_out}
 use Rattle.rt_ring_mesh.specs.Grid.{IsGrid, AreSameEnds, no_ends}
 use Rattle.rt_ring_mesh.proofs.Using.{out_used, ends_same}
 use Rattle.rt_ring_mesh.proofs.Keeping.{grid_kept}
-use Rattle.rt_runtime_worker.specs.Linked.{LinkedView}
+use Rattle.rt_journal_notes.specs.Journals.{JournalView, places_of}
+use Rattle.rt_runtime_config.specs.Configs.{least_room}
+use Rattle.rt_runtime_worker.specs.Linked.{Grows, LinkedView}
 use Rattle.rt_runtime_worker.specs.Opening.{IsWorkerOf}
 use Rattle.rt_runtime_worker.specs.Together.{no_linked, worker_at}
 use Rattle.rt_runtime_worker.proofs.Ending.{before_last, at_last}
@@ -29,7 +33,8 @@ use Rattle.rt_ids.specs.Journal.{Journal}
 use Rattle.rt_ids.specs.Outstanding.{outstanding_count}
 use Rattle.rt_runtime.specs.Rings.{RingsView}
 use Rattle.rt_runtime.specs.Sends.{accepted, outstanding_upto}
-use Rattle.rt_runtime.specs.State.{RuntimeView, IsRuntime, IsStored, SubmitsNothing, is_told_shut, submitted}
+use Rattle.rt_runtime.specs.State.{IsRuntime, PassesNothing, RuntimeView, StaysRunning, SubmitsNothing, is_told_shut, submitted}
+use Rattle.rt_runtime.specs.Stored.{IsStored}
 
 module _ {J T : Type 0} where
   -- the same links, where one actor's ends are of the same links as before
@@ -114,7 +119,7 @@ module _ {J T : Type 0} where
     same_links : SameEnds view.ends put
     same_links = out_used view.ends core later there link
 
-    runtime_put : (closing : List Bool) → length closing ≡ view.desk.cores → (rung : RingsView J T) → length rung.times ≡ view.desk.cores + 1 → booked desk ≤ desk.journal.room → IsRuntime fits (record { desk = desk; ends = put; closing = closing; workers = view.workers; room = view.room; rung = rung; bells = view.bells })
+    runtime_put : (closing : List Bool) → length closing ≡ view.desk.cores → (rung : RingsView J T) → length rung.times ≡ view.desk.cores + 1 → booked desk ≤ desk.journal.room → IsRuntime fits (record { desk = desk; ends = put; closing = closing; workers = view.workers; room = view.room; rung = rung; bells = view.bells; refused = view.refused })
     runtime_put closing count rung bells room = record {
       count = is.count ∙ sym cores;
       each = subst (λ (desk : DeskView J T). (core : ℕ) → core < desk.cores → IsWorkerOf core desk.cores desk.cap desk.burst view.room (worker_at core view.workers)) (sym stays.rest) is.each;
@@ -130,29 +135,52 @@ module _ {J T : Type 0} where
       lanes = lanes_now;
       lanes_are = stays.known.cores_are;
       room_is = room;
+      places = subst (λ (desk : DeskView J T). least_room desk.cores desk.cap desk.burst ≤ places_of desk.journal) (sym stays.rest) is.places;
       limits = subst (λ (desk : DeskView J T). IsWithinLimits desk.cores desk.cap desk.burst) (sym stays.rest) is.limits;
     }
 
     -- the same, over the ends as the code has them
     pub runtime_on : (ends : EndsView J T) → ends ≡ put → (closing : List Bool) → length closing ≡ view.desk.cores → (rung : RingsView J T) → length rung.times ≡ view.desk.cores + 1 → booked desk ≤ view.desk.journal.room →
-        IsRuntime fits (record { desk = desk; ends = ends; closing = closing; workers = view.workers; room = view.room; rung = rung; bells = view.bells })
+        IsRuntime fits (record { desk = desk; ends = ends; closing = closing; workers = view.workers; room = view.room; rung = rung; bells = view.bells; refused = view.refused })
     runtime_on ends is_put closing count rung bells room =
-        subst (λ ends. IsRuntime fits (record { desk = desk; ends = ends; closing = closing; workers = view.workers; room = view.room; rung = rung; bells = view.bells })) (sym is_put)
+        subst (λ ends. IsRuntime fits (record { desk = desk; ends = ends; closing = closing; workers = view.workers; room = view.room; rung = rung; bells = view.bells; refused = view.refused })) (sym is_put)
         (runtime_put closing count rung bells (omega (arith, room, ap (λ desk. desk.journal.room) stays.rest)))
 
-    pub stored_on : {cores_are cap_is room_ends room_journals : ℕ} (ends : EndsView J T) (closing : List Bool) (rung : RingsView J T) → IsStored view cores_are cap_is room_ends room_journals →
-        IsStored (record { desk = desk; ends = ends; closing = closing; workers = view.workers; room = view.room; rung = rung; bells = view.bells }) cores_are cap_is room_ends room_journals
+    pub stored_on : {cores_are cap_is room_ends room_actors room_journals : ℕ} (ends : EndsView J T) (closing : List Bool) (rung : RingsView J T) → IsStored view cores_are cap_is room_ends room_actors room_journals →
+        IsStored (record { desk = desk; ends = ends; closing = closing; workers = view.workers; room = view.room; rung = rung; bells = view.bells; refused = view.refused }) cores_are cap_is room_ends room_actors room_journals
     stored_on ends closing rung stored = record {
       cores_are = stored.cores_are ∙ sym cores;
       cap_is = stored.cap_is ∙ sym cap;
       room_ends = stored.room_ends;
+      room_actors = stored.room_actors;
       room_journals = stored.room_journals;
     }
 
+    -- nothing was passed on
+    journal_longer : desk.journal ≡ record view.desk.journal { notes = desk.journal.notes }
+    journal_longer = ap (λ desk. desk.journal) stays.rest
+
+    -- the outside actor stays, where no note that stood is lost
+    pub running_on : (ends : EndsView J T) (closing : List Bool) (rung : RingsView J T) → rung.names ≡ view.rung.names → Grows view.desk.journal.notes desk.journal.notes →
+        StaysRunning view (record { desk = desk; ends = ends; closing = closing; workers = view.workers; room = view.room; rung = rung; bells = view.bells; refused = view.refused })
+    running_on ends closing rung names grows = record {
+      desk = stays.rest ∙ ap (λ (journal : JournalView T). record view.desk { journal = journal; lanes = desk.lanes }) (sym journal_longer);
+      places = ap places_of journal_longer;
+      grows = grows;
+      workers = refl;
+      room = refl;
+      bells = refl;
+      names = names;
+    }
+
+    pub passes_nothing_on : (ends : EndsView J T) (closing : List Bool) (rung : RingsView J T) →
+        PassesNothing view (record { desk = desk; ends = ends; closing = closing; workers = view.workers; room = view.room; rung = rung; bells = view.bells; refused = view.refused })
+    passes_nothing_on ends closing rung = record { journal = journal_longer; refused = refl }
+
     -- nothing was submitted, where this end has sent what it had sent and heard of no gate
-    pub nothing_on : (ends : EndsView J T) → ends ≡ put → later.out.sent ≡ submitted core view → later.out.closed ≡ is_told_shut core view →
-        SubmitsNothing view (record { desk = desk; ends = ends; closing = view.closing; workers = view.workers; room = view.room; rung = view.rung; bells = view.bells })
-    nothing_on ends is_put sent gate = record {
+    pub nothing_on : (ends : EndsView J T) → ends ≡ put → later.out.sent ≡ submitted core view → later.out.closed ≡ is_told_shut core view → Grows view.desk.journal.notes desk.journal.notes →
+        SubmitsNothing view (record { desk = desk; ends = ends; closing = view.closing; workers = view.workers; room = view.room; rung = view.rung; bells = view.bells; refused = view.refused })
+    nothing_on ends is_put sent gate grows = record {
       orders = λ to. ⊎_elim
           (λ (same : to ≡ core). rw same (ap (λ ends. (out_at core ends).out.sent) is_put ∙ (ap (λ (end : Sending J T). end.out.sent) put_is ∙ sent)))
           (λ (away : to ≢ core). ap (λ ends. (out_at to ends).out.sent) is_put ∙ ap (λ (end : Sending J T). end.out.sent) (put_other to away))
@@ -163,7 +191,8 @@ module _ {J T : Type 0} where
           (cases_eq to core);
       closing = refl;
       rung = refl;
-      stays = record { desk = stays.rest; workers = refl; room = refl; bells = refl; names = refl };
+      passes = passes_nothing_on ends view.closing view.rung;
+      stays = running_on ends view.closing view.rung refl grows;
     }
 
 module _ {J T : Type 0} (out later : Outward J T) (credited : ℕ) (order : Order J) where
@@ -181,6 +210,15 @@ module _ {J T : Type 0} (out later : Outward J T) (credited : ℕ) (order : Orde
       let place : name.number - 1 ≡ length out.sent = omega (arith, sends.2, base) in
       rw place (rw (ap (λ end. end.sent) sends.4) (slice_get-last out.sent order))
   sent_named (Err error) sends base = tt
+
+module _ {J T : Type 0} (order : Order J) where
+  -- a send loses no note
+  pub sent_grows : (core : ℕ) (old new : DeskView J T) (answer : Result JobId (SendError J)) → Submits core order old answer new → Grows old.journal.notes new.journal.notes
+  sent_grows core old new (Ok name) submits = (writes.Sent name (without_job order) ∷ [], ap (λ journal. journal.notes) submits.2)
+  sent_grows core old new (Err (Closed back final)) submits = ([], ap (λ desk. desk.journal.notes) submits.2)
+  sent_grows core old new (Err (Full back)) submits = ([], ap (λ desk. desk.journal.notes) submits.2)
+  sent_grows core old new (Err (Spent back)) submits = ([], ap (λ desk. desk.journal.notes) submits.3)
+  sent_grows core old new (Err (NoCore back)) submits = absurd submits
 
 -- one more core counted
 pub one_more_core : {T : Type 0} (notes : Journal T) (core count more : ℕ) → count ≡ outstanding_upto notes core → more ≡ outstanding_count core notes → count + more ≡ outstanding_upto notes (core + 1)

@@ -6,9 +6,10 @@ use Rattle.std.proofs.lemmas.List.{get_or_append_left, get_or_default, length-re
 use Rattle.std.proofs.Math.Seq.{get_or-append_seam}
 use Rattle.rt_ids.specs.Spelled.{IsWithinLimits}
 use Rattle.rt_link.specs.Whole.{fresh, out_of}
-use Rattle.rt_runtime_config.specs.Configs.{Entry, IsGood}
+use Rattle.rt_runtime_config.specs.Configs.{Entry, IsGood, least_room}
 use Rattle.rt_runtime_team.specs.Works.{Together}
 use Rattle.rt_runtime_team.proofs.Lists.{together_length}
+use Rattle.rt_journal_notes.specs.Journals.{places_of}
 use Rattle.rt_journal_desk.specs.Submissions.{DeskView, IsWritten, opened_desk, terms_of_desk}
 use Rattle.rt_journal_desk.specs.Ends.{IsOutOf}
 use Rattle.rt_ids.specs.declared.order.Order.{Order}
@@ -93,7 +94,7 @@ module _ {J T : Type 0} (cores cap burst room : ℕ) (queues : List Entry) where
 
   -- a runtime in which nothing has happened
   module _ (workers : List (LinkedView J T)) (ends : EndsView J T) (desk : DeskView J T) (closing : List Bool) (house : IsHouse cores cap burst room queues workers ends) (opened : desk ≡ opened_desk cores cores cap room burst)
-      (written : IsWritten (terms_of_desk desk) desk.journal.notes) (none : closing ≡ replicate cores false) (rung : RingsView J T) (bells : List (List ℕ)) (silent : rung.times ≡ replicate (cores + 1) 0) (limits : IsWithinLimits cores cap burst) where
+      (written : IsWritten (terms_of_desk desk) desk.journal.notes) (none : closing ≡ replicate cores false) (rung : RingsView J T) (bells : List (List ℕ)) (silent : rung.times ≡ replicate (cores + 1) 0) (refused : Bool) (enough : least_room cores cap burst ≤ room) (limits : IsWithinLimits cores cap burst) where
     outs_opened : (core : ℕ) → core < cores → IsOutOf core (opened_desk cores cores cap room burst) (out_at core ends).out (out_at core ends).credited
     outs_opened core low =
         let is = house.fresh.outs core (omega (arith, low, house.outs)) in
@@ -118,7 +119,7 @@ module _ {J T : Type 0} (cores cap burst room : ℕ) (queues : List Entry) where
     none_due : sum_by due_of (replicate cores (fresh_lane {J = J} {T = T} cap)) ≡ 0
     none_due = sum_by-replicate due_of cores (fresh_lane cap) ∙ omega arith
 
-    pub started : (fits : Order J → Outcome J T → Type 0) → IsRuntime fits (record { desk = desk; ends = ends; closing = closing; workers = workers; room = room; rung = rung; bells = bells })
+    pub started : (fits : Order J → Outcome J T → Type 0) → IsRuntime fits (record { desk = desk; ends = ends; closing = closing; workers = workers; room = room; rung = rung; bells = bells; refused = refused })
     started fits = record {
       lanes = subst (λ (desk : DeskView J T). (core : ℕ) → core < desk.cores → HasLane fits core desk (out_at core ends).out (out_at core ends).credited) (sym opened) (lanes_opened fits);
       count = house.count ∙ ap (λ desk. desk.cores) (sym opened);
@@ -130,6 +131,7 @@ module _ {J T : Type 0} (cores cap burst room : ℕ) (queues : List Entry) where
       closings = ap length none ∙ (length-replicate cores false ∙ ap (λ desk. desk.cores) (sym opened));
       lanes_are = ap (λ desk. length desk.lanes) opened ∙ (length-replicate cores (fresh_lane cap) ∙ ap (λ desk. desk.cores) (sym opened));
       room_is = subst (λ (desk : DeskView J T). booked desk ≤ desk.journal.room) (sym opened) (omega (arith, none_due));
+      places = subst (λ (desk : DeskView J T). least_room desk.cores desk.cap desk.burst ≤ places_of desk.journal) (sym opened) (omega (arith, enough));
       limits = subst (λ (desk : DeskView J T). IsWithinLimits desk.cores desk.cap desk.burst) (sym opened) limits;
     }
 

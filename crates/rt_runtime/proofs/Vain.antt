@@ -1,9 +1,9 @@
 -- A submission that found the link full, as the loop of a wait has it.
-use Rattle.std.proofs.Common.{◌≡◌, ℕ, ◌<◌, ◌∙◌, subst, ⊎_elim, Result, Ok, Err}
+use Rattle.std.proofs.Common.{◌≡◌, ℕ, ◌<◌, ◌∙◌, subst, ⊎_elim, Result, Err}
 use Rattle.std.proofs.lemmas.Bool.{cases_lt}
 use Rattle.rt_ids.specs.declared.names.JobId.{JobId}
 use Rattle.rt_ids.specs.declared.order.Order.{Order}
-use Rattle.rt_ids.specs.declared.order.SendError.TheVariants.{Full, NoCore}
+use Rattle.rt_ids.specs.declared.order.SendError.TheVariants.{Full}
 use Rattle.rt_runtime.specs.declared.error.SubmitError.{SubmitError}
 use Rattle.rt_runtime.specs.declared.error.SubmitError.TheVariants.{Send}
 use Rattle.rt_runtime.specs.Sends.{SubmitsTo}
@@ -13,7 +13,7 @@ module _ {J T : Type 0} (each core : ℕ) where
   -- its order comes back
   vain_full : (order back : Order J) (old new : RuntimeView J T) → SubmitsTo each core order old (Err (Send (Full back))) new → back ≡ order
   vain_full order back old new submits =
-      ⊎_elim (λ (low : core < old.desk.cores). (submits.1.there low).submits.0) (λ high. let never = (submits.1.missing high).0 in absurd cc) (cases_lt core old.desk.cores)
+      ⊎_elim (λ (low : core < submits.0.desk.cores). (submits.2.there low).submits.0) (λ high. let never = (submits.2.missing high).0 in absurd cc) (cases_lt core submits.0.desk.cores)
 
   -- so it is the order of the wait that came back
   pub full_again : (order again back : Order J) (old new : RuntimeView J T) (answer : Result JobId (SubmitError J)) → answer ≡ Err (Send (Full back)) → again ≡ order → SubmitsTo each core again old answer new →

@@ -1,5 +1,5 @@
 -- A caller that waits collects alone, and then does once what it waited for.
-use Rattle.std.proofs.Common.{◌≡◌, ◌≢◌, ℕ, zero, suc, ◌+◌, ◌<◌, ◌≤◌, List, [], ◌∷◌, ◌++◌, refl, sym, ◌∙◌, ap, subst, append_assoc, ⊎_elim, Result, Ok, Err}
+use Rattle.std.proofs.Common.{◌≡◌, ◌≢◌, ℕ, zero, suc, ◌<◌, ◌≤◌, List, [], ◌∷◌, ◌++◌, refl, sym, ◌∙◌, ap, append_assoc, ⊎_elim, Result, Ok, Err}
 use Rattle.std.proofs.lemmas.Bool.{cases_eq, cases_lt}
 use Rattle.std.proofs.lemmas.List.{append-nil}
 use Rattle.std.proofs.lemmas.List.Elements.{All-append, All-cons, All-nil}
@@ -17,12 +17,14 @@ use Rattle.rt_journal_desk.specs.Submissions.{DeskView, Submits}
 use Rattle.rt_journal_desk.specs.Tickets.{AreCollected}
 use Rattle.rt_runtime.specs.declared.error.SubmitError.{SubmitError}
 use Rattle.rt_runtime.specs.declared.error.SubmitError.TheVariants.{JournalFull, Send}
-use Rattle.rt_runtime.specs.Sends.{Sends, SubmitsTo}
+use Rattle.rt_journal_notes.specs.Journals.{free_notes}
+use Rattle.rt_runtime.specs.Passing.{passed_on, refused_of}
+use Rattle.rt_runtime.specs.Sends.{MakesRoom, Sends, SubmitsTo, room_left}
 use Rattle.rt_runtime.specs.State.{RuntimeView, SubmitsNothing, submitted}
-use Rattle.rt_runtime.specs.Tickets.{Collects, RedeemsHere}
-use Rattle.rt_runtime.specs.Waiting.{CollectsOnly, CollectsSome, InARow, RedeemsAtLast, SubmitsAtLast, TriesInVain, Waits}
+use Rattle.rt_runtime.specs.Tickets.{RedeemsHere}
+use Rattle.rt_runtime.specs.Waiting.{CollectsSome, InARow, TriesInVain}
 use Rattle.rt_runtime.proofs.Idle.{nothing_same, nothing_then}
-use Rattle.rt_runtime.specs.WaitingLaws.{AreCollections, IsCollection, OnlyRedeems, OnlySubmits, WaitsRedeemOnce, WaitsSubmitOnce, redemption}
+use Rattle.rt_runtime.specs.WaitingLaws.{AreCollections, IsCollection, OnlySubmits, WaitsRedeemOnce, WaitsSubmitOnce, redemption}
 
 -- notes of collections of one core are notes of collections
 collections_of : {T : Type 0} (core : ℕ) (notes : List (Note T)) → AreCollected core notes → AreCollections notes
@@ -40,6 +42,15 @@ module _ {J T : Type 0} where
 
   just_same : (old new : RuntimeView J T) → new ≡ old → JustCollected old new
   just_same old new same = record { collected = []; are = All-nil IsCollection; noted = ap (λ (view : RuntimeView J T). view.desk.journal.notes) same; orders = λ core. ap (λ (view : RuntimeView J T). submitted core view) same }
+
+  -- a runtime like one of which the notes and the orders are the same
+  just_like : (old new like : RuntimeView J T) → new ≡ like → like.desk.journal.notes ≡ old.desk.journal.notes → ((core : ℕ) → submitted core like ≡ submitted core old) → JustCollected old new
+  just_like old new like is notes orders = record {
+    collected = [];
+    are = All-nil IsCollection;
+    noted = ap (λ (view : RuntimeView J T). view.desk.journal.notes) is ∙ notes;
+    orders = λ core. ap (λ (view : RuntimeView J T). submitted core view) is ∙ orders core;
+  }
 
   just_then : (old between new : RuntimeView J T) → JustCollected old between → JustCollected between new → JustCollected old new
   just_then old between new first later = record {
@@ -129,10 +140,18 @@ module _ {J T : Type 0} where
         (λ high. just_same old new (sends.missing high).1)
         (cases_lt core old.desk.cores)
 
+    -- what makes room notes nothing and submits nothing
+    just_room : (each : ℕ) (old mid : RuntimeView J T) → MakesRoom each old mid → JustCollected old mid
+    just_room each old mid makes =
+        ⊎_elim
+        (λ (enough : (room_left each old ≤ free_notes old.desk.journal) × (mid ≡ old)). just_same old mid enough.1)
+        (λ (few : (free_notes old.desk.journal < room_left each old) × (mid ≡ passed_on old)). just_like old mid (passed_on old) few.1 refl (λ to. refl))
+        makes
+
     -- so does a refused submission
     refused_submission : (each : ℕ) (old : RuntimeView J T) (error : SubmitError J) (new : RuntimeView J T) → SubmitsTo each core order old (Err error) new → JustCollected old new
-    refused_submission each old (JournalFull back) new submits = just_same old new submits.2
-    refused_submission each old (Send error) new submits = refused_send old error new submits.1
+    refused_submission each old (JournalFull back) new submits = just_like old new (refused_of old) submits.2 refl (λ to. refl)
+    refused_submission each old (Send error) new submits = just_then old submits.0 new (just_room each old submits.0 submits.1) (refused_send submits.0 error new submits.2)
 
     -- the last submission, behind collections
     last_submission : (each : ℕ) (old before : RuntimeView J T) (answer : Result JobId (SubmitError J)) (new : RuntimeView J T) → JustCollected old before → SubmitsTo each core order before answer new →
@@ -140,19 +159,20 @@ module _ {J T : Type 0} where
     last_submission each old before (Err error) new waited submits =
         let all = just_then old before new waited (refused_submission each before error new submits) in
         record { collected = all.collected; are = all.are; noted = all.noted; here = all.orders core ∙ sym (append-nil (submitted core old)); others = λ other away. all.orders other }
-    last_submission each old before (Ok name) new waited submits =
+    last_submission each old before (Ok name) new waited (mid, makes, sends) =
+        let all = just_then old before mid waited (just_room each before mid makes) in
         ⊎_elim
-        (λ (low : core < before.desk.cores).
-        let did = submits.1.there low in
+        (λ (low : core < mid.desk.cores).
+        let did = sends.there low in
         record {
-          collected = waited.collected;
-          are = waited.are;
-          noted = ap (λ journal. journal.notes) did.submits.2 ∙ ap (λ notes. writes.Sent name (without_job order) ∷ notes) waited.noted;
-          here = did.orders ∙ ap (λ orders. orders ++ order ∷ []) (waited.orders core);
-          others = λ other away. did.others other away ∙ waited.orders other;
+          collected = all.collected;
+          are = all.are;
+          noted = ap (λ journal. journal.notes) did.submits.2 ∙ ap (λ notes. writes.Sent name (without_job order) ∷ notes) all.noted;
+          here = did.orders ∙ ap (λ orders. orders ++ order ∷ []) (all.orders core);
+          others = λ other away. did.others other away ∙ all.orders other;
         })
-        (λ high. let never = (submits.1.missing high).0 in absurd cc)
-        (cases_lt core before.desk.cores)
+        (λ high. let never = (sends.missing high).0 in absurd cc)
+        (cases_lt core mid.desk.cores)
 
   pub submits_once : WaitsSubmitOnce J T
   submits_once each core order old answer new did =

@@ -1,5 +1,5 @@
 -- Waits that no contract lets pass: another outcome is redeemed too, the one that is answered stays, an order is submitted twice.
-use Rattle.std.proofs.Common.{◌≡◌, ℕ, true, false, ◌+◌, List, [], ◌∷◌, ◌++◌, length, ◌∙◌, sym, subst, ap, arith, drop, Ok, length-append}
+use Rattle.std.proofs.Common.{◌≡◌, ℕ, true, false, [], ◌∷◌, ◌++◌, length, ◌∙◌, sym, subst, ap, arith, drop, Ok, length-append}
 use Rattle.std.proofs.lemmas.List.{append_cancel_right}
 use Rattle.rt_ids.specs.declared.names.JobId.{JobId}
 use Rattle.rt_ids.specs.declared.note.Note.TheVariants.{Redeemed}

@@ -10,9 +10,8 @@ use Rattle.rt_ids.specs.declared.order.Outcome.TheVariants as outcomes
 use Rattle.rt_ids.specs.Assembly.{Assembly}
 use Rattle.rt_ids.specs.Outcomes.{outcome_note}
 use Rattle.rt_link.specs.Fits.{Fits}
-use Rattle.rt_runtime.specs.Calls.{HasFinished}
 use Rattle.rt_runtime.specs.Laws.{TellsAnswer, WrongAnswersAreRefused}
-use Rattle.rt_runtime.specs.Outcomes.{AreItsOrders, FitsItsOrder, Orders}
+use Rattle.rt_runtime.specs.Outcomes.{AreItsOrders, FitsItsOrder, Orders, TellsOrders}
 use Rattle.rt_runtime.specs.State.{RuntimeView, submitted_under}
 use Rattle.rt_jobs.specs.Meanings.{Meaning}
 
@@ -34,7 +33,7 @@ module _ {J : Type 0} (meaning : Meaning J ℕ) where
   answer_of queue job (outcomes.Answered what) answer told fit = absurd cc
 
   -- what a finish tells of a job that was submitted is an answer of its task
-  pub right_answer : (view : RuntimeView J ℕ) (assembly : Assembly ℕ) (name : JobId) (job : J) (answer : ℕ) → TellsAnswer view assembly name job answer → HasFinished meaning view assembly → meaning.answers job answer
+  pub right_answer : (view : RuntimeView J ℕ) (assembly : Assembly ℕ) (name : JobId) (job : J) (answer : ℕ) → TellsAnswer view assembly name job answer → TellsOrders meaning view assembly → meaning.answers job answer
   right_answer view assembly name job answer tells finished =
       let known : name.from ≤ view.desk.cores = omega (arith, tells.caller) in
       let fits = subst (λ found. IfSome found (FitsItsOrder (Fits meaning) finished.orders name)) tells.told (finished.fitting name known tells.there) in

@@ -2,7 +2,7 @@
 use Rattle.std.specs.Prelude.{◌≡◌, ℕ, ◌+◌, ◌<◌, true, false, List, [], length, replicate, Result, Ok, Err}
 use Rattle.rt_ids.specs.Assembly.{Assembly, journal_of}
 use Rattle.rt_ids.specs.Closing.{IsDrained}
-use Rattle.rt_ids.specs.Journal.{EachNote}
+use Rattle.rt_ids.specs.Journal.{EachNote, Journal}
 use Rattle.rt_ids.specs.Joining.{AreJoined}
 use Rattle.rt_ids.specs.Sound.{IsSound}
 use Rattle.rt_ids.specs.Spelled.{IsSpelled}
@@ -18,7 +18,7 @@ use Rattle.rt_runtime.specs.declared.error.FinishError.TheVariants.{NotClosed}
 use Rattle.rt_runtime.specs.declared.error.StartError.{StartError}
 use Rattle.rt_runtime.specs.declared.error.StartError.TheVariants.{BadConfig, Memory, Thread}
 use Rattle.rt_runtime_config.specs.Configs.{Entry, IsGood}
-use Rattle.rt_runtime.specs.Outcomes.{AllFitTheirOrders, AllHaveOutcomes, AllPollsAreOwed, AreItsOrders, Orders}
+use Rattle.rt_runtime.specs.Outcomes.{AllFitTheirOrders, AllHaveOutcomes, AllPollsAreOwed, AreItsOrders, Orders, TellsOrders}
 use Rattle.rt_runtime.specs.Starting.{HaveQueues}
 use Rattle.rt_runtime.specs.State.{RuntimeView, closing_at, submitted}
 
@@ -36,6 +36,7 @@ module _ {J T : Type 0} where
     pub fresh : AreFresh cap cores view.ends
     pub none : (core : ℕ) → core < cores → submitted core view ≡ []
     pub have_queues : HaveQueues cores queues view.workers
+    pub refused : view.refused ≡ false
 
   -- this is the first core that the caller didn't close
   pub record IsFirstOpen (core : ℕ) (view : RuntimeView J T) : Type 0 where
@@ -56,12 +57,11 @@ module _ {J T : Type 0} where
   Starts cores cap burst room queues clocks gates (Err Memory) = IsGood cores cap burst room queues clocks gates
   Starts cores cap burst room queues clocks gates (Err Thread) = IsGood cores cap burst room queues clocks gates
 
-module _ {J : Type 0} (meaning : Meaning J ℕ) where
+module _ {J : Type 0} (meaning : Meaning J ℕ) (may : ℕ → Journal ℕ → Type 0) where
   -- The journals are joined, so they are sound, and they have a text. The outside journal is that of the caller's calls. Each core is drained.
-  -- It closed by itself only where its journal was short, and it sent, redeemed and let go only while one of its jobs was polled. Its journal begins
-  -- with what its worker began with. There is one order for each name, as it was sent: each has an outcome, what the journals tell of it is what it
-  -- asks, and each of its polls is one that it owes.
-  pub record HasFinished (view : RuntimeView J ℕ) (assembly : Assembly ℕ) : Type 0 where
+  -- It closed by itself, and sent, redeemed and let go, only as it may. Its journal begins with what its worker began with. There is one order for each
+  -- name, as it was sent: each has an outcome, what the journals tell of it is what it asks, and each of its polls is one that it owes.
+  pub record HasFinishedBy (view : RuntimeView J ℕ) (assembly : Assembly ℕ) : Type 0 where
     pub closed : (core : ℕ) → core < view.desk.cores → closing_at core view ≡ true
     pub cores : assembly.cores ≡ view.desk.cores
     pub cap : assembly.cap ≡ view.desk.cap
@@ -71,7 +71,7 @@ module _ {J : Type 0} (meaning : Meaning J ℕ) where
     pub spelled : IsSpelled assembly
     pub outside : journal_of view.desk.cores assembly ≡ view.desk.journal.notes
     pub drained : (core : ℕ) → core < view.desk.cores → IsDrained view.desk.cores (journal_of core assembly)
-    pub acts : (core : ℕ) → core < view.desk.cores → EachNote (MayAct (least_free view.desk.cores view.desk.cap view.desk.burst) view.room) (journal_of core assembly)
+    pub acts : (core : ℕ) → core < view.desk.cores → may core (journal_of core assembly)
     pub openings : (core : ℕ) → core < view.desk.cores → opening_of (journal_of core assembly) ≡ opening_of (worker_at core view.workers).recorded.journal.notes
     pub orders : Orders J
     pub orders_are : AreItsOrders view assembly orders
@@ -79,7 +79,20 @@ module _ {J : Type 0} (meaning : Meaning J ℕ) where
     pub fitting : AllFitTheirOrders view assembly orders (Fits meaning)
     pub polls : AllPollsAreOwed view assembly orders meaning
 
+-- what it says of the orders
+abbrev pub orders_told : {J : Type 0} {meaning : Meaning J ℕ} {may : ℕ → Journal ℕ → Type 0} {view : RuntimeView J ℕ} {assembly : Assembly ℕ} → HasFinishedBy meaning may view assembly → TellsOrders meaning view assembly
+orders_told finished = record { orders = finished.orders; orders_are = finished.orders_are; outcomes = finished.outcomes; fitting = finished.fitting; polls = finished.polls }
+
+module _ {J : Type 0} where
+  -- a core closed by itself only where its whole journal was short, and it sent, redeemed and let go only while one of its jobs was polled
+  abbrev pub MayActWhole : RuntimeView J ℕ → ℕ → Journal ℕ → Type 0
+  MayActWhole view core notes = EachNote (MayAct (least_free view.desk.cores view.desk.cap view.desk.burst) view.room) notes
+
+  -- the same of the journals of a runtime that passed nothing on
+  abbrev pub HasFinished : Meaning J ℕ → RuntimeView J ℕ → Assembly ℕ → Type 0
+  HasFinished meaning view assembly = HasFinishedBy meaning (MayActWhole view) view assembly
+
   -- a finish: a core is still open and the runtime comes back, or all workers have ended
-  abbrev pub Finishes : RuntimeView J ℕ → Result (Assembly ℕ) (FinishError (RuntimeView J ℕ)) → Type 0
-  Finishes view (Ok assembly) = HasFinished view assembly
-  Finishes view (Err (NotClosed core same)) = IsFirstOpen core view × (same ≡ view)
+  abbrev pub Finishes : Meaning J ℕ → RuntimeView J ℕ → Result (Assembly ℕ) (FinishError (RuntimeView J ℕ)) → Type 0
+  Finishes meaning view (Ok assembly) = HasFinished meaning view assembly
+  Finishes meaning view (Err (NotClosed core same)) = IsFirstOpen core view × (same ≡ view)

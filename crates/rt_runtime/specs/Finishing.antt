@@ -1,20 +1,27 @@
 -- What workers leave that have ended.
-use Rattle.std.specs.Prelude.{◌≡◌, ℕ, ◌<◌, Bool, true, false, Option, Some, None, List, length, map, All, slice_index_or}
-use Rattle.rt_ids.specs.declared.order.Order.{Order}
-use Rattle.rt_ids.specs.declared.order.Outcome.{Outcome}
+use Rattle.std.specs.Prelude.{◌≡◌, ℕ, ◌<◌, Bool, true, false, Option, Some, None, List, length, map, slice_index_or}
+use Rattle.rt_ids.specs.Journal.{Journal}
 use Rattle.rt_jobs.specs.Meanings.{Meaning}
-use Rattle.rt_journal_notes.specs.Journals.{JournalView}
 use Rattle.rt_ring_mesh.specs.Ends.{EndsView}
-use Rattle.rt_runtime_worker.specs.Linked.{LinkedView}
-use Rattle.rt_runtime_worker.specs.Ended.{HasEnded}
+use Rattle.rt_runtime_team.specs.Works.{Together}
+use Rattle.rt_runtime_worker.specs.Ended.{EndedView, HasEnded}
+use Rattle.rt_runtime.specs.declared.passed.ActorNotes.{ActorNotes}
+use Rattle.rt_runtime.specs.WithSinks.{KeepsRefused, notes_of}
 
 -- no place before this one is open, and this one is; or none is
 abbrev pub IsFirstOpenOf : List Bool → Option ℕ → Type 0
 IsFirstOpenOf closing None = (core : ℕ) → core < length closing → slice_index_or closing core false ≡ true
 IsFirstOpenOf closing (Some core) = (core < length closing) × (slice_index_or closing core false ≡ false) × ((other : ℕ) → other < core → slice_index_or closing other false ≡ true)
 
--- the ends and the journals of these workers, each of which has ended
-pub record Parts {J T : Type 0} (meaning : Meaning J T) (all : List (LinkedView J T)) (ends : List (EndsView J T)) (journals : List (JournalView T)) : Type 0 where
-  pub ended : All (HasEnded meaning) all
-  pub ends_are : ends ≡ map (λ worker. worker.ends) all
-  pub journals_are : journals ≡ map (λ worker. worker.recorded.journal) all
+module _ {J S : Type 0} (meaning : Meaning J ℕ) (has : S → Journal ℕ) (refused : S → ℕ → Type 0) where
+  -- the notes of this worker, which has ended: what its sink has, and what is kept behind it
+  pub record IsPart (worker : EndedView J ℕ S) (actor : ActorNotes S) : Type 0 where
+    pub ended : HasEnded meaning has refused worker
+    pub sink_is : actor.sink ≡ worker.sink
+    pub notes_are : notes_of has actor ≡ worker.linked.recorded.journal.notes
+    pub rest : KeepsRefused has refused actor
+
+  -- the ends and the notes of these workers
+  pub record Parts (all : List (EndedView J ℕ S)) (ends : List (EndsView J ℕ)) (actors : List (ActorNotes S)) : Type 0 where
+    pub ends_are : ends ≡ map (λ worker. worker.linked.ends) all
+    pub each : Together IsPart all actors

@@ -17,10 +17,9 @@ use Rattle.rt_jobs.specs.declared.job.Step.{Step}
 use Rattle.rt_core.specs.Whole.{settled_of}
 use Rattle.rt_journal.specs.OwedPolls.{IsPollOf}
 use Rattle.rt_journal.specs.Polls.{polls_made, settle_note}
-use Rattle.rt_runtime.specs.Calls.{HasFinished}
 use Rattle.rt_runtime.specs.declared.error.SubmitError.{SubmitError}
 use Rattle.rt_runtime.specs.Errors.{refused_order}
-use Rattle.rt_runtime.specs.Outcomes.{seen_at_end}
+use Rattle.rt_runtime.specs.Outcomes.{TellsOrders, seen_at_end}
 use Rattle.rt_runtime.specs.Sends.{SendsTo, SubmitsTo}
 use Rattle.rt_runtime.specs.State.{RuntimeView, is_told_shut, submitted_under}
 
@@ -48,20 +47,20 @@ module _ {J : Type 0} where
   -- each poll that a finish tells of a submitted job is one that this job owes
   abbrev pub ToldPollsAreOwed : Meaning J ℕ → Type 0
   ToldPollsAreOwed meaning =
-      (view : RuntimeView J ℕ) (assembly : Assembly ℕ) (name : JobId) (job : J) (step : Step ℕ) (tells : TellsPoll view assembly name job step) (finished : HasFinished meaning view assembly) →
+      (view : RuntimeView J ℕ) (assembly : Assembly ℕ) (name : JobId) (job : J) (step : Step ℕ) (tells : TellsPoll view assembly name job step) (finished : TellsOrders meaning view assembly) →
       IsPollOf meaning (record { actor = name.to; cores = view.desk.cores; cap = view.desk.cap; burst = view.desk.burst }) (seen_at_end assembly finished.orders name.to) tells.queue job name tells.time step tells.before
 
   -- a finish tells no poll of a submitted job that its task doesn't owe behind as many polls
   abbrev pub UnowedPollsAreRefused : Meaning J ℕ → Type 0
   UnowedPollsAreRefused meaning =
       (view : RuntimeView J ℕ) (assembly : Assembly ℕ) (name : JobId) (job : J) (step : Step ℕ) (tells : TellsPoll view assembly name job step) →
-      ((calls : List (Call J ℕ)) (told : Option ℕ) → meaning.polls job (meaning.made job + polls_made name tells.before) calls step told → ⊥) → HasFinished meaning view assembly → ⊥
+      ((calls : List (Call J ℕ)) (told : Option ℕ) → meaning.polls job (meaning.made job + polls_made name tells.before) calls step told → ⊥) → TellsOrders meaning view assembly → ⊥
 
   -- a finish tells no answer of a job that isn't one of its task
   abbrev pub WrongAnswersAreRefused : Meaning J ℕ → Type 0
   WrongAnswersAreRefused meaning =
       (view : RuntimeView J ℕ) (assembly : Assembly ℕ) (name : JobId) (job : J) (answer : ℕ) →
-      TellsAnswer view assembly name job answer → (meaning.answers job answer → ⊥) → HasFinished meaning view assembly → ⊥
+      TellsAnswer view assembly name job answer → (meaning.answers job answer → ⊥) → TellsOrders meaning view assembly → ⊥
 
   -- the journals tell an outcome under this name, and it fits the order
   pub record IsToldOf (meaning : Meaning J ℕ) (assembly : Assembly ℕ) (name : JobId) (order : Order J) : Type 0 where
@@ -73,7 +72,7 @@ module _ {J : Type 0} where
   abbrev pub SubmittedOrdersAreTold : Meaning J ℕ → Type 0
   SubmittedOrdersAreTold meaning =
       (view : RuntimeView J ℕ) (assembly : Assembly ℕ) (name : JobId) (order : Order J) → name.from ≡ view.desk.cores → name.to < view.desk.cores → 0 < name.number →
-      submitted_under name view ≡ Some order → HasFinished meaning view assembly → IsToldOf meaning assembly name order
+      submitted_under name view ≡ Some order → TellsOrders meaning view assembly → IsToldOf meaning assembly name order
 
   -- the answer is that the core is closed
   abbrev pub IsClosed : Result JobId (SendError J) → Type 0

@@ -1,12 +1,16 @@
 pub mod Rings
 pub mod State
+pub mod Stored
+pub mod Passing
 pub mod Starting
 pub mod Sends
 pub mod Tickets
 pub mod Waiting
 pub mod Outcomes
 pub mod Calls
+pub mod WithSinks
 pub mod Errors
 pub mod Finishing
 pub mod Laws
 pub mod WaitingLaws
+pub mod SinkLaws

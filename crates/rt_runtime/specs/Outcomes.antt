@@ -10,6 +10,7 @@ use Rattle.rt_ids.specs.Closing.{final_count}
 use Rattle.rt_ids.specs.Orders.{without_job}
 use Rattle.rt_ids.specs.Outcomes.{outcome_note}
 use Rattle.rt_jobs.specs.Meanings.{Meaning}
+use Rattle.rt_link.specs.Fits.{Fits}
 use Rattle.rt_journal.specs.OwedPolls.{PollsAreOwed}
 use Rattle.rt_journal.specs.RightAnswers.{Seen}
 use Rattle.rt_runtime.specs.State.{RuntimeView, submitted_under}
@@ -56,3 +57,12 @@ module _ {J T : Type 0} (view : RuntimeView J T) (assembly : Assembly T) (orders
   AllPollsAreOwed meaning =
       (core : ℕ) → core < view.desk.cores →
       PollsAreOwed meaning (record { actor = core; cores = view.desk.cores; cap = view.desk.cap; burst = view.desk.burst }) (seen_at_end assembly orders core) orders (journal_of core assembly)
+
+-- What the journals of a runtime that has finished tell of its orders. There is one for each name, as it was sent: each has an outcome, what is told of it is
+-- what it asks, and each of its polls is one that it owes.
+pub record TellsOrders {J : Type 0} (meaning : Meaning J ℕ) (view : RuntimeView J ℕ) (assembly : Assembly ℕ) : Type 0 where
+  pub orders : Orders J
+  pub orders_are : AreItsOrders view assembly orders
+  pub outcomes : AllHaveOutcomes view assembly orders
+  pub fitting : AllFitTheirOrders view assembly orders (Fits meaning)
+  pub polls : AllPollsAreOwed view assembly orders meaning

@@ -1,5 +1,5 @@
 -- What a send to a core does.
-use Rattle.std.specs.Prelude.{◌≡◌, ◌≢◌, ℕ, zero, suc, ◌+◌, ◌*◌, ◌<◌, ◌≤◌, Bool, true, false, ◌||◌, List, [], ◌∷◌, ◌++◌, Some, Result, Ok, Err, IfOk, slice_set}
+use Rattle.std.specs.Prelude.{◌≡◌, ◌≢◌, ◌⊎◌, ℕ, zero, suc, ◌+◌, ◌*◌, ◌<◌, ◌≤◌, Bool, true, false, ◌||◌, List, [], ◌∷◌, ◌++◌, Some, Result, Ok, Err, IfOk, slice_set}
 use Rattle.rt_ids.specs.declared.names.JobId.{JobId}
 use Rattle.rt_ids.specs.declared.order.Order.{Order}
 use Rattle.rt_ids.specs.declared.order.Order.TheVariants.{CloseCore}
@@ -14,7 +14,8 @@ use Rattle.rt_ring_mesh.specs.Ends.{out_at}
 use Rattle.rt_runtime_worker.specs.Bells.{rung_at}
 use Rattle.rt_runtime.specs.declared.error.SubmitError.{SubmitError}
 use Rattle.rt_runtime.specs.declared.error.SubmitError.TheVariants.{JournalFull, Send}
-use Rattle.rt_runtime.specs.State.{RuntimeView, StaysRunning, closing_at, is_told_shut, submitted, submitted_under}
+use Rattle.rt_runtime.specs.Passing.{passed_on, refused_of}
+use Rattle.rt_runtime.specs.State.{PassesNothing, RuntimeView, StaysRunning, closing_at, is_told_shut, submitted, submitted_under}
 
 -- how many submissions are outstanding on the links to the first cores
 abbrev pub outstanding_upto : {T : Type 0} → Journal T → ℕ → ℕ
@@ -55,6 +56,7 @@ module _ {J T : Type 0} where
     pub gates : (other : ℕ) → other ≢ core → is_told_shut other new ≡ is_told_shut other old
     pub named : IfOk answer (λ name. submitted_under name new ≡ Some order)
     pub rings : new.rung ≡ record old.rung { times = rung_at core old.rung.times; over = new.ends }
+    pub passes : PassesNothing old new
     pub stays : StaysRunning old new
 
   -- a send: the same, or there is no such core
@@ -62,8 +64,13 @@ module _ {J T : Type 0} where
     pub there : core < old.desk.cores → SendsTo core order old answer new
     pub missing : old.desk.cores ≤ core → (answer ≡ Err (NoCore order)) × (new ≡ old)
 
-  -- a submission: the journal is full, else the send
+  -- there is room for a send, or all notes are passed on first
+  abbrev pub MakesRoom : ℕ → RuntimeView J T → RuntimeView J T → Type 0
+  MakesRoom each old mid =
+      ((room_left each old ≤ free_notes old.desk.journal) × (mid ≡ old)) ⊎ ((free_notes old.desk.journal < room_left each old) × (mid ≡ passed_on old))
+
+  -- a submission: there is too little room and the sink refuses, else the send, behind what makes room
   abbrev pub SubmitsTo : ℕ → ℕ → Order J → RuntimeView J T → Result JobId (SubmitError J) → RuntimeView J T → Type 0
-  SubmitsTo each core order old (Err (JournalFull back)) new = (free_notes old.desk.journal < room_left each old) × (back ≡ order) × (new ≡ old)
-  SubmitsTo each core order old (Err (Send error)) new = (room_left each old ≤ free_notes old.desk.journal) × Sends core order old (Err error) new
-  SubmitsTo each core order old (Ok name) new = (room_left each old ≤ free_notes old.desk.journal) × Sends core order old (Ok name) new
+  SubmitsTo each core order old (Err (JournalFull back)) new = (free_notes old.desk.journal < room_left each old) × (back ≡ order) × (new ≡ refused_of old)
+  SubmitsTo each core order old (Err (Send error)) new = (mid : RuntimeView J T) × MakesRoom each old mid × Sends core order mid (Err error) new
+  SubmitsTo each core order old (Ok name) new = (mid : RuntimeView J T) × MakesRoom each old mid × Sends core order mid (Ok name) new

@@ -4,19 +4,22 @@ use Rattle.rt_ids.specs.declared.names.JobId.{JobId}
 use Rattle.rt_ids.specs.declared.order.Order.{Order}
 use Rattle.rt_ids.specs.declared.order.Outcome.{Outcome}
 use Rattle.rt_ids.specs.Spelled.{IsWithinLimits}
+use Rattle.rt_journal_notes.specs.Journals.{places_of}
 use Rattle.rt_journal_desk.specs.Submissions.{DeskView}
 use Rattle.rt_journal_desk.specs.Spending.{booked}
 use Rattle.rt_journal_desk.specs.Tickets.{HasLane}
 use Rattle.rt_ring_mesh.specs.Ends.{EndsView, out_at}
 use Rattle.rt_ring_mesh.specs.Grid.{IsGrid}
-use Rattle.rt_runtime_worker.specs.Linked.{LinkedView}
+use Rattle.rt_runtime_config.specs.Configs.{least_room}
+use Rattle.rt_runtime_worker.specs.Linked.{Grows, LinkedView}
 use Rattle.rt_runtime_worker.specs.Opening.{IsWorkerOf}
 use Rattle.rt_runtime_worker.specs.Together.{OutsideView, IsOutside, worker_at, all_ends}
 use Rattle.rt_runtime.specs.Rings.{RingsView}
 
 -- The outside actor's journal and ends, and for each core whether the caller closed it: an order to close it was accepted, or a send to it was
 -- answered `Closed`. The workers are as they began, with room for so many notes each. Which bells the caller has, how often it
--- rang that of each core, and behind what; and which bells each worker rings, by their names.
+-- rang that of each core, and behind what; and which bells each worker rings, by their names. Whether the outside actor's sink refused when it was last
+-- asked.
 pub record RuntimeView (J T : Type 0) : Type 0 where
   pub desk : DeskView J T
   pub ends : EndsView J T
@@ -25,6 +28,7 @@ pub record RuntimeView (J T : Type 0) : Type 0 where
   pub room : ℕ
   pub rung : RingsView J T
   pub bells : List (List ℕ)
+  pub refused : Bool
 
 module _ {J T : Type 0} where
   -- the outside actor
@@ -47,25 +51,34 @@ module _ {J T : Type 0} where
   abbrev pub submitted_under : JobId → RuntimeView J T → Option (Order J)
   submitted_under name view = slice_get (submitted name.to view) (name.number - 1)
 
-  -- what no call changes: the outside actor, how much room there is, the workers, and all bells
+  -- what no call changes: the outside actor, how many of its notes may be kept, each note that stands in its journal, how much room a core has, the
+  -- workers, and all bells
   pub record StaysRunning (old new : RuntimeView J T) : Type 0 where
-    pub desk : new.desk ≡ record old.desk { journal = record old.desk.journal { notes = new.desk.journal.notes }; lanes = new.desk.lanes }
+    pub desk : new.desk ≡ record old.desk { journal = new.desk.journal; lanes = new.desk.lanes }
+    pub places : places_of new.desk.journal ≡ places_of old.desk.journal
+    pub grows : Grows old.desk.journal.notes new.desk.journal.notes
     pub workers : new.workers ≡ old.workers
     pub room : new.room ≡ old.room
     pub bells : new.bells ≡ old.bells
     pub names : new.rung.names ≡ old.rung.names
 
-  -- nothing was submitted, nothing was heard of a gate, and no bell was rung
+  -- nothing was passed on, and the sink wasn't asked
+  pub record PassesNothing (old new : RuntimeView J T) : Type 0 where
+    pub journal : new.desk.journal ≡ record old.desk.journal { notes = new.desk.journal.notes }
+    pub refused : new.refused ≡ old.refused
+
+  -- nothing was submitted, nothing was passed on, nothing was heard of a gate, and no bell was rung
   pub record SubmitsNothing (old new : RuntimeView J T) : Type 0 where
     pub orders : (core : ℕ) → submitted core new ≡ submitted core old
     pub gates : (core : ℕ) → is_told_shut core new ≡ is_told_shut core old
     pub closing : new.closing ≡ old.closing
     pub rung : new.rung ≡ old.rung
+    pub passes : PassesNothing old new
     pub stays : StaysRunning old new
 
 module _ {J T : Type 0} (fits : Order J → Outcome J T → Type 0) where
   -- Each core has its worker and its bell, and the outside actor has one; all links of the house are there, and the outside actor's journal is written by the rules and beside its ends.
-  -- It has room for each note that is due of its submissions.
+  -- It has room for each note that is due of its submissions, and as many places as a worker needs.
   pub record IsRuntime (view : RuntimeView J T) : Type 0 where
     pub count : length view.workers ≡ view.desk.cores
     pub each : (core : ℕ) → core < view.desk.cores → IsWorkerOf core view.desk.cores view.desk.cap view.desk.burst view.room (worker_at core view.workers)
@@ -77,11 +90,5 @@ module _ {J T : Type 0} (fits : Order J → Outcome J T → Type 0) where
     pub lanes : (core : ℕ) → core < view.desk.cores → HasLane fits core view.desk (out_at core view.ends).out (out_at core view.ends).credited
     pub lanes_are : length view.desk.lanes ≡ view.desk.cores
     pub room_is : booked view.desk ≤ view.desk.journal.room
+    pub places : least_room view.desk.cores view.desk.cap view.desk.burst ≤ places_of view.desk.journal
     pub limits : IsWithinLimits view.desk.cores view.desk.cap view.desk.burst
-
--- what stands in a runtime beside what a caller sees: its numbers, and room for what the workers give back
-pub record IsStored {J T : Type 0} (view : RuntimeView J T) (cores cap ends journals : ℕ) : Type 0 where
-  pub cores_are : cores ≡ view.desk.cores
-  pub cap_is : cap ≡ view.desk.cap
-  pub room_ends : cores + 1 ≤ ends
-  pub room_journals : cores + 1 ≤ journals

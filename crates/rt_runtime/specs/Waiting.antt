@@ -1,5 +1,5 @@
 -- What a caller has done that waited, when it gets its answer.
-use Rattle.std.specs.Prelude.{◌≡◌, ℕ, zero, suc, ◌+◌, ◌<◌, All, List, [], take, Option, Some, None, Result, Ok, Err, slice_get}
+use Rattle.std.specs.Prelude.{◌≡◌, ℕ, zero, suc, All, List, [], take, Option, Some, None, Result, Err, slice_get}
 use Rattle.rt_ids.specs.declared.names.JobId.{JobId}
 use Rattle.rt_ids.specs.declared.names.TicketError.{TicketError}
 use Rattle.rt_ids.specs.declared.names.TicketError.TheVariants.{Pending}

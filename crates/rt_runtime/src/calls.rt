@@ -12,6 +12,7 @@ ghost use Rattle.rt_journal_desk.specs.Submissions.{Submits, numbered};
 ghost use Rattle.rt_journal_desk.specs.Tickets.{HasLane, StaysBeside};
 ghost use Rattle.rt_journal_desk.specs.Spending.{Spends, booked};
 ghost use Rattle.rt_ring_mesh.specs.Ends.{out_at};
+ghost use Rattle.rt_runtime.specs.Passing.{passed_on};
 ghost use Rattle.rt_runtime.specs.Sends.{Sends, SubmitsTo, accepted, is_closing, outstanding_upto, room_left, tells_closing};
 
 use crate::error::SubmitError;
@@ -19,6 +20,7 @@ use crate::runtime::Runtime;
 use rt_ids::{CoreNo, Mode, Order, SendError, Ticket};
 use rt_jobs::Task;
 use rt_journal::RecordedDesk;
+use rt_journal_notes::Sink;
 use rt_link::OutEnd;
 use rt_ring_mesh::Ends;
 
@@ -85,7 +87,7 @@ fn outstanding_at<J: Task<Out = u64>>(desk: &RecordedDesk<J>, ends: &Ends<J>, co
     desk.outstanding(&ends.outs[core as usize], CoreNo(core))
 }
 
-impl<J: Task<Out = u64>, C: Drop, G: Drop> Runtime<J, C, G> {
+impl<J: Task<Out = u64>, C: Drop, G: Drop, S: Sink> Runtime<J, C, G, S> {
     /// How many submissions are outstanding on all links.
     fn outstanding(&self) -> u128
         ensures value { result ≡ outstanding_upto self.now.desk.journal.notes self.now.desk.cores }
@@ -100,9 +102,10 @@ impl<J: Task<Out = u64>, C: Drop, G: Drop> Runtime<J, C, G> {
 
     /// Whether the journal has too few notes free for a send: three for each submission that is outstanding, this one among them, and so
     /// many for each core.
-    fn is_full(&self, each: u8) -> bool
+    pub(crate) fn is_full(&self, each: u8) -> bool
         ensures full { IsTrue result ↔ (free_notes self.now.desk.journal < room_left each self.now) }
         ensures room { result ≡ false → booked self.now.desk + 3 ≤ self.now.desk.journal.room }
+        ensures behind { booked (passed_on self.now).desk + 3 ≤ (passed_on self.now).desk.journal.room }
     {
         let places = 3 * (self.outstanding() + 1) + each as u128 * self.cores as u128;
         (self.desk.journal().free() as u128) < places
@@ -125,17 +128,18 @@ impl<J: Task<Out = u64>, C: Drop, G: Drop> Runtime<J, C, G> {
         answer
     }
 
-    /// Sends an order to a core, and leaves room for what the submissions may still need.
+    /// Sends an order to a core, and leaves room for what the submissions may still need. Where the outside journal has too few notes free,
+    /// those that are kept are passed on first.
     ///
     /// # Errors
     ///
-    /// Tried in this order, and the order comes back: `JournalFull` where the outside journal has too few notes free; `Send` where there is
-    /// no such core, and where its link refuses.
+    /// Tried in this order, and the order comes back: `JournalFull` where the outside journal has too few notes free, and its sink refuses;
+    /// `Send` where there is no such core, and where its link refuses.
     pub fn submit(&mut self, to: CoreNo, order: Order<J>) -> Result<Ticket, SubmitError<J>>
         requires ready { HasReadyJob J.meaning order }
         ensures { SubmitsTo 3 to order self.old result self.new }
     {
-        if self.is_full(3) {
+        if self.make_room(3).is_err() {
             return Err(SubmitError::JournalFull(order));
         }
         match self.send(to, order) {
@@ -153,7 +157,7 @@ impl<J: Task<Out = u64>, C: Drop, G: Drop> Runtime<J, C, G> {
         ensures { SubmitsTo 0 core (CloseCore mode) self.old result self.new }
     {
         let order = Order::CloseCore(mode);
-        if self.is_full(0) {
+        if self.make_room(0).is_err() {
             return Err(SubmitError::JournalFull(order));
         }
         match self.send(core, order) {

@@ -1,19 +1,21 @@
 //! How the workers of a runtime end, and what their journals are together.
 
-ghost use Rattle.std.specs.Prelude.{◌≡◌, ◌+◌, ◌<◌, ◌≤◌, ℕ, true, [], length, map, vec_capacity};
+ghost use Rattle.std.specs.Prelude.{◌≡◌, ◌+◌, ◌<◌, ◌≤◌, ℕ, true, [], length, vec_capacity};
 ghost use Rattle.rt_ring_mesh.specs.Grid.{IsGrid, AreReunited};
 ghost use Rattle.rt_link.specs.Fits.{Fits};
-ghost use Rattle.rt_runtime_worker.specs.Ended.{HasEnded};
-ghost use Rattle.rt_runtime.specs.Calls.{Finishes, HasFinished};
+ghost use Rattle.rt_runtime.specs.Calls.{Finishes};
 ghost use Rattle.rt_runtime.specs.State.{closing_at};
-ghost use Rattle.rt_runtime.specs.Finishing.{IsFirstOpenOf, Parts};
+ghost use Rattle.rt_runtime.specs.Finishing.{IsFirstOpenOf, IsPart, Parts};
+ghost use Rattle.rt_runtime.specs.WithSinks.{FinishesWithSinks, HasPassed, KeepsRefused, assembly_of, notes_of};
 
 use crate::error::FinishError;
+use crate::passed::{ActorNotes, Passed};
 use crate::runtime::Runtime;
 use rt_ids::CoreNo;
 use rt_ids::laws::{joined_are_spelled, joining_is_sound};
 use rt_jobs::{Job, Task};
-use rt_journal::{Assembly, Journal};
+use rt_journal::RecordedDesk;
+use rt_journal_notes::{Assembly, Journal, Sink, Whole};
 use rt_ring_mesh::laws::grid_is_kept;
 use rt_ring_mesh::{Ends, reunite_all};
 use rt_runtime_config::{Clock, Gate};
@@ -22,38 +24,51 @@ use rt_runtime_worker::laws::ended_are_joined;
 use std::sync::Wait;
 use std::thread::Threads;
 
-/// What one worker leaves: its ends and its journal.
-fn part<J: Task<Out = u64>>(ended: Ended<J>) -> (Ends<J>, Journal<u64>)
-    ensures ends { result.0 ≡ ended.ends }
-    ensures journal { result.1 ≡ ended.recorded.journal }
-    ensures ended { HasEnded J.meaning ended }
+/// What one worker leaves: its ends and its notes.
+fn part<J: Task<Out = u64>, S: Sink>(ended: Ended<J, S>) -> (Ends<J>, ActorNotes<S>)
+    ensures ends { result.0 ≡ ended.linked.ends }
+    ensures part { IsPart J.meaning S.has S.refused ended result.1 }
 {
-    let (recorded, ends) = ended.into_linked().into_parts();
-    (ends, recorded.into_journal())
+    let (linked, sink) = ended.into_parts();
+    let (recorded, ends) = linked.into_parts();
+    let kept = recorded.into_journal().into_kept();
+    (ends, ActorNotes { sink, kept })
 }
 
-/// What all workers leave: their ends, and their journals.
-fn part_all<J: Task<Out = u64>>(
-    all: Vec<Ended<J>>,
+/// What all workers leave: their ends and their notes.
+fn part_all<J: Task<Out = u64>, S: Sink>(
+    all: Vec<Ended<J, S>>,
     ends: Vec<Ends<J>>,
-    journals: Vec<Journal<u64>>,
-) -> (Vec<Ends<J>>, Vec<Journal<u64>>)
+    actors: Vec<ActorNotes<S>>,
+) -> (Vec<Ends<J>>, Vec<ActorNotes<S>>)
     requires no_ends { ends.items ≡ [] }
-    requires no_journals { journals.items ≡ [] }
+    requires no_actors { actors.items ≡ [] }
     requires room_ends { length all.items ≤ vec_capacity ends }
-    requires room_journals { length all.items ≤ vec_capacity journals }
-    ensures parts { Parts J.meaning all.items result.0.items result.1.items }
+    requires room_actors { length all.items ≤ vec_capacity actors }
+    ensures parts { Parts J.meaning S.has S.refused all.items result.0.items result.1.items }
     ensures room_ends { vec_capacity result.0 ≡ vec_capacity ends }
-    ensures room_journals { vec_capacity result.1 ≡ vec_capacity journals }
+    ensures room_actors { vec_capacity result.1 ≡ vec_capacity actors }
 {
     let mut all_ends = ends;
-    let mut all_journals = journals;
+    let mut all_actors = actors;
     for one in all {
-        let (its_ends, journal) = part(one);
+        let (its_ends, actor) = part(one);
         all_ends.push_reserved(its_ends);
-        all_journals.push_reserved(journal);
+        all_actors.push_reserved(actor);
     }
-    (all_ends, all_journals)
+    (all_ends, all_actors)
+}
+
+/// The notes of the outside actor. What is kept is passed on for the last time.
+fn part_outside<J: Task<Out = u64>, S: Sink>(desk: RecordedDesk<J>, sink: S) -> ActorNotes<S>
+    requires { S.has sink ≡ desk.journal.passed }
+    ensures notes { notes_of S.has result ≡ desk.journal.notes }
+    ensures rest { KeepsRefused S.has S.refused result }
+{
+    let (mut desk, mut sink) = (desk, sink);
+    let _answer = desk.pass_on(&mut sink);
+    let kept = desk.into_journal().into_kept();
+    ActorNotes { sink, kept }
 }
 
 /// The first core that the caller didn't close.
@@ -69,51 +84,88 @@ fn first_open(cores: u8, closing: &[bool]) -> Option<u8>
     None
 }
 
-/// Ends the links of a house whose workers have ended, and puts its journals together.
-fn assemble<J: Task<Out = u64>>(
-    cores: u8,
-    cap: u16,
-    burst: u8,
-    ends: Vec<Ends<J>>,
-    journals: Vec<Journal<u64>>,
-) -> Assembly
-    requires grid { IsGrid cores ends.items }
-    requires count { length journals.items ≡ cores + 1 }
-    ensures assembly { result ≡ record { cores = cores; cap = cap; burst = burst; journals = map (λ journal. journal.notes) journals.items } }
-    ensures reunited { AreReunited (Fits J.meaning) cores ends.items }
+/// The journals of actors that passed nothing on, together.
+fn whole_assembly(passed: Passed<Whole>, journals: Vec<Journal<u64>>) -> Assembly
+    requires none { journals.items ≡ [] }
+    requires room { length passed.actors.items ≤ vec_capacity journals }
+    requires count { length passed.actors.items ≡ passed.cores + 1 }
+    ensures { result ≡ assembly_of ⟦<Whole as Sink>⟧.has passed }
 {
-    reunite_all(ends, cores);
-    Assembly::of_burst(cores, cap, burst, journals)
+    let Passed {
+        cores,
+        cap,
+        burst,
+        actors,
+    } = passed;
+    let mut all = journals;
+    for actor in actors {
+        let ActorNotes { kept, .. } = actor;
+        all.push_reserved(kept);
+    }
+    Assembly::of_burst(cores, cap, burst, all)
 }
 
-impl<J: Job + Task<Out = u64>, C: Clock + Drop, G: Gate + Drop> Runtime<J, C, G> {
-    /// Waits until all workers have ended.
-    fn end<R: Threads + Wait>(self, rt: &R) -> Assembly
+impl<J: Job + Task<Out = u64>, C: Clock + Drop, G: Gate + Drop, S: Sink> Runtime<J, C, G, S> {
+    /// Waits until all workers have ended, and ends the links. Room for the journals comes back beside the notes.
+    fn end<R: Threads + Wait>(self, rt: &R) -> (Passed<S>, Vec<Journal<u64>>)
         requires { (core : ℕ) → core < length self.closing → closing_at core self ≡ true }
-        ensures { HasFinished J.meaning self result }
+        ensures passed { HasPassed J.meaning S.has S.refused self result.0 }
+        ensures none { result.1.items ≡ [] }
+        ensures room { length result.0.actors.items ≤ vec_capacity result.1 }
     {
         let Runtime {
             cores,
             cap,
             desk,
             ends,
+            sink,
             team,
             spare_ends,
+            spare_actors,
             spare_journals,
             ..
         } = self;
-        let (mut all, mut journals) = part_all(team.join(rt), spare_ends, spare_journals);
+        let (mut all, mut actors) = part_all(team.join(rt), spare_ends, spare_actors);
         let burst = desk.burst();
         all.push_reserved(ends);
-        journals.push_reserved(desk.into_journal());
+        actors.push_reserved(part_outside(desk, sink));
         grid_is_kept::<J>();
-        let assembly = assemble(cores, cap, burst, all, journals);
+        reunite_all(all, cores);
         ended_are_joined::<J>();
         joining_is_sound();
         joined_are_spelled();
-        assembly
+        let passed = Passed {
+            cores,
+            cap,
+            burst,
+            actors,
+        };
+        (passed, spare_journals)
     }
 
+    /// Waits until all workers have ended. The notes of each actor come back: its sink, and what the sink refused. The body asks for no
+    /// memory; no clause says so.
+    ///
+    /// # Errors
+    ///
+    /// `NotClosed` for the first core that the caller didn't close: its worker would not end. The runtime comes back.
+    pub fn finish_with_sinks<R: Threads + Wait>(
+        self,
+        rt: &R,
+    ) -> Result<Passed<S>, FinishError<Self>>
+        ensures { FinishesWithSinks J.meaning S.has S.refused self result }
+    {
+        match first_open(self.cores, &self.closing) {
+            Some(core) => Err(FinishError::NotClosed(CoreNo(core), self)),
+            None => {
+                let (passed, _journals) = self.end(rt);
+                Ok(passed)
+            }
+        }
+    }
+}
+
+impl<J: Job + Task<Out = u64>, C: Clock + Drop, G: Gate + Drop> Runtime<J, C, G> {
     /// Waits until all workers have ended, and puts the journals together. The body asks for no memory; no clause says so.
     ///
     /// # Errors
@@ -124,7 +176,10 @@ impl<J: Job + Task<Out = u64>, C: Clock + Drop, G: Gate + Drop> Runtime<J, C, G>
     {
         match first_open(self.cores, &self.closing) {
             Some(core) => Err(FinishError::NotClosed(CoreNo(core), self)),
-            None => Ok(self.end(rt)),
+            None => {
+                let (passed, journals) = self.end(rt);
+                Ok(whole_assembly(passed, journals))
+            }
         }
     }
 }

@@ -3,9 +3,11 @@
 ghost use Rattle.std.specs.Prelude.{ℕ};
 ghost use Rattle.rt_link.specs.Fits.{Fits};
 ghost use Rattle.rt_runtime.specs.Laws.{ClosedStaysClosed, RefusedOrdersComeBack, SubmittedOrdersAreTold, ToldPollsAreOwed, UnowedPollsAreRefused, WrongAnswersAreRefused};
+ghost use Rattle.rt_runtime.specs.SinkLaws.{NeverRefusedNeverShort};
 ghost use Rattle.rt_runtime.specs.WaitingLaws.{WaitsRedeemOnce, WaitsSubmitOnce};
 
 use rt_jobs::Task;
+use rt_journal_notes::Sink;
 
 /// No finish tells of a submitted job an answer that isn't one of its task, also if nobody redeems it.
 pub fn wrong_answers_are_refused<J: Task<Out = u64>>()
@@ -45,4 +47,9 @@ pub fn waits_redeem_once<J: Task<Out = u64>>()
 /// A caller that waits for a place collects, and then submits its order once. It redeems and lets go nothing.
 pub fn waits_submit_once<J: Task<Out = u64>>()
     ensures { WaitsSubmitOnce J ℕ }
+{}
+
+/// Where no sink refused no core closed by itself, and the sinks have all notes.
+pub fn never_refused_never_short<J: Task<Out = u64>, S: Sink>()
+    ensures { NeverRefusedNeverShort J.meaning S.has S.refused }
 {}

@@ -5,6 +5,8 @@ mod calls;
 pub mod error;
 mod finishing;
 pub mod laws;
+pub mod passed;
+mod passing;
 mod rings;
 pub mod runtime;
 mod starting;
@@ -12,6 +14,8 @@ mod tickets;
 mod waiting;
 
 pub use error::{FinishError, StartError, SubmitError};
+pub use passed::{ActorNotes, Passed};
+pub use rt_journal_notes::{Refused, Sink, Whole};
 pub use rt_runtime_config::{Clock, Config, Gate, NoGate, SystemClock};
 pub use rt_runtime_worker::{Ended, Worker};
 pub use runtime::Runtime;

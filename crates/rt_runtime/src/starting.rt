@@ -1,18 +1,21 @@
 //! How a runtime is started.
 
-ghost use Rattle.std.specs.Prelude.{◌≡◌, ◌+◌, ◌≤◌, All, false, IfOk, length, map, replicate};
+ghost use Rattle.std.specs.Prelude.{◌≡◌, ◌+◌, ◌≤◌, All, [], false, IfOk, length, map, replicate, vec_capacity};
 ghost use Rattle.rt_runtime_config.specs.Configs.{IsGood};
 ghost use Rattle.rt_runtime_team.specs.Works.{Together};
 ghost use Rattle.rt_journal_desk.specs.Submissions.{IsWritten, opened_desk, terms_of_desk};
 ghost use Rattle.rt_runtime.specs.Calls.{Begins, Starts};
+ghost use Rattle.rt_runtime.specs.WithSinks.{StartsWithSinks};
 ghost use Rattle.rt_runtime.specs.Starting.{AreOpening, IsHouse, IsOpenedWith, IsWiredWith};
 
 use crate::error::StartError;
+use crate::passed::ActorNotes;
 use crate::rings::Rings;
 use crate::runtime::Runtime;
 use rt_ids::ActorNo;
 use rt_jobs::{Job, Task};
 use rt_journal::RecordedDesk;
+use rt_journal_notes::{Journal, Sink, Whole};
 use rt_ring_mesh::{Ends, open_all};
 use rt_runtime_config::{Clock, Config, Gate, is_good};
 use rt_runtime_team::{NotStarted, Team};
@@ -21,88 +24,112 @@ use std::alloc::{AllocError, Global};
 use std::sync::Wait;
 use std::thread::Threads;
 
-/// What a worker is opened with: its ends, and the clock and the gate of its number.
+/// What a worker is opened with: its ends, and the clock, the gate and the sink of its number.
 #[derive(Drop)]
-struct Seat<J: Task<Out = u64>, C: Drop, G: Drop> {
+struct Seat<J: Task<Out = u64>, C: Drop, G: Drop, S: Sink> {
     ends: Ends<J>,
     clock: C,
     gate: G,
+    sink: S,
 }
 
-/// Deals the clocks and the gates: the actor at each place gets those of its place.
-fn deal<J: Task<Out = u64>, C: Drop, G: Drop>(
+/// Deals the clocks, the gates and the sinks: the actor at each place gets those of its place.
+fn deal<J: Task<Out = u64>, C: Drop, G: Drop, S: Sink>(
     alloc: Global,
     all: Vec<Ends<J>>,
     clocks: Vec<C>,
     gates: Vec<G>,
-) -> Result<Vec<Seat<J, C, G>>, AllocError>
+    sinks: Vec<S>,
+) -> Result<Vec<Seat<J, C, G, S>>, AllocError>
     requires clocks { length clocks.items ≡ length all.items }
     requires gates { length gates.items ≡ length all.items }
+    requires sinks { length sinks.items ≡ length all.items }
     ensures ends { IfOk result (λ seats. map (λ seat. seat.ends) seats.items ≡ all.items) }
     ensures clocks { IfOk result (λ seats. map (λ seat. seat.clock) seats.items ≡ clocks.items) }
     ensures gates { IfOk result (λ seats. map (λ seat. seat.gate) seats.items ≡ gates.items) }
+    ensures sinks { IfOk result (λ seats. map (λ seat. seat.sink) seats.items ≡ sinks.items) }
 {
     let mut seats = Vec::with_capacity(alloc, all.len())?;
-    let (mut clocks, mut gates) = (clocks, gates);
+    let (mut clocks, mut gates, mut sinks) = (clocks, gates, sinks);
     for ends in all {
         let (clock, gate) = (clocks.remove(0), gates.remove(0));
-        seats.push_reserved(Seat { ends, clock, gate });
+        let sink = sinks.remove(0);
+        seats.push_reserved(Seat {
+            ends,
+            clock,
+            gate,
+            sink,
+        });
     }
     Ok(seats)
 }
 
 /// Opens a worker of each seat.
-fn open_seats<J: Task<Out = u64>, C: Drop, G: Drop>(
+fn open_seats<J: Task<Out = u64>, C: Drop, G: Drop, S: Sink>(
     alloc: Global,
     config: &Config,
-    seats: Vec<Seat<J, C, G>>,
+    seats: Vec<Seat<J, C, G, S>>,
     bells: &Bells,
-) -> Result<Vec<Worker<J, C, G>>, AllocError>
+) -> Result<Vec<Worker<J, C, G, S>>, AllocError>
     requires each { All (λ seat. AreOpening config.now.cores config.now.cap config.now.burst config.now.room config.now.queues.items seat.ends) seats.items }
+    requires empty { All (λ seat. S.has seat.sink ≡ []) seats.items }
     requires bells { length bells.now.rings ≡ config.now.cores + 1 }
-    ensures { IfOk result (λ opened. Together (λ seat worker. IsWiredWith (IsOpenedWith config.now.cores config.now.cap config.now.burst config.now.room config.now.queues.items seat.ends) seat.clock seat.gate bells.now.names worker) seats.items opened.items) }
+    ensures { IfOk result (λ opened. Together (λ seat worker. IsWiredWith (IsOpenedWith config.now.cores config.now.cap config.now.burst config.now.room config.now.queues.items seat.ends) seat.clock seat.gate seat.sink bells.now.names worker) seats.items opened.items) }
 {
     let mut workers = Vec::with_capacity(alloc, seats.len())?;
     for seat in seats {
-        let Seat { ends, clock, gate } = seat;
-        workers.push_reserved(Worker::open(alloc, config, ends, clock, gate, bells)?);
+        let Seat {
+            ends,
+            clock,
+            gate,
+            sink,
+        } = seat;
+        workers.push_reserved(Worker::open(alloc, config, ends, clock, gate, bells, sink)?);
     }
     Ok(workers)
 }
 
-/// Opens the workers of a house, each with the clock and the gate of its number. All ring the same bells.
-fn open_workers<J: Task<Out = u64>, C: Drop, G: Drop>(
+/// Opens the workers of a house, each with the clock, the gate and the sink of its number. All ring the same bells.
+fn open_workers<J: Task<Out = u64>, C: Drop, G: Drop, S: Sink>(
     alloc: Global,
     config: &Config,
     all: Vec<Ends<J>>,
     bells: &Bells,
     clocks: Vec<C>,
     gates: Vec<G>,
-) -> Result<Vec<Worker<J, C, G>>, AllocError>
+    sinks: Vec<S>,
+) -> Result<Vec<Worker<J, C, G, S>>, AllocError>
     requires each { All (AreOpening config.now.cores config.now.cap config.now.burst config.now.room config.now.queues.items) all.items }
     requires bells { length bells.now.rings ≡ config.now.cores + 1 }
     requires clocks { length clocks.items ≡ length all.items }
     requires gates { length gates.items ≡ length all.items }
+    requires sinks { length sinks.items ≡ length all.items }
+    requires empty { All (λ sink. S.has sink ≡ []) sinks.items }
     ensures opened { IfOk result (λ opened. Together (IsOpenedWith config.now.cores config.now.cap config.now.burst config.now.room config.now.queues.items) all.items (map (λ worker. worker.linked) opened.items)) }
     ensures clocks { IfOk result (λ opened. map (λ worker. worker.clock) opened.items ≡ clocks.items) }
     ensures gates { IfOk result (λ opened. map (λ worker. worker.gate) opened.items ≡ gates.items) }
+    ensures sinks { IfOk result (λ opened. map (λ worker. worker.sink) opened.items ≡ sinks.items) }
     ensures bells { IfOk result (λ opened. map (λ worker. worker.bells) opened.items ≡ map (λ ends. bells.now.names) all.items) }
 {
-    let seats = deal(alloc, all, clocks, gates)?;
+    let seats = deal(alloc, all, clocks, gates, sinks)?;
     open_seats(alloc, config, seats, bells)
 }
 
 /// What a house has before its threads are there: its workers, their bells, and the outside actor's ends.
-fn open_house<J: Task<Out = u64>, C: Drop, G: Drop>(
+fn open_house<J: Task<Out = u64>, C: Drop, G: Drop, S: Sink>(
     alloc: Global,
     config: &Config,
     clocks: Vec<C>,
     gates: Vec<G>,
-) -> Result<(Vec<Worker<J, C, G>>, Bells, Ends<J>), AllocError>
-    requires { IsGood config.now.cores config.now.cap config.now.burst config.now.room config.now.queues.items (length clocks.items) (length gates.items) }
+    sinks: Vec<S>,
+) -> Result<(Vec<Worker<J, C, G, S>>, Bells, Ends<J>), AllocError>
+    requires good { IsGood config.now.cores config.now.cap config.now.burst config.now.room config.now.queues.items (length clocks.items) (length gates.items) }
+    requires sinks { length sinks.items ≡ config.now.cores }
+    requires empty { All (λ sink. S.has sink ≡ []) sinks.items }
     ensures house { IfOk result (λ house. IsHouse config.now.cores config.now.cap config.now.burst config.now.room config.now.queues.items (map (λ worker. worker.linked) house.0.items) house.2) }
     ensures clocks { IfOk result (λ house. map (λ worker. worker.clock) house.0.items ≡ clocks.items) }
     ensures gates { IfOk result (λ house. map (λ worker. worker.gate) house.0.items ≡ gates.items) }
+    ensures sinks { IfOk result (λ house. map (λ worker. worker.sink) house.0.items ≡ sinks.items) }
     ensures shared { IfOk result (λ house. map (λ worker. worker.bells) house.0.items ≡ replicate config.now.cores house.1.names) }
     ensures bells { IfOk result (λ house. house.1.rings ≡ replicate (config.now.cores + 1) 0) }
 {
@@ -113,7 +140,7 @@ fn open_house<J: Task<Out = u64>, C: Drop, G: Drop>(
     let Some(outside) = all.pop() else {
         unreachable!()
     };
-    let workers = open_workers(alloc, config, all, &bells, clocks, gates)?;
+    let workers = open_workers(alloc, config, all, &bells, clocks, gates, sinks)?;
     Ok((workers, bells, outside))
 }
 
@@ -140,7 +167,35 @@ fn open_outside<J: Task<Out = u64>>(
     Ok((desk, closing))
 }
 
-impl<J: Task<Out = u64>, C: Drop, G: Drop> Runtime<J, C, G> {
+/// A sink that takes nothing for each actor.
+fn whole_sinks(alloc: Global, cores: u8) -> Result<Vec<Whole>, AllocError>
+    ensures { IfOk result (λ sinks. length sinks.items ≡ cores + 1) }
+{
+    let mut sinks = Vec::new(alloc);
+    sinks.resize(cores as usize + 1, Whole)?;
+    Ok(sinks)
+}
+
+/// Room for what the actors of a house give back: their ends, their notes, and their journals.
+type Spares<J, S> = (Vec<Ends<J>>, Vec<ActorNotes<S>>, Vec<Journal<u64>>);
+
+/// Takes room for what so many actors give back.
+fn open_spares<J: Task<Out = u64>, S: Sink>(
+    alloc: Global,
+    cores: u8,
+) -> Result<Spares<J, S>, AllocError>
+    ensures ends { IfOk result (λ spares. (spares.0.items ≡ []) × (cores + 1 ≤ vec_capacity spares.0)) }
+    ensures actors { IfOk result (λ spares. (spares.1.items ≡ []) × (cores + 1 ≤ vec_capacity spares.1)) }
+    ensures journals { IfOk result (λ spares. (spares.2.items ≡ []) × (cores + 1 ≤ vec_capacity spares.2)) }
+{
+    let actors = cores as usize + 1;
+    let ends = Vec::with_capacity(alloc, actors)?;
+    let notes = Vec::with_capacity(alloc, actors)?;
+    let journals = Vec::with_capacity(alloc, actors)?;
+    Ok((ends, notes, journals))
+}
+
+impl<J: Task<Out = u64>, C: Drop, G: Drop, S: Sink> Runtime<J, C, G, S> {
     /// Starts the threads of a house that is open.
     fn begin<R>(
         rt: R,
@@ -148,26 +203,30 @@ impl<J: Task<Out = u64>, C: Drop, G: Drop> Runtime<J, C, G> {
         config: &Config,
         clocks: Vec<C>,
         gates: Vec<G>,
+        sinks: Vec<S>,
     ) -> Result<Self, StartError>
     where
         J: Job + Send + 'static,
         C: Clock + Send + 'static,
         G: Gate + Send + 'static,
+        S: Send + 'static,
         R: Threads + Wait + Copy + Drop + Send + 'static,
-        requires { IsGood config.now.cores config.now.cap config.now.burst config.now.room config.now.queues.items (length clocks.items) (length gates.items) }
+        requires good { IsGood config.now.cores config.now.cap config.now.burst config.now.room config.now.queues.items (length clocks.items) (length gates.items) }
+        requires sinks { length sinks.items ≡ config.now.cores + 1 }
+        requires empty { All (λ sink. S.has sink ≡ []) sinks.items }
         ensures { Begins config.now.cores config.now.cap config.now.burst config.now.room config.now.queues.items result }
     {
-        let actors = config.cores as usize + 1;
-        let Ok((workers, bells, ends)) = open_house(alloc, config, clocks, gates) else {
+        let mut sinks = sinks;
+        let Some(sink) = sinks.pop() else {
+            unreachable!()
+        };
+        let Ok((workers, bells, ends)) = open_house(alloc, config, clocks, gates, sinks) else {
             return Err(StartError::Memory);
         };
         let Ok((desk, closing)) = open_outside(alloc, config) else {
             return Err(StartError::Memory);
         };
-        let Ok(spare_ends) = Vec::with_capacity(alloc, actors) else {
-            return Err(StartError::Memory);
-        };
-        let Ok(spare_journals) = Vec::with_capacity(alloc, actors) else {
+        let Ok((spare_ends, spare_actors, spare_journals)) = open_spares(alloc, config.cores) else {
             return Err(StartError::Memory);
         };
         let bells = Rings::of(bells, &ends);
@@ -178,10 +237,13 @@ impl<J: Task<Out = u64>, C: Drop, G: Drop> Runtime<J, C, G> {
                 room: config.room,
                 desk,
                 ends,
+                sink,
+                refused: false,
                 bells,
                 closing,
                 team,
                 spare_ends,
+                spare_actors,
                 spare_journals,
             }),
             Err(NotStarted::Memory(_)) => Err(StartError::Memory),
@@ -189,6 +251,44 @@ impl<J: Task<Out = u64>, C: Drop, G: Drop> Runtime<J, C, G> {
         }
     }
 
+    /// The same as `start`, where each actor passes its notes on: each core has a sink by its number, and the last one is the outside actor's.
+    /// Memory is taken for the notes that are kept, so a runtime lives as long as its sinks take them.
+    ///
+    /// # Limits
+    ///
+    /// Those of `start`, except that room comes back as often as a sink takes what is kept. A core closes by itself, and a submission is refused
+    /// for want of room, only if a sink refused.
+    ///
+    /// # Errors
+    ///
+    /// As `start`, and `BadConfig` also where there isn't a sink for each core and one for the outside actor.
+    pub fn start_with_sinks<R>(
+        rt: R,
+        alloc: Global,
+        config: Config,
+        clocks: Vec<C>,
+        gates: Vec<G>,
+        sinks: Vec<S>,
+    ) -> Result<Self, StartError>
+    where
+        J: Job + Send + 'static,
+        C: Clock + Send + 'static,
+        G: Gate + Send + 'static,
+        S: Send + 'static,
+        R: Threads + Wait + Copy + Drop + Send + 'static,
+        requires { All (λ sink. S.has sink ≡ []) sinks.items }
+        ensures { StartsWithSinks config.cores config.cap config.burst config.room config.queues.items (length clocks.items) (length gates.items) (length sinks.items) result }
+    {
+        if !is_good(&config, clocks.len(), gates.len())
+            || sinks.len() != config.cores as usize + 1
+        {
+            return Err(StartError::BadConfig);
+        }
+        Self::begin(rt, alloc, &config, clocks, gates, sinks)
+    }
+}
+
+impl<J: Task<Out = u64>, C: Drop, G: Drop> Runtime<J, C, G> {
     /// Starts a worker for each core, each with a clock and a gate of its own, on a thread of its own. All memory is taken here, except what
     /// an order to create a queue takes.
     ///
@@ -224,6 +324,9 @@ impl<J: Task<Out = u64>, C: Drop, G: Drop> Runtime<J, C, G> {
         if !is_good(&config, clocks.len(), gates.len()) {
             return Err(StartError::BadConfig);
         }
-        Self::begin(rt, alloc, &config, clocks, gates)
+        let Ok(sinks) = whole_sinks(alloc, config.cores) else {
+            return Err(StartError::Memory);
+        };
+        Self::begin(rt, alloc, &config, clocks, gates, sinks)
     }
 }

@@ -14,6 +14,7 @@ use crate::runtime::Runtime;
 use rt_ids::{CoreNo, Outcome, Ticket, TicketError};
 use rt_jobs::Task;
 use rt_journal::RecordedDesk;
+use rt_journal_notes::Sink;
 use rt_ring_mesh::Ends;
 
 /// Collects all outcomes that the end to this core shows.
@@ -82,7 +83,7 @@ fn detach_on<J: Task<Out = u64>>(
     desk.detach(&mut ends.outs[to.0 as usize], ticket)
 }
 
-impl<J: Task<Out = u64>, C: Drop, G: Drop> Runtime<J, C, G> {
+impl<J: Task<Out = u64>, C: Drop, G: Drop, S: Sink> Runtime<J, C, G, S> {
     /// Collects all outcomes that the link to a core shows. How many there were: 0 where there is no such core.
     pub fn collect(&mut self, core: CoreNo) -> usize
         ensures { Collects core self.old result self.new }

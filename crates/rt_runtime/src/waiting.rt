@@ -10,6 +10,7 @@ use crate::error::SubmitError;
 use crate::runtime::Runtime;
 use rt_ids::{ActorNo, CoreNo, Order, Outcome, SendError, Ticket, TicketError};
 use rt_jobs::Task;
+use rt_journal_notes::Sink;
 use rt_runtime_worker::{Bell, Key, sleep};
 use std::alloc::AllocError;
 use std::sync::Wait;
@@ -31,7 +32,7 @@ impl Quiet<'_> {
     }
 }
 
-impl<J: Task<Out = u64>, C: Drop, G: Drop> Runtime<J, C, G> {
+impl<J: Task<Out = u64>, C: Drop, G: Drop, S: Sink> Runtime<J, C, G, S> {
     /// Collects all outcomes that the links show. Whether there was one.
     fn collect_all(&mut self) -> bool
         ensures collects { CollectsOnly self.old self.new }

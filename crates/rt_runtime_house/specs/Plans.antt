@@ -6,6 +6,7 @@ use Rattle.rt_runtime_config.specs.Configs.{Entry, queues_of}
 use Rattle.rt_runtime_worker.specs.Queues.{creations}
 use Rattle.rt_runtime.specs.Calls.{Starts}
 use Rattle.rt_runtime.specs.State.{RuntimeView}
+use Rattle.rt_runtime.specs.WithSinks.{StartsWithSinks}
 use Rattle.rt_runtime.specs.declared.error.StartError.{StartError}
 use Rattle.rt_runtime_house.specs.declared.house.PlanError.{PlanError}
 use Rattle.rt_runtime_house.specs.declared.house.PlanError.TheVariants.{NoCore, TooMany, Memory}
@@ -49,3 +50,8 @@ PlansQueue core shares text old (Err Memory) new = (core < old.cores) × (queues
 abbrev pub StartsPlan : {J T : Type 0} → Plan → Result (RuntimeView J T × List Name) StartError → Type 0
 StartsPlan plan (Ok started) = Starts plan.cores plan.cap plan.burst plan.room plan.queues plan.cores plan.cores (Ok started.0) × (started.1 ≡ plan.names)
 StartsPlan {J} {T} plan (Err error) = Starts {J = J} {T = T} plan.cores plan.cap plan.burst plan.room plan.queues plan.cores plan.cores (Err error)
+
+-- the same with so many sinks
+abbrev pub StartsPlanWithSinks : {J T : Type 0} → Plan → ℕ → Result (RuntimeView J T × List Name) StartError → Type 0
+StartsPlanWithSinks plan sinks (Ok started) = StartsWithSinks plan.cores plan.cap plan.burst plan.room plan.queues plan.cores plan.cores sinks (Ok started.0) × (started.1 ≡ plan.names)
+StartsPlanWithSinks {J} {T} plan sinks (Err error) = StartsWithSinks {J = J} {T = T} plan.cores plan.cap plan.burst plan.room plan.queues plan.cores plan.cores sinks (Err error)

@@ -1,14 +1,14 @@
 //! A house that is planned before its threads are there.
 
-ghost use Rattle.std.specs.Prelude.{◌≡◌, ◌+◌, ◌≤◌, IfOk, length, min};
+ghost use Rattle.std.specs.Prelude.{◌≡◌, ◌+◌, ◌≤◌, All, [], IfOk, length, min};
 ghost use Rattle.rt_ids.specs.Limits.{most_notes};
 ghost use Rattle.rt_runtime_config.specs.Configs.{least_room, queues_of};
-ghost use Rattle.rt_runtime_house.specs.Plans.{fresh_plan, PlansQueue, StartsPlan};
+ghost use Rattle.rt_runtime_house.specs.Plans.{fresh_plan, PlansQueue, StartsPlan, StartsPlanWithSinks};
 
 use crate::names::QueueNames;
 use rt_ids::{CoreNo, MOST_NOTES, MOST_QUEUES, QueueNo};
 use rt_jobs::{Job, Task};
-use rt_runtime::{Runtime, StartError};
+use rt_runtime::{Runtime, Sink, StartError, Whole};
 use rt_runtime_config::{Config, NoGate, SystemClock, is_good};
 use rt_shares::Shares;
 use std::alloc::{AllocError, Global};
@@ -73,8 +73,19 @@ fn gates(alloc: Global, cores: u8) -> Result<Vec<NoGate>, AllocError>
     Ok(gates)
 }
 
+/// A clock and a gate for each core.
+type Wiring<R> = (Vec<SystemClock<R>>, Vec<NoGate>);
+
+/// A system's clock and a gate that does nothing for each core.
+fn wiring<R: Copy + Drop>(rt: R, alloc: Global, cores: u8) -> Result<Wiring<R>, AllocError>
+    ensures clocks { IfOk result (λ wiring. length wiring.0.items ≡ cores) }
+    ensures gates { IfOk result (λ wiring. length wiring.1.items ≡ cores) }
+{
+    Ok((clocks(rt, alloc, cores)?, gates(alloc, cores)?))
+}
+
 /// The threads of a house whose cores read the system's clock round each poll, and ask nobody before it.
-pub type Node<J, R> = Runtime<J, SystemClock<R>, NoGate>;
+pub type Node<J, R, S = Whole> = Runtime<J, SystemClock<R>, NoGate, S>;
 
 /// A house before its threads are there: how many cores it has, and which queues, by name.
 #[derive(Drop)]
@@ -188,13 +199,40 @@ impl House {
         if !is_good(&config, cores as usize, cores as usize) {
             return Err(StartError::BadConfig);
         }
-        let Ok(clocks) = clocks(rt, alloc, cores) else {
-            return Err(StartError::Memory);
-        };
-        let Ok(gates) = gates(alloc, cores) else {
+        let Ok((clocks, gates)) = wiring(rt, alloc, cores) else {
             return Err(StartError::Memory);
         };
         let runtime = Runtime::start(rt, alloc, config, clocks, gates)?;
+        Ok((runtime, names))
+    }
+
+    /// The same, where each core passes on its notes to the sink of its number, and the outside actor to the last one. None of them has a note yet.
+    ///
+    /// # Errors
+    ///
+    /// Those of `Runtime::start_with_sinks`.
+    pub fn start_with_sinks<J, R, S>(
+        self,
+        rt: R,
+        alloc: Global,
+        sinks: Vec<S>,
+    ) -> Result<(Node<J, R, S>, QueueNames), StartError>
+    where
+        J: Job + Task<Out = u64> + Send + 'static,
+        R: Threads + Wait + time::Clock + Copy + Drop + Send + 'static,
+        S: Sink + Send + 'static,
+        requires { All (λ sink. S.has sink ≡ []) sinks.items }
+        ensures { StartsPlanWithSinks self (length sinks.items) result }
+    {
+        let House { config, names } = self;
+        let cores = config.cores;
+        if !is_good(&config, cores as usize, cores as usize) || sinks.len() != cores as usize + 1 {
+            return Err(StartError::BadConfig);
+        }
+        let Ok((clocks, gates)) = wiring(rt, alloc, cores) else {
+            return Err(StartError::Memory);
+        };
+        let runtime = Runtime::start_with_sinks(rt, alloc, config, clocks, gates, sinks)?;
         Ok((runtime, names))
     }
 }

@@ -1,10 +1,10 @@
 //! Boxed jobs on a runtime: their times, and what becomes of one that never ends.
 
-use crate::house::{House, begin, named, new_mark, plain, says};
 use rt_audit::{Verdict, audit};
 use rt_ids::{ActorNo, CoreNo, Mode, Note, Order, QueueNo, Reason};
 use rt_jobs::{AnyJob, Polled, Range, Step, polled_job};
 use rt_journal::{Assembly, Journal};
+use rt_runtime_test_house::{House, begin, named, new_mark, plain, says};
 use std::alloc::{AllocError, Global};
 use std::sync::Wait;
 use std::sync::atomic::Ordering;

@@ -3,12 +3,12 @@
 ghost use Rattle.std.specs.Prelude.{◌≡◌, false};
 ghost use Rattle.rt_jobs.specs.Example.{is_ended};
 
-use crate::house::{House, begin, new_mark, plain, with_burst};
 use rt_audit::{Verdict, audit};
 use rt_ids::{ActorNo, CoreNo, Mode, Note, Order, QueueNo};
 use rt_jobs::example::Work;
 use rt_journal::Journal;
 use rt_runtime::StartError;
+use rt_runtime_test_house::{House, begin, new_mark, plain, with_burst};
 use std::alloc::{AllocError, Global};
 use std::sync::Wait;
 use std::test::Fail;

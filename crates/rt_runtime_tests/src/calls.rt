@@ -3,13 +3,13 @@
 ghost use Rattle.std.specs.Prelude.{◌≡◌, false};
 ghost use Rattle.rt_jobs.specs.Example.{is_ended};
 
-use crate::house::{House, begin, collects, named, new_mark, plain, says, with_queue};
 use rt_ids::{
     ActorNo, Answer, CoreNo, Mode, Note, Order, Outcome, QueueNo, Reason, Ticket, TicketError,
 };
 use rt_jobs::example::Work;
 use rt_journal::Assembly;
 use rt_runtime::{FinishError, StartError, SubmitError};
+use rt_runtime_test_house::{House, begin, collects, named, new_mark, plain, says, with_queue};
 use rt_shares::Shares;
 use std::alloc::{AllocError, Global};
 use std::sync::Wait;

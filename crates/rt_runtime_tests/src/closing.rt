@@ -2,10 +2,10 @@
 
 ghost use Rattle.std.specs.Prelude.{◌≡◌, false};
 
-use crate::house::{House, Mark, begin, collects, is_set_soon, new_mark, plain};
 use rt_ids::{CoreNo, Mode, Order, Outcome, QueueNo, SendError, Ticket};
 use rt_jobs::{Job, Post, Step, Task};
 use rt_runtime::SubmitError;
+use rt_runtime_test_house::{House, Mark, begin, collects, is_set_soon, new_mark, plain};
 use std::alloc::AllocError;
 use std::sync::atomic::Ordering;
 use std::sync::{Arc, Wait};

@@ -11,15 +11,3 @@ mod calls;
 mod closing;
 #[cfg(test)]
 mod errors;
-#[cfg(test)]
-mod house;
-#[cfg(test)]
-mod meeting;
-#[cfg(test)]
-mod parks;
-#[cfg(test)]
-mod waits;
-#[cfg(test)]
-mod waking;
-#[cfg(test)]
-mod wiring;

@@ -1,8 +1,9 @@
 -- What a core may write while it polls, and what leaves it polling.
-use Rattle.std.proofs.Common.{◌≡◌, ◌≢◌, ℕ, List, [], ◌∷◌, ◌++◌, length, refl, sym, ◌∙◌, ap, arith}
+use Rattle.std.proofs.Common.{◌≡◌, ◌≢◌, inl, inr, ℕ, List, [], ◌∷◌, ◌++◌, length, refl, sym, ◌∙◌, ap, subst, arith}
 use Rattle.std.specs.Prelude.{Bool, true, false}
 use Rattle.std.proofs.lemmas.List.{length-append}
 use Rattle.rt_ids.specs.declared.names.JobId.{JobId}
+use Rattle.rt_ids.specs.declared.note.Note.{Note}
 use Rattle.rt_ids.specs.declared.note.Note.TheVariants as writes
 use Rattle.rt_ids.specs.Journal.{Journal, EachNote}
 use Rattle.rt_ids.specs.Lines.{jobs_out, names_but}
@@ -11,7 +12,10 @@ use Rattle.rt_core.specs.declared.turn.Settled.TheVariants as settled
 use Rattle.rt_journal.specs.Polls.{poll_note, settle_note}
 use Rattle.rt_journal_desk.specs.Posts.{ArePosts}
 use Rattle.rt_journal_desk.specs.Tickets.{AreCollected}
-use Rattle.rt_runtime_worker.specs.Rooms.{IsPolling, MayAct}
+use Rattle.rt_journal.specs.Ends.{IsSameSeat}
+use Rattle.rt_journal.specs.Recorded.{RecordedView}
+use Rattle.rt_runtime_worker.proofs.Along.{least_along}
+use Rattle.rt_runtime_worker.specs.Rooms.{least_free, ActsAsItMay, ActsByCommand, IsPolling, MayAct}
 
 more_than_none : {A : Type 0} (items : List A) (item : A) → items ++ item ∷ [] ≢ []
 more_than_none items item none = absurd (omega (arith, ap length none, length-append items (item ∷ [])))
@@ -58,3 +62,30 @@ module _ {T : Type 0} where
   collects_act least room core [] before are each = each
   collects_act least room core (writes.Collected name outcome ∷ notes) before are each = (tt, collects_act least room core notes before are.1 each)
   collects_act least room core (_ ∷ notes) before are each = absurd are
+
+  -- what a core does by a command it may do anyhow
+  command_note : (least room : ℕ) (note : Note T) (before : Journal T) → MayAct 0 0 note before → MayAct least room note before
+  command_note least room (writes.CoreClosed mode) before (inl told) = inl told
+  command_note least room (writes.CoreClosed mode) before (inr short) = absurd (omega (arith, short.1))
+  command_note least room (writes.Sent name order) before may = may
+  command_note least room (writes.Redeemed name outcome) before may = may
+  command_note least room (writes.Detached name) before may = may
+  command_note least room _ before may = tt
+
+  pub command_acts : (least room : ℕ) (notes : Journal T) → ActsByCommand notes → EachNote (MayAct least room) notes
+  command_acts least room [] each = tt
+  command_acts least room (note ∷ before) each = (command_note least room note before each.0, command_acts least room before each.1)
+
+module _ {J T : Type 0} where
+  -- what a core may do by the old numbers it may do by the new ones
+  pub acts_at : (old new : RecordedView J T) → IsSameSeat old new → EachNote (MayAct (least_free old.core.cores old.cap old.core.bursts.burst) old.journal.room) new.journal.notes → ActsAsItMay true new
+  acts_at old new seat each =
+      subst (λ least. EachNote (MayAct least new.journal.room) new.journal.notes)
+      (sym (least_along old new seat))
+      (subst (λ room. EachNote (MayAct (least_free old.core.cores old.cap old.core.bursts.burst) room) new.journal.notes) (sym seat.room) each)
+
+  -- a step by which a core may act as it may before
+  pub acts_here : (ending : Bool) (old new : RecordedView J T) → IsSameSeat old new → ((least room : ℕ) → EachNote (MayAct least room) old.journal.notes → EachNote (MayAct least room) new.journal.notes) →
+      ActsAsItMay ending old → ActsAsItMay ending new
+  acts_here false old new seat step each = step 0 0 each
+  acts_here true old new seat step each = acts_at old new seat (step (least_free old.core.cores old.cap old.core.bursts.burst) old.journal.room each)

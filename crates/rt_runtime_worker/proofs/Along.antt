@@ -1,5 +1,5 @@
 -- Steps one after another.
-use Rattle.std.proofs.Common.{ℕ, [], ◌++◌, refl, sym, ◌∙◌, ap, arith}
+use Rattle.std.proofs.Common.{◌≡◌, ℕ, ◌-◌, [], ◌++◌, length, refl, sym, ◌∙◌, ap, arith}
 use Rattle.std.proofs.lemmas.List.{append_assoc}
 use Rattle.rt_ids.specs.Journal.{Journal}
 use Rattle.rt_journal.specs.Recorded.{RecordedView}
@@ -8,7 +8,8 @@ use Rattle.rt_journal_desk.specs.Ends.{KeepsOuts}
 use Rattle.rt_journal_desk.specs.Submissions.{DeskView}
 use Rattle.rt_ring_mesh.proofs.Using.{ends_same, ends_along}
 use Rattle.rt_ring_mesh.specs.Ends.{EndsView}
-use Rattle.rt_runtime_worker.specs.Linked.{LinkedView, Grows, SeesNoLess, StaysLinked}
+use Rattle.rt_runtime_worker.specs.Linked.{LinkedView, Grows, RunsOn, SeesNoLess, StaysLinked}
+use Rattle.rt_runtime_worker.specs.Rooms.{least_free}
 
 module _ {T : Type 0} where
   pub grows_same : (notes : Journal T) → Grows notes notes
@@ -31,10 +32,17 @@ module _ {J T : Type 0} where
     cap = two.cap ∙ one.cap;
     burst = two.burst ∙ one.burst;
     room = two.room ∙ one.room;
+    passed = two.passed ∙ one.passed;
   }
 
+  -- a journal is short with as few notes free as before
+  pub least_along : (old new : RecordedView J T) → IsSameSeat old new → least_free new.core.cores new.cap new.core.bursts.burst ≡ least_free old.core.cores old.cap old.core.bursts.burst
+  least_along old new seat =
+      ap (λ cores. least_free cores new.cap new.core.bursts.burst) seat.cores
+      ∙ (ap (λ cap. least_free old.core.cores cap new.core.bursts.burst) seat.cap ∙ ap (λ burst. least_free old.core.cores old.cap burst) seat.burst)
+
   pub seat_same : (view : RecordedView J T) → IsSameSeat view view
-  seat_same view = record { number = refl; cores = refl; cap = refl; burst = refl; room = refl }
+  seat_same view = record { number = refl; cores = refl; cap = refl; burst = refl; room = refl; passed = refl }
 
   pub sees_same : (ends : EndsView J T) → SeesNoLess ends ends
   sees_same ends = record { ins = λ sender. omega arith; outs = λ core. omega arith }
@@ -51,6 +59,30 @@ module _ {J T : Type 0} where
   pub stays_along : (old middle new : LinkedView J T) → StaysLinked old middle → StaysLinked middle new → StaysLinked old new
   stays_along old middle new one two = record {
     seat = seat_along old.recorded middle.recorded new.recorded one.seat two.seat;
+    ends = ends_along old.ends middle.ends new.ends one.ends two.ends;
+    sees = sees_along old.ends middle.ends new.ends one.sees two.sees;
+    opening = two.opening ∙ one.opening;
+    grows = grows_along old.recorded.journal.notes middle.recorded.journal.notes new.recorded.journal.notes one.grows two.grows;
+  }
+
+  -- a step is part of a worker's life
+  pub runs_stays : (old new : LinkedView J T) → StaysLinked old new → RunsOn old new
+  runs_stays old new stays = record {
+    seat = λ i. record { actor = stays.seat.number i; cores = stays.seat.cores i; cap = stays.seat.cap i; burst = stays.seat.burst i };
+    places = ap (λ room. room - length new.recorded.journal.passed) stays.seat.room ∙ ap (λ passed. old.recorded.journal.room - length passed) stays.seat.passed;
+    ends = stays.ends;
+    sees = stays.sees;
+    opening = stays.opening;
+    grows = stays.grows;
+  }
+
+  pub runs_same : (view : LinkedView J T) → RunsOn view view
+  runs_same view = runs_stays view view (stays_same view)
+
+  pub runs_along : (old middle new : LinkedView J T) → RunsOn old middle → RunsOn middle new → RunsOn old new
+  runs_along old middle new one two = record {
+    seat = two.seat ∙ one.seat;
+    places = two.places ∙ one.places;
     ends = ends_along old.ends middle.ends new.ends one.ends two.ends;
     sees = sees_along old.ends middle.ends new.ends one.sees two.sees;
     opening = two.opening ∙ one.opening;

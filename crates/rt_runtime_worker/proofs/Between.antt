@@ -99,6 +99,10 @@ module _ {J T : Type 0} where
   pub between_same : (old new : RecordedView J T) → new ≡ old → IsBetweenTurns old → IsBetweenTurns new
   between_same old new is = subst IsBetweenTurns (sym is)
 
+  -- and none with the same notes
+  pub between_notes : (old new : RecordedView J T) → new.core.bursts.burst ≡ old.core.bursts.burst → new.journal.notes ≡ old.journal.notes → IsBetweenTurns old → IsBetweenTurns new
+  between_notes old new burst notes between = ap (λ burst. queue_in_turn burst new.journal.notes) burst ∙ (ap (queue_in_turn old.core.bursts.burst) notes ∙ between)
+
 module _ {J T : Type 0} (old new : RecordedView J T) (ends : EndsView J T) (time : ℕ) (did : EndsTurn old time new) (seat : IsSameSeat old new) where
   -- the end of a turn leaves no turn open, and each note stays
   pub ended_between : IsBetweenTurns new

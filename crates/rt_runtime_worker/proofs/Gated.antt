@@ -26,8 +26,9 @@ use Rattle.rt_runtime_worker.specs.Linked.{LinkedView, IsLinked, StaysLinked}
 use Rattle.rt_runtime_worker.specs.Queues.{opening_of}
 use Rattle.rt_runtime_worker.specs.Steps.{ShutsGate}
 use Rattle.rt_runtime_worker.specs.Gates.{WritesShut, WritesReturn, IsShutWithin, LeavesShut, LeavesReturning, ShutsFirst, KeepsTaken}
-use Rattle.rt_runtime_worker.specs.Rooms.{last_through, least_free, MayAct, ActsAsItMay, HasSpare, IsShort, IsEnding}
-use Rattle.rt_runtime_worker.proofs.Along.{sees_same, stays_along, stays_same}
+use Rattle.rt_runtime_worker.specs.Rooms.{last_through, least_free, MayAct, ActsAsItMay, ActsByCommand, HasSpare, IsShort, IsEnding}
+use Rattle.rt_runtime_worker.proofs.Acting.{acts_at, command_acts}
+use Rattle.rt_runtime_worker.proofs.Along.{seat_along, sees_same, stays_along, stays_same}
 use Rattle.rt_runtime_worker.proofs.Asking.{return_notes_none, shut_notes_none}
 use Rattle.rt_runtime_worker.specs.Asks.{NotesNoPoll}
 use Rattle.rt_runtime_worker.proofs.Stepping.{sends_kept}
@@ -90,7 +91,7 @@ module _ {J T : Type 0} where
     mode = refl;
     longer = omega arith;
     polls = refl;
-    acts = λ least each. each;
+    acts = λ least room each. each;
     stays = stays_same old;
     taken = λ sender. refl;
   }
@@ -113,7 +114,7 @@ module _ {J T : Type 0} where
     mode = mode_same count middle.recorded.journal new.recorded.journal next.wrote ∙ first.mode;
     longer = omega (arith, first.longer, one_longer count middle.recorded.journal new.recorded.journal next.wrote);
     polls = shut_notes_none count middle.recorded.journal new.recorded.journal next.wrote ∙ first.polls;
-    acts = λ least each. shut_acts count least old.recorded.journal.room middle.recorded.journal new.recorded.journal next.wrote (first.acts least each);
+    acts = λ least room each. shut_acts count least room middle.recorded.journal new.recorded.journal next.wrote (first.acts least room each);
     stays = stays_along old middle new first.stays next.stays;
     taken = λ sender. next.taken sender ∙ first.taken sender;
   }
@@ -147,25 +148,18 @@ module _ {J T : Type 0} where
           omega (arith, all_within, same_places, places, spare, returned_room, shuts.longer, returns.stays.seat.cores, cores, room, linked.recorded.kept.is_core);
     }
 
-    pub ending_acts : IsShort old.recorded → ActsAsItMay old.recorded.core.cores old.recorded.cap old.recorded.core.bursts.burst old.recorded.journal →
-        ActsAsItMay new.recorded.core.cores new.recorded.cap new.recorded.core.bursts.burst new.recorded.journal
+    -- it closed by itself just now, since its journal is short
+    pub ending_acts : IsShort old.recorded → ActsByCommand old.recorded.journal.notes → ActsAsItMay true new.recorded
     ending_acts short each =
-        let cores : new.recorded.core.cores ≡ old.recorded.core.cores = shuts.stays.seat.cores ∙ returns.stays.seat.cores in
-        let cap : new.recorded.cap ≡ old.recorded.cap = shuts.stays.seat.cap ∙ returns.stays.seat.cap in
-        let burst : new.recorded.core.bursts.burst ≡ old.recorded.core.bursts.burst = shuts.stays.seat.burst ∙ returns.stays.seat.burst in
-        let room : new.recorded.journal.room ≡ middle.recorded.journal.room = shuts.stays.seat.room in
-        subst (λ least. EachNote (MayAct least new.recorded.journal.room) new.recorded.journal.notes)
-        (sym (ap (λ cores. least_free cores new.recorded.cap new.recorded.core.bursts.burst) cores
-        ∙ (ap (λ cap. least_free old.recorded.core.cores cap new.recorded.core.bursts.burst) cap ∙ ap (λ burst. least_free old.recorded.core.cores old.recorded.cap burst) burst)))
-        (subst (λ room. EachNote (MayAct (least_free old.recorded.core.cores old.recorded.cap old.recorded.core.bursts.burst) room) new.recorded.journal.notes) (sym room)
-        (shuts.acts (least_free old.recorded.core.cores old.recorded.cap old.recorded.core.bursts.burst)
-        (subst (λ room. EachNote (MayAct (least_free old.recorded.core.cores old.recorded.cap old.recorded.core.bursts.burst) room) middle.recorded.journal.notes) (sym returns.stays.seat.room)
-        (by_return middle.recorded.journal returns.wrote))))
+        acts_at old.recorded new.recorded (seat_along old.recorded middle.recorded new.recorded returns.stays.seat shuts.stays.seat)
+        (shuts.acts (least_free old.recorded.core.cores old.recorded.cap old.recorded.core.bursts.burst) old.recorded.journal.room
+        (by_return middle.recorded.journal returns.wrote (command_acts _ _ old.recorded.journal.notes each)))
       where
-        by_return : (now : JournalView T) → WritesReturn old.recorded.journal now → EachNote (MayAct (least_free old.recorded.core.cores old.recorded.cap old.recorded.core.bursts.burst) old.recorded.journal.room) now.notes
-        by_return now (inl same) = subst (λ journal. EachNote (MayAct (least_free old.recorded.core.cores old.recorded.cap old.recorded.core.bursts.burst) old.recorded.journal.room) journal.notes) (sym same) each
-        by_return now (inr wrote) =
-            subst (λ journal. EachNote (MayAct (least_free old.recorded.core.cores old.recorded.cap old.recorded.core.bursts.burst) old.recorded.journal.room) journal.notes) (sym wrote) (inr (refl, short), each)
+        by_return : (now : JournalView T) → WritesReturn old.recorded.journal now → EachNote (MayAct (least_free old.recorded.core.cores old.recorded.cap old.recorded.core.bursts.burst) old.recorded.journal.room) old.recorded.journal.notes →
+            EachNote (MayAct (least_free old.recorded.core.cores old.recorded.cap old.recorded.core.bursts.burst) old.recorded.journal.room) now.notes
+        by_return now (inl same) may = subst (λ journal. EachNote (MayAct (least_free old.recorded.core.cores old.recorded.cap old.recorded.core.bursts.burst) old.recorded.journal.room) journal.notes) (sym same) may
+        by_return now (inr wrote) may =
+            subst (λ journal. EachNote (MayAct (least_free old.recorded.core.cores old.recorded.cap old.recorded.core.bursts.burst) old.recorded.journal.room) journal.notes) (sym wrote) (inr (refl, short), may)
 
   -- a core that closes by itself and shuts its gates notes no poll
   pub ending_notes_none : (old middle new : LinkedView J T) (count : ℕ) → LeavesReturning old middle → ShutsFirst count middle new → NotesNoPoll old.recorded.journal.notes new.recorded.journal.notes

@@ -27,8 +27,12 @@ pub mod Between
 pub mod Gated
 pub mod Serving
 pub mod Telling
+pub mod Fewer
 pub mod Heard
 mod Looked
+mod Passed
+mod Supplied
+pub mod GivenBack
 mod Resting
 pub mod Opened
 pub mod Creating

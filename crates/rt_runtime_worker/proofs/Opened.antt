@@ -28,7 +28,7 @@ use Rattle.rt_ring_mesh.specs.Ends.{EndsView, IsFreshOut, in_at, no_out}
 use Rattle.rt_runtime_config.specs.Configs.{least_room}
 use Rattle.rt_runtime_worker.specs.Linked.{IsBetweenTurns, IsLinked}
 use Rattle.rt_runtime_worker.specs.Opening.{AreEndsOf, IsOpenedOver, CreatesSince}
-use Rattle.rt_runtime_worker.specs.Rooms.{least_free, MayAct, ActsAsItMay, HasSpare}
+use Rattle.rt_runtime_worker.specs.Rooms.{MayAct, ActsByCommand, HasSpare}
 use Rattle.rt_runtime_worker.proofs.Along.{ins_along, outs_along, seat_along, seat_same}
 use Rattle.rt_runtime_worker.proofs.Between.{opening_between}
 
@@ -166,8 +166,8 @@ module _ {J T : Type 0} where
           let places : (recorded.core.cores + 1) * (recorded.cap + 1) ≡ (cores + 1) * (cap + 1) = ap (λ cores. (cores + 1) * (recorded.cap + 1)) created.seat.cores ∙ ap (λ cap. (cores + 1) * (cap + 1)) created.seat.cap in
           omega (arith, enough, created.few, places, created.seat.room)
 
-      pub opened_acts : ActsAsItMay recorded.core.cores recorded.cap recorded.core.bursts.burst recorded.journal
-      opened_acts = opening_acts (least_free recorded.core.cores recorded.cap recorded.core.bursts.burst) recorded.journal.room recorded.journal.notes created.opening
+      pub opened_acts : ActsByCommand recorded.journal.notes
+      opened_acts = opening_acts 0 0 recorded.journal.notes created.opening
 
       pub opened_terms : terms_at recorded ≡ record { actor = core; cores = cores; cap = cap; burst = burst }
       opened_terms = λ i. record { actor = created.seat.number i; cores = created.seat.cores i; cap = created.seat.cap i; burst = created.seat.burst i }
@@ -177,6 +177,7 @@ module _ {J T : Type 0} where
         of = record {
           terms = opened_terms ∙ ap (λ actor. record { actor = actor; cores = cores; cap = cap; burst = burst }) (sym number);
           room_is = created.seat.room;
+          none_passed = created.seat.passed;
         };
         ends_are = refl;
       }

@@ -1,23 +1,21 @@
 -- What the notes of a poll tell: its pick, if it is the first of its turn, its beginning, what it posts, and its settling.
-use Rattle.std.proofs.Common.{◌≡◌, ℕ, suc, ◌+◌, ◌<◌, List, [], ◌∷◌, ◌++◌, length, refl, sym, ◌∙◌, ap, subst, arith}
+use Rattle.std.proofs.Common.{◌≡◌, ℕ, suc, ◌+◌, [], ◌∷◌, ◌++◌, length, refl, sym, ◌∙◌, ap, subst, arith}
 use Rattle.std.specs.Prelude.{Bool, true, false, Option, Some, None, unwrap_or}
 use Rattle.std.proofs.lemmas.List.{append_assoc, length-append}
 use Rattle.rt_ids.specs.declared.names.JobId.{JobId}
-use Rattle.rt_ids.specs.declared.note.Note.{Note}
 use Rattle.rt_ids.specs.declared.note.Note.TheVariants as writes
 use Rattle.rt_ids.specs.Journal.{Journal, EachNote}
 use Rattle.rt_jobs.specs.Meanings.{Meaning}
 use Rattle.rt_core.specs.declared.turn.Settled.{Settled}
 use Rattle.rt_core.specs.declared.turn.Settled.TheVariants as came
 use Rattle.rt_journal.specs.Polls.{poll_note, settle_note}
-use Rattle.rt_journal.specs.Recorded.{RecordedView}
 use Rattle.rt_journal.specs.Steps.{with_notes}
 use Rattle.rt_journal.specs.Whole.{Begins}
 use Rattle.rt_journal_desk.specs.Posts.{ArePosts}
 use Rattle.rt_runtime_worker.specs.Asks.{polls_of}
 use Rattle.rt_runtime_worker.specs.Linked.{LinkedView, Grows}
 use Rattle.rt_runtime_worker.specs.Queues.{opening_of}
-use Rattle.rt_runtime_worker.specs.Rooms.{IsPolling, MayAct}
+use Rattle.rt_runtime_worker.specs.Rooms.{MayAct}
 use Rattle.rt_runtime_worker.specs.Rounds.{TellsNotes}
 use Rattle.rt_runtime_worker.specs.Steps.{PollsOne, PollsFirst, PollsFurther}
 use Rattle.rt_runtime_worker.proofs.Acting.{begins_poll, posts_act, settles_act}

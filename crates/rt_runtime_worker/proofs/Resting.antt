@@ -1,28 +1,69 @@
 -- Rounds of a worker, one after another, as its states show them.
-use Rattle.std.proofs.Common.{◌≡◌, ℕ, List, subst}
-use Rattle.std.specs.Prelude.{Bool, nat_lt}
+use Rattle.std.proofs.Common.{◌≡◌, ℕ, List, sym, ap, subst}
+use Rattle.std.specs.Prelude.{Bool, nat_lt, not, if◌then◌else◌}
+use Rattle.rt_ids.specs.Journal.{Journal}
 use Rattle.rt_ids.specs.declared.names.JobId.{JobId}
 use Rattle.rt_jobs.specs.Meanings.{Meaning}
-use Rattle.rt_runtime_worker.specs.Linked.{LinkedView}
-use Rattle.rt_runtime_worker.specs.Looks.{MakesRound}
-use Rattle.rt_runtime_worker.specs.Serves.{CountsIdle, GoesOn, round_of}
-use Rattle.rt_runtime_worker.specs.Workers.{WorkerView}
+use Rattle.rt_runtime_worker.specs.Asks.{AsksSince, polls_of}
+use Rattle.rt_runtime_worker.specs.Bells.{BellView}
+use Rattle.rt_runtime_worker.specs.Linked.{LinkedView, RunsOn, StaysLinked}
+use Rattle.rt_runtime_worker.specs.Looks.{LooksAtAll, MakesRound}
+use Rattle.rt_runtime_worker.specs.Passing.{HandsOnWhere, IsDue, IsDueAtRest}
+use Rattle.rt_runtime_worker.specs.Serves.{CountsIdle, GoesOn, Rests, round_of}
+use Rattle.rt_runtime_worker.specs.Workers.{IsBellOf, WorkerView, served_of}
+use Rattle.rt_runtime_worker.proofs.Along.{runs_along, runs_stays}
+use Rattle.rt_runtime_worker.proofs.Asking.{asks_none, asks_then}
+use Rattle.rt_runtime_worker.proofs.Supplied.{where_gate, where_notes, where_runs}
 
 -- a worker, put together
-abbrev pub worker_of : {J T C G : Type 0} → LinkedView J T → Bool → C → G → ℕ → ℕ → ℕ → ℕ → List ℕ → WorkerView J T C G
-worker_of linked ending clock gate taken turns tries idle bells =
-    record { linked = linked; ending = ending; clock = clock; gate = gate; taken = taken; turns = turns; tries = tries; idle = idle; bells = bells }
+abbrev pub worker_of : {J T C G S : Type 0} → LinkedView J T → Bool → C → G → ℕ → ℕ → ℕ → ℕ → List ℕ → S → WorkerView J T C G S
+worker_of linked ending clock gate taken turns tries idle bells sink =
+    record { linked = linked; ending = ending; clock = clock; gate = gate; taken = taken; turns = turns; tries = tries; idle = idle; bells = bells; sink = sink }
 
-module _ {J T C G : Type 0} (meaning : Meaning J T) (reads : C → ℕ → C → Type 0) (asked : G → ℕ → JobId → G → Type 0) where
-  -- a round that was made, and how it counts
-  pub goes : (old inside new : WorkerView J T C G) (result some again : Bool) → inside ≡ old → result ≡ some →
+module _ {J T C G S : Type 0} (meaning : Meaning J T) (reads : C → ℕ → C → Type 0) (asked : G → ℕ → JobId → G → Type 0) (has : S → Journal T) (refused : S → ℕ → Type 0) where
+  -- notes are passed on, then a round is made, and it is counted
+  pub goes : (old ready inside new : WorkerView J T C G S) (result some again : Bool) → inside ≡ ready → HandsOnWhere has refused (IsDue (served_of old)) old ready → result ≡ some →
       MakesRound meaning reads asked (nat_lt 0 inside.idle) inside.turns (round_of inside) result new.turns (round_of new) →
-      CountsIdle inside.tries some inside.idle again new.idle → new.tries ≡ inside.tries → new.bells ≡ inside.bells → GoesOn meaning reads asked old again new
-  goes old inside new result some again seen told makes counts tries bells =
-      subst (λ (old : WorkerView J T C G). GoesOn meaning reads asked old again new) seen
-      (record {
-        some = some;
-        makes = subst (λ some. MakesRound meaning reads asked (nat_lt 0 inside.idle) inside.turns (round_of inside) some new.turns (round_of new)) told makes;
-        counts = counts;
-        keeps = record { tries = tries; bells = bells };
-      })
+      CountsIdle inside.tries some inside.idle again new.idle → new.tries ≡ inside.tries → new.bells ≡ inside.bells → new.sink ≡ inside.sink → GoesOn meaning reads asked has refused old again new
+  goes old ready inside new result some again seen hands told makes counts tries bells sink = record {
+    ready = inside;
+    hands = subst (HandsOnWhere has refused (IsDue (served_of old)) old) (sym seen) hands;
+    some = some;
+    makes = subst (λ some. MakesRound meaning reads asked (nat_lt 0 inside.idle) inside.turns (round_of inside) some new.turns (round_of new)) told makes;
+    counts = counts;
+    keeps = record { tries = tries; bells = bells; sink = sink };
+  }
+
+  -- notes are passed on, and then there is a look
+  pub rests : (old ready inside new : WorkerView J T C G S) (slept : Bool) → inside ≡ ready → HandsOnWhere has refused (IsDueAtRest (served_of old)) old ready →
+      LooksAtAll meaning reads asked (round_of inside) (not slept) new.turns (round_of new) →
+      new.idle ≡ (if slept then inside.idle else 0) → new.tries ≡ inside.tries → new.bells ≡ inside.bells → new.sink ≡ inside.sink → Rests meaning reads asked has refused old slept new
+  rests old ready inside new slept seen hands looks counts tries bells sink = record {
+    ready = inside;
+    hands = subst (HandsOnWhere has refused (IsDueAtRest (served_of old)) old) (sym seen) hands;
+    looks = looks;
+    counts = counts;
+    keeps = record { tries = tries; bells = bells; sink = sink };
+  }
+
+module _ {J T C G S : Type 0} (has : S → Journal T) (refused : S → ℕ → Type 0) {due : Type 0} (old ready inside : WorkerView J T C G S) (seen : inside ≡ ready) (hands : HandsOnWhere has refused due old ready) where
+  hands_inside : HandsOnWhere has refused due old inside
+  hands_inside = subst (HandsOnWhere has refused due old) (sym seen) hands
+
+  -- a step behind a passing
+  pub behind_runs : (new : LinkedView J T) → StaysLinked inside.linked new → RunsOn old.linked new
+  behind_runs new stays = runs_along old.linked inside.linked new (where_runs has refused due old inside hands_inside) (runs_stays inside.linked new stays)
+
+  -- no gate is asked for it
+  pub behind_asks : (asked : G → ℕ → JobId → G → Type 0) (new : Journal T) (gate : G) → AsksSince asked inside.linked.recorded.core.core inside.linked.recorded.journal.notes new inside.gate gate →
+      AsksSince asked old.linked.recorded.core.core old.linked.recorded.journal.notes new old.gate gate
+  behind_asks asked new gate asks =
+      asks_then asked old.linked.recorded.core.core inside.linked.recorded.core.core old.linked.recorded.journal.notes inside.linked.recorded.journal.notes new old.gate inside.gate gate
+      (ap (λ terms. terms.actor) (where_runs has refused due old inside hands_inside).seat)
+      (asks_none asked old.linked.recorded.core.core old.linked.recorded.journal.notes inside.linked.recorded.journal.notes old.gate inside.gate (ap polls_of (where_notes has refused due old inside hands_inside)) (where_gate has refused due old inside hands_inside))
+      asks
+
+-- the bell of a worker stays its own
+pub bell_still : (core later : ℕ) (names after : List ℕ) (bell : BellView) → later ≡ core → after ≡ names → IsBellOf core names bell → IsBellOf later after bell
+bell_still core later names after bell same_core same_names is =
+    subst (λ core. IsBellOf core after bell) (sym same_core) (subst (λ names. IsBellOf core names bell) (sym same_names) is)

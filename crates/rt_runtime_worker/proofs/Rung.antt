@@ -8,9 +8,11 @@ use Rattle.rt_ids.specs.declared.note.Note.{Note}
 use Rattle.rt_ids.specs.declared.note.Note.TheVariants.{Created}
 use Rattle.rt_ids.specs.Journal.{Journal}
 use Rattle.rt_runtime_worker.specs.Bells.{BellView, BellsView, no_bell, AreInPlace, AreApart, IsNamedFor, bells_view, once_more, rung_at, rung_at_some, told_by, rung_for, HasRung, AreRung}
+use Rattle.rt_journal_notes.specs.Journals.{JournalView}
 use Rattle.rt_runtime_worker.specs.Ended.{ServedView}
 use Rattle.rt_runtime_worker.specs.Linked.{Grows}
 use Rattle.rt_runtime_worker.specs.Queues.{creations, is_opening}
+use Rattle.rt_runtime_worker.proofs.Growing.{no_shorter}
 use Rattle.rt_runtime_worker.proofs.Openings.{creations_behind}
 use Rattle.rt_runtime_config.specs.Configs.{Entry}
 use Rattle.rt_runtime_worker.specs.Rounds.{StepsServed}
@@ -120,6 +122,29 @@ pub are_rung : {J T : Type 0} {some : Bool} (old new : ServedView J T) (before a
 are_rung old new before after steps has rings =
     subst (λ cores. HasRung cores new.linked.recorded.journal.notes after.rings) (sym steps.stays.seat.cores)
     (rung_behind old.linked.recorded.core.cores old.linked.recorded.journal.notes new.linked.recorded.journal.notes before.rings after.rings has steps.stays.grows rings)
+
+module _ {J T : Type 0} {some : Bool} (old new : ServedView J T) (first journal : JournalView T) (count : ℕ) (was : first ≡ old.linked.recorded.journal) (is : journal ≡ new.linked.recorded.journal)
+    (kept : length first.passed + count ≡ length first.notes) (steps : StepsServed old some new) where
+  -- so many notes of the journal were there before the step
+  since_start : length journal.passed + count ≡ length old.linked.recorded.journal.notes
+  since_start =
+      let passed : length journal.passed ≡ length first.passed = ap length (ap (λ journal. journal.passed) is ∙ (steps.stays.seat.passed ∙ sym (ap (λ journal. journal.passed) was))) in
+      let notes : length first.notes ≡ length old.linked.recorded.journal.notes = ap (λ journal. length journal.notes) was in
+      omega (arith, passed, kept, notes)
+
+  pub since_within : length journal.passed + count ≤ length journal.notes
+  since_within =
+      let longer = no_shorter old.linked.recorded.journal.notes new.linked.recorded.journal.notes steps.stays.grows in
+      let now : length journal.notes ≡ length new.linked.recorded.journal.notes = ap (λ journal. length journal.notes) is in
+      omega (arith, since_start, longer, now)
+
+  -- the rings for the notes behind those that were kept before
+  pub since_rung : (before after : BellsView) → AreRung old before → after.rings ≡ rung_for (drop (length journal.passed + count) (reverse journal.notes)) before.rings → AreRung new after
+  since_rung before after has rings =
+      are_rung old new before after steps has
+      (rings
+      ∙ (ap (λ place. rung_for (drop place (reverse journal.notes)) before.rings) since_start
+      ∙ ap (λ journal. rung_for (drop (length old.linked.recorded.journal.notes) (reverse journal.notes)) before.rings) is))
 
 module _ {T : Type 0} where
   -- a creation is for nobody

@@ -22,26 +22,18 @@ use Rattle.rt_runtime_worker.specs.Linked.{LinkedView, IsBetweenTurns, IsLinked}
 use Rattle.rt_runtime_worker.specs.Steps.{DeliversFrom, CollectsOf, HandsBack}
 use Rattle.rt_runtime_worker.specs.Gates.{ShutsFirst}
 use Rattle.rt_runtime_worker.specs.Ended.{IsServed}
-use Rattle.rt_runtime_worker.specs.Rooms.{least_free, last_through, MayAct, ActsAsItMay, HasSpare, IsEnding, IsProvided, IsReady}
+use Rattle.rt_runtime_worker.specs.Few.{most_of_turn}
+use Rattle.rt_runtime_worker.specs.Rooms.{last_through, MayAct, ActsAsItMay, HasSpare, IsEnding, IsProvided, IsReady}
 use Rattle.rt_runtime_worker.specs.declared.turn.Made.{Made}
 use Rattle.rt_runtime_worker.specs.declared.turn.Made.TheVariants as came
-use Rattle.rt_runtime_worker.proofs.Acting.{collects_act}
+use Rattle.rt_runtime_worker.proofs.Acting.{acts_here, collects_act}
 use Rattle.rt_runtime_worker.proofs.Between.{between_same}
 use Rattle.rt_runtime_worker.proofs.Noted.{more_from, delivery_short, delivery_acts, delivery_gives}
-use Rattle.rt_runtime_worker.proofs.Spare.{stays_returning, places_some, places_more, places_few, posts_few}
+use Rattle.rt_runtime_worker.proofs.Spare.{ends_once, stays_returning, places_some, places_more, places_few, posts_few}
 use Rattle.rt_runtime_worker.proofs.TurnNotes.{turn_acts}
 use Rattle.rt_runtime_worker.proofs.TurnRoom.{turn_counts}
 
 module _ {J T : Type 0} where
-  -- what a core may do by the old numbers it may do by the new ones
-  pub acts_here : (old new : RecordedView J T) → IsSameSeat old new → EachNote (MayAct (least_free old.core.cores old.cap old.core.bursts.burst) old.journal.room) new.journal.notes →
-      ActsAsItMay new.core.cores new.cap new.core.bursts.burst new.journal
-  acts_here old new seat each =
-      subst (λ least. EachNote (MayAct least new.journal.room) new.journal.notes)
-      (sym (ap (λ cores. least_free cores new.cap new.core.bursts.burst) seat.cores
-      ∙ (ap (λ cap. least_free old.core.cores cap new.core.bursts.burst) seat.cap ∙ ap (λ burst. least_free old.core.cores old.cap burst) seat.burst)))
-      (subst (λ room. EachNote (MayAct (least_free old.core.cores old.cap old.core.bursts.burst) room) new.journal.notes) (sym seat.room) each)
-
   -- who is ready for a step is provided
   pub ready_provided : (ending : Bool) (view : RecordedView J T) → IsReady ending view → IsProvided ending view
   ready_provided false view ready = omega (arith, ready, places_some view.core.cores view.cap)
@@ -81,12 +73,12 @@ module _ {J T : Type 0} where
   module _ {meaning : Meaning J T} where
     -- the same core is as well served as before
     pub unmoved : (ending : Bool) (old new : LinkedView J T) → IsLinked meaning new → IsBetweenTurns old.recorded → IsReady ending old.recorded → new.recorded ≡ old.recorded →
-        ActsAsItMay old.recorded.core.cores old.recorded.cap old.recorded.core.bursts.burst old.recorded.journal → IsServed meaning (record { linked = new; ending = ending })
+        ActsAsItMay ending old.recorded → IsServed meaning (record { linked = new; ending = ending })
     unmoved ending old new linked between ready is acts = record {
       linked = linked;
       between = between_same old.recorded new.recorded is between;
       provided = subst (IsProvided ending) (sym is) (ready_provided ending old.recorded ready);
-      acts = subst (λ (view : RecordedView J T). ActsAsItMay view.core.cores view.cap view.core.bursts.burst view.journal) (sym is) acts;
+      acts = subst (ActsAsItMay ending) (sym is) acts;
     }
 
     module _ (sender : ℕ) (old new : LinkedView J T) (was : IsLinked meaning old) (now : IsLinked meaning new) (known : sender ≤ old.recorded.core.cores) (seat : IsSameSeat old.recorded new.recorded)
@@ -122,37 +114,36 @@ module _ {J T : Type 0} where
       delivered_provided false ready = spare_after old.recorded new.recorded 2 seat ready delivered_longer (omega (arith, places_some old.recorded.core.cores old.recorded.cap))
       delivered_provided true ready = ending_after old.recorded new.recorded (delivered_one ready.returning) ready
 
-      pub delivered_served : (ending : Bool) → IsBetweenTurns new.recorded → IsReady ending old.recorded → ActsAsItMay old.recorded.core.cores old.recorded.cap old.recorded.core.bursts.burst old.recorded.journal →
+      pub delivered_served : (ending : Bool) → IsBetweenTurns new.recorded → IsReady ending old.recorded → ActsAsItMay ending old.recorded →
           IsServed meaning (record { linked = new; ending = ending })
       delivered_served ending between ready acts = record {
         linked = now;
         between = between;
         provided = delivered_provided ending ready;
-        acts = acts_here old.recorded new.recorded seat
-            (subst (EachNote (MayAct (least_free old.recorded.core.cores old.recorded.cap old.recorded.core.bursts.burst) old.recorded.journal.room)) (sym notes_now)
-            (delivery_acts does.0.name old.recorded.journal.notes (least_free old.recorded.core.cores old.recorded.cap old.recorded.core.bursts.burst) old.recorded.journal.room does.0.order received.notes received.delivery acts));
+        acts = acts_here ending old.recorded new.recorded seat
+            (λ least room each. subst (EachNote (MayAct least room)) (sym notes_now) (delivery_acts does.0.name old.recorded.journal.notes least room does.0.order received.notes received.delivery each)) acts;
       }
 
     -- whether an order was delivered or not
     pub delivers_served : (sender : ℕ) (found ending : Bool) (old new : LinkedView J T) → IsLinked meaning old → IsLinked meaning new → IsBetweenTurns old.recorded → IsBetweenTurns new.recorded → sender ≤ old.recorded.core.cores →
-        DeliversFrom sender old found new → IsReady ending old.recorded → ActsAsItMay old.recorded.core.cores old.recorded.cap old.recorded.core.bursts.burst old.recorded.journal →
+        DeliversFrom sender old found new → IsReady ending old.recorded → ActsAsItMay ending old.recorded →
         IsServed meaning (record { linked = new; ending = ending })
     delivers_served sender true ending old new was now before between known does ready acts = delivered_served sender old new was now known does.stays.seat does.delivers ending between ready acts
     delivers_served sender false ending old new was now before between known does ready acts = unmoved ending old new now before ready does.delivers.1 acts
 
     -- gates that are shut in a core that was closed by an order
     pub shuts_served : (old new : LinkedView J T) → IsLinked meaning new → IsBetweenTurns new.recorded → ShutsFirst (old.recorded.core.cores + 1) old new → IsReady false old.recorded →
-        ActsAsItMay old.recorded.core.cores old.recorded.cap old.recorded.core.bursts.burst old.recorded.journal → IsServed meaning (record { linked = new; ending = false })
+        ActsAsItMay false old.recorded → IsServed meaning (record { linked = new; ending = false })
     shuts_served old new now between shuts ready acts = record {
       linked = now;
       between = between;
       provided = spare_after old.recorded new.recorded (old.recorded.core.cores + 1) shuts.stays.seat ready shuts.longer (omega (arith, places_more old.recorded.core.cores old.recorded.cap));
-      acts = acts_here old.recorded new.recorded shuts.stays.seat (shuts.acts (least_free old.recorded.core.cores old.recorded.cap old.recorded.core.bursts.burst) acts);
+      acts = acts_here false old.recorded new.recorded shuts.stays.seat shuts.acts acts;
     }
 
     -- outcomes that were collected
     pub collects_served : (core count : ℕ) (old new : LinkedView J T) → IsLinked meaning new → IsBetweenTurns new.recorded → CollectsOf core old count new → IsReady false old.recorded →
-        ActsAsItMay old.recorded.core.cores old.recorded.cap old.recorded.core.bursts.burst old.recorded.journal → IsServed meaning (record { linked = new; ending = false })
+        ActsAsItMay false old.recorded → IsServed meaning (record { linked = new; ending = false })
     collects_served core count old new now between did ready acts =
         let notes_now : new.recorded.journal.notes ≡ did.collects.0 ++ old.recorded.journal.notes = ap (λ journal. journal.notes) did.collects.3 in
         let longer : length new.recorded.journal.notes ≡ length did.collects.0 + length old.recorded.journal.notes = ap length notes_now ∙ length-append did.collects.0 old.recorded.journal.notes in
@@ -160,9 +151,8 @@ module _ {J T : Type 0} where
           linked = now;
           between = between;
           provided = spare_after old.recorded new.recorded old.recorded.cap did.stays.seat ready (omega (arith, longer, did.collects.2, did.few)) (omega (arith, places_few old.recorded.core.cores old.recorded.cap));
-          acts = acts_here old.recorded new.recorded did.stays.seat
-              (subst (EachNote (MayAct (least_free old.recorded.core.cores old.recorded.cap old.recorded.core.bursts.burst) old.recorded.journal.room)) (sym notes_now)
-              (collects_act _ _ core did.collects.0 old.recorded.journal.notes did.collects.1 acts));
+          acts = acts_here false old.recorded new.recorded did.stays.seat
+              (λ least room each. subst (EachNote (MayAct least room)) (sym notes_now) (collects_act least room core did.collects.0 old.recorded.journal.notes did.collects.1 each)) acts;
         }
 
     module _ (old new : LinkedView J T) (was : IsLinked meaning old) (now : IsLinked meaning new) (before : IsBetweenTurns old.recorded) (between : IsBetweenTurns new.recorded) (seat : IsSameSeat old.recorded new.recorded) where
@@ -189,13 +179,12 @@ module _ {J T : Type 0} where
             })
             ready
 
-        returned_served : (ending : Bool) → IsReady ending old.recorded → ActsAsItMay old.recorded.core.cores old.recorded.cap old.recorded.core.bursts.burst old.recorded.journal → IsServed meaning (record { linked = new; ending = ending })
+        returned_served : (ending : Bool) → IsReady ending old.recorded → ActsAsItMay ending old.recorded → IsServed meaning (record { linked = new; ending = ending })
         returned_served ending ready acts = record {
           linked = now;
           between = between;
           provided = returned_provided ending ready;
-          acts = acts_here old.recorded new.recorded seat
-              (subst (EachNote (MayAct (least_free old.recorded.core.cores old.recorded.cap old.recorded.core.bursts.burst) old.recorded.journal.room)) (sym returned_notes) (tt, (tt, acts)));
+          acts = acts_here ending old.recorded new.recorded seat (λ least room each. subst (EachNote (MayAct least room)) (sym returned_notes) (tt, (tt, each))) acts;
         }
 
       module _ {M G : Type 0} (tells : M → ℕ → M → Type 0) (asked : G → ℕ → JobId → G → Type 0) (meter later : M) (gate after : G) where
@@ -203,21 +192,21 @@ module _ {J T : Type 0} where
         module _ (did : MakesTurn meaning tells asked (turn_view old meter gate) came.Polled (turn_view new later after)) where
           polled_provided : (ending : Bool) → IsReady ending old.recorded → IsProvided ending new.recorded
           polled_provided false ready =
-              spare_after old.recorded new.recorded (old.recorded.core.cores * (3 * old.recorded.cap) + 4 + 2 * (old.recorded.core.bursts.burst - 1)) seat ready
-              (turn_counts meaning tells asked (turn_view old meter gate) (turn_view new later after) did) (omega (arith, posts_few old.recorded.core.cores old.recorded.cap))
+              spare_after old.recorded new.recorded (most_of_turn old.recorded.core.cores old.recorded.cap old.recorded.core.bursts.burst) seat ready
+              (turn_counts meaning tells asked (turn_view old meter gate) (turn_view new later after) did) (omega (arith, posts_few old.recorded.core.cores old.recorded.cap, ends_once old.recorded.core.bursts.burst))
           polled_provided true ready = absurd (has_reason did.2.polls.queue old.recorded.journal.notes (inr ready.returning) did.2.polls.picks.kept)
 
-          polled_served : (ending : Bool) → IsReady ending old.recorded → ActsAsItMay old.recorded.core.cores old.recorded.cap old.recorded.core.bursts.burst old.recorded.journal → IsServed meaning (record { linked = new; ending = ending })
+          polled_served : (ending : Bool) → IsReady ending old.recorded → ActsAsItMay ending old.recorded → IsServed meaning (record { linked = new; ending = ending })
           polled_served ending ready acts = record {
             linked = now;
             between = between;
             provided = polled_provided ending ready;
-            acts = acts_here old.recorded new.recorded seat (turn_acts meaning tells asked (turn_view old meter gate) (turn_view new later after) _ _ did acts);
+            acts = acts_here ending old.recorded new.recorded seat (λ least room each. turn_acts meaning tells asked (turn_view old meter gate) (turn_view new later after) least room did each) acts;
           }
 
         -- whatever a turn came to
         pub turned_served : (came_to : Made) (ending : Bool) → MakesTurn meaning tells asked (turn_view old meter gate) came_to (turn_view new later after) → IsReady ending old.recorded →
-            ActsAsItMay old.recorded.core.cores old.recorded.cap old.recorded.core.bursts.burst old.recorded.journal → IsServed meaning (record { linked = new; ending = ending })
+            ActsAsItMay ending old.recorded → IsServed meaning (record { linked = new; ending = ending })
         turned_served came.Polled ending did ready acts = polled_served did ending ready acts
         turned_served came.Returned ending did ready acts = returned_served did.0 ending ready acts
         turned_served came.Idle ending did ready acts = unmoved ending old new now before ready did.1 acts

@@ -37,7 +37,7 @@ pub places_more : (cores cap : ℕ) → (cores + 1) * (cap + 1) ≡ (cores + 1) 
 places_more cores cap = omega (arith, mul-add (cores + 1) cap 1)
 
 -- the same places, each product by itself
-places_all : (cores cap : ℕ) → (cores + 1) * (cap + 1) ≡ cores * cap + cores + cap + 1
+pub places_all : (cores cap : ℕ) → (cores + 1) * (cap + 1) ≡ cores * cap + cores + cap + 1
 places_all cores cap = omega (arith, places_more cores cap, add-mul cores 1 cap)
 
 -- there is at least one place

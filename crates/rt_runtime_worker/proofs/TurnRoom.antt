@@ -14,9 +14,11 @@ use Rattle.rt_journal.specs.Recorded.{IsRecorded, RecordedView}
 use Rattle.rt_journal.specs.Whole.{LeavesTurn}
 use Rattle.rt_journal_desk.specs.Spending.{left_of}
 use Rattle.rt_runtime_worker.specs.Bursts.{GoesThrough, MakesTurn, PollsOn, TurnView}
+use Rattle.rt_runtime_worker.specs.Few.{most_of_turn}
 use Rattle.rt_runtime_worker.specs.Linked.{LinkedView}
 use Rattle.rt_runtime_worker.specs.Rooms.{HasPollRoom, HasRestRoom}
 use Rattle.rt_runtime_worker.specs.Steps.{PollsFirst, PollsFurther}
+use Rattle.rt_runtime_worker.specs.declared.turn.Made.{Made}
 use Rattle.rt_runtime_worker.specs.declared.turn.Made.TheVariants as came
 use Rattle.rt_runtime_worker.proofs.Along.{seat_along, seat_same}
 use Rattle.rt_runtime_worker.proofs.TurnNotes.{ended_notes, notes_at}
@@ -106,7 +108,7 @@ module _ {J T M G : Type 0} (meaning : Meaning J T) (tells : M → ℕ → M →
       }
 
   through_counts : (form : Bool) (old new : TurnView J T M G) → GoesThrough meaning tells asked form old new →
-      length (notes_at new) ≤ length (notes_at old) + sum_by left_of old.linked.recorded.lanes + 2 * (old.linked.recorded.core.bursts.burst - polls_in_turn (notes_at old)) + 1
+      length (notes_at new) ≤ length (notes_at old) + sum_by left_of old.linked.recorded.lanes + 2 * (old.linked.recorded.core.bursts.burst - polls_in_turn (notes_at old)) + number_if form
   through_counts false old new did = let same : length (notes_at new) ≡ length (notes_at old) = ap (λ view. length (notes_at view)) did in omega (arith, same)
   through_counts true old new did =
       let on = on_counts did.0 old did.1 did.2 in
@@ -115,8 +117,16 @@ module _ {J T M G : Type 0} (meaning : Meaning J T) (tells : M → ℕ → M →
 
   -- how many notes a turn with polls takes at most
   pub turn_counts : (old new : TurnView J T M G) → MakesTurn meaning tells asked old came.Polled new →
-      length (notes_at new) ≤ length (notes_at old) + (old.linked.recorded.core.cores * (3 * old.linked.recorded.cap) + 4 + 2 * (old.linked.recorded.core.bursts.burst - 1))
+      length (notes_at new) ≤ length (notes_at old) + most_of_turn old.linked.recorded.core.cores old.linked.recorded.cap old.linked.recorded.core.bursts.burst
   turn_counts old new did =
       let first = did.2.polls in
       let rest = through_counts _ did.1 new did.3 in
       omega (arith, first.spends, first.spare, first.in_turn.polls_are, first.seat.burst, rest)
+
+  -- whatever it came to
+  pub made_few : (old new : TurnView J T M G) (made : Made) → MakesTurn meaning tells asked old made new →
+      length (notes_at new) ≤ length (notes_at old) + most_of_turn old.linked.recorded.core.cores old.linked.recorded.cap old.linked.recorded.core.bursts.burst
+  made_few old new came.Polled did = turn_counts old new did
+  made_few old new came.Returned did = let now : length (notes_at new) ≡ suc (suc (length (notes_at old))) = ap (λ journal. length journal.notes) did.0.did.journal in omega (arith, now)
+  made_few old new came.Idle did = let same : length (notes_at new) ≡ length (notes_at old) = ap (λ view. length view.journal.notes) did.1 in omega (arith, same)
+  made_few old new came.Spent did = let same : length (notes_at new) ≡ length (notes_at old) = ap (λ view. length view.journal.notes) did.2 in omega (arith, same)

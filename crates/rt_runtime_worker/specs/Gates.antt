@@ -51,7 +51,6 @@ module _ {J T : Type 0} where
     pub mode : core_mode new.recorded.journal.notes ≡ core_mode old.recorded.journal.notes
     pub longer : length new.recorded.journal.notes ≤ length old.recorded.journal.notes + count
     pub polls : NotesNoPoll old.recorded.journal.notes new.recorded.journal.notes
-    pub acts : (least : ℕ) → EachNote (MayAct least old.recorded.journal.room) old.recorded.journal.notes
-        → EachNote (MayAct least old.recorded.journal.room) new.recorded.journal.notes
+    pub acts : (least room : ℕ) → EachNote (MayAct least room) old.recorded.journal.notes → EachNote (MayAct least room) new.recorded.journal.notes
     pub taken : KeepsTaken old new
     pub stays : StaysLinked old new

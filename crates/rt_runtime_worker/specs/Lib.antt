@@ -5,8 +5,10 @@ pub mod Bursts
 pub mod Rooms
 pub mod Gates
 pub mod Ended
+pub mod Few
 pub mod Bells
 pub mod Workers
+pub mod Passing
 pub mod Rounds
 pub mod Turns
 pub mod Asks

@@ -7,7 +7,8 @@ use Rattle.rt_ids.specs.declared.order.Order.{Order}
 use Rattle.rt_ids.specs.declared.order.Outcome.{Outcome}
 use Rattle.rt_ids.specs.declared.note.OutcomeNote.{OutcomeNote}
 use Rattle.rt_jobs.specs.Meanings.{Meaning}
-use Rattle.rt_journal.specs.Recorded.{RecordedView, IsRecorded, desk_of}
+use Rattle.rt_journal_notes.specs.Journals.{places_of}
+use Rattle.rt_journal.specs.Recorded.{RecordedView, IsRecorded, desk_of, terms_at}
 use Rattle.rt_journal.specs.Ends.{IsInOf, IsInOwing, IsSameSeat}
 use Rattle.rt_journal.specs.OwedPolls.{HasOwedPolls, seen_by}
 use Rattle.rt_journal_desk.specs.Posts.{AreOutsOf}
@@ -58,6 +59,15 @@ module _ {J T : Type 0} where
   -- end sees less behind it.
   pub record StaysLinked (old new : LinkedView J T) : Type 0 where
     pub seat : IsSameSeat old.recorded new.recorded
+    pub ends : SameEnds old.ends new.ends
+    pub sees : SeesNoLess old.ends new.ends
+    pub opening : opening_of new.recorded.journal.notes ≡ opening_of old.recorded.journal.notes
+    pub grows : Grows old.recorded.journal.notes new.recorded.journal.notes
+
+  -- The same in a worker's life, in which notes are passed on: that changes how many notes there may be in all, but not how many may be kept.
+  pub record RunsOn (old new : LinkedView J T) : Type 0 where
+    pub seat : terms_at new.recorded ≡ terms_at old.recorded
+    pub places : places_of new.recorded.journal ≡ places_of old.recorded.journal
     pub ends : SameEnds old.ends new.ends
     pub sees : SeesNoLess old.ends new.ends
     pub opening : opening_of new.recorded.journal.notes ≡ opening_of old.recorded.journal.notes

@@ -1,5 +1,5 @@
 -- How a worker is opened over the ends of its actor.
-use Rattle.std.specs.Prelude.{◌≡◌, ℕ, ◌+◌, ◌<◌, ◌≤◌, length}
+use Rattle.std.specs.Prelude.{◌≡◌, ℕ, ◌+◌, ◌<◌, ◌≤◌, [], length}
 use Rattle.rt_ids.specs.Commands.{IsOpening}
 use Rattle.rt_jobs.specs.Meanings.{Meaning}
 use Rattle.rt_journal.specs.Recorded.{RecordedView, IsRecorded, desk_of, terms_at}
@@ -16,10 +16,11 @@ module _ {J T : Type 0} where
     pub ins : length ends.ins ≡ cores + 1
     pub fresh : AreFresh cap ends.number ends
 
-  -- a worker of this core, whose turns may have so many polls, with room for so many notes
+  -- a worker of this core, whose turns may have so many polls, with room for so many notes, of which none was passed on
   pub record IsWorkerOf (core cores cap burst room : ℕ) (worker : LinkedView J T) : Type 0 where
     pub terms : terms_at worker.recorded ≡ record { actor = core; cores = cores; cap = cap; burst = burst }
     pub room_is : worker.recorded.journal.room ≡ room
+    pub none_passed : worker.recorded.journal.passed ≡ []
 
   -- a worker of the core of these ends, over them
   pub record IsOpenedOver (cores cap burst room : ℕ) (ends : EndsView J T) (worker : LinkedView J T) : Type 0 where

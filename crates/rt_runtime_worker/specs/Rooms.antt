@@ -9,7 +9,7 @@ use Rattle.rt_ids.specs.Closing.{core_mode, final_count}
 use Rattle.rt_ids.specs.Commands.{effect_awaited}
 use Rattle.rt_ids.specs.Lines.{jobs_out}
 use Rattle.rt_ids.specs.Work.{number_if}
-use Rattle.rt_journal_notes.specs.Journals.{JournalView, free_notes}
+use Rattle.rt_journal_notes.specs.Journals.{free_notes}
 use Rattle.rt_journal_desk.specs.Spending.{left_of}
 use Rattle.rt_journal.specs.Recorded.{RecordedView, given_count, sum_upto}
 
@@ -39,11 +39,16 @@ module _ {T : Type 0} where
   MayAct least room (Detached name) before = IsPolling before
   MayAct least room _ before = Unit {0}
 
-  -- each note of the journal is one that the core may write there
-  abbrev pub ActsAsItMay : ℕ → ℕ → ℕ → JournalView T → Type 0
-  ActsAsItMay cores cap burst journal = EachNote (MayAct (least_free cores cap burst) journal.room) journal.notes
+  -- the core never closed by itself, since no count of free notes is below 0
+  abbrev pub ActsByCommand : Journal T → Type 0
+  ActsByCommand notes = EachNote (MayAct 0 0) notes
 
 module _ {J T : Type 0} where
+  -- each note of the journal is one that the core may write there, and if the worker isn't at its end, the core never closed by itself
+  abbrev pub ActsAsItMay : Bool → RecordedView J T → Type 0
+  ActsAsItMay false view = ActsByCommand view.journal.notes
+  ActsAsItMay true view = EachNote (MayAct (least_free view.core.cores view.cap view.core.bursts.burst) view.journal.room) view.journal.notes
+
   -- the journal is short
   abbrev pub IsShort : RecordedView J T → Type 0
   IsShort view = free_notes view.journal < least_free view.core.cores view.cap view.core.bursts.burst

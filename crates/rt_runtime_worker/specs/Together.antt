@@ -12,7 +12,7 @@ use Rattle.rt_journal.specs.Together.{IsAssemblyOf}
 use Rattle.rt_ring_mesh.specs.Ends.{EndsView, out_at}
 use Rattle.rt_ring_mesh.specs.Grid.{AreReunited, no_ends}
 use Rattle.rt_runtime_worker.specs.Linked.{LinkedView}
-use Rattle.rt_runtime_worker.specs.Ended.{HasEnded}
+use Rattle.rt_runtime_worker.specs.Ended.{HasDrained}
 use Rattle.rt_link.specs.Fits.{Fits}
 
 -- the outside actor: its journal and its ends
@@ -43,11 +43,11 @@ module _ {J T : Type 0} where
     pub outs : (core : ℕ) → core < view.desk.cores → IsOutOf core view.desk (out_at core view.ends).out (out_at core view.ends).credited
 
 module _ {J T : Type 0} (meaning : Meaning J T) where
-  -- each worker of the house has ended, the outside actor is there, and the links are reunited
+  -- each core of the house is drained, the outside actor is there, and the links are reunited
   pub record HaveEnded (cores cap burst : ℕ) (workers : List (LinkedView J T)) (outside : OutsideView J T) : Type 0 where
     pub count : length workers ≡ cores
     pub seats : (core : ℕ) → core < cores → terms_at (worker_at core workers).recorded ≡ record { actor = core; cores = cores; cap = cap; burst = burst }
-    pub ended : (core : ℕ) → core < cores → HasEnded meaning (worker_at core workers)
+    pub ended : (core : ℕ) → core < cores → HasDrained meaning (worker_at core workers)
     pub outside_terms : terms_of_desk outside.desk ≡ record { actor = cores; cores = cores; cap = cap; burst = burst }
     pub outside_is : IsOutside outside
     pub reunited : AreReunited (Fits meaning) cores (all_ends workers outside)

@@ -1,12 +1,13 @@
 -- What is seen of a worker.
 use Rattle.std.specs.Prelude.{◌≡◌, ℕ, Bool, false, List, slice_index_or}
 use Rattle.rt_runtime_worker.specs.Bells.{BellView}
+use Rattle.rt_runtime_worker.specs.Ended.{ServedView}
 use Rattle.rt_runtime_worker.specs.Linked.{LinkedView}
 
 -- A core beside its journal and ends, with a clock and a gate of its own, and whether the worker is at its end. How long polls took since its last look at
 -- its links, and how many turns it may make before the next. After how many rounds in which nothing was done it parks, and how many such rounds it made in a
--- row. The names of the bells that it rings.
-pub record WorkerView (J T C G : Type 0) : Type 0 where
+-- row. The names of the bells that it rings, and the sink to which it passes on notes.
+pub record WorkerView (J T C G S : Type 0) : Type 0 where
   pub linked : LinkedView J T
   pub ending : Bool
   pub clock : C
@@ -16,6 +17,11 @@ pub record WorkerView (J T C G : Type 0) : Type 0 where
   pub tries : ℕ
   pub idle : ℕ
   pub bells : List ℕ
+  pub sink : S
+
+-- its core, and whether it is at its end
+abbrev pub served_of : {J T C G S : Type 0} → WorkerView J T C G S → ServedView J T
+served_of worker = record { linked = worker.linked; ending = worker.ending }
 
 -- it is the bell of this core among those of these names
 pub record IsBellOf (core : ℕ) (names : List ℕ) (bell : BellView) : Type 0 where
@@ -23,7 +29,7 @@ pub record IsBellOf (core : ℕ) (names : List ℕ) (bell : BellView) : Type 0 w
   pub name : bell.name ≡ slice_index_or names core 0
 
 -- a worker that has made no round yet: it isn't at its end, and it looks at its links first
-pub record HasNotBegun {J T C G : Type 0} (worker : WorkerView J T C G) : Type 0 where
+pub record HasNotBegun {J T C G S : Type 0} (worker : WorkerView J T C G S) : Type 0 where
   pub ending : worker.ending ≡ false
   pub taken : worker.taken ≡ 0
   pub turns : worker.turns ≡ 0

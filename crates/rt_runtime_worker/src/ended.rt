@@ -5,42 +5,54 @@ ghost use Rattle.rt_runtime_worker.specs.Ended.{HasEnded};
 
 use crate::linked::Linked;
 use rt_jobs::Task;
+use rt_journal_notes::{Sink, Whole};
 use std::marker::Model;
 
-/// A drained core with its journal and ends.
+/// A drained core with its journal and ends, and the sink that has the notes that were passed on.
 #[derive(Drop)]
-pub struct Ended<J: Task<Out = u64>> {
+pub struct Ended<J: Task<Out = u64>, S: Sink = Whole> {
     linked: Linked<J>,
+    sink: S,
 }
 
-impl<J: Task<Out = u64>> Model for Ended<J> {
+impl<J: Task<Out = u64>, S: Sink> Model for Ended<J, S> {
     ghost use Rattle.std.specs.Prelude.{ℕ};
-    ghost use Rattle.rt_runtime_worker.specs.Linked.{LinkedView};
+    ghost use Rattle.rt_runtime_worker.specs.Ended.{EndedView};
 
-    ghost Value = { LinkedView J ℕ };
+    ghost Value = { EndedView J ℕ S };
 
     ghost use Rattle.rt_runtime_worker.specs.Ended.{HasEnded};
 
-    ghost view = { λ e. e.linked };
+    ghost view = { λ e. record { linked = e.linked; sink = e.sink } };
 
-    ghost invariant = { λ e. HasEnded J.meaning e.linked };
+    ghost invariant = { λ e. HasEnded J.meaning S.has S.refused (record { linked = e.linked; sink = e.sink }) };
 }
 
-impl<J: Task<Out = u64>> Ended<J> {
+impl<J: Task<Out = u64>, S: Sink> Ended<J, S> {
     /// What a worker gives back at its end.
-    pub fn of(linked: Linked<J>) -> Self
-        requires { HasEnded J.meaning linked }
-        ensures { result ≡ linked }
+    pub fn of(linked: Linked<J>, sink: S) -> Self
+        requires { HasEnded J.meaning S.has S.refused (record { linked = linked; sink = sink }) }
+        ensures { result ≡ record { linked = linked; sink = sink } }
     {
-        Ended { linked }
+        Ended { linked, sink }
     }
 
-    /// The core with its journal and ends.
-    pub fn into_linked(self) -> Linked<J>
-        ensures same { result ≡ self }
-        ensures ended { HasEnded J.meaning self }
+    /// The core with its journal and ends, and the sink.
+    pub fn into_parts(self) -> (Linked<J>, S)
+        ensures linked { result.0 ≡ self.linked }
+        ensures sink { result.1 ≡ self.sink }
+        ensures ended { HasEnded J.meaning S.has S.refused self }
     {
-        let Ended { linked } = self;
+        let Ended { linked, sink } = self;
+        (linked, sink)
+    }
+
+    /// The core with its journal and ends, where the sink isn't asked for.
+    pub fn into_linked(self) -> Linked<J>
+        ensures same { result ≡ self.linked }
+        ensures ended { HasEnded J.meaning S.has S.refused self }
+    {
+        let Ended { linked, .. } = self;
         linked
     }
 }

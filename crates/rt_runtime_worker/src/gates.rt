@@ -1,11 +1,11 @@
 //! How a core closes by itself, and how all its gates are shut.
 
-ghost use Rattle.std.specs.Prelude.{◌≡◌, ◌+◌, ◌<◌, ◌≤◌, IsSome, length};
+ghost use Rattle.std.specs.Prelude.{◌≡◌, ◌+◌, ◌<◌, ◌≤◌, IsSome, length, true};
 ghost use Rattle.rt_ids.specs.Closing.{core_mode};
 ghost use Rattle.rt_runtime_worker.specs.Asks.{NotesNoPoll};
 ghost use Rattle.rt_runtime_worker.specs.Linked.{IsBetweenTurns, IsLinked, StaysLinked};
 ghost use Rattle.rt_runtime_worker.specs.Gates.{LeavesShut, LeavesReturning, ShutsFirst};
-ghost use Rattle.rt_runtime_worker.specs.Rooms.{ActsAsItMay, HasSpare, IsEnding, IsShort};
+ghost use Rattle.rt_runtime_worker.specs.Rooms.{ActsAsItMay, ActsByCommand, HasSpare, IsEnding, IsShort};
 ghost use Rattle.rt_runtime_worker.specs.Rounds.{TellsNotes};
 
 use crate::lent::look_at;
@@ -66,9 +66,9 @@ impl<J: Task<Out = u64>> Linked<J> {
     pub(crate) fn end(&mut self)
         requires spare { HasSpare self.old.recorded }
         requires short { IsShort self.old.recorded }
-        requires acts { ActsAsItMay self.old.recorded.core.cores self.old.recorded.cap self.old.recorded.core.bursts.burst self.old.recorded.journal }
+        requires acts { ActsByCommand self.old.recorded.journal.notes }
         ensures ending { IsEnding self.new.recorded }
-        ensures acts { ActsAsItMay self.new.recorded.core.cores self.new.recorded.cap self.new.recorded.core.bursts.burst self.new.recorded.journal }
+        ensures acts { ActsAsItMay true self.new.recorded }
         ensures polls { NotesNoPoll self.old.recorded.journal.notes self.new.recorded.journal.notes }
         ensures stays { StaysLinked self.old self.new }
         ensures linked { IsLinked J.meaning self.new }

@@ -1,9 +1,10 @@
 //! A core beside its journal, with its actor's ends of the links.
 
-ghost use Rattle.std.specs.Prelude.{◌≡◌, ◌+◌, ◌<◌, ◌≤◌, ◌↔◌, IsSome, IsTrue, None, false, length, is_some};
+ghost use Rattle.std.specs.Prelude.{◌≡◌, ◌+◌, ◌*◌, ◌^◌, ◌<◌, ◌≤◌, ◌↔◌, IsSome, IsTrue, None, false, length, is_some};
 ghost use Rattle.rt_ids.specs.Closing.{IsDrained, core_mode, final_count};
 ghost use Rattle.rt_runtime_worker.specs.Linked.{IsBetweenTurns, IsLinked};
-ghost use Rattle.rt_runtime_worker.specs.Rooms.{IsShort};
+ghost use Rattle.rt_runtime_worker.specs.Passing.{HandsOn, IsLow};
+ghost use Rattle.rt_runtime_worker.specs.Rooms.{IsShort, least_free};
 ghost use Rattle.rt_runtime_worker.specs.Steps.{ShutsGate, DeliversFrom, CollectsOf, HasNoTurn};
 
 use crate::lent::{collect_on, deliver_on, shut_on};
@@ -11,6 +12,7 @@ use rt_core::{Ahead, PickError};
 use rt_ids::{ActorNo, CoreNo};
 use rt_jobs::Task;
 use rt_journal::Recorded;
+use rt_journal_notes::{Refused, Sink};
 use rt_ring_mesh::Ends;
 use std::marker::Model;
 
@@ -108,13 +110,46 @@ impl<J: Task<Out = u64>> Linked<J> {
         }
     }
 
+    /// With fewer notes free than this the journal is short.
+    fn least(&self) -> usize
+        ensures value { result ≡ least_free self.now.recorded.core.cores self.now.recorded.cap self.now.recorded.core.bursts.burst }
+        ensures low { result < 2 ^ 32 }
+    {
+        let places = (self.cores as usize + 1) * (self.recorded.cap() as usize + 1);
+        let further = (self.recorded.burst() as usize).saturating_sub(1);
+        8 * places + 2 * further
+    }
+
     /// Whether fewer notes are free than a worker keeps for its end.
     pub fn is_short(&self) -> bool
         ensures { IsTrue result ↔ IsShort self.now.recorded }
     {
-        let places = (self.cores as usize + 1) * (self.recorded.cap() as usize + 1);
-        let further = (self.recorded.burst() as usize).saturating_sub(1);
-        (self.recorded.journal().free() as usize) < 8 * places + 2 * further
+        (self.recorded.journal().free() as usize) < self.least()
+    }
+
+    /// Whether fewer notes are free than two rounds may write, or half the places are used.
+    pub fn is_low(&self) -> bool
+        ensures { IsTrue result ↔ IsLow self.now.recorded }
+    {
+        let free = self.recorded.journal().free() as usize;
+        free < 2 * self.least() || free <= self.recorded.journal().kept_count()
+    }
+
+    /// Whether a note is kept that wasn't passed on.
+    pub fn has_kept(&self) -> bool
+        ensures { IsTrue result ↔ (length self.now.recorded.journal.passed < length self.now.recorded.journal.notes) }
+    {
+        self.recorded.journal().kept_count() > 0
+    }
+
+    /// Hands all notes that are kept to the sink. One that refuses leaves them here.
+    pub(crate) fn hand_on<S: Sink>(&mut self, sink: &mut S) -> Result<(), Refused>
+        requires { S.has sink.old ≡ self.old.recorded.journal.passed }
+        ensures hands { HandsOn S.has S.refused self.old sink.old self.new sink.new }
+        ensures linked { IsLinked J.meaning self.new }
+        ensures between { IsBetweenTurns self.new.recorded }
+    {
+        self.recorded.pass_on(sink)
     }
 
     /// Shuts the gate of this sender in a closed core.

@@ -1,6 +1,6 @@
 //! How a worker is opened over the ends of its actor.
 
-ghost use Rattle.std.specs.Prelude.{◌≡◌, ◌+◌, ◌<◌, ◌≤◌, ◌∷◌, IfOk, OnOk, false, length};
+ghost use Rattle.std.specs.Prelude.{◌≡◌, ◌+◌, ◌<◌, ◌≤◌, [], ◌∷◌, IfOk, OnOk, false, length};
 ghost use Rattle.rt_ids.specs.declared.note.Note.TheVariants.{Created};
 ghost use Rattle.rt_ids.specs.Commands.{IsOpening, created_count};
 ghost use Rattle.rt_runtime_config.specs.Configs.{least_room, queues_of};
@@ -17,6 +17,7 @@ use crate::worker::Worker;
 use rt_ids::{ActorNo, CoreNo};
 use rt_jobs::Task;
 use rt_journal::Recorded;
+use rt_journal_notes::Sink;
 use rt_ring_mesh::Ends;
 use rt_runtime_config::Config;
 use rt_shares::Shares;
@@ -104,9 +105,9 @@ fn serve_core<J: Task<Out = u64>>(
     Ok(Served::of(Linked::of(config.cores, recorded, ends)))
 }
 
-impl<J: Task<Out = u64>, C: Drop, G: Drop> Worker<J, C, G> {
+impl<J: Task<Out = u64>, C: Drop, G: Drop, S: Sink> Worker<J, C, G, S> {
     /// Opens the worker of the core that has these ends, with the queues that the configuration names for it. It rings these bells, and parks
-    /// on that of its core.
+    /// on that of its core. It passes on its notes to this sink, which has none yet.
     ///
     /// # Errors
     ///
@@ -118,13 +119,16 @@ impl<J: Task<Out = u64>, C: Drop, G: Drop> Worker<J, C, G> {
         clock: C,
         gate: G,
         bells: &Bells,
+        sink: S,
     ) -> Result<Self, AllocError>
         requires ends { AreEndsOf config.now.cores config.now.cap ends }
         requires room { least_room config.now.cores config.now.cap config.now.burst + queues_of ends.number config.now.queues.items ≤ config.now.room }
         requires bells { length bells.now.rings ≡ config.now.cores + 1 }
+        requires none { S.has sink ≡ [] }
         ensures over { IfOk result (λ worker. IsOpenedOver config.now.cores config.now.cap config.now.burst config.now.room ends worker.linked) }
         ensures clock { IfOk result (λ worker. worker.clock ≡ clock) }
         ensures gate { IfOk result (λ worker. worker.gate ≡ gate) }
+        ensures sink { IfOk result (λ worker. worker.sink ≡ sink) }
         ensures bells { IfOk result (λ worker. worker.bells ≡ bells.now.names) }
         ensures begins { IfOk result (λ worker. HasNotBegun worker × (worker.tries ≡ 1024)) }
         ensures queues { IfOk result (λ worker. worker.linked.recorded.journal.notes ≡ creations ends.number config.now.queues.items) }
@@ -133,6 +137,6 @@ impl<J: Task<Out = u64>, C: Drop, G: Drop> Worker<J, C, G> {
         let served = serve_core(alloc, config, ends)?;
         let own = bells.bell_of(ActorNo(number.0))?;
         let all = bells.again(alloc)?;
-        Ok(Worker::of(alloc, served, clock, gate, own, all))
+        Ok(Worker::of(alloc, served, clock, gate, own, all, sink))
     }
 }

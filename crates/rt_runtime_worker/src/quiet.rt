@@ -3,6 +3,7 @@
 ghost use Rattle.std.specs.Prelude.{◌≡◌, IfSome, IfNone, false, is_none, true};
 ghost use Rattle.rt_runtime_worker.specs.Asks.{AsksSince};
 ghost use Rattle.rt_runtime_worker.specs.Bells.{AreRung, once_more};
+ghost use Rattle.rt_runtime_worker.specs.Few.{RoundsFew};
 ghost use Rattle.rt_runtime_worker.specs.Linked.{StaysLinked};
 ghost use Rattle.rt_runtime_worker.specs.Looks.{LooksAtAll, round_view};
 ghost use Rattle.rt_runtime_worker.specs.Rounds.{StepsServed};
@@ -46,6 +47,8 @@ pub(crate) fn look_again<'a, J: Job + Task<Out = u64>, C: Clock + Drop, G: Gate 
     ensures looks { LooksAtAll J.meaning C.Reads G.Asked (round_view rounds.old.served rounds.old.watch.clock rounds.old.watch.taken rounds.old.gate) (is_none result) rounds.new.turns (round_view rounds.new.served rounds.new.watch.clock rounds.new.watch.taken rounds.new.gate) }
     ensures asks { AsksSince G.Asked rounds.old.served.linked.recorded.core.core rounds.old.served.linked.recorded.journal.notes rounds.new.served.linked.recorded.journal.notes rounds.old.gate rounds.new.gate }
     ensures stays { StaysLinked rounds.old.served.linked rounds.new.served.linked }
+    ensures few { RoundsFew rounds.old.served rounds.new.served }
+    ensures ended { rounds.old.served.ending ≡ true → rounds.new.served.ending ≡ true }
     ensures rung { AreRung rounds.new.served rounds.new.bells }
     ensures names { rounds.new.bells.names ≡ rounds.old.bells.names }
 {
@@ -71,6 +74,8 @@ pub(crate) fn rest<'a, J: Job + Task<Out = u64>, C: Clock + Drop, G: Gate + Drop
     ensures looks { LooksAtAll J.meaning C.Reads G.Asked (round_view rounds.old.served rounds.old.watch.clock rounds.old.watch.taken rounds.old.gate) (is_none result) rounds.new.turns (round_view rounds.new.served rounds.new.watch.clock rounds.new.watch.taken rounds.new.gate) }
     ensures asks { AsksSince G.Asked rounds.old.served.linked.recorded.core.core rounds.old.served.linked.recorded.journal.notes rounds.new.served.linked.recorded.journal.notes rounds.old.gate rounds.new.gate }
     ensures stays { StaysLinked rounds.old.served.linked rounds.new.served.linked }
+    ensures few { RoundsFew rounds.old.served rounds.new.served }
+    ensures ended { rounds.old.served.ending ≡ true → rounds.new.served.ending ≡ true }
     ensures rung { AreRung rounds.new.served rounds.new.bells }
     ensures names { rounds.new.bells.names ≡ rounds.old.bells.names }
 {

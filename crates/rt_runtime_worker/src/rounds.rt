@@ -1,22 +1,24 @@
 //! What a worker does round by round. Each step rings the bells of those who have something from its notes.
 
-ghost use Rattle.std.specs.Prelude.{◌≡◌, ◌||◌, ◌+◌, ◌≤◌, ◌↔◌, IsTrue, drop, length, reverse, true};
+ghost use Rattle.std.specs.Prelude.{◌≡◌, ◌||◌, ◌+◌, ◌*◌, ◌≤◌, ◌↔◌, IsTrue, drop, false, length, reverse, true};
 ghost use Rattle.rt_ids.specs.Closing.{IsDrained};
 ghost use Rattle.rt_runtime_worker.specs.Bells.{AreRung, once_more, rung_for};
 ghost use Rattle.rt_runtime_worker.specs.Asks.{AsksSince, NotesNoPoll};
 ghost use Rattle.rt_runtime_worker.specs.Ended.{IsServed};
+ghost use Rattle.rt_runtime_worker.specs.Few.{RoundsFew, TurnsFew, WritesFew};
 ghost use Rattle.rt_runtime_worker.specs.Looks.{LooksAtAll, MakesRound, PassesLinks, TurnsAlone, found_quiet, round_view, turns_after};
+ghost use Rattle.rt_runtime_worker.specs.Passing.{HandsOn, HasPlaces, IsDue, IsDueAtRest};
 ghost use Rattle.rt_runtime_worker.specs.Readings.{watch_view};
 ghost use Rattle.rt_runtime_worker.specs.Rounds.{CollectsFirst, HearsAll, ShutsClosed, StepsServed};
 ghost use Rattle.rt_runtime_worker.specs.Steps.{HasNoTurn};
 ghost use Rattle.rt_runtime_worker.specs.Turns.{TurnsWith};
 
 use crate::bells::Bells;
-use crate::ended::Ended;
+use crate::linked::Linked;
 use crate::served::Served;
 use crate::stopwatch::Stopwatch;
 use rt_jobs::{Job, Task};
-use rt_journal_notes::Journal;
+use rt_journal_notes::{RunningJournal, Sink};
 use rt_runtime_config::{Clock, Gate};
 use std::alloc::Global;
 
@@ -40,13 +42,12 @@ fn is_quiet(worked: bool, came: bool) -> bool
     worked && !came
 }
 
-/// Wakes the workers that have something from the notes behind the first `count`.
-fn ring_since(bells: &mut Bells, journal: &Journal<u64>, count: usize)
-    requires { count ≤ length journal.now.notes }
-    ensures { bells.new ≡ record bells.old { rings = rung_for (drop count (reverse journal.now.notes)) bells.old.rings } }
+/// Wakes the workers that have something from the notes behind the first `count` that are kept.
+fn ring_since(bells: &mut Bells, journal: &RunningJournal<u64>, count: usize)
+    requires { length journal.now.passed + count ≤ length journal.now.notes }
+    ensures { bells.new ≡ record bells.old { rings = rung_for (drop (length journal.now.passed + count) (reverse journal.now.notes)) bells.old.rings } }
 {
-    let notes = journal.as_slice();
-    bells.ring_for(&notes[count..]);
+    bells.ring_for(journal.since(count));
 }
 
 /// A core beside its journal, over its actor's ends of the links, with a clock and a gate of its own, and the bells of all cores.
@@ -98,13 +99,41 @@ impl<J: Task<Out = u64>, C: Drop, G: Drop> Rounds<J, C, G> {
         self.served.is_drained()
     }
 
-    /// What a drained core leaves.
-    pub(crate) fn into_ended(self) -> Ended<J>
-        requires { IsDrained self.served.linked.recorded.core.cores self.served.linked.recorded.journal.notes }
-        ensures { result ≡ self.served.linked }
+    /// The linked core.
+    pub(crate) fn into_linked(self) -> Linked<J>
+        ensures same { result ≡ self.served.linked }
+        ensures sound { IsServed J.meaning self.served }
     {
         let Rounds { served, .. } = self;
-        served.into_ended()
+        served.into_linked()
+    }
+
+    /// Whether notes are due to be passed on before a round.
+    pub(crate) fn is_due(&self) -> bool
+        ensures { IsTrue result ↔ IsDue self.now.served }
+    {
+        self.served.is_due()
+    }
+
+    /// Whether notes are due to be passed on before a rest.
+    pub(crate) fn is_due_at_rest(&self) -> bool
+        ensures { IsTrue result ↔ IsDueAtRest self.now.served }
+    {
+        self.served.is_due_at_rest()
+    }
+
+    /// Hands all notes that are kept to the sink, if the worker isn't at its end.
+    pub(crate) fn hand_on<S: Sink>(&mut self, sink: &mut S)
+        requires rung { AreRung self.old.served self.old.bells }
+        requires going { self.old.served.ending ≡ false }
+        requires places { HasPlaces self.old.served.linked.recorded }
+        requires passed { S.has sink.old ≡ self.old.served.linked.recorded.journal.passed }
+        ensures hands { HandsOn S.has S.refused self.old.served.linked sink.old self.new.served.linked sink.new }
+        ensures going { self.new.served.ending ≡ false }
+        ensures rung { AreRung self.new.served self.new.bells }
+        ensures rest { self.new ≡ record self.old { served = self.new.served } }
+    {
+        self.served.hand_on(sink);
     }
 
     /// Counts a look at the links, and plans the turns until the next one: some if the links had nothing while there was work, else none.
@@ -156,6 +185,7 @@ impl<J: Task<Out = u64>, C: Drop, G: Drop> Rounds<J, C, G> {
     fn take_in(&mut self) -> bool
         requires rung { AreRung self.old.served self.old.bells }
         ensures steps { StepsServed self.old.served result self.new.served }
+        ensures few { WritesFew (self.old.served.linked.recorded.core.cores + 1 + (self.old.served.linked.recorded.core.cores + 1) * (2 * self.old.served.linked.recorded.cap)) self.old.served self.new.served }
         ensures shuts { ShutsClosed self.old.served.linked self.new.served.linked }
         ensures hears { HearsAll (self.old.served.linked.recorded.core.cores + 1) self.old.served self.new.served }
         ensures sound { IsServed J.meaning self.new.served }
@@ -164,7 +194,7 @@ impl<J: Task<Out = u64>, C: Drop, G: Drop> Rounds<J, C, G> {
         ensures polls { NotesNoPoll self.old.served.linked.recorded.journal.notes self.new.served.linked.recorded.journal.notes }
         ensures rest { self.new ≡ record self.old { served = self.new.served; bells = self.new.bells } }
     {
-        let before = self.served.journal().len();
+        let before = self.served.journal().kept_count();
         let shut = self.served.close_gates();
         let delivered = self.served.deliver_all();
         ring_since(&mut self.bells, self.served.journal(), before);
@@ -177,13 +207,14 @@ impl<J: Task<Out = u64>, C: Drop, G: Drop> Rounds<J, C, G> {
     fn gather(&mut self) -> bool
         requires rung { AreRung self.old.served self.old.bells }
         ensures steps { StepsServed self.old.served result self.new.served }
+        ensures few { WritesFew (self.old.served.linked.recorded.core.cores * self.old.served.linked.recorded.cap) self.old.served self.new.served }
         ensures collects { CollectsFirst self.old.served.linked.recorded.core.cores self.new.served }
         ensures rung { AreRung self.new.served self.new.bells }
         ensures names { self.new.bells.names ≡ self.old.bells.names }
         ensures polls { NotesNoPoll self.old.served.linked.recorded.journal.notes self.new.served.linked.recorded.journal.notes }
         ensures rest { self.new ≡ record self.old { served = self.new.served; bells = self.new.bells } }
     {
-        let before = self.served.journal().len();
+        let before = self.served.journal().kept_count();
         let collected = self.served.collect_all();
         ring_since(&mut self.bells, self.served.journal(), before);
         collected
@@ -195,6 +226,7 @@ impl<J: Job + Task<Out = u64>, C: Clock + Drop, G: Gate + Drop> Rounds<J, C, G> 
     fn take_turn(&mut self) -> bool
         requires rung { AreRung self.old.served self.old.bells }
         ensures steps { StepsServed self.old.served result self.new.served }
+        ensures few { TurnsFew self.old.served self.new.served }
         ensures takes { TurnsWith J.meaning C.Reads G.Asked (watch_view self.old.watch.clock self.old.watch.taken) (watch_view self.new.watch.clock self.new.watch.taken) self.old.gate self.new.gate self.old.served result self.new.served }
         ensures asks { AsksSince G.Asked self.old.served.linked.recorded.core.core self.old.served.linked.recorded.journal.notes self.new.served.linked.recorded.journal.notes self.old.gate self.new.gate }
         ensures rung { AreRung self.new.served self.new.bells }
@@ -202,7 +234,7 @@ impl<J: Job + Task<Out = u64>, C: Clock + Drop, G: Gate + Drop> Rounds<J, C, G> 
         ensures turns { self.new.turns ≡ self.old.turns }
         ensures looks { self.new.looks ≡ self.old.looks }
     {
-        let before = self.served.journal().len();
+        let before = self.served.journal().kept_count();
         let turned = self
             .served
             .take_turn(self.alloc, &mut self.watch, &mut self.gate);
@@ -214,6 +246,7 @@ impl<J: Job + Task<Out = u64>, C: Clock + Drop, G: Gate + Drop> Rounds<J, C, G> 
     pub(crate) fn look(&mut self) -> bool
         requires rung { AreRung self.old.served self.old.bells }
         ensures steps { StepsServed self.old.served result self.new.served }
+        ensures few { RoundsFew self.old.served self.new.served }
         ensures looks { LooksAtAll J.meaning C.Reads G.Asked (round_view self.old.served self.old.watch.clock self.old.watch.taken self.old.gate) result self.new.turns (round_view self.new.served self.new.watch.clock self.new.watch.taken self.new.gate) }
         ensures counts { self.new.looks ≡ once_more self.old.looks }
         ensures asks { AsksSince G.Asked self.old.served.linked.recorded.core.core self.old.served.linked.recorded.journal.notes self.new.served.linked.recorded.journal.notes self.old.gate self.new.gate }
@@ -232,6 +265,7 @@ impl<J: Job + Task<Out = u64>, C: Clock + Drop, G: Gate + Drop> Rounds<J, C, G> 
     fn turn_alone(&mut self) -> bool
         requires rung { AreRung self.old.served self.old.bells }
         ensures steps { StepsServed self.old.served result self.new.served }
+        ensures few { TurnsFew self.old.served self.new.served }
         ensures alone { TurnsAlone J.meaning C.Reads G.Asked self.old.turns (round_view self.old.served self.old.watch.clock self.old.watch.taken self.old.gate) result self.new.turns (round_view self.new.served self.new.watch.clock self.new.watch.taken self.new.gate) }
         ensures asks { AsksSince G.Asked self.old.served.linked.recorded.core.core self.old.served.linked.recorded.journal.notes self.new.served.linked.recorded.journal.notes self.old.gate self.new.gate }
         ensures rung { AreRung self.new.served self.new.bells }
@@ -248,6 +282,7 @@ impl<J: Job + Task<Out = u64>, C: Clock + Drop, G: Gate + Drop> Rounds<J, C, G> 
     pub(crate) fn round(&mut self, was_idle: bool) -> bool
         requires rung { AreRung self.old.served self.old.bells }
         ensures steps { StepsServed self.old.served result self.new.served }
+        ensures few { RoundsFew self.old.served self.new.served }
         ensures makes { MakesRound J.meaning C.Reads G.Asked was_idle self.old.turns (round_view self.old.served self.old.watch.clock self.old.watch.taken self.old.gate) result self.new.turns (round_view self.new.served self.new.watch.clock self.new.watch.taken self.new.gate) }
         ensures asks { AsksSince G.Asked self.old.served.linked.recorded.core.core self.old.served.linked.recorded.journal.notes self.new.served.linked.recorded.journal.notes self.old.gate self.new.gate }
         ensures rung { AreRung self.new.served self.new.bells }

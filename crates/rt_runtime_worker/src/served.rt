@@ -1,22 +1,23 @@
 //! A linked core that keeps room for its end: each of its steps is one of a worker's round.
 
-ghost use Rattle.std.specs.Prelude.{◌≡◌, ◌+◌, ◌<◌, ◌≤◌, ◌↔◌, IsTrue, false};
+ghost use Rattle.std.specs.Prelude.{◌≡◌, ◌+◌, ◌*◌, ◌<◌, ◌≤◌, ◌↔◌, IsTrue, false};
 ghost use Rattle.rt_ids.specs.Closing.{IsDrained};
 ghost use Rattle.rt_runtime_worker.specs.Asks.{AsksSince, NotesNoPoll};
-ghost use Rattle.rt_runtime_worker.specs.Ended.{HasEnded, IsServed};
+ghost use Rattle.rt_runtime_worker.specs.Ended.{IsServed};
+ghost use Rattle.rt_runtime_worker.specs.Few.{TurnsFew, WritesFew};
 ghost use Rattle.rt_runtime_worker.specs.Linked.{StaysLinked};
 ghost use Rattle.rt_runtime_worker.specs.Gates.{KeepsTaken};
-ghost use Rattle.rt_runtime_worker.specs.Rooms.{ActsAsItMay, HasSpare, IsReady};
+ghost use Rattle.rt_runtime_worker.specs.Passing.{HandsOn, HasPlaces, IsDue, IsDueAtRest};
+ghost use Rattle.rt_runtime_worker.specs.Rooms.{ActsByCommand, HasSpare, IsReady};
 ghost use Rattle.rt_runtime_worker.specs.Rounds.{CollectsFirst, CollectsNext, HasShutGates, HearsFirst, HearsOne, HearsSome, LooksAtRoom, StepsServed, is_turn};
 ghost use Rattle.rt_runtime_worker.specs.Steps.{HasNoTurn};
 ghost use Rattle.rt_runtime_worker.specs.Turns.{TakesTurn};
 
-use crate::ended::Ended;
 use crate::linked::Linked;
 use crate::turn::Made;
 use rt_ids::{ActorNo, CoreNo};
 use rt_jobs::{Job, Task};
-use rt_journal_notes::Journal;
+use rt_journal_notes::{RunningJournal, Sink};
 use rt_runtime_config::Gate;
 use rt_taskqueue::Meter;
 use std::alloc::Global;
@@ -53,10 +54,10 @@ impl<J: Task<Out = u64>> Model for Served<J> {
 }
 
 impl<J: Task<Out = u64>> Served<J> {
-    /// A linked core that has room for its end, and no more.
+    /// A linked core that has room for its end, and no more. It never closed by itself.
     pub fn of(linked: Linked<J>) -> Self
         requires spare { HasSpare linked.recorded }
-        requires acts { ActsAsItMay linked.recorded.core.cores linked.recorded.cap linked.recorded.core.bursts.burst linked.recorded.journal }
+        requires acts { ActsByCommand linked.recorded.journal.notes }
         ensures { result ≡ record { linked = linked; ending = false } }
     {
         let _recorded = &linked.recorded;
@@ -80,13 +81,38 @@ impl<J: Task<Out = u64>> Served<J> {
         self.linked.prefault();
     }
 
-    /// What a drained core leaves.
-    pub(crate) fn into_ended(self) -> Ended<J>
-        requires { IsDrained self.linked.recorded.core.cores self.linked.recorded.journal.notes }
-        ensures { result ≡ self.linked }
+    /// The linked core.
+    pub(crate) fn into_linked(self) -> Linked<J>
+        ensures same { result ≡ self.linked }
+        ensures sound { IsServed J.meaning self }
     {
         let Served { linked, .. } = self;
-        Ended::of(linked)
+        linked
+    }
+
+    /// Whether notes are due to be passed on before a round.
+    pub(crate) fn is_due(&self) -> bool
+        ensures { IsTrue result ↔ IsDue self.now }
+    {
+        !self.ending && self.linked.is_low()
+    }
+
+    /// Whether notes are due to be passed on before a rest.
+    pub(crate) fn is_due_at_rest(&self) -> bool
+        ensures { IsTrue result ↔ IsDueAtRest self.now }
+    {
+        !self.ending && self.linked.has_kept()
+    }
+
+    /// Hands all notes that are kept to the sink, if the worker isn't at its end.
+    pub(crate) fn hand_on<S: Sink>(&mut self, sink: &mut S)
+        requires going { self.old.ending ≡ false }
+        requires places { HasPlaces self.old.linked.recorded }
+        requires passed { S.has sink.old ≡ self.old.linked.recorded.journal.passed }
+        ensures hands { HandsOn S.has S.refused self.old.linked sink.old self.new.linked sink.new }
+        ensures going { self.new.ending ≡ false }
+    {
+        let _answer = self.linked.hand_on(sink);
     }
 
     /// Looks at the room before a step: a journal that is short is at its end.
@@ -106,6 +132,7 @@ impl<J: Task<Out = u64>> Served<J> {
     fn deliver_one(&mut self, sender: ActorNo) -> bool
         requires { sender ≤ self.old.linked.recorded.core.cores }
         ensures steps { StepsServed self.old result self.new }
+        ensures few { WritesFew 2 self.old self.new }
         ensures hears { self.new.ending ≡ self.old.ending → HearsOne sender self.old.linked result self.new.linked }
         ensures polls { NotesNoPoll self.old.linked.recorded.journal.notes self.new.linked.recorded.journal.notes }
     {
@@ -117,6 +144,7 @@ impl<J: Task<Out = u64>> Served<J> {
     fn deliver_some(&mut self, sender: ActorNo) -> bool
         requires { sender ≤ self.old.linked.recorded.core.cores }
         ensures steps { StepsServed self.old result self.new }
+        ensures few { WritesFew (2 * self.old.linked.recorded.cap) self.old self.new }
         ensures hears { HearsSome sender self.old self.new }
         ensures polls { NotesNoPoll self.old.linked.recorded.journal.notes self.new.linked.recorded.journal.notes }
     {
@@ -132,6 +160,7 @@ impl<J: Task<Out = u64>> Served<J> {
     /// Delivers what shows of each sender. Whether there was anything.
     pub(crate) fn deliver_all(&mut self) -> bool
         ensures steps { StepsServed self.old result self.new }
+        ensures few { WritesFew ((self.old.linked.recorded.core.cores + 1) * (2 * self.old.linked.recorded.cap)) self.old self.new }
         ensures hears { HearsFirst (self.old.linked.recorded.core.cores + 1) self.old self.new }
         ensures polls { NotesNoPoll self.old.linked.recorded.journal.notes self.new.linked.recorded.journal.notes }
     {
@@ -148,6 +177,7 @@ impl<J: Task<Out = u64>> Served<J> {
     fn collect_one(&mut self, core: CoreNo) -> bool
         requires { core < self.old.linked.recorded.core.cores }
         ensures steps { StepsServed self.old result self.new }
+        ensures few { WritesFew self.old.linked.recorded.cap self.old self.new }
         ensures collects { CollectsNext core self.old self.new }
         ensures polls { NotesNoPoll self.old.linked.recorded.journal.notes self.new.linked.recorded.journal.notes }
     {
@@ -161,6 +191,7 @@ impl<J: Task<Out = u64>> Served<J> {
     /// Collects what the links to all cores show. Whether there was anything.
     pub(crate) fn collect_all(&mut self) -> bool
         ensures steps { StepsServed self.old result self.new }
+        ensures few { WritesFew (self.old.linked.recorded.core.cores * self.old.linked.recorded.cap) self.old self.new }
         ensures collects { CollectsFirst self.old.linked.recorded.core.cores self.new }
         ensures polls { NotesNoPoll self.old.linked.recorded.journal.notes self.new.linked.recorded.journal.notes }
     {
@@ -186,7 +217,7 @@ impl<J: Task<Out = u64>> Served<J> {
     }
 
     /// The notes of this worker.
-    pub(crate) fn journal(&self) -> &Journal<u64>
+    pub(crate) fn journal(&self) -> &RunningJournal<u64>
         ensures journal { result.now ≡ self.now.linked.recorded.journal }
         ensures sound { IsServed J.meaning self.now }
     {
@@ -196,6 +227,7 @@ impl<J: Task<Out = u64>> Served<J> {
     /// Shuts the open gates of a core that was closed. Whether there was one.
     pub(crate) fn close_gates(&mut self) -> bool
         ensures steps { StepsServed self.old result self.new }
+        ensures few { WritesFew (self.old.linked.recorded.core.cores + 1) self.old self.new }
         ensures shuts { HasShutGates self.new.linked }
         ensures taken { self.new.ending ≡ self.old.ending → KeepsTaken self.old.linked self.new.linked }
         ensures polls { NotesNoPoll self.old.linked.recorded.journal.notes self.new.linked.recorded.journal.notes }
@@ -221,6 +253,7 @@ impl<J: Job + Task<Out = u64>> Served<J> {
         gate: &mut G,
     ) -> bool
         ensures steps { StepsServed self.old result self.new }
+        ensures few { TurnsFew self.old self.new }
         ensures takes { TakesTurn J.meaning M.Tells G.Asked meter.old meter.new gate.old gate.new self.old result self.new }
         ensures asks { AsksSince G.Asked self.old.linked.recorded.core.core self.old.linked.recorded.journal.notes self.new.linked.recorded.journal.notes gate.old gate.new }
     {

@@ -1,12 +1,13 @@
 //! A worker: it serves one core until the core is drained.
 
-ghost use Rattle.std.specs.Prelude.{◌≡◌, ℕ, false};
+ghost use Rattle.std.specs.Prelude.{◌≡◌, false};
 ghost use Rattle.rt_ids.specs.Closing.{IsDrained};
 ghost use Rattle.rt_runtime_worker.specs.Asks.{AsksSince};
 ghost use Rattle.rt_runtime_worker.specs.Bells.{AreRung};
-ghost use Rattle.rt_runtime_worker.specs.Linked.{StaysLinked};
-ghost use Rattle.rt_runtime_worker.specs.Serves.{GoesOn, Rests, Serves, ServesOn};
-ghost use Rattle.rt_runtime_worker.specs.Workers.{HasNotBegun, IsBellOf, WorkerView};
+ghost use Rattle.rt_runtime_worker.specs.Linked.{RunsOn};
+ghost use Rattle.rt_runtime_worker.specs.Passing.{HandsOn, HandsOnWhere, IsDue, IsDueAtRest, IsSupplied, PassesTo};
+ghost use Rattle.rt_runtime_worker.specs.Serves.{GoesOn, Rests, Serves, ServesToItsEnd};
+ghost use Rattle.rt_runtime_worker.specs.Workers.{HasNotBegun, IsBellOf, served_of};
 
 use crate::bell::Bell;
 use crate::bells::Bells;
@@ -15,6 +16,7 @@ use crate::quiet::rest;
 use crate::rounds::Rounds;
 use crate::served::Served;
 use rt_jobs::{Job, Task};
+use rt_journal_notes::{Sink, Whole};
 use rt_runtime_config::{Clock, Gate};
 use rt_runtime_team::{Promised, Work};
 use std::alloc::Global;
@@ -25,33 +27,37 @@ use std::sync::Wait;
 const TRIES: u32 = 1024;
 
 /// A core beside its journal, over its actor's ends of the links, with a clock and a gate of its own. It rang the bell of each core for each
-/// of its notes that is for that core, and it parks on the bell of its own core.
+/// of its notes that is for that core, and it parks on the bell of its own core. It passes on its notes to its sink, between rounds and rests.
 #[derive(Drop)]
-pub struct Worker<J: Task<Out = u64>, C: Drop, G: Drop> {
+pub struct Worker<J: Task<Out = u64>, C: Drop, G: Drop, S: Sink = Whole> {
     own: Bell,
     rounds: Rounds<J, C, G>,
+    sink: S,
     /// After how many rounds in which nothing was done it parks.
     tries: u32,
     /// How many rounds in a row nothing was done.
     idle: u32,
 }
 
-impl<J: Task<Out = u64>, C: Drop, G: Drop> Model for Worker<J, C, G> {
+impl<J: Task<Out = u64>, C: Drop, G: Drop, S: Sink> Model for Worker<J, C, G, S> {
     ghost use Rattle.std.specs.Prelude.{ℕ};
     ghost use Rattle.rt_runtime_worker.specs.Workers.{WorkerView};
 
-    ghost Value = { WorkerView J ℕ C G };
+    ghost Value = { WorkerView J ℕ C G S };
 
     ghost use Rattle.rt_runtime_worker.specs.Bells.{AreRung};
+    ghost use Rattle.rt_runtime_worker.specs.Passing.{PassesTo};
     ghost use Rattle.rt_runtime_worker.specs.Workers.{IsBellOf};
 
-    ghost view = { λ w. record { linked = w.rounds.served.linked; ending = w.rounds.served.ending; clock = w.rounds.watch.clock; gate = w.rounds.gate; taken = w.rounds.watch.taken; turns = w.rounds.turns; tries = w.tries; idle = w.idle; bells = w.rounds.bells.names } };
+    ghost view = { λ w. record { linked = w.rounds.served.linked; ending = w.rounds.served.ending; clock = w.rounds.watch.clock; gate = w.rounds.gate; taken = w.rounds.watch.taken; turns = w.rounds.turns; tries = w.tries; idle = w.idle; bells = w.rounds.bells.names; sink = w.sink } };
 
-    ghost invariant = { λ w. AreRung w.rounds.served w.rounds.bells × IsBellOf w.rounds.served.linked.recorded.core.core w.rounds.bells.names w.own };
+    ghost invariant = { λ w.
+        AreRung w.rounds.served w.rounds.bells × IsBellOf w.rounds.served.linked.recorded.core.core w.rounds.bells.names w.own
+        × PassesTo S.has S.refused w.rounds.served w.sink };
 }
 
-impl<J: Task<Out = u64>, C: Drop, G: Drop> Worker<J, C, G> {
-    /// A worker that has not begun. It parks on its own bell, and rings those of all cores.
+impl<J: Task<Out = u64>, C: Drop, G: Drop, S: Sink> Worker<J, C, G, S> {
+    /// A worker that has not begun. It parks on its own bell, rings those of all cores, and passes on its notes to this sink.
     pub(crate) fn of(
         alloc: Global,
         served: Served<J>,
@@ -59,13 +65,16 @@ impl<J: Task<Out = u64>, C: Drop, G: Drop> Worker<J, C, G> {
         gate: G,
         own: Bell,
         bells: Bells,
+        sink: S,
     ) -> Self
         requires own { IsBellOf served.linked.recorded.core.core bells.names own }
         requires rung { AreRung served bells }
         requires ending { served.ending ≡ false }
+        requires passes { PassesTo S.has S.refused served sink }
         ensures linked { result.linked ≡ served.linked }
         ensures clock { result.clock ≡ clock }
         ensures gate { result.gate ≡ gate }
+        ensures sink { result.sink ≡ sink }
         ensures bells { result.bells ≡ bells.names }
         ensures begins { HasNotBegun result }
         ensures tries { result.tries ≡ 1024 }
@@ -73,6 +82,7 @@ impl<J: Task<Out = u64>, C: Drop, G: Drop> Worker<J, C, G> {
         Worker {
             own,
             rounds: Rounds::of(alloc, served, clock, gate, bells),
+            sink,
             tries: TRIES,
             idle: 0,
         }
@@ -87,23 +97,47 @@ impl<J: Task<Out = u64>, C: Drop, G: Drop> Worker<J, C, G> {
         worker
     }
 
-    /// What a worker of a drained core leaves.
-    fn into_ended(self) -> Ended<J>
-        requires { IsDrained self.linked.recorded.core.cores self.linked.recorded.journal.notes }
-        ensures { result ≡ self.linked }
+    /// Hands what is kept to the sink, where the journal is low and the worker isn't at its end.
+    fn hand_on_if_low(&mut self)
+        ensures hands { HandsOnWhere S.has S.refused (IsDue (served_of self.old)) self.old self.new }
+        ensures supplied { IsSupplied S.has S.refused (served_of self.new) self.new.sink }
     {
-        let Worker { rounds, .. } = self;
-        rounds.into_ended()
+        if self.rounds.is_due() {
+            self.rounds.hand_on(&mut self.sink);
+        }
+    }
+
+    /// Hands what is kept to the sink, unless that is nothing or the worker is at its end.
+    fn hand_on_if_kept(&mut self)
+        ensures hands { HandsOnWhere S.has S.refused (IsDueAtRest (served_of self.old)) self.old self.new }
+        ensures supplied { IsSupplied S.has S.refused (served_of self.new) self.new.sink }
+    {
+        if self.rounds.is_due_at_rest() {
+            self.rounds.hand_on(&mut self.sink);
+        }
+    }
+
+    /// What a worker of a drained core leaves. What is still kept is handed to the sink.
+    fn into_ended(self) -> Ended<J, S>
+        requires { IsDrained self.linked.recorded.core.cores self.linked.recorded.journal.notes }
+        ensures { HandsOn S.has S.refused self.linked self.sink result.linked result.sink }
+    {
+        let Worker { rounds, sink, .. } = self;
+        let mut linked = rounds.into_linked();
+        let mut sink = sink;
+        let _answer = linked.hand_on(&mut sink);
+        Ended::of(linked, sink)
     }
 }
 
-impl<J: Job + Task<Out = u64>, C: Clock + Drop, G: Gate + Drop> Worker<J, C, G> {
-    /// Lies down, looks once more, and parks until its bell rings if there was nothing. Whether it slept.
+impl<J: Job + Task<Out = u64>, C: Clock + Drop, G: Gate + Drop, S: Sink> Worker<J, C, G, S> {
+    /// Passes on what is kept, lies down, looks once more, and parks until its bell rings if there was nothing. Whether it slept.
     fn rests<R: Wait>(&mut self, rt: &R) -> bool
-        ensures rests { Rests J.meaning C.Reads G.Asked self.old result self.new }
-        ensures stays { StaysLinked self.old.linked self.new.linked }
+        ensures rests { Rests J.meaning C.Reads G.Asked S.has S.refused self.old result self.new }
+        ensures runs { RunsOn self.old.linked self.new.linked }
         ensures asks { AsksSince G.Asked self.old.linked.recorded.core.core self.old.linked.recorded.journal.notes self.new.linked.recorded.journal.notes self.old.gate self.new.gate }
     {
+        self.hand_on_if_kept();
         match rest(rt, &self.own, &mut self.rounds) {
             Some(_) => true,
             None => {
@@ -113,12 +147,14 @@ impl<J: Job + Task<Out = u64>, C: Clock + Drop, G: Gate + Drop> Worker<J, C, G> 
         }
     }
 
-    /// One round. Whether the next one is made at once: unless nothing was to be done in it and in so many rounds before it.
+    /// Passes on what is kept if the journal is low, and makes one round. Whether the next one is made at once: unless nothing was to be done in
+    /// it and in so many rounds before it.
     fn goes_on(&mut self) -> bool
-        ensures goes { GoesOn J.meaning C.Reads G.Asked self.old result self.new }
-        ensures stays { StaysLinked self.old.linked self.new.linked }
+        ensures goes { GoesOn J.meaning C.Reads G.Asked S.has S.refused self.old result self.new }
+        ensures runs { RunsOn self.old.linked self.new.linked }
         ensures asks { AsksSince G.Asked self.old.linked.recorded.core.core self.old.linked.recorded.journal.notes self.new.linked.recorded.journal.notes self.old.gate self.new.gate }
     {
+        self.hand_on_if_low();
         let was_idle = self.idle > 0;
         if self.rounds.round(was_idle) {
             self.idle = 0;
@@ -133,8 +169,8 @@ impl<J: Job + Task<Out = u64>, C: Clock + Drop, G: Gate + Drop> Worker<J, C, G> 
 
     /// One round, and a rest where the next one isn't made at once.
     fn serve<R: Wait>(&mut self, rt: &R)
-        ensures serves { Serves J.meaning C.Reads G.Asked self.old self.new }
-        ensures stays { StaysLinked self.old.linked self.new.linked }
+        ensures serves { Serves J.meaning C.Reads G.Asked S.has S.refused self.old self.new }
+        ensures runs { RunsOn self.old.linked self.new.linked }
         ensures asks { AsksSince G.Asked self.old.linked.recorded.core.core self.old.linked.recorded.journal.notes self.new.linked.recorded.journal.notes self.old.gate self.new.gate }
     {
         if !self.goes_on() {
@@ -143,17 +179,18 @@ impl<J: Job + Task<Out = u64>, C: Clock + Drop, G: Gate + Drop> Worker<J, C, G> 
     }
 }
 
-impl<J: Task<Out = u64>, C: Drop, G: Drop> Promised for Worker<J, C, G> {
-    type Ended = Ended<J>;
+impl<J: Task<Out = u64>, C: Drop, G: Drop, S: Sink> Promised for Worker<J, C, G, S> {
+    type Ended = Ended<J, S>;
 
-    ghost keeps = { λ worker ended. StaysLinked worker.linked ended };
+    ghost keeps = { λ worker ended. RunsOn worker.linked ended.linked };
 }
 
-impl<J: Job + Task<Out = u64>, C: Clock + Drop, G: Gate + Drop> Work for Worker<J, C, G> {
-    fn run<R: Wait>(self, rt: &R) -> Ended<J>
-        ensures keeps { StaysLinked self.linked result }
-        ensures serves { (last : WorkerView J ℕ C G) × ServesOn J.meaning C.Reads G.Asked self last × (result ≡ last.linked) }
-        ensures asks { (gate : G) × AsksSince G.Asked self.linked.recorded.core.core self.linked.recorded.journal.notes result.recorded.journal.notes self.gate gate }
+impl<J: Job + Task<Out = u64>, C: Clock + Drop, G: Gate + Drop, S: Sink> Work
+    for Worker<J, C, G, S> {
+    fn run<R: Wait>(self, rt: &R) -> Ended<J, S>
+        ensures keeps { RunsOn self.linked result.linked }
+        ensures serves { ServesToItsEnd J.meaning C.Reads G.Asked S.has S.refused self result }
+        ensures asks { (gate : G) × AsksSince G.Asked self.linked.recorded.core.core self.linked.recorded.journal.notes result.linked.recorded.journal.notes self.gate gate }
     {
         let mut worker = self;
         // On the thread that writes the notes, so that their pages come from memory that is near to it.

@@ -3,3 +3,7 @@
 
 #[cfg(test)]
 mod alone;
+#[cfg(test)]
+mod passing;
+#[cfg(test)]
+mod setup;

@@ -1,4 +1,4 @@
--- What the sums say of the journal that was read.
+-- What the figures say of the journal that was read.
 use Rattle.std.proofs.Common.{◌≡◌, ℕ, ◌+◌, ◌≤◌, min, Bool, sym, subst, ◌∙◌, ap, arith, get_or}
 use Rattle.std.specs.Prelude.{Some}
 use Rattle.std.proofs.lemmas.Bool.{false_from_ne_true, true≢false}
@@ -13,26 +13,26 @@ use Rattle.rt_journal_facts.proofs.AllAccounts.{has_nobody, is_empty}
 use Rattle.rt_stats.specs.declared.gates.Gate.{Gate}
 use Rattle.rt_stats.specs.Gates.{open_gate}
 use Rattle.rt_stats.specs.Stats.{core_stats}
-use Rattle.rt_stats.specs.Walks.{SumsView, KnowsSums, inside_below}
+use Rattle.rt_stats.specs.Walks.{FiguresView, KnowsFigures, inside_below}
 use Rattle.rt_stats.proofs.HeldSteps.{inside_known, held-within}
 
 module _ {T : Type 0} where
   -- what is known under a burst that is the same
-  pub under_same : {burst other : ℕ} (sums : SumsView) (journal : Journal T) → burst ≡ other → KnowsSums burst sums journal → KnowsSums other sums journal
-  under_same sums journal same knows = subst (λ (polls : ℕ). KnowsSums polls sums journal) same knows
+  pub under_same : {burst other : ℕ} (figures : FiguresView) (journal : Journal T) → burst ≡ other → KnowsFigures burst figures journal → KnowsFigures other figures journal
+  under_same figures journal same knows = subst (λ (polls : ℕ). KnowsFigures polls figures journal) same knows
 
-  module _ {burst : ℕ} (sums : SumsView) (journal : Journal T) (knows : KnowsSums burst sums journal) where
+  module _ {burst : ℕ} (figures : FiguresView) (journal : Journal T) (knows : KnowsFigures burst figures journal) where
     -- all jobs inside
-    held : min (inside_below (sums.gates.created + 1) sums.accounts.queues) greatest_count ≡ jobs_held journal
+    held : min (inside_below (figures.gates.created + 1) figures.accounts.queues) greatest_count ≡ jobs_held journal
     held =
-        let below : inside_below (sums.gates.created + 1) sums.accounts.queues ≡ jobs_held journal =
-        ap (λ created. inside_below (created + 1) sums.accounts.queues) knows.gates.made ∙
-        inside_known (created_count journal + 1) sums.accounts journal knows.accounts in
+        let below : inside_below (figures.gates.created + 1) figures.accounts.queues ≡ jobs_held journal =
+        ap (λ created. inside_below (created + 1) figures.accounts.queues) knows.gates.made ∙
+        inside_known (created_count journal + 1) figures.accounts journal knows.accounts in
         omega (arith, below, held-within (created_count journal + 1) journal, knows.short)
 
     -- the numbers of the core
-    pub core_known : (jobs : ℕ) (drained : Bool) → jobs ≡ min (inside_below (sums.gates.created + 1) sums.accounts.queues) greatest_count →
-        record { turns = sums.gates.turns; floor = sums.accounts.floor; held = jobs; drained = drained } ≡ core_stats drained journal
+    pub core_known : (jobs : ℕ) (drained : Bool) → jobs ≡ min (inside_below (figures.gates.created + 1) figures.accounts.queues) greatest_count →
+        record { turns = figures.gates.turns; floor = figures.accounts.floor; held = jobs; drained = drained } ≡ core_stats drained journal
     core_known jobs drained is = λ i. record {
       turns = knows.gates.picked i;
       floor = knows.accounts.floor i;
@@ -40,13 +40,13 @@ module _ {T : Type 0} where
       drained = drained;
     }
 
-    nobody : (queue : ℕ) → IsEmpty (account_of sums.accounts queue) → HasNobody queue journal
-    nobody queue = has_nobody queue (account_of sums.accounts queue) journal (knows.accounts.each queue)
+    nobody : (queue : ℕ) → IsEmpty (account_of figures.accounts queue) → HasNobody queue journal
+    nobody queue = has_nobody queue (account_of figures.accounts queue) journal (knows.accounts.each queue)
 
     -- the gates and the accounts tell whether the core is drained
     pub drained_known : (cores : ℕ) →
-        ((sender : ℕ) → sender ≤ cores → (get_or sums.gates.senders sender open_gate).count ≡ Some (get_or sums.gates.senders sender open_gate).delivered) →
-        ((queue : ℕ) → IsEmpty (account_of sums.accounts queue)) → IsDrained cores journal
+        ((sender : ℕ) → sender ≤ cores → (get_or figures.gates.senders sender open_gate).count ≡ Some (get_or figures.gates.senders sender open_gate).delivered) →
+        ((queue : ℕ) → IsEmpty (account_of figures.accounts queue)) → IsDrained cores journal
     drained_known cores delivered empty = record {
       delivered_all =
           λ sender within.
@@ -57,12 +57,12 @@ module _ {T : Type 0} where
     }
 
     pub delivered_known : (cores : ℕ) → IsDrained cores journal → (sender : ℕ) → sender ≤ cores →
-        (get_or sums.gates.senders sender open_gate).count ≡ Some (get_or sums.gates.senders sender open_gate).delivered
+        (get_or figures.gates.senders sender open_gate).count ≡ Some (get_or figures.gates.senders sender open_gate).delivered
     delivered_known cores drained sender within =
         ap (λ (gate : Gate). gate.count) (knows.gates.each sender) ∙
         (drained.delivered_all sender within ∙ sym (ap (λ (gate : Gate). Some gate.delivered) (knows.gates.each sender)))
 
-    pub empty_known : (cores : ℕ) → IsDrained cores journal → (queue : ℕ) → IsEmpty (account_of sums.accounts queue)
+    pub empty_known : (cores : ℕ) → IsDrained cores journal → (queue : ℕ) → IsEmpty (account_of figures.accounts queue)
     empty_known cores drained queue =
-        is_empty queue (account_of sums.accounts queue) journal (knows.accounts.each queue)
+        is_empty queue (account_of figures.accounts queue) journal (knows.accounts.each queue)
         (record { idle = false_from_ne_true (has_work queue journal) (drained.idle queue); nobody_parked = drained.nobody_parked queue })

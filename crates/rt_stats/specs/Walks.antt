@@ -35,19 +35,27 @@ abbrev pub inside_below : ℕ → List Account → ℕ
 inside_below zero accounts = 0
 inside_below (suc queue) accounts = inside_below queue accounts + inside (get_or accounts queue fresh_account)
 
--- how many polls a turn may have, the queues of jobs and where they are parked, the accounts and tallies of queues, and the gates
-pub record SumsView : Type 0 where
+-- how many polls a turn may have, the accounts and tallies of queues, and the gates
+pub record FiguresView : Type 0 where
   pub burst : ℕ
-  pub parks : Parks
   pub accounts : Accounts
   pub tallies : Tallies
   pub gates : Gates
 
+-- all is counted as these notes tell it, where a turn may have so many polls
+pub record KnowsFigures {T : Type 0} (burst : ℕ) (figures : FiguresView) (journal : Journal T) : Type 0 where
+  pub same_burst : figures.burst ≡ burst
+  pub accounts : KnowsAccounts burst figures.accounts journal
+  pub tallies : KnowsTallies burst figures.tallies journal
+  pub gates : KnowsGates figures.gates journal
+  pub short : length journal ≤ greatest_count
+
+-- the queues of jobs and where they are parked, and what is counted
+pub record SumsView : Type 0 where
+  pub parks : Parks
+  pub figures : FiguresView
+
 -- all is known as these notes tell it, where a turn may have so many polls
 pub record KnowsSums {T : Type 0} (burst : ℕ) (sums : SumsView) (journal : Journal T) : Type 0 where
-  pub same_burst : sums.burst ≡ burst
   pub parks : KnowsParks sums.parks journal
-  pub accounts : KnowsAccounts burst sums.accounts journal
-  pub tallies : KnowsTallies burst sums.tallies journal
-  pub gates : KnowsGates sums.gates journal
-  pub short : length journal ≤ greatest_count
+  pub figures : KnowsFigures burst sums.figures journal

@@ -1,32 +1,28 @@
 //! The sums of one journal, made in one walk over its notes.
 
-ghost use Rattle.std.specs.Prelude.{◌≡◌, ◌↔◌, ◌<◌, ◌≤◌, ◌+◌, ◌∷◌, ℕ, [], length, get_or, min, OnOk, IfOk, IsTrue, nat_le};
+ghost use Rattle.std.specs.Prelude.{◌≡◌, ◌↔◌, ◌<◌, ◌≤◌, ◌∷◌, ℕ, [], length, OnOk, IfOk, IsTrue};
 ghost use Rattle.rt_ids.specs.Closing.{IsDrained};
 ghost use Rattle.rt_ids.specs.Journal.{Journal as Notes, at_place};
 ghost use Rattle.rt_ids.specs.Lag.{greatest_charge};
-ghost use Rattle.rt_journal_facts.specs.Accounts.{greatest_count, fresh_account, has_jobs};
+ghost use Rattle.rt_journal_facts.specs.Accounts.{greatest_count};
 ghost use Rattle.rt_stats.specs.Stats as spec;
 ghost use Rattle.rt_stats.specs.Sums.{charges};
-ghost use Rattle.rt_stats.specs.Walks.{KnowsSums, inside_below};
+ghost use Rattle.rt_stats.specs.Walks.{KnowsSums};
 
-use crate::gates::{Gates, all_done};
-use crate::tally::Tallies;
+use crate::figures::Figures;
 use rt_ids::{CoreStats, Note, QueueNo, QueueStats};
-use rt_journal_facts::{Account, Accounts, Parks, note_at};
+use rt_journal_facts::{Parks, note_at};
 use rt_journal_notes::Journal;
 use std::alloc::{AllocError, Global};
 use std::marker::Model;
 
 /// Of the notes that were read: all sums, of each queue and of the core.
 ///
-/// A contract sees the four tables of it. `KnowsSums` says that they are what some notes tell.
+/// A contract sees the tables of it. `KnowsSums` says that they are what some notes tell.
 #[derive(Drop)]
 pub struct Sums {
-    burst: u8,
     parks: Parks,
-    accounts: Accounts,
-    tallies: Tallies,
-    gates: Gates,
+    figures: Figures,
 }
 
 impl Model for Sums {
@@ -34,19 +30,7 @@ impl Model for Sums {
 
     ghost Value = { SumsView };
 
-    ghost view = { λ sums. record { burst = sums.burst; parks = sums.parks; accounts = sums.accounts; tallies = sums.tallies; gates = sums.gates } };
-}
-
-/// The jobs inside all queues, of which so many were created behind queue 0.
-fn held(accounts: &[Account; 256], created: u64) -> u64
-    ensures { result ≡ min (inside_below (created + 1) accounts.now) greatest_count }
-{
-    let mut sum: u64 = 0;
-    for queue in 0..created.min(255) as usize + 1 {
-        let account = &accounts[queue];
-        sum = sum.saturating_add(account.entered.saturating_sub(account.left));
-    }
-    sum
+    ghost view = { λ sums. record { parks = sums.parks; figures = sums.figures } };
 }
 
 impl Sums {
@@ -55,11 +39,8 @@ impl Sums {
         ensures { KnowsSums {T = ℕ} burst result [] }
     {
         Sums {
-            burst,
             parks: Parks::new(alloc),
-            accounts: Accounts::new(),
-            tallies: Tallies::new(),
-            gates: Gates::new(),
+            figures: Figures::new(burst),
         }
     }
 
@@ -68,10 +49,7 @@ impl Sums {
         ensures { OnOk result ((burst : ℕ) (before : Notes ℕ) → length before < greatest_count → KnowsSums burst self.old before → KnowsSums burst self.new (note.now ∷ before)) }
     {
         let spot = self.parks.spot(note);
-        self.tallies
-            .add(note, &spot.queue, &self.accounts, self.burst);
-        self.accounts.add(note, &spot, self.burst);
-        self.gates.add(note);
+        self.figures.add(note, &spot);
         self.parks.add(note)
     }
 
@@ -109,28 +87,7 @@ impl Sums {
     pub fn queue_stats(&self, queue: QueueNo) -> Option<QueueStats>
         ensures { (burst : ℕ) (journal : Notes ℕ) → KnowsSums burst self.now journal → result ≡ spec.queue_stats burst queue journal }
     {
-        if queue.0 as u64 <= self.gates.created {
-            Some(self.stats_of(queue))
-        } else {
-            None
-        }
-    }
-
-    fn stats_of(&self, queue: QueueNo) -> QueueStats
-        ensures { (burst : ℕ) (journal : Notes ℕ) → KnowsSums burst self.now journal → result ≡ spec.stats_of burst queue journal }
-    {
-        let account = self.accounts.of(queue);
-        let tally = self.tallies.of(queue);
-        let inside = account.entered.saturating_sub(account.left);
-        QueueStats {
-            shares: account.shares,
-            selected: tally.selected,
-            runtime: tally.time,
-            virtual_runtime: account.virtual_runtime,
-            waiting: inside.saturating_sub(tally.begun.saturating_sub(tally.settled)),
-            finished: tally.finished,
-            returned: tally.returned,
-        }
+        self.figures.queue_stats(queue)
     }
 
     /// The statistics of the core, in a house of so many cores.
@@ -138,25 +95,20 @@ impl Sums {
         ensures core { (burst : ℕ) (journal : Notes ℕ) → KnowsSums burst self.now journal → result ≡ spec.core_stats result.drained journal }
         ensures drained { (burst : ℕ) (journal : Notes ℕ) → KnowsSums burst self.now journal → IsTrue result.drained ↔ IsDrained cores journal }
     {
-        CoreStats {
-            turns: self.gates.turns,
-            floor: self.accounts.floor,
-            held: held(&self.accounts.queues, self.gates.created),
-            drained: all_done(&self.gates.senders, cores) && self.accounts.are_empty(),
-        }
+        self.figures.core_stats(cores)
     }
 
     /// The sum of the charges of a queue.
     pub fn charged(&self, queue: QueueNo) -> u128
         ensures { (burst : ℕ) (journal : Notes ℕ) → KnowsSums burst self.now journal → result ≡ charges burst queue journal }
     {
-        self.tallies.of(queue).charged
+        self.figures.charged(queue)
     }
 
     /// The greatest charge of one turn of a queue, 0 if it was charged nothing.
     pub fn greatest_turn(&self, queue: QueueNo) -> u64
         ensures { (burst : ℕ) (journal : Notes ℕ) → KnowsSums burst self.now journal → result ≡ greatest_charge burst queue journal }
     {
-        self.tallies.of(queue).greatest
+        self.figures.greatest_turn(queue)
     }
 }

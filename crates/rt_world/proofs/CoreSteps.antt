@@ -26,6 +26,10 @@ module _ {J T : Type 0} {meaning : Meaning J T} {old : Parts J T}
   pub room_is : (core_at core old).journal.room ≡ old.room
   room_is = sym (ap (λ desk. desk.journal.room) desk_is) ∙ ap (λ desk. desk.journal.room) (world.all_there.seats_are core (omega (arith, there)))
 
+  -- no note of it was passed on
+  pub whole_is : (core_at core old).journal.passed ≡ []
+  whole_is = sym (ap (λ desk. desk.journal.passed) desk_is) ∙ ap (λ desk. desk.journal.passed) (world.all_there.seats_are core (omega (arith, there)))
+
   pub core_cap : (core_at core old).cap ≡ old.cap
   core_cap = ap (λ desk. desk.cap) (sym desk_is ∙ world.all_there.seats_are core (omega (arith, there)))
 
@@ -87,7 +91,7 @@ module _ {J T : Type 0} {meaning : Meaning J T} {old : Parts J T}
           cores = (seat.cores ∙ ap (λ desk. desk.cores) was) i;
           cap = (seat.cap ∙ ap (λ desk. desk.cap) was) i;
           burst = (seat.burst ∙ ap (λ desk. desk.burst) was) i;
-          journal = record { notes = now.journal.notes; room = (seat.room ∙ ap (λ desk. desk.journal.room) was) i };
+          journal = record { notes = now.journal.notes; passed = (seat.passed ∙ ap (λ desk. desk.journal.passed) was) i; room = (seat.room ∙ ap (λ desk. desk.journal.room) was) i };
           lanes = now.lanes;
         }
 

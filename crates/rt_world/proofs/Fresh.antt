@@ -41,7 +41,7 @@ module _ {J T : Type 0} (meaning : Meaning J T) (cores cap burst room : ℕ)
       cores_are = cores_open.cores_are;
       rows_are = links_open.rows_are;
       links_are = links_open.cores_are;
-      seats_are = λ actor known. desk_is actor known ∙ ap (λ desk. record { actor = actor; cores = cores; cap = cap; burst = burst; journal = record { notes = desk.journal.notes; room = room }; lanes = desk.lanes }) (sym (desk_is actor known));
+      seats_are = λ actor known. desk_is actor known ∙ ap (λ desk. record { actor = actor; cores = cores; cap = cap; burst = burst; journal = record { notes = desk.journal.notes; passed = []; room = room }; lanes = desk.lanes }) (sym (desk_is actor known));
     };
     recorded = λ core known. subst (IsRecorded meaning) (sym (cores_open.each_opened core known)) (recorded-opened meaning core cores cap room burst known);
     outside = written;

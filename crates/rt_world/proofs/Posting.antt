@@ -104,7 +104,7 @@ module _ {J : Type 0} (meaning : Meaning J ℕ) (base : Parts J ℕ) (number : �
             record {
               acted = acted;
               rest = refl;
-              seat = record { number = refl; cores = refl; cap = refl; burst = refl; room = ap (λ desk. desk.journal.room) rest_is };
+              seat = record { number = refl; cores = refl; cap = refl; burst = refl; room = ap (λ desk. desk.journal.room) rest_is; passed = ap (λ desk. desk.journal.passed) rest_is };
               ins = λ from. subst (KeepsIn from (view post)) (sym view_is) (ins_silent (view post) next.desk.journal.notes next.desk.lanes silent from);
               sound = subst (IsRecorded meaning) (sym view_is) (recorded_silent (view post) next.desk.journal.notes next.desk.lanes silent recorded acted.stays.written);
             }

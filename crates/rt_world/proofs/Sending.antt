@@ -1,6 +1,6 @@
 -- A world at rest stays one as the outside actor does something on the link to a core.
 use Rattle.rt_world.proofs.Words.{◌≡◌, ◌≢◌, ℕ, ◌+◌, ◌<◌, ◌≤◌, List, ◌++◌, length, refl, sym, ◌∙◌, ap, subst, arith, set, map, set-get_or, Note, Order}
-use Rattle.rt_world.proofs.Words.{Journal, Meaning, Whole, Fits, out_of, WorldView, journal_at, noted, link_at, Parts, desks, desk_at, world_of, IsWorld}
+use Rattle.rt_world.proofs.Words.{Journal, Meaning, Whole, Fits, out_of, [], WorldView, journal_at, noted, link_at, Parts, desks, desk_at, world_of, IsWorld}
 use Rattle.rt_world.proofs.Words.{Outcome, DeskView, opened_desk, StaysBeside, ChangesLink, seat_of}
 use Rattle.rt_world.proofs.Desks.{desk_at-outside, desks-outside, journal_at-world, journals-noted}
 use Rattle.rt_world_links.proofs.Places.{by_place}
@@ -106,6 +106,9 @@ module _ {J T : Type 0} {meaning : Meaning J T} {old : Parts J T}
   pub outside_notes : journal_at sender (world_of old) ≡ old.outside.journal.notes
   outside_notes = journal_at-world old sender ∙ ap (λ desk. desk.journal.notes) outside_desk
 
+  pub outside_whole : old.outside.journal.passed ≡ []
+  outside_whole = sym (ap (λ desk. desk.journal.passed) outside_desk) ∙ ap (λ desk. desk.journal.passed) (world.all_there.seats_are sender (omega (arith, is_last)))
+
   pub outside_room : old.outside.journal.room ≡ old.room
   outside_room = sym (ap (λ desk. desk.journal.room) outside_desk) ∙ ap (λ desk. desk.journal.room) (world.all_there.seats_are sender (omega (arith, is_last)))
 
@@ -142,7 +145,7 @@ module _ {J T : Type 0} {meaning : Meaning J T} {old : Parts J T}
               cores = ap (λ desk. desk.cores) was i;
               cap = ap (λ desk. desk.cap) was i;
               burst = ap (λ desk. desk.burst) was i;
-              journal = record { notes = now.journal.notes; room = ap (λ desk. desk.journal.room) was i };
+              journal = record { notes = now.journal.notes; passed = ap (λ desk. desk.journal.passed) was i; room = ap (λ desk. desk.journal.room) was i };
               lanes = now.lanes;
             });
         other_cores = λ core away. refl;

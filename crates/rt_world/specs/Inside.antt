@@ -52,10 +52,10 @@ module _ {J T : Type 0} where
     sent = map (map (λ link. link.sent)) parts.links;
   }
 
-  -- this desk at the seat of this number
+  -- this desk at the seat of this number, with nothing passed on
   abbrev pub seat_of : ℕ → DeskView J T → Parts J T → DeskView J T
   seat_of actor desk parts =
-      record { actor = actor; cores = parts.cores; cap = parts.cap; burst = parts.burst; journal = record { notes = desk.journal.notes; room = parts.room }; lanes = desk.lanes }
+      record { actor = actor; cores = parts.cores; cap = parts.cap; burst = parts.burst; journal = record { notes = desk.journal.notes; passed = []; room = parts.room }; lanes = desk.lanes }
 
   -- there are as many of each part as the numbers say, and each actor has its number
   pub record AreAllThere (parts : Parts J T) : Type 0 where

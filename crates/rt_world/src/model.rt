@@ -1,6 +1,6 @@
 //! The cores of one executor as one value, moved by events.
 
-ghost use Rattle.std.specs.Prelude.{◌≡◌, ◌≤◌, ◌<◌};
+ghost use Rattle.std.specs.Prelude.{◌≡◌, ◌≤◌, ◌<◌, []};
 ghost use Rattle.rt_ids.specs.Joining.{AreJoined};
 ghost use Rattle.rt_ids.specs.Sound.{IsSound};
 ghost use Rattle.rt_journal.specs.Recorded.{IsRecorded};
@@ -93,9 +93,9 @@ impl<J: Task<Out = u64>, A: Allocator + Clone> World<J, A> {
     {
         let mut gathered = self.gathered;
         for core in self.inside {
-            gathered.push_reserved(core.into_journal());
+            gathered.push_reserved(core.into_journal().into_kept());
         }
-        gathered.push_reserved(self.outside.into_journal());
+        gathered.push_reserved(self.outside.into_journal().into_kept());
         Assembly::of_burst(self.cores, self.cap, self.burst, gathered)
     }
 
@@ -107,6 +107,7 @@ impl<J: Task<Out = u64>, A: Allocator + Clone> World<J, A> {
         ensures burst { result.now.core.bursts.burst ≡ self.now.burst }
         ensures notes { result.now.journal.notes ≡ journal_at core self.now }
         ensures room { result.now.journal.room ≡ self.now.room }
+        ensures whole { result.now.journal.passed ≡ [] }
         ensures sound { IsRecorded J.meaning result.now }
     {
         &self.inside[core.0 as usize]
@@ -133,9 +134,9 @@ impl<J: Task<Out = u64>, A: Allocator + Clone> World<J, A> {
         ensures room { result.now.room ≡ self.now.room }
     {
         if actor.0 < self.cores {
-            self.recorded(CoreNo(actor.0)).journal()
+            self.recorded(CoreNo(actor.0)).journal().kept()
         } else {
-            self.outside.journal()
+            self.outside.journal().kept()
         }
     }
 }

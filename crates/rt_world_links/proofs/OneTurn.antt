@@ -42,7 +42,7 @@ beside_then {old = old} {new = new} kept number links before = record {
 pub kept_itself : {J T : Type 0} {meaning : Meaning J T} (view : RecordedView J T) → IsRecorded meaning view → IsKeptBeside meaning none_owed view view
 kept_itself view recorded = record {
   sound = recorded;
-  seat = record { number = refl; cores = refl; cap = refl; burst = refl; room = refl };
+  seat = record { number = refl; cores = refl; cap = refl; burst = refl; room = refl; passed = refl };
   ins = λ sender. record { each = λ inward is. is };
   outs = λ core. record { each = λ out credited is. is };
   lanes = refl;

@@ -81,6 +81,7 @@ impl<J: Job, A: Allocator + Clone> Core<J, A> {
     }
 
     /// Polls the next job where it stands, and settles the poll, whose turn stays open. The answer: what the poll came to, and the time that counts.
+    #[inline(never)]
     pub(super) fn turn_opening<P: Post<J, J::Out>, M: Meter>(
         &mut self,
         post: &mut P,

@@ -46,6 +46,7 @@ impl<J: Task, A: Allocator + Clone> Core<J, A> {
     }
 
     /// It does so while its turn stays open.
+    #[inline(never)]
     fn rejoin_in_turn(&mut self, job: J, time: u64, woken: bool) -> JobId
         requires out { IsSome self.old.out }
         requires in_turn { IsSome self.old.bursts.open }
@@ -99,6 +100,7 @@ impl<J: Task, A: Allocator + Clone> Core<J, A> {
     }
 
     /// It is so while its turn stays open.
+    #[inline(never)]
     fn park_in_turn(&mut self, job: J, time: u64) -> JobId
         requires out { IsSome self.old.out }
         requires in_turn { IsSome self.old.bursts.open }
@@ -142,6 +144,7 @@ impl<J: Task, A: Allocator + Clone> Core<J, A> {
     }
 
     /// It is so while its turn stays open.
+    #[inline(never)]
     fn finish_in_turn(&mut self, time: u64) -> JobId
         requires out { IsSome self.old.out }
         requires in_turn { IsSome self.old.bursts.open }

@@ -257,8 +257,6 @@ impl<J: Job<Out = u64>, A: Allocator + Clone> Recorded<J, A> {
         ensures { TurnsNoted J.meaning IsPick O.out O.credited O.untouched (λ time. M.Tells meter.old time meter.new)
             3 1 self.old ends.old.items next.now.name next.now.queue next.now.started result self.new ends.new.items }
     {
-        // There are fewer notes than turns that a core can make.
-        let _room = self.said.journal().room();
         self.said.see_lanes();
         let picked = picked_notes(next);
         self.said.write(&picked);

@@ -89,6 +89,7 @@ impl<J: Job, A: Allocator + Clone> Queues<J, A> {
     /// A whole turn of the line: its head is polled where it stands. If it wants another poll it goes to the tail by links alone. If it
     /// asks to be parked it is, or goes to the tail if a wake of it is kept. If it is done it is taken out and dropped. The answer: what
     /// the poll came to, the time that the job told, and the time that the meter told.
+    #[inline(always)]
     pub fn turn_front<P: Post<J, J::Out>, M: Meter>(
         &mut self,
         queue: QueueNo,

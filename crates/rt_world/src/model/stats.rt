@@ -22,6 +22,9 @@ impl<J: Task<Out = u64>, A: Allocator + Clone> World<J, A> {
         if core.0 >= self.cores {
             return None;
         }
-        Some(told_stats(self.recorded(core)))
+        // All notes are kept, so there are fewer than a count of jobs can tell.
+        let recorded = self.recorded(core);
+        let _kept = recorded.journal().kept_count();
+        Some(told_stats(recorded))
     }
 }

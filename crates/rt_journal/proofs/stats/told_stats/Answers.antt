@@ -1,4 +1,4 @@
-use Rattle.rt_journal.proofs.Words.{◌^◌, arith, length, ◌≡◌, ◌<◌, ◌∙◌, ap, subst, ◌↔◌, IsTrue, Some, slice_get, queue_count, core_stats, queue_stats}
+use Rattle.rt_journal.proofs.Words.{◌≡◌, ◌<◌, ◌∙◌, ap, subst, ◌↔◌, IsTrue, Some, slice_get, queue_count, core_stats, queue_stats}
 use Rattle.arrayvec.specs.ArrayVec.{array_vec_len}
 use Rattle.rt_core.specs.Closing as closing
 use Rattle.rt_journal.proofs.StatsTold.{core_told, queues_told}
@@ -13,6 +13,5 @@ returns-clause-core g c =
 pub returns-clause-queues : goal.returns-clause-queues
 returns-clause-queues g c =
     let its = c.core.ensures in
-    let few : length c.args.recorded.now.journal.notes < 2 ^ 32 = omega (arith, c.room-room.ensures.value, c.room-room.ensures.limits, ap (λ journal. length journal.notes) c.journal.ensures, ap (λ journal. journal.room) c.journal.ensures) in
-    queues_told _ c.requires.sound few (array_vec_len c.stats.result.1) c.stats.result.1.items (c.stats.ensures.count ∙ ap (λ core. queue_count core.queues) its)
+    λ few. queues_told _ c.requires.sound few (array_vec_len c.stats.result.1) c.stats.result.1.items (c.stats.ensures.count ∙ ap (λ core. queue_count core.queues) its)
     (subst (λ core. (queue : _) → queue < queue_count core.queues → slice_get c.stats.result.1.items queue ≡ Some (queue_stats queue core)) its c.stats.ensures.queues)

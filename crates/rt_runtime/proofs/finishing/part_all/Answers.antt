@@ -1,30 +1,47 @@
-use Rattle.std.proofs.Common.{◌∙◌, refl}
+use Rattle.std.proofs.Common.{◌≡◌, ◌∙◌, refl, subst}
 use Rattle.std.specs.Vec.Iter.{into_iter_items, into_iter_len}
-use Rattle.rt_runtime.proofs.Parted.{parted_first, parted_more, parted_all}
+use Rattle.rt_runtime_team.proofs.Lists.{IsMade, made_all, made_first, made_more}
+use Rattle.rt_runtime.specs.Finishing.{IsPart}
+use Rattle.rt_runtime.proofs.AllPassed.{ends_of_each}
 use Rattle.rt_runtime.proofs.finishing.part_all.Goals as goal
 
 pub loop-one-init : goal.loop-one-init
 loop-one-init g c =
     let gives = c.into_iter-one-iterator.ensures.into_iter_gives in
+    let items = into_iter_items c.into_iter-one-iterator.result in
+    let left = into_iter_len c.into_iter-one-iterator.result in
+    let count = gives.1 ∙ c.args.all.ok.0 in
     record {
       room_ends = refl;
-      room_journals = refl;
-      parted = parted_first c.args.all.items (into_iter_items c.into_iter-one-iterator.result) (into_iter_len c.into_iter-one-iterator.result) c.args.ends.items c.args.journals.items gives.0 (gives.1 ∙ c.args.all.ok.0)
-          c.requires.no_ends c.requires.no_journals;
+      room_actors = refl;
+      ends = made_first (λ worker ends. ends ≡ worker.linked.ends) c.args.all.items items left c.args.ends.items gives.0 count c.requires.no_ends;
+      actors = made_first (IsPart g.J.Task.meaning g.S.Sink.has g.S.Sink.refused) c.args.all.items items left c.args.actors.items gives.0 count c.requires.no_actors;
     }
 
 pub loop-one-preserved : goal.loop-one-preserved
 loop-one-preserved g c =
     let loop = c.loop-one in let steps = c.in-Some.ensures.steps in
+    let was = into_iter_items loop.one-iterator in
+    let rest = into_iter_items c.next.new.self in
+    let left = into_iter_len loop.one-iterator in
+    let fewer = into_iter_len c.next.new.self in
     record {
       room_ends = c.push_reserved.ensures.capacity ∙ loop.invariant.room_ends;
-      room_journals = c.push_reserved-in-loop-one.ensures.capacity ∙ loop.invariant.room_journals;
-      parted = rw (c.push_reserved.ensures.items, c.push_reserved-in-loop-one.ensures.items)
-          (rw (c.part-its_ends.ensures.ends, c.part-its_ends.ensures.journal)
-          (parted_more c.args.all.items (into_iter_items loop.one-iterator) (into_iter_items c.next.new.self) (into_iter_len loop.one-iterator) (into_iter_len c.next.new.self) loop.all_ends.items loop.all_journals.items
-          c.in-Some.one loop.invariant.parted steps.0 steps.1 c.part-its_ends.ensures.ended));
+      room_actors = c.push_reserved-in-loop-one.ensures.capacity ∙ loop.invariant.room_actors;
+      ends = rw c.push_reserved.ensures.items
+          (made_more (λ worker ends. ends ≡ worker.linked.ends) c.args.all.items was rest left fewer loop.all_ends.items c.in-Some.one c.part-its_ends.result.0 loop.invariant.ends steps.0 steps.1 c.part-its_ends.ensures.ends);
+      actors = rw c.push_reserved-in-loop-one.ensures.items
+          (made_more (IsPart g.J.Task.meaning g.S.Sink.has g.S.Sink.refused) c.args.all.items was rest left fewer loop.all_actors.items c.in-Some.one c.part-its_ends.result.1 loop.invariant.actors steps.0 steps.1 c.part-its_ends.ensures.part);
     }
 
 pub returns-clause-parts : goal.returns-clause-parts
 returns-clause-parts g c =
-    parted_all c.args.all.items (into_iter_items c.loop-one.one-iterator) (into_iter_len c.loop-one.one-iterator) c.loop-one.all_ends.items c.loop-one.all_journals.items c.in-None.ensures.steps.0 c.loop-one.invariant.parted
+    let rest = into_iter_items c.loop-one.one-iterator in
+    let none = c.in-None.ensures.steps.0 in
+    record {
+      ends_are = ends_of_each c.args.all.items c.loop-one.all_ends.items
+          (made_all (λ worker ends. ends ≡ worker.linked.ends) c.args.all.items rest c.loop-one.all_ends.items
+          (subst (λ left. IsMade (λ worker ends. ends ≡ worker.linked.ends) c.args.all.items rest left c.loop-one.all_ends.items) none c.loop-one.invariant.ends));
+      each = made_all (IsPart g.J.Task.meaning g.S.Sink.has g.S.Sink.refused) c.args.all.items rest c.loop-one.all_actors.items
+          (subst (λ left. IsMade (IsPart g.J.Task.meaning g.S.Sink.has g.S.Sink.refused) c.args.all.items rest left c.loop-one.all_actors.items) none c.loop-one.invariant.actors);
+    }

@@ -1,12 +1,13 @@
 use Rattle.std.proofs.Common.{◌≡◌, vec_capacity}
 use Rattle.std.specs.Vec.Iter.{into_iter_items, into_iter_len}
-use Rattle.rt_link.specs.Fits.{Fits}
-use Rattle.rt_runtime.proofs.Parted.{IsParted}
+use Rattle.rt_runtime_team.proofs.Lists.{IsMade}
+use Rattle.rt_runtime.specs.Finishing.{IsPart}
 use Rattle.rt_runtime.proofs.finishing.part_all.Given as goal
 
 abbrev pub invariant-loop-one : goal.invariant-loop-one
 invariant-loop-one g l = record {
   room_ends : vec_capacity l.all_ends ≡ vec_capacity l.fn.ends;
-  room_journals : vec_capacity l.all_journals ≡ vec_capacity l.fn.journals;
-  parted : IsParted g.J.Task.meaning l.fn.all.items (into_iter_items l.one-iterator) (into_iter_len l.one-iterator) l.all_ends.items l.all_journals.items;
+  room_actors : vec_capacity l.all_actors ≡ vec_capacity l.fn.actors;
+  ends : IsMade (λ worker ends. ends ≡ worker.linked.ends) l.fn.all.items (into_iter_items l.one-iterator) (into_iter_len l.one-iterator) l.all_ends.items;
+  actors : IsMade (IsPart g.J.Task.meaning g.S.Sink.has g.S.Sink.refused) l.fn.all.items (into_iter_items l.one-iterator) (into_iter_len l.one-iterator) l.all_actors.items;
 }

@@ -1,4 +1,4 @@
-use Rattle.rt_runtime.proofs.Refused.{refused_come_back}
+use Rattle.rt_runtime.proofs.OrdersBack.{refused_come_back}
 use Rattle.rt_runtime.proofs.laws.refused_orders_come_back.Goals as goal
 
 pub returns : goal.returns

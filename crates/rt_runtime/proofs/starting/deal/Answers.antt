@@ -12,8 +12,10 @@ loop-ends-init g c =
       ends = rw c.in_ok-seats.ensures.items gives.0;
       clocks = rw c.in_ok-seats.ensures.items refl;
       gates = rw c.in_ok-seats.ensures.items refl;
+      sinks = rw c.in_ok-seats.ensures.items refl;
       some_clocks = c.requires.clocks ∙ sym left;
       some_gates = c.requires.gates ∙ sym left;
+      some_sinks = c.requires.sinks ∙ sym left;
     }
 
 pub loop-ends-preserved : goal.loop-ends-preserved
@@ -26,6 +28,9 @@ loop-ends-preserved g c =
           (first_of loop.clocks.items c.remove-clock.new.self.items c.remove-clock.result (omega (arith, loop.invariant.some_clocks, steps.1)) c.remove-clock.ensures.value c.remove-clock.ensures.items));
       gates = rw c.push_reserved.ensures.items (dealt_more (λ seat. seat.gate) loop.seats.items _ c.args.gates.items loop.gates.items c.remove-gate.new.self.items loop.invariant.gates
           (first_of loop.gates.items c.remove-gate.new.self.items c.remove-gate.result (omega (arith, loop.invariant.some_gates, steps.1)) c.remove-gate.ensures.value c.remove-gate.ensures.items));
+      sinks = rw c.push_reserved.ensures.items (dealt_more (λ seat. seat.sink) loop.seats.items _ c.args.sinks.items loop.sinks.items c.remove-sink.new.self.items loop.invariant.sinks
+          (first_of loop.sinks.items c.remove-sink.new.self.items c.remove-sink.result (omega (arith, loop.invariant.some_sinks, steps.1)) c.remove-sink.ensures.value c.remove-sink.ensures.items));
       some_clocks = omega (arith, loop.invariant.some_clocks, c.remove-clock.ensures.len, steps.1, loop.clocks.ok.0, c.remove-clock.new.self.ok.0);
       some_gates = omega (arith, loop.invariant.some_gates, c.remove-gate.ensures.len, steps.1, loop.gates.ok.0, c.remove-gate.new.self.ok.0);
+      some_sinks = omega (arith, loop.invariant.some_sinks, c.remove-sink.ensures.len, steps.1, loop.sinks.ok.0, c.remove-sink.new.self.ok.0);
     }

@@ -8,6 +8,8 @@ invariant-loop-ends g l = record {
   ends : map (λ seat. seat.ends) l.seats.items ++ into_iter_items l.ends-iterator ≡ l.fn.all.items;
   clocks : map (λ seat. seat.clock) l.seats.items ++ l.clocks.items ≡ l.fn.clocks.items;
   gates : map (λ seat. seat.gate) l.seats.items ++ l.gates.items ≡ l.fn.gates.items;
+  sinks : map (λ seat. seat.sink) l.seats.items ++ l.sinks.items ≡ l.fn.sinks.items;
   some_clocks : length l.clocks.items ≡ into_iter_len l.ends-iterator;
   some_gates : length l.gates.items ≡ into_iter_len l.ends-iterator;
+  some_sinks : length l.sinks.items ≡ into_iter_len l.ends-iterator;
 }

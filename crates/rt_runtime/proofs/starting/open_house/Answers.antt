@@ -6,7 +6,7 @@ use Rattle.rt_runtime.proofs.starting.open_house.Goals as goal
 pub open_workers-requires-clause-each : goal.open_workers-requires-clause-each
 open_workers-requires-clause-each g c =
     may_open c.args.config.now.cores c.args.config.now.cap c.args.config.now.burst c.args.config.now.room c.args.config.now.queues.items c.in-Ok.all.items c.pop.new.self.items c.in-Some.outside c.in-Some.ensures.items c.in-Ok.ensures.grid c.in-Ok.ensures.fresh
-    _ _ c.requires
+    _ _ c.requires.good
 
 pub returns-clause-house : goal.returns-clause-house
 returns-clause-house g c =

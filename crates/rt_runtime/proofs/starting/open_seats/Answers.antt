@@ -1,4 +1,4 @@
-use Rattle.std.proofs.Common.{◌∙◌, sym, subst, arith}
+use Rattle.std.proofs.Common.{◌≡◌, [], ◌∙◌, subst, arith}
 use Rattle.std.specs.Vec.Iter.{into_iter_items, into_iter_len}
 use Rattle.rt_runtime_team.proofs.Lists.{IsMade, made_all, made_first, made_more}
 use Rattle.rt_runtime.specs.Starting.{AreOpening, IsOpenedWith, IsWiredWith}
@@ -10,7 +10,7 @@ loop-seat-init g c =
     let gives = c.into_iter-seat-iterator.ensures.into_iter_gives in
     record {
       reserved = omega (arith, c.in_ok-workers.ensures.capacity, c.len.ensures, c.args.seats.ok.0);
-      made = made_first (λ seat worker. IsWiredWith (IsOpenedWith c.args.config.now.cores c.args.config.now.cap c.args.config.now.burst c.args.config.now.room c.args.config.now.queues.items seat.ends) seat.clock seat.gate c.args.bells.now.names worker) c.args.seats.items (into_iter_items c.into_iter-seat-iterator.result)
+      made = made_first (λ seat worker. IsWiredWith (IsOpenedWith c.args.config.now.cores c.args.config.now.cap c.args.config.now.burst c.args.config.now.room c.args.config.now.queues.items seat.ends) seat.clock seat.gate seat.sink c.args.bells.now.names worker) c.args.seats.items (into_iter_items c.into_iter-seat-iterator.result)
           (into_iter_len c.into_iter-seat-iterator.result) c.in_ok-workers.workers.items gives.0 (gives.1 ∙ c.args.seats.ok.0) c.in_ok-workers.ensures.items;
     }
 
@@ -24,19 +24,24 @@ open-requires-clause-room g c =
     (holds_next (λ seat. AreOpening c.args.config.now.cores c.args.config.now.cap c.args.config.now.burst c.args.config.now.room c.args.config.now.queues.items seat.ends) c.args.seats.items c.loop-seat.invariant.made.done (into_iter_items c.loop-seat.seat-iterator)
     (into_iter_items c.next.new.self) c.in-Some.seat c.requires.each c.loop-seat.invariant.made.split c.in-Some.ensures.steps.0).enough
 
+pub open-requires-clause-none : goal.open-requires-clause-none
+open-requires-clause-none g c =
+    holds_next (λ seat. g.S.Sink.has seat.sink ≡ []) c.args.seats.items c.loop-seat.invariant.made.done (into_iter_items c.loop-seat.seat-iterator) (into_iter_items c.next.new.self) c.in-Some.seat c.requires.empty c.loop-seat.invariant.made.split
+    c.in-Some.ensures.steps.0
+
 pub loop-seat-preserved : goal.loop-seat-preserved
 loop-seat-preserved g c =
     let loop = c.loop-seat in let steps = c.in-Some.ensures.steps in
     record {
       reserved = omega (arith, loop.invariant.reserved, c.push_reserved.ensures.capacity);
       made = rw c.push_reserved.ensures.items
-          (made_more (λ seat worker. IsWiredWith (IsOpenedWith c.args.config.now.cores c.args.config.now.cap c.args.config.now.burst c.args.config.now.room c.args.config.now.queues.items seat.ends) seat.clock seat.gate c.args.bells.now.names worker) c.args.seats.items (into_iter_items loop.seat-iterator) (into_iter_items c.next.new.self)
+          (made_more (λ seat worker. IsWiredWith (IsOpenedWith c.args.config.now.cores c.args.config.now.cap c.args.config.now.burst c.args.config.now.room c.args.config.now.queues.items seat.ends) seat.clock seat.gate seat.sink c.args.bells.now.names worker) c.args.seats.items (into_iter_items loop.seat-iterator) (into_iter_items c.next.new.self)
           (into_iter_len loop.seat-iterator) (into_iter_len c.next.new.self) loop.workers.items c.in-Some.seat c.in_ok-open.field-0 loop.invariant.made steps.0 steps.1
-          (record { linked = record { over = c.in_ok-open.ensures.over; queues_are = c.in_ok-open.ensures.queues }; clock_is = c.in_ok-open.ensures.clock; gate_is = c.in_ok-open.ensures.gate; bells_are = c.in_ok-open.ensures.bells }));
+          (record { linked = record { over = c.in_ok-open.ensures.over; queues_are = c.in_ok-open.ensures.queues }; clock_is = c.in_ok-open.ensures.clock; gate_is = c.in_ok-open.ensures.gate; sink_is = c.in_ok-open.ensures.sink; bells_are = c.in_ok-open.ensures.bells }));
     }
 
 pub returns : goal.returns
 returns g c =
     let rest = into_iter_items c.loop-seat.seat-iterator in
-    made_all (λ seat worker. IsWiredWith (IsOpenedWith c.args.config.now.cores c.args.config.now.cap c.args.config.now.burst c.args.config.now.room c.args.config.now.queues.items seat.ends) seat.clock seat.gate c.args.bells.now.names worker) c.args.seats.items rest c.loop-seat.workers.items
-    (subst (λ left. IsMade (λ seat worker. IsWiredWith (IsOpenedWith c.args.config.now.cores c.args.config.now.cap c.args.config.now.burst c.args.config.now.room c.args.config.now.queues.items seat.ends) seat.clock seat.gate c.args.bells.now.names worker) c.args.seats.items rest left c.loop-seat.workers.items) c.in-None.ensures.steps.0 c.loop-seat.invariant.made)
+    made_all (λ seat worker. IsWiredWith (IsOpenedWith c.args.config.now.cores c.args.config.now.cap c.args.config.now.burst c.args.config.now.room c.args.config.now.queues.items seat.ends) seat.clock seat.gate seat.sink c.args.bells.now.names worker) c.args.seats.items rest c.loop-seat.workers.items
+    (subst (λ left. IsMade (λ seat worker. IsWiredWith (IsOpenedWith c.args.config.now.cores c.args.config.now.cap c.args.config.now.burst c.args.config.now.room c.args.config.now.queues.items seat.ends) seat.clock seat.gate seat.sink c.args.bells.now.names worker) c.args.seats.items rest left c.loop-seat.workers.items) c.in-None.ensures.steps.0 c.loop-seat.invariant.made)

@@ -1,4 +1,4 @@
-use Rattle.std.proofs.Common.{◌≡◌, ◌≤◌, length, vec_capacity}
+use Rattle.std.proofs.Common.{◌≤◌, length, vec_capacity}
 use Rattle.std.specs.Vec.Iter.{into_iter_items, into_iter_len}
 use Rattle.rt_runtime_team.proofs.Lists.{IsMade}
 use Rattle.rt_runtime.specs.Starting.{IsOpenedWith, IsWiredWith}
@@ -7,5 +7,5 @@ use Rattle.rt_runtime.proofs.starting.open_seats.Given as goal
 abbrev pub invariant-loop-seat : goal.invariant-loop-seat
 invariant-loop-seat g l = record {
   reserved : length l.fn.seats.items ≤ vec_capacity l.workers;
-  made : IsMade (λ seat worker. IsWiredWith (IsOpenedWith l.config.cores l.config.cap l.config.burst l.config.room l.config.queues.items seat.ends) seat.clock seat.gate l.bells.names worker) l.fn.seats.items (into_iter_items l.seat-iterator) (into_iter_len l.seat-iterator) l.workers.items;
+  made : IsMade (λ seat worker. IsWiredWith (IsOpenedWith l.config.cores l.config.cap l.config.burst l.config.room l.config.queues.items seat.ends) seat.clock seat.gate seat.sink l.bells.names worker) l.fn.seats.items (into_iter_items l.seat-iterator) (into_iter_len l.seat-iterator) l.workers.items;
 }

@@ -1,4 +1,4 @@
-use Rattle.std.proofs.Common.{◌≡◌, ◌∙◌, length, map, refl, sym, subst, ap}
+use Rattle.std.proofs.Common.{◌≡◌, [], ◌∙◌, length, map, refl, sym, subst, ap}
 use Rattle.std.proofs.lemmas.List.{length-map}
 use Rattle.std.specs.Prelude.{All}
 use Rattle.rt_runtime_team.specs.Works.{Together}
@@ -10,6 +10,11 @@ pub open_seats-requires-clause-each : goal.open_seats-requires-clause-each
 open_seats-requires-clause-each g c =
     let opening = AreOpening c.args.config.now.cores c.args.config.now.cap c.args.config.now.burst c.args.config.now.room c.args.config.now.queues.items in
     all_of_map (λ seat. seat.ends) opening c.in_ok-seats.seats.items (subst (All opening) (sym c.in_ok-seats.ensures.ends) c.requires.each)
+
+pub open_seats-requires-clause-empty : goal.open_seats-requires-clause-empty
+open_seats-requires-clause-empty g c =
+    let none : g.row.S.Denot → Type 0 = λ sink. g.S.Sink.has sink ≡ [] in
+    all_of_map (λ seat. seat.sink) none c.in_ok-seats.seats.items (subst (All none) (sym c.in_ok-seats.ensures.sinks) c.requires.empty)
 
 pub returns-clause-opened : goal.returns-clause-opened
 returns-clause-opened g c =
@@ -26,6 +31,11 @@ returns-clause-clocks g c =
 pub returns-clause-gates : goal.returns-clause-gates
 returns-clause-gates g c =
     if_ok _ _ (λ opened both. same_maps (λ seat. seat.gate) (λ worker. worker.gate) _ (λ seat worker wired. wired.gate_is) c.in_ok-seats.seats.items opened.items both ∙ c.in_ok-seats.ensures.gates)
+    c.open_seats.result c.open_seats.ensures
+
+pub returns-clause-sinks : goal.returns-clause-sinks
+returns-clause-sinks g c =
+    if_ok _ _ (λ opened both. same_maps (λ seat. seat.sink) (λ worker. worker.sink) _ (λ seat worker wired. wired.sink_is) c.in_ok-seats.seats.items opened.items both ∙ c.in_ok-seats.ensures.sinks)
     c.open_seats.result c.open_seats.ensures
 
 pub returns-clause-bells : goal.returns-clause-bells

@@ -1,6 +1,6 @@
 use Rattle.std.proofs.Common.{◌∙◌, sym, subst, ap}
 use Rattle.rt_runtime_worker.specs.Queues.{creations}
-use Rattle.rt_runtime_worker.specs.Rooms.{ActsAsItMay}
+use Rattle.rt_runtime_worker.specs.Rooms.{ActsByCommand}
 use Rattle.rt_runtime_worker.proofs.Opened.{opened_linked, opened_between, opened_acts}
 use Rattle.rt_runtime_worker.proofs.opening.serve_core.Goals as goal
 
@@ -14,7 +14,7 @@ of-requires-clause-between g c =
 
 pub of-requires-2-clause-acts : goal.of-requires-2-clause-acts
 of-requires-2-clause-acts g c =
-    subst (λ linked. ActsAsItMay linked.recorded.core.cores linked.recorded.cap linked.recorded.core.bursts.burst linked.recorded.journal) (sym c.of.ensures)
+    subst (λ linked. ActsByCommand linked.recorded.journal.notes) (sym c.of.ensures)
     (opened_acts _ _ _ _ _ _ c.in_ok-recorded.recorded c.args.ends c.in_ok-recorded.ensures.since c.requires.ends (ap (λ ends. ends.number) (sym c.ends.view_is) ∙ sym c.number.view_is))
 
 pub returns-clause-queues : goal.returns-clause-queues

@@ -1,5 +1,4 @@
-use Rattle.rt_world_links.proofs.Words.{sym, subst, refl, ap, ◌∙◌}
-use Rattle.rt_ids.specs.Bursts.{has_bursts}
+use Rattle.rt_world_links.proofs.Words.{sym, subst, refl, ◌∙◌}
 use Rattle.rt_world_links.specs.OneTurn.{Ends}
 use Rattle.rt_world_links.proofs.OneTurn.{kept_itself}
 use Rattle.rt_world_links.proofs.Between.{none_behind_end, none_of, room_end, several, single}

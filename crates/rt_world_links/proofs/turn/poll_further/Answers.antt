@@ -1,4 +1,4 @@
-use Rattle.rt_world_links.proofs.Words.{◌≡◌, ◌<◌, arith}
+use Rattle.rt_world_links.proofs.Words.{arith}
 use Rattle.rt_world_links.proofs.OneTurn.{poll_cores, poll_given, poll_known, further_behind}
 use Rattle.rt_world_links.proofs.turn.poll_further.Goals as goal
 

@@ -1,4 +1,4 @@
-use Rattle.rt_world_links.proofs.Words.{◌≡◌, ◌<◌, length, refl, sym, ◌∙◌, ap, subst, arith, vec_items, map-set, get_or-set_same, set, [], Fits, out_of, desk_of, owed_settled, row_of}
+use Rattle.rt_world_links.proofs.Words.{◌≡◌, ◌<◌, length, refl, sym, ◌∙◌, ap, subst, arith, vec_items, map-set, get_or-set_same, [], Fits, out_of, desk_of, owed_settled, row_of}
 use Rattle.rt_journal_desk.specs.Posts.{AreOutsOf}
 use Rattle.rt_journal.specs.Turns.{IsFurther}
 use Rattle.rt_world_links.specs.OneTurn.{PollsOn}

@@ -1,4 +1,4 @@
-use Rattle.rt_world_links.proofs.Words.{inl, refl, sym, ◌∙◌, ap, subst, ⊎_elim}
+use Rattle.rt_world_links.proofs.Words.{inl, refl, ⊎_elim}
 use Rattle.rt_journal.proofs.Ahead.{idle, all_used}
 use Rattle.rt_world_links.proofs.OneTurn.{no_turn}
 use Rattle.rt_world_links.proofs.Between.{not_open}

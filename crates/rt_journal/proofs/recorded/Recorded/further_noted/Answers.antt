@@ -1,4 +1,4 @@
-use Rattle.rt_journal.proofs.Names.{◌≡◌, ◌+◌, ◌*◌, ◌<◌, ◌≤◌, length, sym, ◌∙◌, ap, subst, arith, sum_by, Fits, AreOutsOf, desk_of, IsFurther, lends, posted_made, refl, settle_notes}
+use Rattle.rt_journal.proofs.Names.{◌≡◌, ◌+◌, ◌*◌, ◌≤◌, length, sym, ap, subst, arith, sum_by, Fits, AreOutsOf, desk_of, IsFurther, lends, posted_made, refl, settle_notes}
 use Rattle.rt_core.specs.Further.{IsAheadInTurn}
 use Rattle.rt_ids.specs.Bursts.{polls_in_turn}
 use Rattle.rt_journal_desk.specs.Spending.{left_of}

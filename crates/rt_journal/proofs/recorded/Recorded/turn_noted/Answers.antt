@@ -1,7 +1,6 @@
-use Rattle.rt_journal.proofs.Names.{◌≡◌, ◌+◌, ◌*◌, ◌<◌, ◌≤◌, length, sym, ◌∙◌, ap, subst, arith, sum_by, most_turns, turns, IsAhead, Fits, AreOutsOf, desk_of, IsPick, lends, posted_made, refl, settle_notes}
+use Rattle.rt_journal.proofs.Names.{◌≡◌, ◌+◌, ◌*◌, ◌<◌, ◌≤◌, length, sym, ap, subst, arith, sum_by, most_turns, turns, IsAhead, Fits, AreOutsOf, desk_of, IsPick, lends, posted_made, refl, settle_notes}
 use Rattle.rt_journal_desk.specs.Spending.{left_of}
 use Rattle.rt_journal_desk.proofs.Posting.{room_for}
-use Rattle.rt_journal.proofs.Ahead.{turns-within}
 use Rattle.rt_journal.proofs.Beginnings.{pick_begins, pick_in_turn}
 use Rattle.rt_journal.proofs.PostingTurn.{did_pick, pick_ahead, outs_noted, noted_pick, may_settle, turned_invariant, turned_noted}
 use Rattle.rt_journal.proofs.QuietSteps.{quiet_noted, view_of}
@@ -10,7 +9,7 @@ use Rattle.rt_journal.proofs.recorded.Recorded.turn_noted.Goals as goal
 pub write-requires : goal.write-requires
 write-requires g c =
     let next = c.args.next.now in
-    let left : turns c.self.inside.said.journal.notes < most_turns = omega (arith, turns-within c.self.inside.said.journal.notes, c.requires.room, ap (λ view. view.journal.room) c.self.view_is, ap (λ view. length view.journal.notes) c.self.view_is, ap (λ view. view.room) c.journal.ensures, c.room-room.ensures.value) in
+    let left : turns c.self.inside.said.journal.notes < most_turns = omega (arith, c.requires.ahead.left, c.self.invariant.0.kept.agrees.turns, ap (λ view. view.core.turns) c.self.view_is) in
     let ahead = subst (λ view. IsAhead view.core next.queue next.vr next.name next.started next.woken) (sym c.self.view_is) c.requires.ahead in
     let may = quiet_noted c.self.inside.core c.self.inside.took.items c.self.inside.said c.self.invariant c.picked_notes-picked.ensures (pick_ahead c.self.inside.core c.self.inside.took.items c.self.inside.said c.self.invariant next.queue next.vr next.name next.started left next.woken ahead).2 c.self.view_is (omega (arith, c.requires.room)) in
     assumption
@@ -18,7 +17,7 @@ write-requires g c =
 pub turn_lent-step-requires-clause-outs : goal.turn_lent-step-requires-clause-outs
 turn_lent-step-requires-clause-outs g c =
     let next = c.args.next.now in
-    let left : turns c.self.inside.said.journal.notes < most_turns = omega (arith, turns-within c.self.inside.said.journal.notes, c.requires.room, ap (λ view. view.journal.room) c.self.view_is, ap (λ view. length view.journal.notes) c.self.view_is, ap (λ view. view.room) c.journal.ensures, c.room-room.ensures.value) in
+    let left : turns c.self.inside.said.journal.notes < most_turns = omega (arith, c.requires.ahead.left, c.self.invariant.0.kept.agrees.turns, ap (λ view. view.core.turns) c.self.view_is) in
     let ahead = subst (λ view. IsAhead view.core next.queue next.vr next.name next.started next.woken) (sym c.self.view_is) c.requires.ahead in
     let outs = subst (λ view. AreOutsOf (Fits g.J.Task.meaning) g.O.OutEnd.out g.O.OutEnd.credited (desk_of view) c.args.ends.now.items) (sym c.self.view_is) c.requires.outs in
     outs_noted c.self.inside.core c.self.inside.took.items c.self.inside.said c.self.invariant c.picked_notes-picked.ensures (pick_ahead c.self.inside.core c.self.inside.took.items c.self.inside.said c.self.invariant next.queue next.vr next.name next.started left next.woken ahead).2 c.args.ends.now.items outs c.write.new.self c.write.ensures
@@ -44,7 +43,7 @@ turn_lent-step-requires-clause-spare g c =
 pub note_settled-requires : goal.note_settled-requires
 note_settled-requires g c =
     let next = c.args.next.now in
-    let left : turns c.self.inside.said.journal.notes < most_turns = omega (arith, turns-within c.self.inside.said.journal.notes, c.requires.room, ap (λ view. view.journal.room) c.self.view_is, ap (λ view. length view.journal.notes) c.self.view_is, ap (λ view. view.room) c.journal.ensures, c.room-room.ensures.value) in
+    let left : turns c.self.inside.said.journal.notes < most_turns = omega (arith, c.requires.ahead.left, c.self.invariant.0.kept.agrees.turns, ap (λ view. view.core.turns) c.self.view_is) in
     let turn = c.turn_lent-step.ensures.whole in
     let posted = posted_made (Fits g.J.Task.meaning) g.O.OutEnd.out g.O.OutEnd.credited g.O.OutEnd.untouched turn.0 (lends c.write.new.self c.args.ends.now.items) (lends c.turn_lent-step.new.said c.turn_lent-step.new.ends.items) turn.1 in
     let did = did_pick c.self.inside.core c.self.inside.took.items c.self.inside.said c.self.invariant next.queue next.vr next.name next.started left turn.2.2.ran.before turn.2.2.mid turn.2.2.picks in
@@ -58,7 +57,7 @@ note_settled-requires g c =
 pub invariant_of-self : goal.invariant_of-self
 invariant_of-self g c =
     let next = c.args.next.now in
-    let left : turns c.self.inside.said.journal.notes < most_turns = omega (arith, turns-within c.self.inside.said.journal.notes, c.requires.room, ap (λ view. view.journal.room) c.self.view_is, ap (λ view. length view.journal.notes) c.self.view_is, ap (λ view. view.room) c.journal.ensures, c.room-room.ensures.value) in
+    let left : turns c.self.inside.said.journal.notes < most_turns = omega (arith, c.requires.ahead.left, c.self.invariant.0.kept.agrees.turns, ap (λ view. view.core.turns) c.self.view_is) in
     let turn = c.turn_lent-step.ensures.whole in
     let posted = posted_made (Fits g.J.Task.meaning) g.O.OutEnd.out g.O.OutEnd.credited g.O.OutEnd.untouched turn.0 (lends c.write.new.self c.args.ends.now.items) (lends c.turn_lent-step.new.said c.turn_lent-step.new.ends.items) turn.1 in
     let did = did_pick c.self.inside.core c.self.inside.took.items c.self.inside.said c.self.invariant next.queue next.vr next.name next.started left turn.2.2.ran.before turn.2.2.mid turn.2.2.picks in
@@ -71,7 +70,7 @@ invariant_of-self g c =
 pub returns : goal.returns
 returns g c =
     let next = c.args.next.now in
-    let left : turns c.self.inside.said.journal.notes < most_turns = omega (arith, turns-within c.self.inside.said.journal.notes, c.requires.room, ap (λ view. view.journal.room) c.self.view_is, ap (λ view. length view.journal.notes) c.self.view_is, ap (λ view. view.room) c.journal.ensures, c.room-room.ensures.value) in
+    let left : turns c.self.inside.said.journal.notes < most_turns = omega (arith, c.requires.ahead.left, c.self.invariant.0.kept.agrees.turns, ap (λ view. view.core.turns) c.self.view_is) in
     let turn = c.turn_lent-step.ensures.whole in
     let posted = posted_made (Fits g.J.Task.meaning) g.O.OutEnd.out g.O.OutEnd.credited g.O.OutEnd.untouched turn.0 (lends c.write.new.self c.args.ends.now.items) (lends c.turn_lent-step.new.said c.turn_lent-step.new.ends.items) turn.1 in
     let did = did_pick c.self.inside.core c.self.inside.took.items c.self.inside.said c.self.invariant next.queue next.vr next.name next.started left turn.2.2.ran.before turn.2.2.mid turn.2.2.picks in

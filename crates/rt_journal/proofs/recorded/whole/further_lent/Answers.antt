@@ -1,4 +1,4 @@
-use Rattle.rt_journal.proofs.Names.{◌∙◌, sym, Does, Fits, lends, made_parts}
+use Rattle.rt_journal.proofs.Names.{sym, Does, Fits, lends, made_parts}
 use Rattle.rt_journal.proofs.recorded.whole.further_lent.Goals as goal
 
 pub returns-clause-whole : goal.returns-clause-whole

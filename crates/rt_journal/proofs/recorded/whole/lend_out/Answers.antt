@@ -1,4 +1,4 @@
-use Rattle.rt_journal.proofs.Names.{ap, sym, subst, Fits, AreOutsOf, lends}
+use Rattle.rt_journal.proofs.Names.{ap, sym, subst, Fits, AreOutsOf}
 use Rattle.rt_journal.proofs.recorded.whole.lend_out.Goals as goal
 
 pub lend_further-requires-clause-outs : goal.lend_further-requires-clause-outs

@@ -1,4 +1,4 @@
-use Rattle.rt_journal.proofs.Names.{◌∙◌, ap, arith, desk_with, reverse}
+use Rattle.rt_journal.proofs.Names.{◌∙◌, ap, desk_with, reverse}
 use Rattle.rt_journal.proofs.PostingTurn.{one_settled}
 use Rattle.rt_journal.proofs.recorded.whole.note_settled.Goals as goal
 

@@ -1,11 +1,12 @@
-use Rattle.std.proofs.Common.{rules, refl, ◌∙◌, ap, sym, subst, arith, length, map, replicate}
+use Rattle.std.proofs.Common.{◌≡◌, ◌≤◌, [], ◌∷◌, false, rules, refl, ◌∙◌, ap, sym, subst, arith, length, map, replicate}
 use denote.Param.{param}
 use denote.Param.Send.{IsSend, arg_send, param_send}
 use denote.Exit.{no}
 use Rattle.rt_runtime.proofs.Crosses.{worker_send, ended_send}
 use Rattle.rt_link.specs.Fits.{Fits}
+use Rattle.rt_runtime_config.specs.Configs.{least_room}
 use Rattle.rt_runtime.specs.Starting.{HaveQueues, IsHouse}
-use Rattle.rt_runtime.proofs.Started.{none_submitted, started}
+use Rattle.rt_runtime.proofs.Started.{holds_next, none_submitted, started}
 use Rattle.rt_runtime.proofs.runtime.Runtime.begin.Goals as goal
 
 pub start-requires-send-W : goal.start-requires-send-W
@@ -13,20 +14,26 @@ start-requires-send-W g c κs within =
     let j : IsSend (param 0 g.row.J) = search rules parts 8 in
     let k : IsSend (param 1 g.row.C) = search rules parts 8 in
     let l : IsSend (param 2 g.row.G) = search rules parts 8 in
-    param_send 0 _ (arg_send _ no _ (worker_send g.row.J g.J.Task j g.row.C g.row.G k l))
+    let m : IsSend (param 3 g.row.S) = search rules parts 8 in
+    param_send 0 _ (arg_send _ no _ (worker_send g.row.J g.J.Task j g.row.S g.S.Sink m g.row.C g.row.G k l))
 
 pub start-requires-send-W-Ended : goal.start-requires-send-W-Ended
 start-requires-send-W-Ended g c κs within =
     let j : IsSend (param 0 g.row.J) = search rules parts 8 in
-    param_send 1 _ (arg_send _ no _ (ended_send g.row.J g.J.Task j))
+    let m : IsSend (param 3 g.row.S) = search rules parts 8 in
+    param_send 1 _ (arg_send _ no _ (ended_send g.row.J g.J.Task j g.row.S g.S.Sink m))
 
 pub invariant_of-result : goal.invariant_of-result
 invariant_of-result g c =
     let desk = c.in-Ok-open_outside.ensures.desk in
-    let numbers = c.requires.numbers in (
+    let first = c.requires.good.each 0 (omega (arith, c.requires.good.numbers.some_core)) in
+    let enough : least_room c.args.config.now.cores c.args.config.now.cap c.args.config.now.burst ≤ c.args.config.now.room = omega (arith, first.room_least) in
+    let empty : g.row.S.Denot → Type 0 = λ sink. g.S.Sink.has sink ≡ [] in
+    let none = holds_next empty c.args.sinks.items c.pop.new.self.items (c.in-Some.sink ∷ []) [] c.in-Some.sink c.requires.empty c.in-Some.ensures.items refl in
+    let numbers = c.requires.good.numbers in (
       started c.args.config.now.cores c.args.config.now.cap c.args.config.now.burst c.args.config.now.room c.args.config.now.queues.items (map (λ worker. worker.linked) c.in-Ok-start.team) c.in-Ok.ends c.in-Ok-open_outside.desk c.in-Ok-open_outside.closing.items
           (subst (λ workers. IsHouse c.args.config.now.cores c.args.config.now.cap c.args.config.now.burst c.args.config.now.room c.args.config.now.queues.items (map (λ worker. worker.linked) workers) c.in-Ok.ends) (sym c.in-Ok-start.ensures.ok) c.in-Ok.ensures.house) desk
-          c.in-Ok-open_outside.ensures.written c.in-Ok-open_outside.ensures.closing c.of-bells.result (map (λ worker. worker.bells) c.in-Ok-start.team) (ap (λ rung. rung.times) c.of-bells.ensures ∙ c.in-Ok.ensures.bells)
+          c.in-Ok-open_outside.ensures.written c.in-Ok-open_outside.ensures.closing c.of-bells.result (map (λ worker. worker.bells) c.in-Ok-start.team) (ap (λ rung. rung.times) c.of-bells.ensures ∙ c.in-Ok.ensures.bells) false enough
           (record {
             some_core = omega (arith, numbers.some_core);
             few_cores = numbers.cores_most;
@@ -39,11 +46,14 @@ invariant_of-result g c =
       (record {
         cores_are = sym (ap (λ desk. desk.cores) desk);
         cap_is = sym (ap (λ desk. desk.cap) desk);
-        room_ends = omega (arith, c.in-Ok-with_capacity.ensures.capacity);
-        room_journals = omega (arith, c.in-Ok-with_capacity-2.ensures.capacity);
+        room_ends = c.in-Ok-open_spares.ensures.ends.1;
+        room_actors = c.in-Ok-open_spares.ensures.actors.1;
+        room_journals = c.in-Ok-open_spares.ensures.journals.1;
       }),
-      c.in-Ok-with_capacity.ensures.items,
-      c.in-Ok-with_capacity-2.ensures.items,
+      (record { has_passed = none ∙ ap (λ desk. desk.journal.passed) (sym desk); refusal = λ yes. absurd cc }),
+      c.in-Ok-open_spares.ensures.ends.0,
+      c.in-Ok-open_spares.ensures.actors.0,
+      c.in-Ok-open_spares.ensures.journals.0,
     )
 
 pub returns-in-Ok-start : goal.returns-in-Ok-start
@@ -57,5 +67,6 @@ returns-in-Ok-start g c = record {
   ends = c.in-Ok.ensures.house.outs;
   fresh = c.in-Ok.ensures.house.fresh;
   none = none_submitted c.args.config.now.cores c.args.config.now.cap c.args.config.now.burst c.args.config.now.room c.args.config.now.queues.items (map (λ worker. worker.linked) c.in-Ok.workers.items) c.in-Ok.ends c.in-Ok.ensures.house;
+  refused = refl;
   have_queues = subst (λ workers. HaveQueues c.args.config.now.cores c.args.config.now.queues.items (map (λ worker. worker.linked) workers)) (sym c.in-Ok-start.ensures.ok) c.in-Ok.ensures.house.have_queues;
 }

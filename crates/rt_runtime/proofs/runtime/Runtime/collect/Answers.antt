@@ -1,7 +1,8 @@
 use Rattle.std.proofs.Common.{◌<◌, arith}
 use Rattle.rt_ring_mesh.specs.Ends.{out_at}
 use Rattle.rt_runtime.proofs.Booked.{room_to_collect}
-use Rattle.rt_runtime.proofs.Sent.{runtime_on, stored_on}
+use Rattle.rt_runtime.proofs.HandedOn.{sink_stays}
+use Rattle.rt_runtime.proofs.Sent.{passes_nothing_on, runtime_on, stored_on}
 use Rattle.rt_runtime.proofs.runtime.Runtime.collect.Goals as goal
 
 pub collect_on-requires-clause-room : goal.collect_on-requires-clause-room
@@ -14,6 +15,8 @@ invariant_of-self g c =
       runtime_on _ c.self.invariant.0 c.args.core low c.collect_on.new.desk (out_at c.args.core c.collect_on.new.ends) got.stays got.link c.collect_on.new.ends got.ends c.self.inside.closing.items
           c.self.invariant.0.closings c.self.inside.bells c.self.invariant.0.bells (omega (arith, got.books, c.self.invariant.0.room_is)),
       stored_on _ c.self.invariant.0 c.args.core low c.collect_on.new.desk (out_at c.args.core c.collect_on.new.ends) got.stays got.link c.collect_on.new.ends c.self.inside.closing.items c.self.inside.bells c.self.invariant.1,
-      c.self.invariant.2,
+      sink_stays _ _ c.self.inside.sink (passes_nothing_on _ c.self.invariant.0 c.args.core low c.collect_on.new.desk (out_at c.args.core c.collect_on.new.ends) got.stays got.link c.collect_on.new.ends c.self.inside.closing.items c.self.inside.bells) c.self.invariant.2,
       c.self.invariant.3,
+      c.self.invariant.4,
+      c.self.invariant.5,
     )

@@ -1,8 +1,9 @@
 use Rattle.std.proofs.Common.{◌<◌, ap, arith}
 use Rattle.rt_ring_mesh.specs.Ends.{out_at}
 use Rattle.rt_runtime.proofs.Booked.{books_redeemed, room_held}
+use Rattle.rt_runtime.proofs.HandedOn.{sink_stays}
 use Rattle.rt_runtime.proofs.Redeemed.{redeemed_here}
-use Rattle.rt_runtime.proofs.Sent.{runtime_on, stored_on}
+use Rattle.rt_runtime.proofs.Sent.{passes_nothing_on, runtime_on, stored_on}
 use Rattle.rt_runtime.proofs.runtime.Runtime.redeem.Goals as goal
 
 pub redeem_on-requires-clause-room : goal.redeem_on-requires-clause-room
@@ -16,8 +17,10 @@ invariant_of-self g c =
       runtime_on _ c.self.invariant.0 c.args.ticket.to low c.redeem_on.new.desk (out_at c.args.ticket.to c.redeem_on.new.ends) did.stays did.link c.redeem_on.new.ends did.ends c.self.inside.closing.items
           c.self.invariant.0.closings c.self.inside.bells c.self.invariant.0.bells (omega (arith, books, c.self.invariant.0.room_is)),
       stored_on _ c.self.invariant.0 c.args.ticket.to low c.redeem_on.new.desk (out_at c.args.ticket.to c.redeem_on.new.ends) did.stays did.link c.redeem_on.new.ends c.self.inside.closing.items c.self.inside.bells c.self.invariant.1,
-      c.self.invariant.2,
+      sink_stays _ _ c.self.inside.sink (passes_nothing_on _ c.self.invariant.0 c.args.ticket.to low c.redeem_on.new.desk (out_at c.args.ticket.to c.redeem_on.new.ends) did.stays did.link c.redeem_on.new.ends c.self.inside.closing.items c.self.inside.bells) c.self.invariant.2,
       c.self.invariant.3,
+      c.self.invariant.4,
+      c.self.invariant.5,
     )
 
 pub returns : goal.returns

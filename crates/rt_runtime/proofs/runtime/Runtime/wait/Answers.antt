@@ -1,5 +1,4 @@
 use Rattle.std.proofs.Common.{◌∙◌, Err, ap, subst}
-use Rattle.rt_ids.specs.declared.names.TicketError.TheVariants.{Pending}
 use Rattle.rt_link.specs.Fits.{Fits}
 use Rattle.rt_runtime.specs.Tickets.{RedeemsHere}
 use Rattle.rt_runtime.proofs.InARow.{no_try, one_try}

@@ -1,4 +1,4 @@
-use Rattle.std.proofs.Common.{◌≡◌, ℕ, ◌-◌, ◌^◌, false, true, refl, sym, ◌∙◌, subst}
+use Rattle.std.proofs.Common.{◌≡◌, ℕ, ◌-◌, ◌^◌, false, true, refl, sym, subst}
 use Rattle.std.specs.Prelude.{Ok, Err}
 use Rattle.rt_ids.specs.Picks.{turns}
 use Rattle.rt_ids.specs.Work.{has_work}

@@ -3,9 +3,11 @@ use Rattle.std.specs.Prelude.{◌||◌}
 use Rattle.rt_runtime_worker.specs.Rounds.{CollectsFirst, StepsServed}
 use Rattle.rt_runtime_worker.specs.Bells.{AreRung, once_more}
 use Rattle.rt_runtime_worker.specs.Asks.{polls_of}
+use Rattle.rt_runtime_worker.specs.Few.{RoundsFew}
 use Rattle.rt_runtime_worker.specs.Readings.{watch_view}
 use Rattle.rt_runtime_worker.specs.Looks.{found_quiet, turns_after}
 use Rattle.rt_runtime_worker.proofs.Asking.{asks_between}
+use Rattle.rt_runtime_worker.proofs.Fewer.{look_few}
 use Rattle.rt_runtime_worker.proofs.Looked.{turns_same, watch_of}
 use Rattle.rt_runtime_worker.proofs.Telling.{steps_cores, steps_three}
 use Rattle.rt_runtime_worker.proofs.rounds.Rounds.look.Goals as goal
@@ -59,3 +61,9 @@ returns-clause-asks g c =
 
 pub returns-clause-rung : goal.returns-clause-rung
 returns-clause-rung g c = subst (λ rounds. AreRung rounds.served rounds.bells) (sym c.plan.ensures) c.gather-collected.ensures.rung
+
+pub returns-clause-few : goal.returns-clause-few
+returns-clause-few g c =
+    subst (RoundsFew c.args.self.now.served) (sym (ap (λ rounds. rounds.served) c.plan.ensures))
+    (look_few c.args.self.now.served c.take_in-taken.new.self.served c.take_turn-turned.new.self.served c.gather-collected.new.self.served c.take_in-taken.ensures.steps c.take_turn-turned.ensures.steps c.gather-collected.ensures.steps
+    c.take_in-taken.ensures.few c.take_turn-turned.ensures.few c.gather-collected.ensures.few)

@@ -6,6 +6,8 @@ use Rattle.rt_runtime_worker.specs.Bells.{AreRung}
 use Rattle.rt_runtime_worker.specs.Asks.{polls_of}
 use Rattle.rt_runtime_worker.specs.Turns.{TurnsWith}
 use Rattle.rt_runtime_worker.proofs.Asking.{asks_between, asks_none}
+use Rattle.rt_runtime_worker.specs.Few.{TurnsFew}
+use Rattle.rt_runtime_worker.proofs.Fewer.{few_none}
 use Rattle.rt_runtime_worker.proofs.Looked.{turns_same, watch_of}
 use Rattle.rt_runtime_worker.proofs.Telling.{steps_none}
 use Rattle.rt_runtime_worker.proofs.rounds.Rounds.turn_alone.Goals as goal
@@ -58,3 +60,9 @@ returns-clause-asks g c =
     c.take_turn.new.self.served.linked.recorded.journal.notes c.take_turn.new.self.served.linked.recorded.journal.notes c.args.self.now.gate c.passes_links.new.self.gate c.take_turn.new.self.gate c.take_turn.new.self.gate
     (ap (λ rounds. rounds.served.linked.recorded.core.core) c.passes_links.ensures.rest) (ap (λ rounds. rounds.gate) c.passes_links.ensures.rest) refl
     (ap (λ rounds. polls_of rounds.served.linked.recorded.journal.notes) c.passes_links.ensures.rest) refl c.take_turn.ensures.asks
+
+pub returns-then-not-passes_links-clause-few : goal.returns-then-not-passes_links-clause-few
+returns-then-not-passes_links-clause-few g c = subst (TurnsFew c.args.self.now.served) (sym (ap (λ rounds. rounds.served) c.passes_links.ensures.rest)) (few_none _ c.args.self.now.served)
+
+pub returns-clause-few : goal.returns-clause-few
+returns-clause-few g c = subst (λ served. TurnsFew served c.take_turn.new.self.served) (ap (λ rounds. rounds.served) c.passes_links.ensures.rest) c.take_turn.ensures.few

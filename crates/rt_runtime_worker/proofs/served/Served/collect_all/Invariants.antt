@@ -1,11 +1,13 @@
-use Rattle.std.proofs.Common.{◌≡◌}
+use Rattle.std.proofs.Common.{◌≡◌, ◌*◌}
 use Rattle.rt_runtime_worker.specs.Asks.{NotesNoPoll}
+use Rattle.rt_runtime_worker.specs.Few.{WritesFew}
 use Rattle.rt_runtime_worker.specs.Rounds.{CollectsFirst, StepsServed}
 use Rattle.rt_runtime_worker.proofs.served.Served.collect_all.Given as goal
 
 abbrev pub invariant-loop-core : goal.invariant-loop-core
 invariant-loop-core g l = record {
   steps : StepsServed l.fn.self l.some l.self;
+  few : WritesFew (l.core * l.fn.self.linked.recorded.cap) l.fn.self l.self;
   collects : CollectsFirst l.core l.self;
   end : l.core-end ≡ l.fn.self.linked.recorded.core.cores;
   polls : NotesNoPoll l.fn.self.linked.recorded.journal.notes l.self.linked.recorded.journal.notes;

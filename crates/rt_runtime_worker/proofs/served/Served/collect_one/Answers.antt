@@ -1,10 +1,11 @@
-use Rattle.std.proofs.Common.{sym, ◌∙◌, ap, subst, arith}
+use Rattle.std.proofs.Common.{◌≡◌, sym, ◌∙◌, ap, subst, arith}
 use Rattle.std.specs.Prelude.{nat_lt}
-use Rattle.rt_runtime_worker.specs.Rooms.{IsReady}
+use Rattle.rt_runtime_worker.specs.Rooms.{ActsAsItMay, IsReady}
 use Rattle.rt_runtime_worker.specs.Ended.{IsServed}
 use Rattle.rt_runtime_worker.proofs.Spare.{places_few}
 use Rattle.rt_runtime_worker.proofs.Serving.{collects_served}
 use Rattle.rt_runtime_worker.proofs.Telling.{looked_steps, looked_alone, collected_tells}
+use Rattle.rt_runtime_worker.proofs.Fewer.{collected_few, looked_few, looked_none}
 use Rattle.rt_runtime_worker.proofs.Heard.{looked_collects, ended_collects}
 use Rattle.rt_runtime_worker.proofs.Asking.{collects_note_none}
 use Rattle.rt_runtime_worker.specs.Asks.{polls_of}
@@ -20,7 +21,7 @@ invariant_of-self g c =
     subst (λ ending. IsServed g.J.Task.meaning (record { linked = c.collect_from.new.self; ending = ending })) (sym c.if-self.false)
     (collects_served c.args.core c.collect_from.result c.self.inside.linked c.collect_from.new.self c.collect_from.ensures.linked c.collect_from.ensures.between c.collect_from.ensures.collects
     (subst (λ ending. IsReady ending c.self.inside.linked.recorded) c.if-self.false (subst (λ view. IsReady view.ending view.linked.recorded) (sym c.self.view_is) c.look.ensures.ready))
-    c.self.invariant.acts)
+    (subst (λ ending. ActsAsItMay ending c.self.inside.linked.recorded) c.if-self.false c.self.invariant.acts))
 
 pub returns-then-self-clause-steps : goal.returns-then-self-clause-steps
 returns-then-self-clause-steps g c = looked_alone c.args.self.now c.look.new.self c.look.ensures.looks c.look.ensures.stays
@@ -42,3 +43,13 @@ pub returns-clause-polls : goal.returns-clause-polls
 returns-clause-polls g c =
     collects_note_none c.args.core c.collect_from.result c.self.inside.linked c.collect_from.new.self c.collect_from.ensures.collects
     ∙ (ap (λ view. polls_of view.linked.recorded.journal.notes) c.self.view_is ∙ c.look.ensures.polls)
+
+pub returns-then-self-clause-few : goal.returns-then-self-clause-few
+returns-then-self-clause-few g c = looked_none _ c.args.self.now c.look.new.self c.look.ensures.looks
+
+pub returns-clause-few : goal.returns-clause-few
+returns-clause-few g c =
+    let cap : c.self.inside.linked.recorded.cap ≡ c.args.self.now.linked.recorded.cap = ap (λ view. view.linked.recorded.cap) c.self.view_is ∙ c.look.ensures.stays.seat.cap in
+    let few = collected_few c.args.core c.collect_from.result c.self.inside.linked c.collect_from.new.self c.collect_from.ensures.collects in
+    looked_few c.args.self.now.linked.recorded.cap c.args.self.now c.look.new.self (record { linked = c.self.inside.linked; ending = c.self.inside.ending }) c.collect_from.new.self c.self.view_is c.look.ensures.looks
+    (omega (arith, few, cap))

@@ -3,6 +3,7 @@ use Rattle.rt_runtime_worker.specs.Rooms.{IsReady}
 use Rattle.rt_runtime_worker.proofs.Spare.{ready_room}
 use Rattle.rt_runtime_worker.proofs.Serving.{delivers_served}
 use Rattle.rt_runtime_worker.proofs.Telling.{looked_steps, delivered_tells}
+use Rattle.rt_runtime_worker.proofs.Fewer.{delivered_few, looked_few}
 use Rattle.rt_runtime_worker.proofs.Heard.{looked_hears}
 use Rattle.rt_runtime_worker.proofs.Asking.{delivered_notes_none}
 use Rattle.rt_runtime_worker.specs.Asks.{polls_of}
@@ -31,3 +32,8 @@ pub returns-clause-polls : goal.returns-clause-polls
 returns-clause-polls g c =
     delivered_notes_none c.args.sender c.deliver_from.result c.self.inside.linked c.deliver_from.new.self c.deliver_from.ensures.delivers
     ∙ (ap (λ view. polls_of view.linked.recorded.journal.notes) c.self.view_is ∙ c.look.ensures.polls)
+
+pub returns-clause-few : goal.returns-clause-few
+returns-clause-few g c =
+    looked_few 2 c.args.self.now c.look.new.self (record { linked = c.self.inside.linked; ending = c.self.inside.ending }) c.deliver_from.new.self c.self.view_is c.look.ensures.looks
+    (delivered_few c.args.sender c.deliver_from.result c.self.inside.linked c.deliver_from.new.self c.deliver_from.ensures.delivers)

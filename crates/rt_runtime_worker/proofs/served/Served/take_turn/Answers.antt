@@ -1,4 +1,4 @@
-use Rattle.std.proofs.Common.{◌≡◌, refl, sym, ◌∙◌, ap, subst}
+use Rattle.std.proofs.Common.{◌≡◌, ◌+◌, ◌≤◌, length, refl, sym, ◌∙◌, ap, subst}
 use Rattle.rt_runtime_worker.specs.Rooms.{IsReady}
 use Rattle.rt_runtime_worker.proofs.Spare.{turn_room}
 use Rattle.rt_runtime_worker.proofs.Serving.{turned_served}
@@ -9,6 +9,9 @@ use Rattle.rt_runtime_worker.proofs.Telling.{looked_steps}
 use Rattle.rt_runtime_worker.proofs.Asking.{asks_between}
 use Rattle.rt_runtime_worker.proofs.TurnAsks.{turn_asks}
 use Rattle.rt_runtime_worker.proofs.TurnNotes.{turned_tells}
+use Rattle.rt_runtime_worker.proofs.TurnRoom.{made_few}
+use Rattle.rt_runtime_worker.specs.Few.{most_of_turn}
+use Rattle.rt_runtime_worker.proofs.Fewer.{looked_few, most_along}
 use Rattle.rt_runtime_worker.specs.Asks.{polls_of, NotesNoPoll}
 use Rattle.rt_runtime_worker.proofs.served.Served.take_turn.Goals as goal
 
@@ -50,3 +53,10 @@ returns-clause-asks g c =
     asks_between g.G.Gate.Asked c.args.self.now.linked.recorded.core.core c.self.inside.linked.recorded.core.core c.args.self.now.linked.recorded.journal.notes c.self.inside.linked.recorded.journal.notes c.turn.new.self.recorded.journal.notes c.turn.new.self.recorded.journal.notes
     c.args.gate.now c.args.gate.now c.turn.new.gate c.turn.new.gate core refl refl none refl
     (turn_asks g.J.Task.meaning g.M.Meter.Tells g.G.Gate.Asked (turn_view c.self.inside.linked c.args.meter.now c.args.gate.now) (turn_view c.turn.new.self c.turn.new.meter c.turn.new.gate) c.turn.result c.turn.ensures.makes)
+
+pub returns-clause-few : goal.returns-clause-few
+returns-clause-few g c =
+    let few = made_few g.J.Task.meaning g.M.Meter.Tells g.G.Gate.Asked (turn_view c.self.inside.linked c.args.meter.now c.args.gate.now) (turn_view c.turn.new.self c.turn.new.meter c.turn.new.gate) c.turn.result c.turn.ensures.makes in
+    looked_few _ c.args.self.now c.look.new.self (record { linked = c.self.inside.linked; ending = c.self.inside.ending }) c.turn.new.self c.self.view_is c.look.ensures.looks
+    (subst (λ most. length c.turn.new.self.recorded.journal.notes ≤ length c.self.inside.linked.recorded.journal.notes + most)
+    (ap (λ view. most_of_turn view.linked.recorded.core.cores view.linked.recorded.cap view.linked.recorded.core.bursts.burst) c.self.view_is ∙ most_along c.args.self.now.linked.recorded c.look.new.self.linked.recorded c.look.ensures.stays.seat) few)

@@ -1,6 +1,8 @@
-use Rattle.rt_world.proofs.Words.{◌≡◌, ◌+◌, [], ◌∷◌, ◌++◌, length, sym, ◌∙◌, ap, subst, arith, ℕ, map, YieldsList-from_vec, YieldsList-turn, YieldsList-end}
+use Rattle.rt_world.proofs.Words.{◌≡◌, ◌+◌, ◌<◌, refl, [], ◌∷◌, ◌++◌, length, sym, ◌∙◌, ap, subst, arith, ℕ, map, YieldsList-from_vec, YieldsList-turn, YieldsList-end}
 use Rattle.rt_world.proofs.Words.{map-id, map-append, length-map, AreJoined, IsSound, assembly_of, Parts, world_of}
 use Rattle.rt_world.proofs.Gathered.{journals_of, gathered_count, gathered_are}
+use Rattle.rt_world.proofs.CoreSteps.{viewed, whole_is}
+use Rattle.rt_world.proofs.Sending.{outside_whole}
 use Rattle.rt_world.proofs.WorldSound.{world_joined, world_sound}
 use Rattle.rt_world.proofs.model.World.into_assembly.Given.{Over}
 use Rattle.rt_world.proofs.model.World.into_assembly.Goals as goal
@@ -22,12 +24,17 @@ push_reserved-requires g c =
     )
 
 pub loop-core-preserved : goal.loop-core-preserved
-loop-core-preserved g c = (
-  c.push_reserved.ensures.items
-      ∙ (ap (λ front. front ++ c.into_journal.result ∷ []) c.loop-core.invariant.0
-      ∙ (ap (λ last. journals_of c.loop-core.yielded ++ last ∷ []) c.into_journal.ensures ∙ sym (map-append (λ core. core.journal) c.loop-core.yielded (c.in-Some.core ∷ [])))),
-  omega (arith, c.loop-core.invariant.1, c.push_reserved.ensures.capacity),
-)
+loop-core-preserved g c =
+    let all = YieldsList-from_vec {s = c.into_iter-core-iterator.result} c.self.inside.inside.items c.into_iter-core-iterator.ensures.into_iter_gives.0 (c.into_iter-core-iterator.ensures.into_iter_gives.1 ∙ c.self.inside.inside.ok.0) in
+    let turn = YieldsList-turn all c.loop-core.yielded c.loop-core.core-iterator c.loop-core.yielded_by _ c.next.new.self c.in-Some.core c.in-Some.is c.next.ensures.steps in
+    let there : length c.loop-core.yielded < c.self.inside.cores = omega (arith, turn.0, c.self.invariant.1.all_there.cores_are) in
+    let whole = ap (λ core. core.journal.passed) (viewed c.self.invariant.1 (length c.loop-core.yielded) there c.in-Some.core refl turn.1) ∙ whole_is c.self.invariant.1 (length c.loop-core.yielded) there in
+    let kept = c.into_kept.ensures.whole (ap (λ journal. journal.passed) c.into_journal.ensures ∙ whole) ∙ c.into_journal.ensures in (
+      c.push_reserved.ensures.items
+          ∙ (ap (λ front. front ++ c.into_kept.result ∷ []) c.loop-core.invariant.0
+          ∙ (ap (λ last. journals_of c.loop-core.yielded ++ last ∷ []) kept ∙ sym (map-append (λ core. core.journal) c.loop-core.yielded (c.in-Some.core ∷ [])))),
+      omega (arith, c.loop-core.invariant.1, c.push_reserved.ensures.capacity),
+    )
 
 -- the loop has gone over all cores
 all_yielded : (g : Over) (c : In-None g) → c.loop-core.yielded ≡ c.self.inside.inside.items
@@ -40,9 +47,10 @@ all_yielded g c =
 all_gathered : (g : Over) (c : After-push_reserved-2 g) → c.loop-core.yielded ≡ c.self.inside.inside.items →
     c.push_reserved-2.new.self.items ≡ journals_of c.self.inside.inside.items ++ c.self.inside.outside.journal ∷ []
 all_gathered g c yielded_are =
+    let whole = ap (λ journal. journal.passed) c.into_journal-2.ensures ∙ outside_whole c.self.invariant.1 c.self.inside.cores refl in
     c.push_reserved-2.ensures.items
-    ∙ (ap (λ front. front ++ c.into_journal-2.result ∷ []) (c.loop-core.invariant.0 ∙ ap (λ cores. journals_of cores) yielded_are)
-    ∙ ap (λ last. journals_of c.self.inside.inside.items ++ last ∷ []) c.into_journal-2.ensures)
+    ∙ (ap (λ front. front ++ c.into_kept-2.result ∷ []) (c.loop-core.invariant.0 ∙ ap (λ cores. journals_of cores) yielded_are)
+    ∙ ap (λ last. journals_of c.self.inside.inside.items ++ last ∷ []) (c.into_kept-2.ensures.whole whole ∙ c.into_journal-2.ensures))
 
 abbrev parts : (g : Over) (c : After-of_burst g) → Parts g.row.J.Denot ℕ
 parts g c = record { cores = c.self.inside.cores; cap = c.self.inside.cap; burst = c.self.inside.burst; room = c.self.inside.room; inside = c.self.inside.inside.items; outside = c.self.inside.outside; links = c.self.inside.links }

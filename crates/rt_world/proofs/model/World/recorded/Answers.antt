@@ -1,5 +1,5 @@
 use Rattle.rt_world.proofs.Words.{◌<◌, sym, ◌∙◌, ap, arith, journal_at}
-use Rattle.rt_world.proofs.CoreSteps.{viewed, burst_is, journal_is, room_is, cores_are, number_is}
+use Rattle.rt_world.proofs.CoreSteps.{viewed, burst_is, journal_is, room_is, whole_is, cores_are, number_is}
 use Rattle.rt_world.proofs.model.World.recorded.Goals as goal
 
 pub returns : goal.returns
@@ -12,5 +12,6 @@ returns g c =
       burst = burst_is world c.args.core there ∙ ap (λ world. world.burst) c.self.view_is;
       notes = sym (journal_is world c.args.core there) ∙ ap (journal_at c.args.core) c.self.view_is;
       room = room_is world c.args.core there ∙ ap (λ world. world.room) c.self.view_is;
+      whole = whole_is world c.args.core there;
       sound = world.recorded c.args.core there;
     })

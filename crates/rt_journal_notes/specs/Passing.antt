@@ -1,0 +1,15 @@
+-- What a journal passes on, and what becomes of it.
+use Rattle.std.specs.Prelude.{◌≡◌, ℕ, length, Result, Ok, Err}
+use Rattle.rt_ids.specs.Journal.{Journal}
+use Rattle.rt_journal_notes.specs.Journals.{JournalView, passed_all}
+use Rattle.rt_journal_notes.specs.declared.sink.Refused.{Refused}
+
+module _ {T S : Type 0} (has : S → Journal T) (refused : S → ℕ → Type 0) where
+  -- the sink takes all notes that are kept, and then it has them all; or it refuses, and nothing changes but that it refused
+  abbrev pub PassesOn : JournalView T → S → Result (Unit {0}) Refused → JournalView T → S → Type 0
+  PassesOn old before (Ok done) new after = (new ≡ passed_all old) × (has after ≡ new.notes)
+  PassesOn old before (Err why) new after = (new ≡ old) × (has after ≡ has before) × refused after (length old.passed)
+
+-- where the sink refused before, it refused
+abbrev pub KeepsRefusals : {S : Type 0} → (S → ℕ → Type 0) → S → S → Type 0
+KeepsRefusals refused before after = (count : ℕ) → refused before count → refused after count

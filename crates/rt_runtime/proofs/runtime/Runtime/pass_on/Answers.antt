@@ -1,0 +1,22 @@
+use Rattle.std.proofs.Common.{arith}
+use Rattle.std.specs.Prelude.{sum_by}
+use Rattle.rt_journal_desk.specs.Spending.{due_of}
+use Rattle.rt_runtime.proofs.HandedOn.{booked_passed, passes_notes, passes_places, passes_room, places_enough, runtime_passed, sink_passed, stored_passed}
+use Rattle.rt_runtime.proofs.runtime.Runtime.pass_on.Goals as goal
+
+pub invariant_of-self : goal.invariant_of-self
+invariant_of-self g c =
+    let desk = c.pass_on-answer.new.self in
+    let passes = c.pass_on-answer.ensures.passes in
+    let rest = c.pass_on-answer.ensures.rest in
+    let notes = passes_notes g.S.Sink.has g.S.Sink.refused c.self.inside.desk.journal desk.journal _ _ c.pass_on-answer.result passes in
+    let places = passes_places g.S.Sink.has g.S.Sink.refused c.self.inside.desk.journal desk.journal _ _ c.pass_on-answer.result passes in
+    let few = places_enough _ c.self.invariant.0 in
+    let room = passes_room g.S.Sink.has g.S.Sink.refused c.self.inside.desk.journal desk.journal _ _ c.pass_on-answer.result passes (sum_by due_of c.self.inside.desk.lanes) (omega (arith, few)) c.self.invariant.0.room_is in (
+      runtime_passed _ c.self.invariant.0 desk rest notes places _ (booked_passed _ c.self.invariant.0 desk rest notes places c.is_err-self-inside.result room),
+      stored_passed _ c.self.invariant.0 desk rest notes places _ c.self.invariant.1,
+      sink_passed _ desk c.pass_on-answer.result _ _ _ c.is_err-self-inside.ensures.value passes c.self.invariant.2,
+      c.self.invariant.3,
+      c.self.invariant.4,
+      c.self.invariant.5,
+    )

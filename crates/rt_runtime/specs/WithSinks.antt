@@ -1,0 +1,56 @@
+-- How a runtime whose actors pass their notes on starts and finishes.
+use Rattle.std.specs.Prelude.{◌≡◌, ◌⊎◌, All, ℕ, ◌+◌, List, [], ◌++◌, length, map, Some, Result, Ok, Err, slice_get}
+use Rattle.rt_ids.specs.Assembly.{Assembly}
+use Rattle.rt_ids.specs.Journal.{EachNote, Journal}
+use Rattle.rt_jobs.specs.Meanings.{Meaning}
+use Rattle.rt_runtime_config.specs.Configs.{Entry, IsGood}
+use Rattle.rt_runtime_worker.specs.Rooms.{ActsByCommand, MayAct, least_free}
+use Rattle.rt_runtime.specs.declared.error.FinishError.{FinishError}
+use Rattle.rt_runtime.specs.declared.error.FinishError.TheVariants.{NotClosed}
+use Rattle.rt_runtime.specs.declared.error.StartError.{StartError}
+use Rattle.rt_runtime.specs.declared.error.StartError.TheVariants.{BadConfig}
+use Rattle.rt_runtime.specs.declared.passed.ActorNotes.{ActorNotes}
+use Rattle.rt_runtime.specs.declared.passed.Passed.{Passed}
+use Rattle.rt_runtime.specs.Calls.{HasFinishedBy, IsFirstOpen, Starts}
+use Rattle.rt_runtime.specs.State.{RuntimeView}
+
+-- a start with so many sinks: one for each core and one for the outside actor are wanted, and otherwise the configuration is not good
+abbrev pub StartsWithSinks : {J T : Type 0} → ℕ → ℕ → ℕ → ℕ → List Entry → ℕ → ℕ → ℕ → Result (RuntimeView J T) StartError → Type 0
+StartsWithSinks cores cap burst room queues clocks gates sinks (Err BadConfig) = IsGood cores cap burst room queues clocks gates → sinks ≡ cores + 1 → ⊥
+StartsWithSinks cores cap burst room queues clocks gates sinks answer = (sinks ≡ cores + 1) × Starts cores cap burst room queues clocks gates answer
+
+module _ {S : Type 0} (has : S → Journal ℕ) where
+  -- all notes of an actor: those that are kept, behind those that its sink has
+  abbrev pub notes_of : ActorNotes S → Journal ℕ
+  notes_of actor = actor.kept.notes ++ has actor.sink
+
+  -- the journals of all actors
+  abbrev pub assembly_of : Passed S → Assembly ℕ
+  assembly_of passed = record { cores = passed.cores; cap = passed.cap; burst = passed.burst; journals = map notes_of passed.actors.items }
+
+module _ {J S : Type 0} (refused : S → ℕ → Type 0) where
+  -- A core never closed by itself, if its sink never refused. Otherwise the sink refused when it had so many notes, and the core closed by itself only where its
+  -- journal, with these notes passed on, was short. It sent, redeemed and let go only while one of its jobs was polled.
+  abbrev pub MayActBeside : RuntimeView J ℕ → S → Journal ℕ → Type 0
+  MayActBeside view sink notes =
+      ActsByCommand notes ⊎ ((taken : ℕ) × refused sink taken × EachNote (MayAct (least_free view.desk.cores view.desk.cap view.desk.burst) (taken + view.room)) notes)
+
+  -- the same, beside the sink of this core
+  abbrev pub MayActAmong : RuntimeView J ℕ → List (ActorNotes S) → ℕ → Journal ℕ → Type 0
+  MayActAmong view actors core notes = (actor : ActorNotes S) × (slice_get actors core ≡ Some actor) × MayActBeside view actor.sink notes
+
+module _ {S : Type 0} (has : S → Journal ℕ) (refused : S → ℕ → Type 0) where
+  -- nothing is kept, or the sink refused it
+  abbrev pub KeepsRefused : ActorNotes S → Type 0
+  KeepsRefused actor = (actor.kept.notes ≡ []) ⊎ refused actor.sink (length (has actor.sink))
+
+module _ {J S : Type 0} (meaning : Meaning J ℕ) (has : S → Journal ℕ) (refused : S → ℕ → Type 0) where
+  -- The journals of a runtime that has finished are what the sinks have, and behind it what they refused.
+  pub record HasPassed (view : RuntimeView J ℕ) (passed : Passed S) : Type 0 where
+    pub finished : HasFinishedBy meaning (MayActAmong refused view passed.actors.items) view (assembly_of has passed)
+    pub rest : All (KeepsRefused has refused) passed.actors.items
+
+  -- a finish: a core is still open and the runtime comes back, or all workers have ended
+  abbrev pub FinishesWithSinks : RuntimeView J ℕ → Result (Passed S) (FinishError (RuntimeView J ℕ)) → Type 0
+  FinishesWithSinks view (Ok passed) = HasPassed view passed
+  FinishesWithSinks view (Err (NotClosed core same)) = IsFirstOpen core view × (same ≡ view)

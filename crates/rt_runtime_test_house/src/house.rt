@@ -1,0 +1,176 @@
+//! A house of cores on threads, and what its journals say.
+
+ghost use Rattle.std.specs.Prelude.{◌≡◌, All, []};
+
+use rt_ids::{ActorNo, CoreNo, JobId, Note};
+use rt_jobs::{Job, Task};
+use rt_journal::Journal;
+use rt_runtime::{Clock, Config, Gate, Runtime, Sink, StartError};
+use rt_shares::Shares;
+use std::alloc::{AllocError, Global};
+use std::sync::atomic::{AtomicU64, Ordering};
+use std::sync::{Arc, Wait};
+use std::thread::Threads;
+
+/// How often something is looked for.
+const TRIES: u64 = 1 << 30;
+
+/// A clock that rises by ten at each reading.
+#[derive(Drop)]
+pub struct Ticks {
+    now: u64,
+}
+
+impl Clock for Ticks {
+    fn now(&mut self) -> u64 {
+        self.now = self.now.saturating_add(10);
+        self.now
+    }
+}
+
+/// A number that threads share.
+pub type Mark = Arc<AtomicU64, Global>;
+
+/// A gate that counts how often it is asked.
+#[derive(Drop)]
+pub struct Counter {
+    asked: Mark,
+}
+
+impl Gate for Counter {
+    fn before_poll(&mut self, _core: CoreNo, _job: JobId) {
+        self.asked.fetch_add(1, Ordering::SeqCst);
+    }
+}
+
+pub type House<J> = Runtime<J, Ticks, Counter>;
+
+/// A house whose actors pass their notes on.
+pub type PassingHouse<J, S> = Runtime<J, Ticks, Counter, S>;
+
+/// A configuration with queue 0 of each core alone, whose turns are single polls.
+pub fn plain(alloc: Global, cores: u8, cap: u16, room: u32) -> Config {
+    Config {
+        cores,
+        cap,
+        burst: 1,
+        room,
+        queues: Vec::new(alloc),
+    }
+}
+
+/// The same, whose turns may have so many polls.
+pub fn with_burst(config: Config, burst: u8) -> Config {
+    let mut config = config;
+    config.burst = burst;
+    config
+}
+
+/// The same with one more queue of core 1.
+pub fn with_queue(config: Config) -> Result<Config, AllocError> {
+    let mut config = config;
+    if let Ok(shares) = Shares::try_new(500) {
+        config.queues.push((CoreNo(1), shares))?;
+    }
+    Ok(config)
+}
+
+/// So many clocks.
+fn clocks(alloc: Global, count: u8) -> Result<Vec<Ticks>, AllocError> {
+    let mut clocks = Vec::new(alloc);
+    for _ in 0..count {
+        clocks.push(Ticks { now: 0 })?;
+    }
+    Ok(clocks)
+}
+
+/// So many gates, which all count together.
+fn gates(alloc: Global, count: u8, asked: &Mark) -> Result<Vec<Counter>, AllocError> {
+    let mut gates = Vec::new(alloc);
+    for _ in 0..count {
+        gates.push(Counter {
+            asked: Arc::try_clone(asked)?,
+        })?;
+    }
+    Ok(gates)
+}
+
+/// A mark that isn't set: 0.
+pub fn new_mark(alloc: Global) -> Result<Mark, AllocError> {
+    Ok(Arc::new(alloc, AtomicU64::new(0))?)
+}
+
+/// A house on threads with so many clocks, or why there is none.
+pub fn begin<J, R>(
+    rt: R,
+    alloc: Global,
+    config: Config,
+    count: u8,
+    asked: &Mark,
+) -> Result<Result<House<J>, StartError>, AllocError>
+where
+    J: Job + Task<Out = u64> + Send + 'static,
+    R: Threads + Wait + Copy + Drop + Send + 'static,
+{
+    let clocks = clocks(alloc, count)?;
+    let gates = gates(alloc, config.cores, asked)?;
+    Ok(House::start(rt, alloc, config, clocks, gates))
+}
+
+/// A house on threads whose actors pass their notes on to these sinks, or why there is none.
+pub fn begin_with_sinks<J, S, R>(
+    rt: R,
+    alloc: Global,
+    config: Config,
+    asked: &Mark,
+    sinks: Vec<S>,
+) -> Result<Result<PassingHouse<J, S>, StartError>, AllocError>
+where
+    J: Job + Task<Out = u64> + Send + 'static,
+    S: Sink + Send + 'static,
+    R: Threads + Wait + Copy + Drop + Send + 'static,
+    requires { All (λ sink. S.has sink ≡ []) sinks.items }
+{
+    let clocks = clocks(alloc, config.cores)?;
+    let gates = gates(alloc, config.cores, asked)?;
+    Ok(PassingHouse::start_with_sinks(rt, alloc, config, clocks, gates, sinks))
+}
+
+/// Whether a mark comes to be 1, within so many tries.
+pub fn is_set_soon(mark: &AtomicU64) -> bool {
+    for _ in 0..TRIES {
+        if mark.load(Ordering::SeqCst) == 1 {
+            return true;
+        }
+    }
+    false
+}
+
+/// A name of a submission.
+pub fn named(from: u8, to: u8, number: u64) -> JobId {
+    JobId {
+        from: ActorNo(from),
+        to: CoreNo(to),
+        number,
+    }
+}
+
+/// Whether a journal has this note.
+pub fn says(journal: &Journal<u64>, want: &Note<u64>) -> bool {
+    for note in journal.as_slice() {
+        if note == want {
+            return true;
+        }
+    }
+    false
+}
+
+/// Collects from a core until there is an outcome, with at most so many tries. Whether there was one.
+pub fn collects<J: Task<Out = u64>>(house: &mut House<J>, core: CoreNo) -> bool {
+    for _ in 0..TRIES {
+        if house.collect(core) > 0 {
+            return true;
+        }
+    }
+    false
+}

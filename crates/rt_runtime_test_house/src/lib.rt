@@ -1,0 +1,9 @@
+//! A house of cores on threads for tests, with clocks and gates that count, and what its journals say.
+#![tactic(auto)]
+
+mod house;
+
+pub use house::{
+    Counter, House, Mark, PassingHouse, Ticks, begin, begin_with_sinks, collects, is_set_soon,
+    named, new_mark, plain, says, with_burst, with_queue,
+};

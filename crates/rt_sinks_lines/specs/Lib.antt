@@ -1,0 +1,3 @@
+pub mod Outlets
+pub mod Lines
+pub mod Laws

@@ -1,0 +1,31 @@
+-- What a caller sees of the lines that a sink writes.
+use Rattle.std.specs.Prelude.{◌≡◌, ℕ, List, [], ◌++◌, Option, None, Some}
+use Rattle.std.specs.Io.KnownBytes.{Appends}
+use Rattle.rt_ids.specs.Journal.{Journal}
+use Rattle.rt_journal_write.specs.Texts.{actor_lines, text_of}
+
+-- whose notes they are, the writer, what is still to be written to it, the notes that were taken, the newest first, and how often notes were refused
+pub record LinesView (W : Type 0) : Type 0 where
+  pub actor : ℕ
+  pub writer : W
+  pub pending : List ℕ
+  pub has : Journal ℕ
+  pub refusals : ℕ
+
+-- nothing was written yet, if it is known what was
+abbrev pub IsBlank : Option (List ℕ) → Type 0
+IsBlank None = Unit {0}
+IsBlank (Some bytes) = bytes ≡ []
+
+module _ {W : Type 0} (contents : W → Option (List ℕ)) where
+  -- this was written, and nothing else, to a writer that began with nothing
+  pub record HasWritten (writer : W) (text : List ℕ) : Type 0 where
+    pub first : W
+    pub blank : IsBlank (contents first)
+    pub appends : Appends (contents first) (contents writer) text
+
+  -- what was written and what is pending are together the lines of all notes
+  pub record HoldsText (lines : LinesView W) : Type 0 where
+    pub written : List ℕ
+    pub has_written : HasWritten lines.writer written
+    pub whole : text_of (actor_lines lines.actor lines.has) ≡ written ++ lines.pending

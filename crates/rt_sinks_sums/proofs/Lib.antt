@@ -1,0 +1,4 @@
+pub mod PlaceLemmas
+pub mod PickLemmas
+pub mod LedgerLemmas
+pub mod SumLemmas

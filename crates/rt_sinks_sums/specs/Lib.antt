@@ -1,0 +1,3 @@
+pub mod Naps
+pub mod Ledgers
+pub mod Sums
