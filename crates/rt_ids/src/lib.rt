@@ -9,7 +9,7 @@ pub mod order;
 pub mod refused;
 pub mod stats;
 
-pub use limits::{LAST_NUMBER, MOST_CAPACITY, MOST_CORES, MOST_NOTES, MOST_QUEUES};
+pub use limits::{LAST_NUMBER, MOST_BURST, MOST_CAPACITY, MOST_CORES, MOST_NOTES, MOST_QUEUES};
 pub use names::{ActorNo, CoreNo, JobId, Key, QueueNo, Ticket, TicketError};
 pub use note::{Note, OutcomeNote};
 pub use order::{Answer, Envelope, Mode, Order, Outcome, Reason, SendError};

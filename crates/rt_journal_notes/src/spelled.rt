@@ -10,10 +10,9 @@ ghost use Rattle.rt_journal_notes.specs.Writers.{terms_seen};
 
 use crate::assembly::Assembly;
 use crate::journal::Journal;
-use rt_ids::limits::MOST_BURST;
 use rt_ids::{
-    ActorNo, Answer, JobId, LAST_NUMBER, MOST_CAPACITY, MOST_CORES, Note, Order, OutcomeNote,
-    QueueNo, Reason,
+    ActorNo, Answer, JobId, LAST_NUMBER, MOST_BURST, MOST_CAPACITY, MOST_CORES, Note, Order,
+    OutcomeNote, QueueNo, Reason,
 };
 use rt_shares::Shares;
 

@@ -7,8 +7,7 @@ ghost use Rattle.rt_journal_read.specs.Drafts as spec;
 ghost use Rattle.rt_lines.specs.Faults.{IfCause};
 
 use crate::fault::JournalCause;
-use rt_ids::limits::MOST_BURST;
-use rt_ids::{MOST_CAPACITY, MOST_CORES, MOST_NOTES, Note};
+use rt_ids::{MOST_BURST, MOST_CAPACITY, MOST_CORES, MOST_NOTES, Note};
 use rt_journal_lines::field::number_in;
 use rt_journal_lines::note_of;
 use rt_journal_lines::phrase::last;

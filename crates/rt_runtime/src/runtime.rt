@@ -13,6 +13,14 @@ use rt_runtime_worker::Worker;
 use std::marker::Model;
 
 /// A worker on a thread of its own for each core, and the outside actor, whose calls the caller makes.
+///
+/// A journal keeps 2^24 notes at most. Without sinks (`S` is `Whole`) no room comes back: a core whose journal grows short closes by itself,
+/// and a caller whose journal is full can't submit. With sinks each journal passes on what it keeps, and that happens only where a sink
+/// refused.
+///
+/// Each core must be closed, and then `finish` or `finish_with_sinks` called. A runtime that is dropped without that closes no core: each
+/// worker is left to itself and serves until the process ends, and its journal and its sink are lost with it. The caller's are dropped at
+/// once, and what is kept is passed on to nobody.
 #[derive(Drop)]
 pub struct Runtime<J: Task<Out = u64>, C: Drop, G: Drop, S: Sink = Whole> {
     pub(crate) cores: u8,

@@ -256,8 +256,8 @@ impl<J: Task<Out = u64>, C: Drop, G: Drop, S: Sink> Runtime<J, C, G, S> {
     ///
     /// # Limits
     ///
-    /// Those of `start`, except that room comes back as often as a sink takes what is kept. A core closes by itself, and a submission is refused
-    /// for want of room, only if a sink refused.
+    /// Those of `start`, except that room comes back each time a sink takes what is kept. A core closes by itself, and a submission finds the
+    /// journal full, only where a sink refused. `finish_with_sinks` gives the sinks back.
     ///
     /// # Errors
     ///
@@ -298,8 +298,9 @@ impl<J: Task<Out = u64>, C: Drop, G: Drop> Runtime<J, C, G> {
     /// - A turn has 1 to 64 polls (`burst`).
     /// - A journal has room for `16 * (cores + 1) * (cap + 1) + 4 * (burst - 1)` notes and one for each queue at least, and for 2^24 at most.
     ///   The first poll of a turn makes three notes, each further one two, and the end of the turn one more if `burst` is above 1. A job
-    ///   that comes and goes makes four more. No room comes back.
-    /// - A core whose journal grows short closes by itself, and hands its jobs back. A caller whose journal is full can't submit any more.
+    ///   that comes and goes makes four more.
+    /// - No room comes back, since a runtime that is started so has no sinks (`start_with_sinks`). A core whose journal grows short closes by
+    ///   itself, and hands its jobs back. A caller whose journal is full can't submit any more.
     /// - A job that doesn't yield keeps its core.
     /// - Each core must be closed before `finish`. A runtime that is dropped without `finish` leaves its threads to themselves.
     ///

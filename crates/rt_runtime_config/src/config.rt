@@ -3,8 +3,7 @@
 ghost use Rattle.std.specs.Prelude.{◌≡◌, ◌<◌, ◌↔◌, ℕ, IsTrue};
 ghost use Rattle.rt_runtime_config.specs.Configs.{AreNumbersGood, IsCoreGood, IsGood, queues_of, strays};
 
-use rt_ids::limits::MOST_BURST;
-use rt_ids::{CoreNo, MOST_CAPACITY, MOST_CORES, MOST_NOTES, MOST_QUEUES};
+use rt_ids::{CoreNo, MOST_BURST, MOST_CAPACITY, MOST_CORES, MOST_NOTES, MOST_QUEUES};
 use rt_shares::Shares;
 
 /// How many cores there are, how many submissions may be outstanding on a link, how many polls a turn may have, how many notes a journal

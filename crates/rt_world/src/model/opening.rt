@@ -5,8 +5,7 @@ ghost use Rattle.rt_world.specs.State.{journal_at};
 ghost use Rattle.rt_world.specs.Opening.{IsConfig, IsUnbegun, Opens, CreatesAtOpening};
 
 use super::{World, WorldError};
-use rt_ids::limits::MOST_BURST;
-use rt_ids::{ActorNo, CoreNo, MOST_CAPACITY, MOST_CORES, MOST_NOTES, QueueNo};
+use rt_ids::{ActorNo, CoreNo, MOST_BURST, MOST_CAPACITY, MOST_CORES, MOST_NOTES, QueueNo};
 use rt_jobs::Task;
 use rt_journal::RecordedDesk;
 use rt_shares::Shares;
