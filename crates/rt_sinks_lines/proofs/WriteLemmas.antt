@@ -1,5 +1,5 @@
 -- What was pending is written part after part.
-use Rattle.std.proofs.Common.{◌≡◌, ℕ, ◌+◌, ◌-◌, List, [], ◌++◌, Option, refl, sym, ap, ◌∙◌, append_assoc, Result, Ok, Err, OnOk, false, length, take, drop, arith, subst}
+use Rattle.std.proofs.Common.{◌≡◌, ℕ, ◌+◌, ◌-◌, List, [], ◌++◌, Option, refl, sym, ap, ◌∙◌, append_assoc, Result, Ok, Err, OnErr, OnOk, false, length, take, drop, arith, subst, true}
 use Rattle.std.proofs.lemmas.List.{drop-drop, length-drop, take-append-drop, take_all}
 use Rattle.std.specs.Prelude.{is_err}
 use Rattle.std.specs.Io.KnownBytes.{Appends, Keeps}
@@ -49,3 +49,8 @@ writes_put old now new before between text after one two = record {
 pub if_not_err : {T E P : Type 0} (result : Result T E) → OnOk result P → is_err result ≡ false → P
 if_not_err (Ok value) holds well = holds
 if_not_err (Err error) holds well = cc
+
+-- what holds of a call that fails
+pub if_err : {T E P : Type 0} (result : Result T E) → OnErr result P → is_err result ≡ true → P
+if_err (Ok value) holds fails = cc
+if_err (Err error) holds fails = holds

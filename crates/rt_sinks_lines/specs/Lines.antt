@@ -1,16 +1,19 @@
 -- What a caller sees of the lines that a sink writes.
-use Rattle.std.specs.Prelude.{◌≡◌, ℕ, List, [], ◌++◌, Option, None, Some}
+use Rattle.std.specs.Prelude.{◌≡◌, ◌⊎◌, ℕ, ◌+◌, ◌-◌, ◌^◌, List, [], ◌++◌, Option, None, Some, min}
 use Rattle.std.specs.Io.KnownBytes.{Appends}
 use Rattle.rt_ids.specs.Journal.{Journal}
 use Rattle.rt_journal_write.specs.Texts.{actor_lines, text_of}
+use Rattle.rt_sink.specs.Tries.{HasFailedSince}
 
--- whose notes they are, the writer, what is still to be written to it, the notes that were taken, the newest first, and how often notes were refused
+-- whose notes they are, the writer, what is still to be written to it, the notes that were taken, the newest first, how often notes were refused, and how
+-- often that was for want of memory
 pub record LinesView (W : Type 0) : Type 0 where
   pub actor : ℕ
   pub writer : W
   pub pending : List ℕ
   pub has : Journal ℕ
   pub refusals : ℕ
+  pub shortages : ℕ
 
 -- nothing was written yet, if it is known what was
 abbrev pub IsBlank : Option (List ℕ) → Type 0
@@ -29,3 +32,8 @@ module _ {W : Type 0} (contents : W → Option (List ℕ)) where
     pub written : List ℕ
     pub has_written : HasWritten lines.writer written
     pub whole : text_of (actor_lines lines.actor lines.has) ≡ written ++ lines.pending
+
+-- why notes were refused: memory lacked, and this is counted; or a write failed
+abbrev pub IsRefused : {W : Type 0} → (W → Option ℕ) → (W → W → Type 0) → (W → W → Type 0) → LinesView W → LinesView W → Type 0
+IsRefused tries interrupts fails old new =
+    (new.shortages ≡ min (old.shortages + 1) (2 ^ 64 - 1)) ⊎ ((new.shortages ≡ old.shortages) × HasFailedSince tries interrupts fails old.writer new.writer)

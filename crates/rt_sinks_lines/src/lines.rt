@@ -3,7 +3,7 @@
 ghost use Rattle.std.specs.Prelude.{◌≡◌, ◌≤◌, ◌+◌, ◌-◌, ◌^◌, ◌++◌, ℕ, [], IfErr, IfOk, IsErr, OnErr, OnOk, min, reverse};
 ghost use Rattle.rt_journal_write.specs.Texts.{actor_lines, text_of};
 ghost use Rattle.rt_sink.specs.Tries.{HasFailedSince, IsNoFewer};
-ghost use Rattle.rt_sinks_lines.specs.Lines.{HasWritten, HoldsText, IsBlank};
+ghost use Rattle.rt_sinks_lines.specs.Lines.{HasWritten, HoldsText, IsBlank, IsRefused};
 ghost use Rattle.rt_sinks_lines.specs.Outlets.{notes_text, Writes};
 
 use crate::outlet::Outlet;
@@ -16,7 +16,7 @@ use std::marker::Model;
 
 /// The lines of all notes that the sink took, in the form of the journal text. They go to a writer by way of a page.
 ///
-/// It refuses where a write fails or memory lacks, and then has what it had. Nothing is lost then, and nothing is written twice.
+/// It refuses only where a write fails or memory lacks, and then has what it had. Nothing is lost then, and nothing is written twice.
 ///
 /// A contract sees the notes that it took, the newest first, the writer, and the text that is still to be written.
 #[derive(Drop)]
@@ -28,6 +28,8 @@ pub struct Lines<W: rt_sink::Sink> {
     /// The notes that were taken, the oldest first.
     has: History<Note<u64>>,
     refusals: u64,
+    /// Those of the refusals that were for want of memory.
+    shortages: u64,
 }
 
 impl<W: rt_sink::Sink> Model for Lines<W> {
@@ -38,9 +40,9 @@ impl<W: rt_sink::Sink> Model for Lines<W> {
     ghost use Rattle.std.specs.Prelude.{reverse};
     ghost use Rattle.rt_sinks_lines.specs.Lines.{HoldsText};
 
-    ghost view = { λ lines. record { actor = lines.actor; writer = lines.outlet.writer; pending = lines.outlet.pending; has = reverse lines.has.items; refusals = lines.refusals } };
+    ghost view = { λ lines. record { actor = lines.actor; writer = lines.outlet.writer; pending = lines.outlet.pending; has = reverse lines.has.items; refusals = lines.refusals; shortages = lines.shortages } };
 
-    ghost invariant = { λ lines. HoldsText W.contents (record { actor = lines.actor; writer = lines.outlet.writer; pending = lines.outlet.pending; has = reverse lines.has.items; refusals = lines.refusals }) };
+    ghost invariant = { λ lines. HoldsText W.contents (record { actor = lines.actor; writer = lines.outlet.writer; pending = lines.outlet.pending; has = reverse lines.has.items; refusals = lines.refusals; shortages = lines.shortages }) };
 }
 
 /// Puts these notes behind all others.
@@ -60,7 +62,7 @@ impl<W: rt_sink::Sink> Lines<W> {
     /// The writer comes back for want of memory.
     pub fn try_new(alloc: Global, actor: ActorNo, full: usize, writer: W) -> Result<Self, W>
         requires { IsBlank (W.contents writer) }
-        ensures ok { IfOk result (λ lines. lines ≡ record { actor = actor; writer = writer; pending = []; has = []; refusals = 0 }) }
+        ensures ok { IfOk result (λ lines. lines ≡ record { actor = actor; writer = writer; pending = []; has = []; refusals = 0; shortages = 0 }) }
         ensures err { IfErr result (λ back. back ≡ writer) }
     {
         match Outlet::new(alloc, full, writer) {
@@ -70,6 +72,7 @@ impl<W: rt_sink::Sink> Lines<W> {
                 full,
                 has: History::new(),
                 refusals: 0,
+                shortages: 0,
             }),
             Err(writer) => Err(writer),
         }
@@ -87,6 +90,13 @@ impl<W: rt_sink::Sink> Lines<W> {
         ensures { result ≡ self.now.refusals }
     {
         self.refusals
+    }
+
+    /// How often notes were refused for want of memory. All other refusals were for a write that failed.
+    pub fn shortages(&self) -> u64
+        ensures { result ≡ self.now.shortages }
+    {
+        self.shortages
     }
 
     /// The text that is still to be written. What was written and this are together the lines of all notes that were taken.
@@ -148,6 +158,7 @@ impl<W: rt_sink::Sink> Lines<W> {
     fn make_room(&mut self) -> Result<(), DeviceFault>
         ensures same { self.new ≡ record self.old { writer = self.new.writer; pending = self.new.pending } }
         ensures writes { Writes (W.contents self.old.writer) (W.contents self.new.writer) self.old.pending self.new.pending }
+        ensures failed { OnErr result (HasFailedSince W.tries W.interrupts W.fails self.old.writer self.new.writer) }
     {
         if self.outlet.page_len() < self.full {
             return Ok(());
@@ -173,6 +184,15 @@ impl<W: rt_sink::Sink> Lines<W> {
         self.refusals = self.refusals.saturating_add(1);
         Err(Refused)
     }
+
+    /// Counts a refusal for want of memory.
+    fn refuse_for_memory(&mut self) -> Result<(), Refused>
+        ensures same { self.new ≡ record self.old { refusals = min (self.old.refusals + 1) (2 ^ 64 - 1); shortages = min (self.old.shortages + 1) (2 ^ 64 - 1) } }
+        ensures err { IsErr result }
+    {
+        self.shortages = self.shortages.saturating_add(1);
+        self.refuse()
+    }
 }
 
 impl<W: rt_sink::Sink + Drop> Sink for Lines<W> {
@@ -186,12 +206,18 @@ impl<W: rt_sink::Sink + Drop> Sink for Lines<W> {
         ensures told { OnErr result (1 ≤ self.new.refusals) }
         ensures refusals { (count : ℕ) → 1 ≤ self.old.refusals → 1 ≤ self.new.refusals }
         ensures actor { self.new.actor ≡ self.old.actor }
+        ensures ok_counts { OnOk result ((self.new.refusals ≡ self.old.refusals) × (self.new.shortages ≡ self.old.shortages)) }
+        ensures counted { OnErr result (self.new.refusals ≡ min (self.old.refusals + 1) (2 ^ 64 - 1)) }
+        ensures why { OnErr result (IsRefused W.tries W.interrupts W.fails self.old self.new) }
         // An older text is written first, so that a failed write refuses the notes before a line of them is put.
         ensures ok_writes { OnOk result (Writes (W.contents self.old.writer) (W.contents self.new.writer) (self.old.pending ++ notes_text self.old.actor notes.now) self.new.pending) }
         ensures err_writes { OnErr result (Writes (W.contents self.old.writer) (W.contents self.new.writer) self.old.pending self.new.pending) }
     {
-        if self.make_room().is_err() || self.put(notes).is_err() {
+        if self.make_room().is_err() {
             return self.refuse();
+        }
+        if self.put(notes).is_err() {
+            return self.refuse_for_memory();
         }
         // What isn't written now stays pending: the notes were taken.
         let _room = self.make_room();

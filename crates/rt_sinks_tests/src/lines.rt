@@ -103,7 +103,11 @@ fn refuses(alloc: Global, notes: &[Note<u64>]) -> Option<bool> {
     let mut lines = Lines::try_new(alloc, CORE, 15, Full).ok()?;
     lines.take(notes.get(..1)?).ok()?;
     let refused = lines.take(notes.get(1..2)?).is_err() && lines.take(notes.get(1..)?).is_err();
-    Some(refused && lines.refusals() == 2 && lines.pending() == "0 queue q1 500\n".as_bytes())
+    Some(
+        refused
+            && (lines.refusals(), lines.shortages()) == (2, 0)
+            && lines.pending() == "0 queue q1 500\n".as_bytes(),
+    )
 }
 
 #[test]

@@ -1,7 +1,9 @@
-use Rattle.std.proofs.Common.{◌≡◌, ℕ, List, ◌++◌, ap, sym, subst, ◌∙◌}
+use Rattle.std.proofs.Common.{◌≡◌, ℕ, List, ◌++◌, ap, sym, subst, ◌∙◌, inr}
+use Rattle.rt_sink.specs.Tries.{HasFailedSince}
+use Rattle.rt_journal_write.proofs.PageLemmas.{OnErr-any}
 use Rattle.rt_sinks_lines.specs.Lines.{LinesView}
 use Rattle.rt_sinks_lines.specs.Outlets.{Writes, notes_text}
-use Rattle.rt_sinks_lines.proofs.WriteLemmas.{if_not_err, writes_put}
+use Rattle.rt_sinks_lines.proofs.WriteLemmas.{if_err, if_not_err, writes_put}
 use Rattle.rt_sinks_lines.proofs.lines.LinesSink.take.Goals as goal
 
 pub returns-clause-ok_writes : goal.returns-clause-ok_writes
@@ -12,10 +14,21 @@ returns-clause-ok_writes g c =
     let room = c.make_room.new.self in
     let last = c.make_room-room.new.self in
     let text = notes_text old.actor c.args.notes.now in
-    let put = if_not_err c.put.result c.put.ensures.ok (sym c.is_err-else-is_err.ensures.value ∙ c.if-is_err-2.false) in
+    let put = if_not_err c.put.result c.put.ensures.ok (sym c.is_err-2.ensures.value ∙ c.if-is_err-2.false) in
     let actor : room.actor ≡ old.actor = ap (λ (view : View). view.actor) c.make_room.ensures.same in
     let pending : c.put.new.self.pending ≡ room.pending ++ text =
     ap (λ (view : View). view.pending) put ∙ ap (λ (its : ℕ). room.pending ++ notes_text its c.args.notes.now) actor in
     let writes = subst (λ (rest : List ℕ). Writes (contents c.put.new.self.writer) (contents last.writer) rest last.pending) pending c.make_room-room.ensures.writes in
     writes_put (contents old.writer) (contents room.writer) (contents last.writer) old.pending room.pending text last.pending c.make_room.ensures.writes
     (subst (λ (writer : g.row.W.Denot). Writes (contents writer) (contents last.writer) (room.pending ++ text) last.pending) (ap (λ (view : View). view.writer) put) writes)
+
+pub returns-then-is_err-clause-why : goal.returns-then-is_err-clause-why
+returns-then-is_err-clause-why g c =
+    let View = LinesView g.row.W.Denot in
+    let old = c.args.self.now in
+    let failed = if_err c.make_room.result c.make_room.ensures.failed (sym c.is_err.ensures.value ∙ c.if-is_err.true) in
+    let writer : c.refuse.new.self.writer ≡ c.make_room.new.self.writer = ap (λ (view : View). view.writer) c.refuse.ensures.same in
+    let same : c.refuse.new.self.shortages ≡ old.shortages =
+    ap (λ (view : View). view.shortages) c.refuse.ensures.same ∙ ap (λ (view : View). view.shortages) c.make_room.ensures.same in
+    OnErr-any c.refuse.result
+    (inr (same, subst (λ (last : g.row.W.Denot). HasFailedSince g.W.Sink.tries g.W.Sink.interrupts g.W.Sink.fails old.writer last) (sym writer) failed))
