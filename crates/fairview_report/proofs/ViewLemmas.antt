@@ -1,13 +1,17 @@
--- What is written of journals that a source tells.
+-- What is written of a page, and what is told of a fault.
 use Rattle.std.proofs.Common.{◌≡◌, ℕ, List, [], ◌++◌, Option, None, Some, subst, ap, ◌∙◌, append-nil, Result, Ok, Err, OnOk}
 use Rattle.std.specs.Option.{IfSome}
 use Rattle.std.specs.Io.KnownBytes.{Appends}
-use Rattle.rt_ids.specs.Assembly.{Assembly}
-use Rattle.rt_ids.specs.Spelled.{IsSpelled}
+use Rattle.rt_journal_read.specs.Drafts.{empty_draft}
+use Rattle.rt_journal_read.specs.JournalTexts.{journals_of, judge}
 use Rattle.rt_journal_write.specs.Pages.{AppendsFront}
-use Rattle.rt_journal_write.specs.Texts.{journal_text}
+use Rattle.rt_lines.specs.Taking.{IsToldByRead}
+use Rattle.rt_sink.specs.Tries.{HasFailedSince}
+use Rattle.fairview_report.specs.Faults.{IfCoreless, IfRead, IfText, IfUnshown, IfUnwritten}
 use Rattle.fairview_report.specs.Texts.{Puts}
-use Rattle.fairview_report.specs.Views.{IsCutShort, IsShown, IsViewed, ShowsText, absent_core}
+use Rattle.fairview_report.specs.Views.{IsCutShort, IsFaultOf, IsPromptly, IsViewed, LacksCore, ShowsText}
+use Rattle.fairview_report.specs.declared.fault.ViewFault.{ViewFault}
+use Rattle.fairview_report.specs.declared.fault.ViewFault.TheVariants as fault
 use Rattle.fairview_report.specs.declared.view.View.{View}
 
 pub OnOk-any : {T E P : Type 0} (result : Result T E) → P → OnOk result P
@@ -22,22 +26,67 @@ front_of_all old new text out = record { written = text; rest = []; appends = ou
 pub puts_this : (text old new : List ℕ) → new ≡ old ++ text → Puts (λ it. it ≡ text) old new
 puts_this text old new put = (text, (λ i. text), put)
 
-module _ (view : View) (source sink_old sink_new : Option (List ℕ)) (assembly : Assembly ℕ) (told : IfSome source (λ text. IsSpelled assembly × (text ≡ journal_text assembly)))
-    (there : absent_core view assembly.cores ≡ None) (empty page bytes : List ℕ) (nothing : empty ≡ []) (puts : Puts (IsShown view assembly) empty page) (out : bytes ≡ page) where
-  shows : IfSome source (ShowsText view puts.0)
-  shows = from source told
-    where
-      from : (all : Option (List ℕ)) → IfSome all (λ text. IsSpelled assembly × (text ≡ journal_text assembly)) → IfSome all (ShowsText view puts.0)
-      from None known = tt
-      from (Some text) (spelled, same) = (assembly, spelled, same, there, puts.1)
-
-  just_that : bytes ≡ puts.0
-  just_that = out ∙ (puts.2 ∙ ap (λ front. front ++ puts.0) nothing)
-
-  -- all of it is written
+module _ (view : View) (source sink_old sink_new : Option (List ℕ)) (page bytes : List ℕ) (shown : IfSome source (ShowsText view page)) (out : bytes ≡ page) where
+  -- all of the page is written
   pub viewed : Appends sink_old sink_new bytes → IsViewed view source sink_old sink_new
-  viewed appends = record { text = puts.0; shown = shows; appends = subst (Appends sink_old sink_new) just_that appends }
+  viewed appends = record { text = page; shown = shown; appends = subst (Appends sink_old sink_new) out appends }
 
   -- a first part of it is written
   pub cut_short : AppendsFront sink_old sink_new bytes → IsCutShort view source sink_old sink_new
-  cut_short appends = record { text = puts.0; shown = shows; appends = subst (AppendsFront sink_old sink_new) just_that appends }
+  cut_short appends = record { text = page; shown = shown; appends = subst (AppendsFront sink_old sink_new) out appends }
+
+module _ {R : Type 0} (view : View) (remaining : R → Option (List ℕ)) (tries : R → Option ℕ) (reads : R → List ℕ → R → Type 0) (interrupts fails : R → R → Type 0) (old new : R) where
+  abbrev Told : ViewFault → Type 0
+  Told = IsFaultOf view remaining tries reads interrupts fails old new
+
+  -- what is told of a fault before anything is written
+  pub text_faulty : (why : ViewFault) → Told why → IfText (λ told. IfSome (remaining old) (λ text. journals_of text ≡ Err told)) why
+  text_faulty (fault.Text line cause) told = told.0
+  text_faulty (fault.Core core) told = tt
+  text_faulty fault.Read told = tt
+  text_faulty fault.Write told = tt
+  text_faulty fault.Memory told = tt
+
+  pub told_promptly : (why : ViewFault) → Told why → IsPromptly judge empty_draft (remaining old) (remaining new) why
+  told_promptly (fault.Text line cause) told = told.1
+  told_promptly (fault.Core core) told = tt
+  told_promptly fault.Read told = told.0
+  told_promptly fault.Write told = tt
+  told_promptly fault.Memory told = tt
+
+  pub told_at_once : (why : ViewFault) → Told why → IfText (λ told. IsToldByRead judge empty_draft remaining tries reads interrupts old new) why
+  told_at_once (fault.Text line cause) told = told.2
+  told_at_once (fault.Core core) told = tt
+  told_at_once fault.Read told = tt
+  told_at_once fault.Write told = tt
+  told_at_once fault.Memory told = tt
+
+  pub read_failed : (why : ViewFault) → Told why → IfRead (HasFailedSince tries interrupts fails old new) why
+  read_failed (fault.Text line cause) told = tt
+  read_failed (fault.Core core) told = tt
+  read_failed fault.Read told = told.1
+  read_failed fault.Write told = tt
+  read_failed fault.Memory told = tt
+
+  pub core_lacks : (why : ViewFault) → Told why → IfCoreless (λ core. IfSome (remaining old) (LacksCore view core)) why
+  core_lacks (fault.Text line cause) told = tt
+  core_lacks (fault.Core core) told = told
+  core_lacks fault.Read told = tt
+  core_lacks fault.Write told = tt
+  core_lacks fault.Memory told = tt
+
+  -- no write failed
+  pub none_unwritten : {P : Type 0} (why : ViewFault) → Told why → IfUnwritten P why
+  none_unwritten (fault.Text line cause) told = tt
+  none_unwritten (fault.Core core) told = tt
+  none_unwritten fault.Read told = tt
+  none_unwritten fault.Write told = elim told [ ]
+  none_unwritten fault.Memory told = tt
+
+-- what holds whatever the fault
+pub whatever_unshown : {P : Type 0} (why : ViewFault) → P → IfUnshown P why
+whatever_unshown (fault.Text line cause) p = p
+whatever_unshown (fault.Core core) p = p
+whatever_unshown fault.Read p = p
+whatever_unshown fault.Write p = tt
+whatever_unshown fault.Memory p = p

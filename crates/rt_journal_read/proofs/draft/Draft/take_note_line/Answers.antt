@@ -12,7 +12,7 @@ use Rattle.rt_lines.proofs.FaultLemmas.{IfErr_cause}
 use Rattle.rt_journal_read.proofs.draft.Draft.take_note_line.Goals as goal
 
 pub returns-in_ok-raise_to-in-Some-clause-ok : goal.returns-in_ok-raise_to-in-Some-clause-ok
-returns-in_ok-raise_to-in-Some-clause-ok c =
+returns-in_ok-raise_to-in-Some-clause-ok g c =
     let draft = c.args.self.now in
     let line = c.args.line.now in
     let other : bytes_eq line (codes "end") ≡ false = sym c.is_word.ensures ∙ c.if-is_word.false in
@@ -25,7 +25,7 @@ returns-in_ok-raise_to-in-Some-clause-ok c =
     on_ok_weaker c.take_note.result (λ taken. line_read draft c.raise_to.new.self line c.in-Some.actor c.note_of.result other number passed read ∙ taken) c.take_note.ensures.ok
 
 pub returns-in_ok-raise_to-in-Some-clause-faulty : goal.returns-in_ok-raise_to-in-Some-clause-faulty
-returns-in_ok-raise_to-in-Some-clause-faulty c =
+returns-in_ok-raise_to-in-Some-clause-faulty g c =
     let draft = c.args.self.now in
     let line = c.args.line.now in
     let other : bytes_eq line (codes "end") ≡ false = sym c.is_word.ensures ∙ c.if-is_word.false in

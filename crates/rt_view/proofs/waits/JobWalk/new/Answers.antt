@@ -1,6 +1,6 @@
 use Rattle.rt_ids.specs.Filters.{name_started, name_finished}
 use Rattle.rt_view.specs.Waits.{name_taken}
-use Rattle.rt_view.proofs.waits.Walk.new.Goals as goal
+use Rattle.rt_view.proofs.waits.JobWalk.new.Goals as goal
 
 pub returns : goal.returns
 returns c = record {

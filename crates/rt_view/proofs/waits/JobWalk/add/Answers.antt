@@ -3,7 +3,7 @@ use Rattle.std.proofs.lemmas.Result.{on_ok_weaker}
 use Rattle.rt_view.specs.Clocks.{clock_after}
 use Rattle.rt_view.proofs.ClockSteps.{clock_next}
 use Rattle.rt_view.proofs.SpanSteps.{walk_next}
-use Rattle.rt_view.proofs.waits.Walk.add.Goals as goal
+use Rattle.rt_view.proofs.waits.JobWalk.add.Goals as goal
 
 pub returns : goal.returns
 returns c =
