@@ -60,6 +60,11 @@ rows_begin actor cores = none (nat_lt actor cores)
     none true = refl
     none false = refl
 
+-- before the first note the first line stands alone
+pub rows_none : (head : List ℕ) → head ≡ (head ++ rows_of []) ++ rows_now 0 1 []
+unfolding lists_below
+rows_none head = sym (append-nil head) ∙ (sym (append-nil (head ++ [])) ∙ ap (λ rows. (head ++ []) ++ rows) (rows_begin 0 1))
+
 -- the rows of one journal more
 pub rows_more : (journals : List (Journal ℕ)) (journal : Journal ℕ) → rows_of (journals ++ journal ∷ []) ≡ rows_of journals ++ core_text (length journals) journal
 rows_more journals journal =

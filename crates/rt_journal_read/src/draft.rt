@@ -4,7 +4,7 @@ ghost use Rattle.std.specs.Prelude.{◌≡◌, ◌≤◌, ◌<◌, ◌+◌, Some
 ghost use Rattle.rt_ids.specs.Limits.{most_cores, most_notes};
 ghost use Rattle.rt_words.specs.Words.{words};
 ghost use Rattle.rt_journal_read.specs.Drafts as spec;
-ghost use Rattle.rt_journal_read.specs.Handed.{IsBegun, handed_on, nothing_handed};
+ghost use Rattle.rt_journal_read.specs.Handed.{Handed, HasHanded, IsBegun, IsLast, handed_on, nothing_handed};
 ghost use Rattle.rt_journal_read.specs.Passing.{with_handed};
 ghost use Rattle.rt_lines.specs.Faults.{IfCause};
 
@@ -265,10 +265,19 @@ impl<T: NoteTaker> Draft<T> {
     {
         let end = self.cores;
         self.raise_to(end)?;
-        match self.taker {
-            Some(taker) => Ok(taker.finish()?),
-            None => Err(Stop::Memory),
-        }
+        finished(self.taker)
+    }
+}
+
+/// What all notes became, if there is a taker still.
+fn finished<T: NoteTaker>(taker: Option<T>) -> Result<T::Whole, Stop<JournalCause>>
+    requires { (handed : Handed) × IsLast handed × HasHanded T.has taker handed }
+    ensures ok { IfOk result (λ whole. (handed : Handed) → IsLast handed → HasHanded T.has taker handed → T.makes whole handed) }
+    ensures faulty { IfErr result (IfCause (λ cause. ⊥)) }
+{
+    match taker {
+        Some(taker) => Ok(taker.finish()?),
+        None => Err(Stop::Memory),
     }
 }
 

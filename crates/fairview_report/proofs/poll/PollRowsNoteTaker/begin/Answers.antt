@@ -1,4 +1,4 @@
-use Rattle.std.proofs.Common.{◌++◌, ap, sym, ◌∙◌}
+use Rattle.std.proofs.Common.{◌++◌, [], ap, sym, ◌∙◌}
 use Rattle.fairview_report.specs.PollTexts.{head_text, rows_of}
 use Rattle.fairview_report.proofs.RowLemmas.{rows_begin}
 use Rattle.fairview_report.proofs.poll.PollRowsNoteTaker.begin.Goals as goal

@@ -11,7 +11,7 @@ returns c =
     let cores = has.cores in
     record {
       cores = has.cores;
-      actor = omega (arith, actor, cores, within, c.saturating_add.ensures, length-append handed.earlier (handed.notes ∷ []), c.ranges.self.cores);
+      actor = omega (arith, actor, cores, within, c.saturating_add-self.ensures, length-append handed.earlier (handed.notes ∷ []), c.ranges.self.cores);
       walk = c.new.ensures;
       page = has.page ∙ rows_next head_text handed.earlier handed.notes handed.cores within;
     }

@@ -3,6 +3,16 @@ use Rattle.fairview_report.specs.Walks.{AreTold}
 use Rattle.fairview_report.proofs.WalkLemmas.{told_count, told_more}
 use Rattle.fairview_report.proofs.walks.WalksNoteTaker.finish.Goals as goal
 
+pub invariant_of-result : goal.invariant_of-result
+invariant_of-result g c =
+    let handed = c.requires.0 in
+    let walked = c.requires.2 in
+    let last = c.requires.1 in
+    let same = walked.same_cores in
+    let count = told_count g.W.CoreWalk.tells c.args.self.burst c.args.self.each.items handed.earlier walked.before in
+    let longer = ap length c.in_ok-push.ensures.items in
+    record { sized = omega (arith, longer, length-append c.args.self.each.items (c.into_told.result ∷ []), count, last, same) }
+
 pub returns : goal.returns
 returns g c =
     λ handed last walked.
