@@ -31,7 +31,7 @@ def journal(notes):
                 yield f"{core} took {name} q{queue}\n"
             for begins, ends in ("start", "yield"), ("resume", "done"):
                 for queue, name in enumerate(names):
-                    told = "" if ends == "yield" else " 7"
+                    told = "" if ends == "yield" else " = 7"
                     yield f"{core} pick q{queue} at {60 * turn}\n{core} {begins} {name}\n{core} {ends} {name} {10 + turn % 5}{told}\n"
     for number in range(1, 4 * rounds + 1):
         for core in range(4):

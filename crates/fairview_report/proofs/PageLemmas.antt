@@ -5,9 +5,8 @@ use Rattle.rt_ids.specs.Assembly.{Assembly}
 use Rattle.rt_ids.specs.Spelled.{IsSpelled}
 use Rattle.rt_journal_read.specs.declared.fault.JournalCause.{JournalCause}
 use Rattle.rt_journal_read.specs.Drafts.{empty_draft}
-use Rattle.rt_journal_read.specs.Handed.{Handed, assembly_handed}
+use Rattle.rt_journal_read.specs.Handed.{Handed, IsLast, assembly_handed}
 use Rattle.rt_journal_read.specs.JournalTexts.{journals_of, judge}
-use Rattle.rt_journal_read.specs.Passing.{MakesText}
 use Rattle.rt_journal_write.specs.Texts.{journal_text}
 use Rattle.rt_lines.specs.Taking.{IsPrompt, IsToldByRead}
 use Rattle.rt_sink.specs.Tries.{HasFailedSince}
@@ -35,11 +34,12 @@ module _ {R : Type 0} (view : View) (remaining : R → Option (List ℕ)) (tries
   fault_told faults.Memory why is faulty prompt once failed device = subst Told (sym is) tt
 
 -- what is shown of journals that were handed over note by note
-pub walked_shown : {W : Type 0} (view : View) (makes : W → Handed → Type 0) (whole : W) (source : Option (List ℕ)) (page : List ℕ) → IfSome source (MakesText makes whole) →
-    ((handed : Handed) → makes whole handed → IsShown view (assembly_handed handed) page) → ((assembly : Assembly ℕ) → absent_core view assembly.cores ≡ None) →
+pub walked_shown : (view : View) (Made : Handed → Type 0) (source : Option (List ℕ)) (page : List ℕ) →
+    IfSome source (λ text. (handed : Handed) × IsLast handed × IsSpelled (assembly_handed handed) × (text ≡ journal_text (assembly_handed handed)) × Made handed) →
+    ((handed : Handed) → Made handed → IsShown view (assembly_handed handed) page) → ((assembly : Assembly ℕ) → absent_core view assembly.cores ≡ None) →
     IfSome source (ShowsText view page)
-walked_shown view makes whole None page told shown there = tt
-walked_shown view makes whole (Some text) page (handed, last, spelled, same, made) shown there =
+walked_shown view Made None page told shown there = tt
+walked_shown view Made (Some text) page (handed, last, spelled, same, made) shown there =
     (assembly_handed handed, spelled, same, there (assembly_handed handed), shown handed made)
 
 -- what is shown of journals that are kept

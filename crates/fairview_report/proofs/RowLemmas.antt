@@ -56,7 +56,7 @@ rows_past actor cores note before front old past old_is =
 pub rows_begin : (actor cores : ℕ) → [] ≡ rows_now actor cores []
 rows_begin actor cores = none (nat_lt actor cores)
   where
-    none : (test : Bool) → [] ≡ cond test [] []
+    none : (test : Bool) → ◌≡◌ {A = List ℕ} [] (cond test [] [])
     none true = refl
     none false = refl
 

@@ -76,17 +76,17 @@ module _ {R : Type 0} (view : View) (remaining : R → Option (List ℕ)) (tries
   core_lacks fault.Memory told = tt
 
   -- no write failed
-  pub none_unwritten : {P : Type 0} (why : ViewFault) → Told why → IfUnwritten P why
-  none_unwritten (fault.Text line cause) told = tt
-  none_unwritten (fault.Core core) told = tt
-  none_unwritten fault.Read told = tt
-  none_unwritten fault.Write told = elim told [ ]
-  none_unwritten fault.Memory told = tt
+  pub none_unwritten : (P : Type 0) (why : ViewFault) → Told why → IfUnwritten P why
+  none_unwritten P (fault.Text line cause) told = tt
+  none_unwritten P (fault.Core core) told = tt
+  none_unwritten P fault.Read told = tt
+  none_unwritten P fault.Write told = elim told [ ]
+  none_unwritten P fault.Memory told = tt
 
 -- what holds whatever the fault
-pub whatever_unshown : {P : Type 0} (why : ViewFault) → P → IfUnshown P why
-whatever_unshown (fault.Text line cause) p = p
-whatever_unshown (fault.Core core) p = p
-whatever_unshown fault.Read p = p
-whatever_unshown fault.Write p = tt
-whatever_unshown fault.Memory p = p
+pub whatever_unshown : (P : Type 0) (why : ViewFault) → P → IfUnshown P why
+whatever_unshown P (fault.Text line cause) p = p
+whatever_unshown P (fault.Core core) p = p
+whatever_unshown P fault.Read p = p
+whatever_unshown P fault.Write p = tt
+whatever_unshown P fault.Memory p = p

@@ -1,5 +1,5 @@
 -- The polls of all cores as rows with commas.
-use Rattle.std.specs.Prelude.{◌≡◌, ℕ, nat_lt, if◌then◌else◌, Option, Some, None, List, [], ◌++◌, codes, decimal, flat_map, get_or, length, string_bytes}
+use Rattle.std.specs.Prelude.{◌≡◌, ◌≤◌, ℕ, nat_lt, if◌then◌else◌, Option, Some, None, List, [], ◌++◌, codes, decimal, flat_map, get_or, length, string_bytes}
 use Rattle.rt_ids.specs.Assembly.{Assembly, journal_of}
 use Rattle.rt_ids.specs.Journal.{Journal}
 use Rattle.rt_text.specs.Notes.{name_text}
@@ -55,6 +55,7 @@ rows_now actor cores notes = if nat_lt actor cores then core_text actor notes el
 -- the rows of all that was handed over stand on the page
 pub record HasRows (rows : PollRows) (handed : Handed) : Type 0 where
   pub cores : rows.cores ≡ handed.cores
+  pub few : handed.cores ≤ 255
   pub actor : rows.actor ≡ length handed.earlier
   pub walk : KnowsTurns rows.walk handed.notes
   pub page : string_bytes rows.page ≡ (head_text ++ rows_of handed.earlier) ++ rows_now (length handed.earlier) handed.cores handed.notes

@@ -14,11 +14,10 @@ pub loop-core-preserved : goal.loop-core-preserved
 loop-core-preserved c =
     λ assembly knows.
     let walked = c.args.walked.now in
-    let one = c.index-each-core in
     after_one (λ core. core_text c.args.form assembly.burst core (journal_of core assembly)) c.loop-core.core (string_bytes c.args.page.now) (string_bytes c.loop-core.page)
     (string_bytes c.put_core.new.page) (c.loop-core.invariant assembly knows)
     (c.in_ok-put_core.ensures assembly.burst (journal_of c.loop-core.core assembly)
-    (tells_at (λ shares burst journal. KnowsShares {T = ℕ} burst shares journal) walked.cores walked.burst walked.each.items assembly c.loop-core.core one.result knows (omega arith) one.is))
+    (tells_at (λ shares burst journal. KnowsShares {T = ℕ} burst shares journal) walked.cores walked.burst walked.each.items assembly c.loop-core.core c.index.result.now knows (omega arith) c.index.ensures))
 
 pub returns : goal.returns
 returns c =

@@ -13,11 +13,10 @@ pub loop-core-preserved : goal.loop-core-preserved
 loop-core-preserved c =
     λ assembly are.
     let walked = c.args.walked.now in
-    let one = c.index-each-core in
     puts_one (λ core. IsCoreText c.args.plain core (journal_of core assembly)) c.loop-core.core (string_bytes c.args.page.now) (string_bytes c.loop-core.page)
     (string_bytes c.put_core.new.page) (c.loop-core.invariant assembly are)
     (c.in_ok-put_core.ensures (journal_of c.loop-core.core assembly)
-    (tells_at (λ spans burst journal. AreSpans spans journal) walked.cores walked.burst walked.each.items assembly c.loop-core.core one.result are (omega arith) one.is))
+    (tells_at (λ spans burst journal. AreSpans spans journal) walked.cores walked.burst walked.each.items assembly c.loop-core.core c.index.result.now are (omega arith) c.index.ensures))
 
 pub returns : goal.returns
 returns c =

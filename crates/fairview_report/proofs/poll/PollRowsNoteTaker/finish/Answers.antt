@@ -1,4 +1,4 @@
-use Rattle.std.proofs.Common.{◌++◌, ◌∙◌}
+use Rattle.std.proofs.Common.{◌∙◌}
 use Rattle.fairview_report.specs.PollTexts.{head_text}
 use Rattle.fairview_report.proofs.RowLemmas.{rows_end}
 use Rattle.fairview_report.proofs.poll.PollRowsNoteTaker.finish.Goals as goal
