@@ -37,3 +37,7 @@ then_put start page new front rear one two = two ∙ (ap (λ bytes. bytes ++ rea
 -- on an empty page stands just what is put there
 pub on_empty : (start new text : List ℕ) → start ≡ [] → new ≡ start ++ text → new ≡ text
 on_empty start new text empty put = put ∙ ap (λ bytes. bytes ++ text) empty
+
+-- the same of a text that isn't the only one
+pub puts_on_empty : (IsText : List ℕ → Type 0) (start new : List ℕ) → start ≡ [] → Puts IsText start new → IsText new
+puts_on_empty IsText start new empty (text, is, put) = subst IsText (sym (on_empty start new text empty put)) is

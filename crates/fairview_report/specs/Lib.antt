@@ -3,5 +3,7 @@ pub mod PollTexts
 pub mod ShareTexts
 pub mod StoryTexts
 pub mod Texts
+pub mod Walks
+pub mod Told
 pub mod Views
 pub mod WaitTexts

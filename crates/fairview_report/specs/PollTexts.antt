@@ -1,12 +1,14 @@
 -- The polls of all cores as rows with commas.
-use Rattle.std.specs.Prelude.{ℕ, List, ◌++◌, codes, decimal, flat_map}
+use Rattle.std.specs.Prelude.{◌≡◌, ◌≤◌, ℕ, nat_lt, if◌then◌else◌, Option, Some, None, List, [], ◌++◌, codes, decimal, flat_map, get_or, length, string_bytes}
 use Rattle.rt_ids.specs.Assembly.{Assembly, journal_of}
 use Rattle.rt_ids.specs.Journal.{Journal}
 use Rattle.rt_text.specs.Notes.{name_text}
 use Rattle.rt_view.specs.Ends.{end_word}
-use Rattle.rt_view.specs.Polls.{polls}
+use Rattle.rt_journal_read.specs.Handed.{Handed}
+use Rattle.rt_view.specs.Polls.{KnowsTurns, polls}
 use Rattle.rt_view.specs.declared.polls.Poll.{Poll}
 use Rattle.fairview_text.specs.Lists.{lists_below}
+use Rattle.fairview_report.specs.declared.poll.PollRows.{PollRows}
 
 -- the first line
 abbrev pub head_text : List ℕ
@@ -36,3 +38,24 @@ cores_text assembly = lists_below (λ core. core_text core (journal_of core asse
 -- all rows
 abbrev pub polls_text : Assembly ℕ → List ℕ
 polls_text assembly = head_text ++ cores_text assembly
+
+-- the row of a poll, if there is one
+abbrev pub row_told : ℕ → Option Poll → List ℕ
+row_told core None = []
+row_told core (Some poll) = poll_row core poll ++ codes "\n"
+
+-- the rows of these journals, each of a core
+abbrev pub rows_of : List (Journal ℕ) → List ℕ
+rows_of journals = lists_below (λ core. core_text core (get_or journals core [])) (length journals)
+
+-- the rows of the actor whose notes come now: the outside actor has none
+abbrev pub rows_now : ℕ → ℕ → Journal ℕ → List ℕ
+rows_now actor cores notes = if nat_lt actor cores then core_text actor notes else []
+
+-- the rows of all that was handed over stand on the page
+pub record HasRows (rows : PollRows) (handed : Handed) : Type 0 where
+  pub cores : rows.cores ≡ handed.cores
+  pub few : handed.cores ≤ 255
+  pub actor : rows.actor ≡ length handed.earlier
+  pub walk : KnowsTurns rows.walk handed.notes
+  pub page : string_bytes rows.page ≡ (head_text ++ rows_of handed.earlier) ++ rows_now (length handed.earlier) handed.cores handed.notes

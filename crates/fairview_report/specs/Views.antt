@@ -1,14 +1,17 @@
 -- What is shown of the text of journals.
-use Rattle.std.specs.Prelude.{◌≡◌, ℕ, Bool, true, false, List, Option, Some, None, nat_lt, if◌then◌else◌}
+use Rattle.std.specs.Prelude.{◌≡◌, ℕ, Bool, true, false, List, Option, Some, None, Err, nat_lt, if◌then◌else◌}
 use Rattle.std.specs.Option.{IfSome}
 use Rattle.std.specs.Io.KnownBytes.{Appends}
 use Rattle.rt_ids.specs.Assembly.{Assembly}
 use Rattle.rt_ids.specs.Spelled.{IsSpelled}
 use Rattle.rt_journal_read.specs.declared.fault.JournalCause.{JournalCause}
+use Rattle.rt_journal_read.specs.Drafts.{empty_draft}
+use Rattle.rt_journal_read.specs.JournalTexts.{journals_of, judge as journal_judge}
 use Rattle.rt_journal_write.specs.Pages.{AppendsFront}
 use Rattle.rt_journal_write.specs.Texts.{journal_text}
-use Rattle.rt_lines.specs.Taking.{IsReadSoFar, IsToldAtOnce}
+use Rattle.rt_lines.specs.Taking.{IsReadSoFar, IsToldAtOnce, IsToldByRead}
 use Rattle.rt_lines.specs.Texts.{Judge}
+use Rattle.rt_sink.specs.Tries.{HasFailedSince}
 use Rattle.fairview_lag.specs.Lines.{lag_text}
 use Rattle.fairview_lag.specs.Pictures.{lag_picture}
 use Rattle.fairview_svg.specs.Gantts.{gantt_text}
@@ -76,3 +79,14 @@ IsPromptly judge draft old new (fault.Core core) = Unit {0}
 IsPromptly judge draft old new fault.Read = IsReadSoFar judge draft old new
 IsPromptly judge draft old new fault.Write = Unit {0}
 IsPromptly judge draft old new fault.Memory = Unit {0}
+
+-- what is told of a fault that leaves no page, by what was read
+abbrev pub IsFaultOf : {R : Type 0} → View → (R → Option (List ℕ)) → (R → Option ℕ) → (R → List ℕ → R → Type 0) → (R → R → Type 0) → (R → R → Type 0) → R → R → ViewFault → Type 0
+IsFaultOf view remaining tries reads interrupts fails old new (fault.Text line cause) =
+    IfSome (remaining old) (λ text. journals_of text ≡ Err (line, cause)) × IsToldAtOnce journal_judge empty_draft (remaining old) (remaining new)
+    × IsToldByRead journal_judge empty_draft remaining tries reads interrupts old new
+IsFaultOf view remaining tries reads interrupts fails old new (fault.Core core) = IfSome (remaining old) (LacksCore view core)
+IsFaultOf view remaining tries reads interrupts fails old new fault.Read =
+    IsReadSoFar journal_judge empty_draft (remaining old) (remaining new) × HasFailedSince tries interrupts fails old new
+IsFaultOf view remaining tries reads interrupts fails old new fault.Write = ⊥
+IsFaultOf view remaining tries reads interrupts fails old new fault.Memory = Unit {0}

@@ -4,6 +4,7 @@
 pub mod fault;
 pub mod name;
 pub mod page;
+mod pages;
 pub mod poll;
 pub mod poll_line;
 pub mod share;
@@ -13,6 +14,8 @@ pub mod story_line;
 pub mod view;
 pub mod wait;
 pub mod wait_line;
+pub mod walk;
+pub mod walks;
 
 pub use fault::ViewFault;
 pub use name::name_of;

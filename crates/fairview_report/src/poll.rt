@@ -1,61 +1,93 @@
 //! The polls of all cores as rows with commas.
 
-ghost use Rattle.std.specs.Prelude.{◌≡◌, ◌++◌, codes, flat_map, OnOk, string_bytes};
+ghost use Rattle.std.specs.Prelude.{◌≡◌, ◌++◌, codes, IfOk, OnOk, string_bytes};
+ghost use Rattle.rt_journal_read.specs.Handed.{nothing_handed};
 ghost use Rattle.fairview_report.specs.PollTexts as spec;
 
 use crate::poll_line::PollLine;
-use rt_ids::{ActorNo, CoreNo};
-use rt_journal_notes::{Assembly, Journal};
-use rt_view::{Poll, settled_polls};
+use rt_ids::{CoreNo, Note};
+use rt_journal_read::NoteTaker;
+use rt_view::{Poll, PollWalk};
 use std::alloc::{AllocError, Global};
 
 /// The first line.
 const HEAD: &str = "core,turn,queue,name,step,time,virtual_runtime,end\n";
 
-/// Puts a row for each poll, by core and turn, behind a first line that names the columns.
-///
-/// # Errors
-///
-/// `AllocError` for want of memory. A first part of the text may then stand on the page.
-pub fn put_polls(alloc: Global, assembly: &Assembly, page: &mut String) -> Result<(), AllocError>
-    ensures { OnOk result (string_bytes page.new ≡ string_bytes page.old ++ spec.polls_text assembly.now) }
-{
-    page.push_str(HEAD)?;
-    put_cores(alloc, assembly, page)
-}
-
-/// Puts the rows of all cores.
-fn put_cores(alloc: Global, assembly: &Assembly, page: &mut String) -> Result<(), AllocError>
-    ensures { OnOk result (string_bytes page.new ≡ string_bytes page.old ++ spec.cores_text assembly.now) }
-{
-    for core in 0..assembly.cores() {
-        let journal = assembly.journal(ActorNo(core));
-        put_core(alloc, CoreNo(core), journal, page)?;
-    }
-    Ok(())
-}
-
-/// Puts the rows of a core.
-fn put_core(
+/// The rows of the polls so far, by core and turn, behind a first line that names the columns. The notes are not kept.
+#[derive(Drop)]
+pub struct PollRows {
     alloc: Global,
-    core: CoreNo,
-    journal: &Journal<u64>,
-    page: &mut String,
-) -> Result<(), AllocError>
-    ensures { OnOk result (string_bytes page.new ≡ string_bytes page.old ++ spec.core_text core journal.now.notes) }
-{
-    let polls = settled_polls(alloc, journal)?;
-    put_rows(core, &polls, page)
+    cores: u8,
+    /// The actor whose notes come now.
+    actor: u8,
+    walk: PollWalk,
+    page: String,
 }
 
-/// Puts a row for each of these polls.
-fn put_rows(core: CoreNo, polls: &[Poll], page: &mut String) -> Result<(), AllocError>
-    ensures { OnOk result (string_bytes page.new ≡ string_bytes page.old ++ flat_map (λ poll. spec.poll_row core poll ++ codes "\n") polls.now) }
-{
-    for poll in polls {
-        put_row(PollLine(core, *poll), page)?;
+impl PollRows {
+    /// Before the first note.
+    ///
+    /// # Errors
+    ///
+    /// `AllocError` for want of memory.
+    pub fn new(alloc: Global) -> Result<Self, AllocError>
+        ensures { IfOk result (λ rows. spec.HasRows rows nothing_handed) }
+    {
+        let mut page = String::new(alloc);
+        page.push_str(HEAD)?;
+        Ok(PollRows {
+            alloc,
+            cores: 1,
+            actor: 0,
+            walk: PollWalk::new(alloc),
+            page,
+        })
     }
-    Ok(())
+}
+
+impl NoteTaker for PollRows {
+    type Whole = String;
+
+    ghost use Rattle.std.specs.Prelude.{◌≡◌, string_bytes};
+    ghost use Rattle.rt_journal_read.specs.Handed.{assembly_handed};
+    ghost use Rattle.fairview_report.specs.PollTexts.{HasRows, polls_text};
+
+    ghost has = { λ rows handed. HasRows rows handed };
+
+    ghost makes = { λ page handed. string_bytes page ≡ polls_text (assembly_handed handed) };
+
+    fn begin(&mut self, cores: u8, _cap: u16, _burst: u8) -> Result<(), AllocError> {
+        self.cores = cores;
+        Ok(())
+    }
+
+    fn take(&mut self, note: &Note<u64>) -> Result<(), AllocError> {
+        let poll = self.walk.add(note)?;
+        if self.actor < self.cores {
+            return put_told(CoreNo(self.actor), poll, &mut self.page);
+        }
+        Ok(())
+    }
+
+    fn next_actor(&mut self) -> Result<(), AllocError> {
+        self.actor = self.actor.saturating_add(1);
+        self.walk = PollWalk::new(self.alloc);
+        Ok(())
+    }
+
+    fn finish(self) -> Result<String, AllocError> {
+        Ok(self.page)
+    }
+}
+
+/// Puts the row of a poll, if there is one.
+fn put_told(core: CoreNo, poll: Option<Poll>, page: &mut String) -> Result<(), AllocError>
+    ensures { OnOk result (string_bytes page.new ≡ string_bytes page.old ++ spec.row_told core poll) }
+{
+    match poll {
+        Some(poll) => put_row(PollLine(core, poll), page),
+        None => Ok(()),
+    }
 }
 
 /// Puts the row of a poll.

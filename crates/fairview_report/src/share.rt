@@ -1,17 +1,19 @@
 //! What each queue got and what it should have got, as text.
 
 ghost use Rattle.std.specs.Prelude.{◌≡◌, ◌++◌, ℕ, codes, OnOk, string_bytes};
+ghost use Rattle.rt_ids.specs.Assembly.{Assembly};
 ghost use Rattle.rt_ids.specs.Journal.{Journal as Notes};
 ghost use Rattle.rt_view.specs.Shares.{queue_share};
 ghost use Rattle.rt_view.specs.Watches.{KnowsShares};
 ghost use Rattle.fairview_report.specs.ShareTexts as spec;
+ghost use Rattle.fairview_report.specs.Told.{AreShares};
 ghost use Rattle.fairview_text.specs.Lists.{lists_below};
 
 use crate::page::{put_bar, put_right};
 use crate::share_line::ShareLine;
-use rt_ids::{ActorNo, CoreNo, QueueNo};
-use rt_journal_notes::{Assembly, Journal};
-use rt_view::{CoreShares, QueueShare, clock_of};
+use crate::walks::Walked;
+use rt_ids::{CoreNo, QueueNo};
+use rt_view::{CoreShares, QueueShare};
 use std::alloc::{AllocError, Global};
 
 /// How the table is written.
@@ -33,13 +35,14 @@ pub enum Form {
 pub fn put_shares(
     alloc: Global,
     form: Form,
-    assembly: &Assembly,
+    walked: &Walked<CoreShares>,
     page: &mut String,
 ) -> Result<(), AllocError>
-    ensures { OnOk result (string_bytes page.new ≡ string_bytes page.old ++ spec.shares_text form assembly.now) }
+    ensures { OnOk result ((assembly : Assembly ℕ) → AreShares walked.now.cores walked.now.burst walked.now.each.items assembly
+        → string_bytes page.new ≡ string_bytes page.old ++ spec.shares_text form assembly) }
 {
     page.push_str(head_text(form))?;
-    put_cores(alloc, form, assembly, page)
+    put_cores(alloc, form, walked, page)
 }
 
 /// The first line.
@@ -56,14 +59,14 @@ fn head_text(form: Form) -> &'static str
 fn put_cores(
     alloc: Global,
     form: Form,
-    assembly: &Assembly,
+    walked: &Walked<CoreShares>,
     page: &mut String,
 ) -> Result<(), AllocError>
-    ensures { OnOk result (string_bytes page.new ≡ string_bytes page.old ++ spec.cores_text form assembly.now) }
+    ensures { OnOk result ((assembly : Assembly ℕ) → AreShares walked.now.cores walked.now.burst walked.now.each.items assembly
+        → string_bytes page.new ≡ string_bytes page.old ++ spec.cores_text form assembly) }
 {
-    for core in 0..assembly.cores() {
-        let journal = assembly.journal(ActorNo(core));
-        put_core(alloc, form, CoreNo(core), journal, assembly.burst(), page)?;
+    for core in 0..walked.cores {
+        put_core(alloc, form, CoreNo(core), &walked.each[core as usize], page)?;
     }
     Ok(())
 }
@@ -73,15 +76,13 @@ fn put_core(
     alloc: Global,
     form: Form,
     core: CoreNo,
-    journal: &Journal<u64>,
-    burst: u8,
+    shares: &CoreShares,
     page: &mut String,
 ) -> Result<(), AllocError>
-    ensures { OnOk result (string_bytes page.new ≡ string_bytes page.old ++ spec.core_text form burst core journal.now.notes) }
+    ensures { OnOk result ((burst : ℕ) (journal : Notes ℕ) → KnowsShares burst shares.now journal
+        → string_bytes page.new ≡ string_bytes page.old ++ spec.core_text form burst core journal) }
 {
-    let shares = CoreShares::of(alloc, journal, burst)?;
-    let busy = clock_of(journal).time;
-    put_queues(alloc, form, core, busy, &shares, page)
+    put_queues(alloc, form, core, shares.busy(), shares, page)
 }
 
 /// Puts the rows of all queues that there are.

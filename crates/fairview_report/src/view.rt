@@ -1,6 +1,6 @@
 //! Reads the text of journals, and writes what is asked for of them.
 
-ghost use Rattle.std.specs.Prelude.{◌≡◌, ◌++◌, Ok, Err, IfErr, IfSome, OnOk, OnErr, string_bytes};
+ghost use Rattle.std.specs.Prelude.{◌≡◌, Err, IfErr, IfSome, OnOk, OnErr};
 ghost use Rattle.std.specs.Io.KnownBytes.{Keeps, Appends};
 ghost use Rattle.rt_journal_read.specs.Drafts.{empty_draft};
 ghost use Rattle.rt_journal_read.specs.JournalTexts.{journals_of, judge};
@@ -8,24 +8,16 @@ ghost use Rattle.rt_journal_write.specs.Pages.{AppendsFront};
 ghost use Rattle.rt_lines.specs.Taking.{IsToldByRead};
 ghost use Rattle.rt_sink.specs.Tries.{HasFailedSince};
 ghost use Rattle.fairview_report.specs.Faults.{IfCoreless, IfRead, IfText, IfUnshown, IfUnwritten};
-ghost use Rattle.fairview_report.specs.Texts.{Puts};
-ghost use Rattle.fairview_report.specs.Views.{IsPromptly, IsShown, IsViewed, IsCutShort, LacksCore};
-ghost use Rattle.fairview_report.specs.Views as spec;
+ghost use Rattle.fairview_report.specs.Views.{IsPromptly, IsViewed, IsCutShort, LacksCore};
 
 use crate::fault::ViewFault;
-use crate::poll::put_polls;
-use crate::share::{Form, put_shares};
-use crate::story::put_story;
-use crate::wait::put_waits;
-use fairview_lag::{put_lag, put_lag_text};
-use fairview_svg::{Cut, put_gantt};
-use fairview_trace::put_trace;
-use rt_ids::{CoreNo, JobId};
-use rt_journal_notes::Assembly;
-use rt_journal_read::read_journal;
+use crate::pages::page_of;
+use crate::share::Form;
+use fairview_svg::Cut;
+use rt_ids::JobId;
 use rt_lines::Source;
 use rt_sink::{DeviceFault, Sink, flush, write_all};
-use std::alloc::{AllocError, Global};
+use std::alloc::Global;
 
 /// What is asked for of journals.
 #[derive(Clone, Copy)]
@@ -71,69 +63,13 @@ pub fn view_text<R: Source, S: Sink>(
     ensures unwritten { IfErr result (IfUnwritten (IsCutShort view (R.remaining source.old) (S.contents sink.old) (S.contents sink.new))) }
     ensures failed { IfErr result (IfUnwritten (HasFailedSince S.tries S.interrupts S.fails sink.old sink.new)) }
 {
-    let assembly = read_journal(alloc, source)?;
-    if let Some(core) = absent_core(&view, assembly.cores()) {
-        return Err(ViewFault::Core(core));
-    }
-    let mut page = String::new(alloc);
-    put_view(alloc, &view, &assembly, &mut page)?;
+    let page = match page_of(alloc, view, source) {
+        Ok(page) => page,
+        Err(fault) => return Err(fault),
+    };
     match write_out(page.as_bytes(), sink) {
         Ok(()) => Ok(()),
         Err(_) => Err(ViewFault::Write),
-    }
-}
-
-/// The core that is asked for, if so many cores don't have it.
-fn absent_core(view: &View, cores: u8) -> Option<CoreNo>
-    ensures { result ≡ spec.absent_core view.now cores }
-{
-    match *view {
-        View::Gantt { cut } => absent_of(cut.core, cores),
-        _ => None,
-    }
-}
-
-/// A core, if so many cores don't have it.
-fn absent_of(core: Option<CoreNo>, cores: u8) -> Option<CoreNo>
-    ensures { result ≡ spec.absent_of core cores }
-{
-    let core = core?;
-    if core.0 < cores { None } else { Some(core) }
-}
-
-/// Puts what is asked for of these journals.
-fn put_view(
-    alloc: Global,
-    view: &View,
-    assembly: &Assembly,
-    page: &mut String,
-) -> Result<(), AllocError>
-    ensures { OnOk result (Puts (IsShown view.now assembly.now) (string_bytes page.old) (string_bytes page.new)) }
-{
-    match *view {
-        View::Waits { plain } => put_waits(alloc, plain, assembly, page),
-        View::Shares { form } => put_shares(alloc, form, assembly, page),
-        View::Story { name } => put_story(alloc, &name, assembly, page),
-        View::Polls => put_polls(alloc, assembly, page),
-        View::Gantt { cut } => put_gantt(alloc, assembly, &cut, page),
-        View::Lag { text } => put_lags(alloc, text, assembly, page),
-        View::Trace => put_trace(alloc, assembly, page),
-    }
-}
-
-/// Puts how far each two queues were apart, as text or as a picture.
-fn put_lags(
-    alloc: Global,
-    text: bool,
-    assembly: &Assembly,
-    page: &mut String,
-) -> Result<(), AllocError>
-    ensures { OnOk result (string_bytes page.new ≡ string_bytes page.old ++ spec.lag_shown text assembly.now) }
-{
-    if text {
-        put_lag_text(alloc, assembly, page)
-    } else {
-        put_lag(alloc, assembly, page)
     }
 }
 

@@ -1,15 +1,18 @@
 //! How long the jobs of each core waited and ran, as text.
 
-ghost use Rattle.std.specs.Prelude.{◌≡◌, ◌≤◌, ◌<◌, ◌++◌, codes, OnOk, string_bytes};
-ghost use Rattle.rt_view.specs.Waits.{waits, runs};
+ghost use Rattle.std.specs.Prelude.{◌≡◌, ◌≤◌, ◌<◌, ◌++◌, ℕ, codes, OnOk, string_bytes};
+ghost use Rattle.rt_ids.specs.Assembly.{Assembly};
+ghost use Rattle.rt_ids.specs.Journal.{Journal as Notes};
+ghost use Rattle.rt_view.specs.Waits.{AreSpans};
 ghost use Rattle.fairview_report.specs.Texts.{Puts, bar};
+ghost use Rattle.fairview_report.specs.Told.{AreWaits};
 ghost use Rattle.fairview_report.specs.WaitTexts as spec;
 
 use crate::page::{put_bar, put_right};
 use crate::wait_line::SummaryLine;
-use rt_ids::{ActorNo, CoreNo};
-use rt_journal_notes::{Assembly, Journal};
-use rt_view::{Measure, Span, Summary, count_within, job_spans, summarize};
+use crate::walks::Walked;
+use rt_ids::CoreNo;
+use rt_view::{JobSpans, JobWalk, Measure, Span, Summary, count_within, summarize};
 use std::alloc::{AllocError, Global};
 
 /// A kind of span.
@@ -29,14 +32,20 @@ pub enum Kind {
 pub fn put_waits(
     alloc: Global,
     plain: bool,
-    assembly: &Assembly,
+    walked: &Walked<JobWalk>,
     page: &mut String,
 ) -> Result<(), AllocError>
-    ensures { OnOk result (Puts (spec.IsWaitText plain assembly.now) (string_bytes page.old) (string_bytes page.new)) }
+    ensures { OnOk result ((assembly : Assembly ℕ) → AreWaits walked.now.cores walked.now.burst walked.now.each.items assembly
+        → Puts (spec.IsWaitText plain assembly) (string_bytes page.old) (string_bytes page.new)) }
 {
-    for core in 0..assembly.cores() {
-        let journal = assembly.journal(ActorNo(core));
-        put_core(alloc, plain, CoreNo(core), journal, page)?;
+    for core in 0..walked.cores {
+        put_core(
+            alloc,
+            plain,
+            CoreNo(core),
+            &walked.each[core as usize],
+            page,
+        )?;
     }
     Ok(())
 }
@@ -46,12 +55,12 @@ fn put_core(
     alloc: Global,
     plain: bool,
     core: CoreNo,
-    journal: &Journal<u64>,
+    spans: &JobSpans,
     page: &mut String,
 ) -> Result<(), AllocError>
-    ensures { OnOk result (Puts (spec.IsCoreText plain core journal.now.notes) (string_bytes page.old) (string_bytes page.new)) }
+    ensures { OnOk result ((journal : Notes ℕ) → AreSpans spans.now journal
+        → Puts (spec.IsCoreText plain core journal) (string_bytes page.old) (string_bytes page.new)) }
 {
-    let spans = job_spans(alloc, journal)?;
     put_kind(alloc, plain, core, Kind::Wait, &spans.waits, page)?;
     put_kind(alloc, plain, core, Kind::Run, &spans.runs, page)
 }

@@ -1,4 +1,5 @@
 pub mod DraftLemmas
+pub mod PassLemmas
 pub mod SoFar
 pub mod SizeWords
 pub mod ReadTexts

@@ -8,9 +8,11 @@ use Rattle.rt_ids.specs.Journal.{Journal}
 use Rattle.rt_ids.specs.Spelled.{AreSpelledNotes, IsSpelled}
 use Rattle.rt_journal_write.specs.Texts.{form_line, size_line, journal_lines, end_line, text_of, journal_text}
 use Rattle.rt_journal_read.specs.Drafts.{Drafted, empty_draft, raised_to, all_journals, assembly_of}
+use Rattle.rt_journal_read.specs.Handed.{Handed, assembly_handed, handed_on}
 use Rattle.rt_journal_read.specs.JournalTexts.{journals_of}
 use Rattle.rt_journal_read.specs.Laws.{OnlyTextsAreRead}
-use Rattle.rt_journal_read.proofs.DraftLemmas.{raised_is}
+use Rattle.rt_journal_read.specs.Passing.{MakesText}
+use Rattle.rt_journal_read.proofs.DraftLemmas.{assembled, passed_count, raised_is}
 use Rattle.rt_journal_read.proofs.ReadTexts.{read_from}
 use Rattle.rt_journal_read.proofs.SoFar.{terms_at, IsFair, SpelledFrom, spelled_push, body_lines, raised_fair}
 
@@ -70,8 +72,30 @@ only_texts text draft told =
     let read = read_from 1 empty_draft draft (slice_split (λ byte. byte == 10) text) refl told in
     (assembly_spelled draft read.0, sym (join_with_byte-slice_split 10 text) ∙ sym read.1 ∙ assembly_text draft read.0)
 
--- what was read of a text that is known
-pub same_text : (known : Option (List ℕ)) (assembly : Assembly ℕ) → IfSome known (λ text. (draft : Drafted) × (journals_of text ≡ Ok draft) × (assembly ≡ assembly_of draft)) →
+-- the journals that were handed on are those of the draft
+pub assembly_passed : (draft : Drafted) → assembly_of draft ≡ assembly_handed (handed_on (raised_to draft.cores draft))
+assembly_passed draft =
+    let passed = raised_to draft.cores draft in
+    sym (assembled draft passed passed.cores passed.cap passed.burst (passed.earlier ++ passed.notes ∷ []) passed.notes refl refl refl refl refl refl)
+
+-- what was handed on of a text that is known
+pub handed_text : {W : Type 0} (makes : W → Handed → Type 0) (whole : W) (known : Option (List ℕ)) →
+    IfSome known (λ text. (draft : Drafted) × (journals_of text ≡ Ok draft) × makes whole (handed_on (raised_to draft.cores draft))) → IfSome known (MakesText makes whole)
+handed_text makes whole None told = tt
+handed_text makes whole (Some text) (draft, is, made) =
+    let read = read_from 1 empty_draft draft (slice_split (λ byte. byte == 10) text) refl is in
+    let fair : IsFair draft = read.0 in
+    let kept = raised_is (draft.cores - length draft.earlier) draft in
+    let texts = only_texts text draft is in (
+      handed_on (raised_to draft.cores draft),
+      passed_count draft fair.actors ∙ sym kept.cores,
+      subst IsSpelled (assembly_passed draft) texts.0,
+      texts.1 ∙ ap journal_text (assembly_passed draft),
+      made,
+    )
+
+-- the journals that a taker kept
+pub kept_text : (known : Option (List ℕ)) (assembly : Assembly ℕ) → IfSome known (MakesText (λ kept handed. kept ≡ assembly_handed handed) assembly) →
     IfSome known (λ text. IsSpelled assembly × (text ≡ journal_text assembly))
-same_text None assembly told = tt
-same_text (Some text) assembly told = let read = only_texts text told.0 told.1 in (subst IsSpelled (sym told.2) read.0, read.1 ∙ ap journal_text (sym told.2))
+kept_text None assembly told = tt
+kept_text (Some text) assembly (handed, last, spelled, same, made) = (subst IsSpelled (sym made) spelled, same ∙ ap journal_text (sym made))

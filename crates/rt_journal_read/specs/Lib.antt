@@ -1,7 +1,9 @@
 pub mod Faults
 pub mod Raised
+pub mod Handed
 pub mod Heads
 pub mod Drafts
+pub mod Passing
 pub mod JournalTexts
 pub mod Laws
 pub mod FaultyForms

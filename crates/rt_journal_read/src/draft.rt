@@ -1,23 +1,24 @@
-//! The journals of a text as far as its lines are judged.
+//! A text of journals as far as its lines are judged.
 
-ghost use Rattle.std.specs.Prelude.{◌≡◌, ◌≤◌, ◌<◌, ◌+◌, ◌++◌, ◌∷◌, [], Ok, Err, OnErr, IfOk, IfErr, IfSome, OnOk, length};
-ghost use Rattle.rt_ids.specs.Limits.{most_cores};
+ghost use Rattle.std.specs.Prelude.{◌≡◌, ◌≤◌, ◌<◌, ◌+◌, Some, Ok, Err, IfOk, IfErr, IfSome, OnOk, length};
+ghost use Rattle.rt_ids.specs.Limits.{most_cores, most_notes};
 ghost use Rattle.rt_words.specs.Words.{words};
 ghost use Rattle.rt_journal_read.specs.Drafts as spec;
+ghost use Rattle.rt_journal_read.specs.Handed.{Handed, HasHanded, IsBegun, IsLast, handed_on, nothing_handed};
+ghost use Rattle.rt_journal_read.specs.Passing.{with_handed};
 ghost use Rattle.rt_lines.specs.Faults.{IfCause};
 
 use crate::fault::JournalCause;
+use crate::taker::NoteTaker;
+use rt_history::History;
 use rt_ids::{MOST_BURST, MOST_CAPACITY, MOST_CORES, MOST_NOTES, Note};
 use rt_journal_lines::field::number_in;
 use rt_journal_lines::note_of;
 use rt_journal_lines::phrase::last;
-use rt_journal_notes::{Assembly, Journal};
 use rt_lines::Stop;
 use rt_words::Words;
 use rt_words::field::is_word;
-use std::alloc::Global;
 use std::marker::Model;
-use std::mem::replace;
 
 /// What comes next in a text.
 #[derive(Clone, Copy, PartialEq, Eq)]
@@ -32,21 +33,26 @@ pub enum Part {
     After,
 }
 
-/// The journals of a text as far as its lines are judged.
+/// A text as far as its lines are judged. Its notes are handed to a taker. A taker that fails is given up.
 #[derive(Drop)]
-pub(crate) struct Draft {
+pub(crate) struct Draft<T: NoteTaker> {
     part: Part,
     cores: u8,
     cap: u16,
     burst: u8,
-    earlier: Vec<Journal<u64>>,
-    notes: Journal<u64>,
-    alloc: Global,
+    /// The actor whose notes come now, and how many came.
+    actor: u8,
+    count: u32,
+    taker: Option<T>,
+    /// The notes of the actors before, and those of this one, the oldest first.
+    earlier: History<History<Note<u64>>>,
+    notes: History<Note<u64>>,
 }
 
-impl Model for Draft {
-    ghost use Rattle.std.specs.Prelude.{map};
-    ghost use Rattle.rt_journal_read.specs.Drafts.{Drafted, IsDraft};
+impl<T: NoteTaker> Model for Draft<T> {
+    ghost use Rattle.std.specs.Prelude.{map, reverse};
+    ghost use Rattle.rt_journal_read.specs.Drafts.{Drafted};
+    ghost use Rattle.rt_journal_read.specs.Passing.{IsPassing};
 
     ghost Value = { Drafted };
 
@@ -55,23 +61,24 @@ impl Model for Draft {
       cores = d.cores;
       cap = d.cap;
       burst = d.burst;
-      earlier = map (λ journal. journal.notes) d.earlier.items;
-      notes = d.notes.notes;
+      earlier = map (λ journal. reverse journal.items) d.earlier.items;
+      notes = reverse d.notes.items;
     } };
 
-    ghost invariant = { λ d. IsDraft (record {
+    ghost invariant = { λ d. IsPassing T.has d.taker d.actor d.count (record {
       part = d.part;
       cores = d.cores;
       cap = d.cap;
       burst = d.burst;
-      earlier = map (λ journal. journal.notes) d.earlier.items;
-      notes = d.notes.notes;
+      earlier = map (λ journal. reverse journal.items) d.earlier.items;
+      notes = reverse d.notes.items;
     }) };
 }
 
-impl Draft {
+impl<T: NoteTaker> Draft<T> {
     /// Before the first line.
-    pub(crate) fn new(alloc: Global) -> Draft
+    pub(crate) fn new(taker: T) -> Draft<T>
+        requires { T.has taker nothing_handed }
         ensures { result ≡ spec.empty_draft }
     {
         Draft {
@@ -79,9 +86,11 @@ impl Draft {
             cores: 1,
             cap: 1,
             burst: 1,
-            earlier: Vec::new(alloc),
-            notes: Journal::of(Vec::new(alloc)),
-            alloc,
+            actor: 0,
+            count: 0,
+            taker: Some(taker),
+            earlier: History::new(),
+            notes: History::new(),
         }
     }
 
@@ -127,18 +136,35 @@ impl Draft {
         ensures faulty { IfErr result (IfCause (λ cause. spec.with_size self.old (spec.size_of self.old.burst (words line.now)) ≡ Err cause)) }
     {
         match size_of(self.burst, &mut Words::of(line)) {
-            Some((cores, cap, burst)) => {
-                self.part = Part::Notes;
-                self.cores = cores;
-                self.cap = cap;
-                self.burst = burst;
-                Ok(())
-            }
+            Some((cores, cap, burst)) => self.begin(cores, cap, burst),
             None => Err(Stop::Cause(JournalCause::Cores)),
         }
     }
 
+    /// The second line tells these numbers.
+    fn begin(&mut self, cores: u8, cap: u16, burst: u8) -> Result<(), Stop<JournalCause>>
+        requires part { self.old.part ≡ Part.Size }
+        requires some { 1 ≤ cores }
+        requires few { cores ≤ most_cores }
+        ensures ok { OnOk result (spec.with_size self.old (Some (cores, cap, burst)) ≡ Ok self.new) }
+        ensures faulty { IfErr result (IfCause (λ cause. ⊥)) }
+    {
+        let Some(taker) = &mut self.taker else {
+            return Err(Stop::Memory);
+        };
+        if taker.begin(cores, cap, burst).is_err() {
+            self.taker = None;
+            return Err(Stop::Memory);
+        }
+        self.part = Part::Notes;
+        self.cores = cores;
+        self.cap = cap;
+        self.burst = burst;
+        Ok(())
+    }
+
     fn take_note_line(&mut self, line: &[u8]) -> Result<(), Stop<JournalCause>>
+        requires { self.old.part ≡ Part.Notes }
         ensures ok { OnOk result (spec.with_note_line self.old line.now ≡ Ok self.new) }
         ensures faulty { IfErr result (IfCause (λ cause. spec.with_note_line self.old line.now ≡ Err cause)) }
     {
@@ -147,7 +173,7 @@ impl Draft {
             return Ok(());
         }
         let mut fields = Words::of(line);
-        let first = self.earlier.len() as u64;
+        let first = u64::from(self.actor);
         match number_in(fields.next_word(), first, u64::from(self.cores)) {
             Some(actor) => {
                 let actor = actor as u8;
@@ -162,15 +188,15 @@ impl Draft {
 
     /// Takes what was read of a note of the actor.
     fn take_note(&mut self, note: Option<Note<u64>>) -> Result<(), Stop<JournalCause>>
+        requires { IsBegun self.old.part }
         ensures ok { OnOk result (spec.with_note self.old note ≡ Ok self.new) }
         ensures faulty { IfErr result (IfCause (λ cause. spec.with_note self.old note ≡ Err cause)) }
     {
         let cause = match note {
             None => JournalCause::Note,
             Some(note) => {
-                if self.notes.len() < MOST_NOTES {
-                    self.notes.try_push(note)?;
-                    return Ok(());
+                if (self.count as usize) < MOST_NOTES {
+                    return self.hand(&note);
                 }
                 JournalCause::TooMany
             }
@@ -178,13 +204,33 @@ impl Draft {
         Err(Stop::Cause(cause))
     }
 
+    /// Hands the next note of the actor to the taker.
+    fn hand(&mut self, note: &Note<u64>) -> Result<(), Stop<JournalCause>>
+        requires part { IsBegun self.old.part }
+        requires few { length self.old.notes < most_notes }
+        ensures ok { OnOk result (self.new ≡ with_handed note.now self.old) }
+        ensures faulty { IfErr result (IfCause (λ cause. ⊥)) }
+    {
+        let Some(taker) = &mut self.taker else {
+            return Err(Stop::Memory);
+        };
+        if taker.take(note).is_err() {
+            self.taker = None;
+            return Err(Stop::Memory);
+        }
+        self.count += 1;
+        self.notes = self.notes.with(note);
+        Ok(())
+    }
+
     /// Goes on to this actor. The journals of those before it are whole.
     fn raise_to(&mut self, actor: u8) -> Result<(), Stop<JournalCause>>
-        requires { actor ≤ self.old.cores }
+        requires part { IsBegun self.old.part }
+        requires within { actor ≤ self.old.cores }
         ensures ok { OnOk result (self.new ≡ spec.raised_to actor self.old) }
         ensures faulty { IfErr result (IfCause (λ cause. ⊥)) }
     {
-        for _i in self.earlier.len()..usize::from(actor) {
+        for _i in self.actor..actor {
             self.next_actor()?;
         }
         Ok(())
@@ -192,33 +238,46 @@ impl Draft {
 
     /// The journal of the actor is whole.
     fn next_actor(&mut self) -> Result<(), Stop<JournalCause>>
-        requires { length self.old.earlier < self.old.cores }
+        requires part { IsBegun self.old.part }
+        requires within { length self.old.earlier < self.old.cores }
         ensures ok { OnOk result (self.new ≡ spec.next_actor self.old) }
         ensures faulty { IfErr result (IfCause (λ cause. ⊥)) }
     {
-        let notes = replace(&mut self.notes, Journal::of(Vec::new(self.alloc)));
-        self.earlier.push(notes)?;
+        let Some(taker) = &mut self.taker else {
+            return Err(Stop::Memory);
+        };
+        if taker.next_actor().is_err() {
+            self.taker = None;
+            return Err(Stop::Memory);
+        }
+        self.actor += 1;
+        self.count = 0;
+        self.earlier = self.earlier.with(&self.notes);
+        self.notes = History::new();
         Ok(())
     }
 
-    /// The journals of all actors, where the lines end here.
-    pub(crate) fn into_assembly(mut self) -> Result<Assembly, Stop<JournalCause>>
-        ensures ok { IfOk result (λ assembly. assembly ≡ spec.assembly_of self) }
+    /// What the notes of all actors became, where the lines end here.
+    pub(crate) fn into_whole(mut self) -> Result<T::Whole, Stop<JournalCause>>
+        requires { IsBegun self.part }
+        ensures ok { IfOk result (λ whole. T.makes whole (handed_on (spec.raised_to self.cores self))) }
         ensures faulty { IfErr result (IfCause (λ cause. ⊥)) }
     {
         let end = self.cores;
         self.raise_to(end)?;
-        let Draft {
-            part: _,
-            cores,
-            cap,
-            burst,
-            mut earlier,
-            notes,
-            alloc: _,
-        } = self;
-        earlier.push(notes)?;
-        Ok(Assembly::of_burst(cores, cap, burst, earlier))
+        finished(self.taker)
+    }
+}
+
+/// What all notes became, if there is a taker still.
+fn finished<T: NoteTaker>(taker: Option<T>) -> Result<T::Whole, Stop<JournalCause>>
+    requires { (handed : Handed) × IsLast handed × HasHanded T.has taker handed }
+    ensures ok { IfOk result (λ whole. (handed : Handed) → IsLast handed → HasHanded T.has taker handed → T.makes whole handed) }
+    ensures faulty { IfErr result (IfCause (λ cause. ⊥)) }
+{
+    match taker {
+        Some(taker) => Ok(taker.finish()?),
+        None => Err(Stop::Memory),
     }
 }
 

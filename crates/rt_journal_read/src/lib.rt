@@ -3,9 +3,12 @@
 
 mod draft;
 pub mod fault;
+mod keeper;
 pub mod laws;
 mod reader;
 pub mod source;
+pub mod taker;
 
 pub use fault::JournalCause;
-pub use source::read_journal;
+pub use source::{pass_journal, read_journal};
+pub use taker::NoteTaker;

@@ -2,18 +2,19 @@
 
 use crate::draft::{Draft, Part};
 use crate::fault::JournalCause;
-use rt_journal_notes::Assembly;
+use crate::taker::NoteTaker;
 use rt_lines::fault::stopped;
 use rt_lines::{LineDraft, Stop};
 use rt_text::Fault;
 
-impl LineDraft for Draft {
+impl<T: NoteTaker> LineDraft for Draft<T> {
     type Cause = JournalCause;
 
-    type Whole = Assembly;
+    type Whole = T::Whole;
 
     ghost use Rattle.std.specs.Prelude.{◌≡◌};
-    ghost use Rattle.rt_journal_read.specs.Drafts.{assembly_of, lines_left, longest_line};
+    ghost use Rattle.rt_journal_read.specs.Drafts.{lines_left, longest_line, raised_to};
+    ghost use Rattle.rt_journal_read.specs.Handed.{handed_on};
     ghost use Rattle.rt_journal_read.specs.JournalTexts.{judge};
 
     const LONGEST: usize = 128;
@@ -22,7 +23,7 @@ impl LineDraft for Draft {
 
     ghost judge = { judge };
 
-    ghost makes = { λ assembly draft. assembly ≡ assembly_of draft };
+    ghost makes = { λ whole draft. T.makes whole (handed_on (raised_to draft.cores draft)) };
 
     ghost fits = { λ number draft. Unit {0} };
 
@@ -42,7 +43,7 @@ impl LineDraft for Draft {
         }
     }
 
-    fn finish(self, number: u32, rest: &[u8]) -> Result<Assembly, Fault<JournalCause>> {
+    fn finish(self, number: u32, rest: &[u8]) -> Result<T::Whole, Fault<JournalCause>> {
         if !rest.is_empty() {
             return Err(Fault::Text {
                 line: number,
@@ -54,8 +55,8 @@ impl LineDraft for Draft {
             Part::Size => JournalCause::Cores,
             Part::Notes => JournalCause::EndMissing,
             Part::After => {
-                return match self.into_assembly() {
-                    Ok(assembly) => Ok(assembly),
+                return match self.into_whole() {
+                    Ok(whole) => Ok(whole),
                     Err(stop) => Err(stopped(number, stop)),
                 };
             }

@@ -2,7 +2,9 @@
 
 ghost use Rattle.std.specs.Prelude.{◌≡◌, Ok, Err, IfOk, IfErr, IfSome};
 ghost use Rattle.rt_journal_read.specs.JournalTexts.{judge, journals_of};
-ghost use Rattle.rt_journal_read.specs.Drafts.{Drafted, assembly_of, empty_draft};
+ghost use Rattle.rt_journal_read.specs.Drafts.{Drafted, assembly_of, empty_draft, raised_to};
+ghost use Rattle.rt_journal_read.specs.Handed.{handed_on, nothing_handed};
+ghost use Rattle.rt_journal_read.specs.Passing.{MakesText};
 ghost use Rattle.rt_ids.specs.Spelled.{IsSpelled};
 ghost use Rattle.rt_journal_write.specs.Texts.{journal_text};
 ghost use Rattle.rt_lines.specs.Taking.{IsPrompt, IsToldByRead};
@@ -11,6 +13,8 @@ ghost use Rattle.rt_text.specs.Faults.{IfRead, IfText, IfUnwritten};
 
 use crate::draft::Draft;
 use crate::fault::JournalCause;
+use crate::keeper::Keeper;
+use crate::taker::NoteTaker;
 use rt_journal_notes::Assembly;
 use rt_lines::{Source, read_lines};
 use rt_text::Fault;
@@ -37,5 +41,30 @@ pub fn read_journal<S: Source>(
         IsToldByRead judge empty_draft S.remaining S.tries S.reads S.interrupts source.old source.new)) }
     ensures failed { IfErr result (IfRead (HasFailedSince S.tries S.interrupts S.fails source.old source.new)) }
 {
-    read_lines(Draft::new(alloc), source)
+    pass_journal(Keeper::new(alloc), source)
+}
+
+/// What the notes become that the source tells, read and judged to its end. Each note is handed to a taker as soon as its line is judged,
+/// and each line is judged before the next read.
+///
+/// # Errors
+///
+/// As those of `read_journal`. Want of memory may be the taker's.
+pub fn pass_journal<T: NoteTaker, S: Source>(
+    taker: T,
+    source: &mut S,
+) -> Result<T::Whole, Fault<JournalCause>>
+    requires { T.has taker nothing_handed }
+    ensures ok { IfOk result (λ whole. IfSome (S.remaining source.old) (λ text.
+        (draft : Drafted) × (journals_of text ≡ Ok draft) × T.makes whole (handed_on (raised_to draft.cores draft)))) }
+    ensures faulty { IfErr result (IfText (λ fault.
+        IfSome (S.remaining source.old) (λ text. journals_of text ≡ Err fault))) }
+    ensures same_text { IfOk result (λ whole. IfSome (S.remaining source.old) (MakesText T.makes whole)) }
+    ensures device { IfErr result (IfUnwritten ⊥) }
+    ensures prompt { IfErr result (IsPrompt judge empty_draft (S.remaining source.old) (S.remaining source.new)) }
+    ensures at_once { IfErr result (IfText (λ fault.
+        IsToldByRead judge empty_draft S.remaining S.tries S.reads S.interrupts source.old source.new)) }
+    ensures failed { IfErr result (IfRead (HasFailedSince S.tries S.interrupts S.fails source.old source.new)) }
+{
+    read_lines(Draft::new(taker), source)
 }

@@ -3,7 +3,7 @@ use Rattle.std.proofs.Common.{◌≡◌, ℕ, ◌+◌, ◌<◌, ◌≤◌, min, 
 use Rattle.std.specs.Prelude.{Option, Some, None, option_map, unwrap_or}
 use Rattle.rt_ids.specs.declared.names.JobId.{JobId}
 use Rattle.rt_ids.specs.declared.note.Note.{Note}
-use Rattle.rt_ids.specs.Journal.{Journal, latest_told, or_else, with_last}
+use Rattle.rt_ids.specs.Journal.{Journal, latest_told, or_else}
 use Rattle.rt_ids.specs.Lines.{name_settled}
 use Rattle.rt_ids.specs.Names.{same_name, is_name}
 use Rattle.rt_ids.specs.Picks.{turns}
@@ -14,7 +14,7 @@ use Rattle.rt_ids.proofs.NameLemmas.{one_name}
 use Rattle.rt_journal_facts.specs.Names.{known}
 use Rattle.rt_view.specs.Clocks.{clock_after}
 use Rattle.rt_view.specs.Ends.{end_of}
-use Rattle.rt_view.specs.Polls.{KnowsPolls, SettlesTold, pick_told, poll_told, polls, steps_of}
+use Rattle.rt_view.specs.Polls.{KnowsTurns, SettlesTold, TellsPoll, pick_told, poll_noted, poll_told, steps_of}
 use Rattle.rt_view.specs.declared.clocks.Clock.{Clock}
 use Rattle.rt_view.specs.declared.polls.Picked.{Picked}
 use Rattle.rt_view.specs.declared.polls.Poll.{Poll}
@@ -55,14 +55,14 @@ or_zero : (test : Bool) (step : ℕ) (other : Option ℕ) → unwrap_or (cond te
 or_zero true step other = refl
 or_zero false step other = refl
 
-module _ (old mid : PollWalk) (note : Note ℕ) (before : Journal ℕ) (short : length before < greatest_count) (knows : KnowsPolls old before) where
+module _ (old mid : PollWalk) (poll : Option Poll) (note : Note ℕ) (before : Journal ℕ) (short : length before < greatest_count) (knows : KnowsTurns old before) where
   abbrev StepsNext : Type 0
   StepsNext = (name : JobId) → unwrap_or (known mid.steps name) 0 ≡ steps_of name (note ∷ before)
 
   -- the steps of all jobs
-  steps_next : (told : Option (JobId × ℕ)) → poll_settled note ≡ told → SettlesTold old mid told (end_of note) → StepsNext
+  steps_next : (told : Option (JobId × ℕ)) → poll_settled note ≡ told → SettlesTold old mid told (end_of note) poll → StepsNext
   steps_next None is goes name =
-      ap (λ (walk : PollWalk). unwrap_or (known walk.steps name) 0) goes
+      ap (λ (walk : PollWalk). unwrap_or (known walk.steps name) 0) goes.0
       ∙ (knows.steps name ∙ (still (steps_of name before) ∙ ap (λ who. steps_of name before + number_if (is_name name who)) (sym (settled_told note ∙ ap (option_map (λ (it : JobId × ℕ). it.0)) is))))
   steps_next (Some told) is goes name =
       step_counted name told.0 before (unwrap_or (known old.steps told.0) 0) (unwrap_or (known mid.steps name) 0) (same_name name told.0) refl short (knows.steps told.0)
@@ -79,19 +79,15 @@ module _ (old mid : PollWalk) (note : Note ℕ) (before : Journal ℕ) (short : 
   next_step : (name : JobId) → min (unwrap_or (known old.steps name) 0 + 1) greatest_count ≡ steps_of name before + 1
   next_step name = ap (λ count. min (count + 1) greatest_count) (knows.steps name) ∙ one_fits (steps_of name before) (length before) (steps-within name before) short
 
-  abbrev PollsNext : Type 0
-  PollsNext = mid.polls.items ≡ polls (note ∷ before)
-
-  polls_next : (told : Option (JobId × ℕ)) → poll_settled note ≡ told → SettlesTold old mid told (end_of note) → PollsNext
-  polls_next None is goes =
-      ap (λ (walk : PollWalk). walk.polls.items) goes ∙ (knows.polls ∙ ap (with_last (polls before)) (sym (ap (λ it. poll_told (latest_told pick_told before) it (end_of note) before) is ∙ nothing (latest_told pick_told before))))
+  poll_next : (told : Option (JobId × ℕ)) → poll_settled note ≡ told → SettlesTold old mid told (end_of note) poll → poll ≡ poll_noted note before
+  poll_next None is goes = goes.1 ∙ sym (ap (λ it. poll_told (latest_told pick_told before) it (end_of note) before) is ∙ nothing (latest_told pick_told before))
     where
       nothing : (picked : Option Picked) → poll_told picked None (end_of note) before ≡ None
       nothing None = refl
       nothing (Some picked) = refl
-  polls_next (Some told) is goes =
-      goes.polls ∙ ((λ i. with_last (knows.polls i) (listed (knows.picked i) ((knows.clock i).turns) (next_step told.0 i))) ∙
-      ap (with_last (polls before)) (by_pick (latest_told pick_told before) ∙ sym (ap (λ it. poll_told (latest_told pick_told before) it (end_of note) before) is)))
+  poll_next (Some told) is goes =
+      goes.poll ∙ ((λ i. listed (knows.picked i) ((knows.clock i).turns) (next_step told.0 i)) ∙
+      (by_pick (latest_told pick_told before) ∙ sym (ap (λ it. poll_told (latest_told pick_told before) it (end_of note) before) is)))
     where
       listed : Option Picked → ℕ → ℕ → Option Poll
       listed picked turn step = option_map (λ pick. record { turn = turn; picked = pick; name = told.0; step = step; time = told.1; end = end_of note }) picked
@@ -100,20 +96,22 @@ module _ (old mid : PollWalk) (note : Note ℕ) (before : Journal ℕ) (short : 
       by_pick None = refl
       by_pick (Some picked) = refl
 
-  clock_kept : (told : Option (JobId × ℕ)) → SettlesTold old mid told (end_of note) → mid.clock ≡ old.clock
-  clock_kept None goes = ap (λ (walk : PollWalk). walk.clock) goes
+  clock_kept : (told : Option (JobId × ℕ)) → SettlesTold old mid told (end_of note) poll → mid.clock ≡ old.clock
+  clock_kept None goes = ap (λ (walk : PollWalk). walk.clock) goes.0
   clock_kept (Some told) goes = goes.clock
 
-  pick_kept : (told : Option (JobId × ℕ)) → SettlesTold old mid told (end_of note) → mid.picked ≡ old.picked
-  pick_kept None goes = ap (λ (walk : PollWalk). walk.picked) goes
+  pick_kept : (told : Option (JobId × ℕ)) → SettlesTold old mid told (end_of note) poll → mid.picked ≡ old.picked
+  pick_kept None goes = ap (λ (walk : PollWalk). walk.picked) goes.0
   pick_kept (Some told) goes = goes.picked
 
   -- all that is known after one more note
-  pub walk_next : (told : Option (JobId × ℕ)) (clock : Clock) (picked : Option Picked) → told ≡ poll_settled note → SettlesTold old mid told (end_of note) →
-      clock ≡ clock_after note mid.clock → picked ≡ or_else (pick_told note) mid.picked → KnowsPolls (record mid { clock = clock; picked = picked }) (note ∷ before)
+  pub walk_next : (told : Option (JobId × ℕ)) (clock : Clock) (picked : Option Picked) → told ≡ poll_settled note → SettlesTold old mid told (end_of note) poll →
+      clock ≡ clock_after note mid.clock → picked ≡ or_else (pick_told note) mid.picked → TellsPoll poll (record mid { clock = clock; picked = picked }) note before
   walk_next told clock picked is goes clock_is picked_is = record {
-    clock = clock_is ∙ (ap (clock_after {T = ℕ} note) (clock_kept told goes ∙ knows.clock) ∙ clock_next note before short);
-    picked = picked_is ∙ ap (or_else (pick_told note)) (pick_kept told goes ∙ knows.picked);
-    steps = steps_next told (sym is) goes;
-    polls = polls_next told (sym is) goes;
+    poll = poll_next told (sym is) goes;
+    knows = record {
+      clock = clock_is ∙ (ap (clock_after {T = ℕ} note) (clock_kept told goes ∙ knows.clock) ∙ clock_next note before short);
+      picked = picked_is ∙ ap (or_else (pick_told note)) (pick_kept told goes ∙ knows.picked);
+      steps = steps_next told (sym is) goes;
+    };
   }

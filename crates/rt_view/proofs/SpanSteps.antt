@@ -11,7 +11,7 @@ use Rattle.rt_view.specs.Spans.{GoesOn, KnowsSpans, span_ended, began_at}
 use Rattle.rt_view.specs.Waits.{KnowsWalk, name_taken}
 use Rattle.rt_view.specs.declared.clocks.Clock.{Clock}
 use Rattle.rt_view.specs.declared.spans.Spans.{Spans}
-use Rattle.rt_view.specs.declared.waits.Walk.{Walk}
+use Rattle.rt_view.specs.declared.waits.JobWalk.{JobWalk}
 
 -- a span begins under its own name, and under no other
 began_told : (name : JobId) (now : Clock) (told : Option JobId) (other : Option Clock) →
@@ -37,7 +37,7 @@ module _ {T : Type 0} where
   }
 
 -- all that is known after one more note
-pub walk_next : (old new : Walk) (note : Note ℕ) (before : Journal ℕ) (taken started started_too finished : Option JobId) → new.clock ≡ clock_of (note ∷ before) →
+pub walk_next : (old new : JobWalk) (note : Note ℕ) (before : Journal ℕ) (taken started started_too finished : Option JobId) → new.clock ≡ clock_of (note ∷ before) →
     taken ≡ name_taken note → started ≡ name_started note → started_too ≡ name_started note → finished ≡ name_finished note →
     GoesOn old.waits new.waits new.clock taken started → GoesOn old.runs new.runs new.clock started_too finished →
     KnowsWalk old before → KnowsWalk new (note ∷ before)

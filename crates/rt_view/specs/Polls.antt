@@ -44,28 +44,36 @@ abbrev pub polls : {T : Type 0} → Journal T → List Poll
 polls [] = []
 polls (note ∷ before) = with_last (polls before) (poll_told (latest_told pick_told before) (poll_settled note) (end_of note) before)
 
--- one more poll of this job is settled, and listed if a pick stands before it
-pub record Settles (old new : PollWalk) (name : JobId) (time : ℕ) (end : End) : Type 0 where
+-- one more poll of this job is settled, and it is told if a pick stands before it
+pub record Settles (old new : PollWalk) (name : JobId) (time : ℕ) (end : End) (told : Option Poll) : Type 0 where
   pub clock : new.clock ≡ old.clock
   pub picked : new.picked ≡ old.picked
   pub steps : SetsOne old.steps new.steps name (min (unwrap_or (known old.steps name) 0 + 1) greatest_count)
-  pub polls : new.polls.items ≡ with_last old.polls.items (option_map (λ picked. record {
+  pub poll : told ≡ option_map (λ picked. record {
     turn = old.clock.turns;
     picked = picked;
     name = name;
     step = min (unwrap_or (known old.steps name) 0 + 1) greatest_count;
     time = time;
     end = end;
-  }) old.picked)
+  }) old.picked
 
 -- the same of a poll that a note settles, if it settles one
-abbrev pub SettlesTold : PollWalk → PollWalk → Option (JobId × ℕ) → End → Type 0
-SettlesTold old new None end = new ≡ old
-SettlesTold old new (Some told) end = Settles old new told.0 told.1 end
+abbrev pub SettlesTold : PollWalk → PollWalk → Option (JobId × ℕ) → End → Option Poll → Type 0
+SettlesTold old new None end poll = (new ≡ old) × (poll ≡ None)
+SettlesTold old new (Some told) end poll = Settles old new told.0 told.1 end poll
 
--- the turns, the newest pick, the steps of each job and the polls are those of these notes
-pub record KnowsPolls (walk : PollWalk) (journal : Journal ℕ) : Type 0 where
+-- the turns, the newest pick and the steps of each job are those of these notes
+pub record KnowsTurns (walk : PollWalk) (journal : Journal ℕ) : Type 0 where
   pub clock : walk.clock ≡ clock_of journal
   pub picked : walk.picked ≡ latest_told pick_told journal
   pub steps : (name : JobId) → unwrap_or (known walk.steps name) 0 ≡ steps_of name journal
-  pub polls : walk.polls.items ≡ polls journal
+
+-- the poll that a note settles, by the notes before it
+abbrev pub poll_noted : Note ℕ → Journal ℕ → Option Poll
+poll_noted note before = poll_told (latest_told pick_told before) (poll_settled note) (end_of note) before
+
+-- the poll that a note settles is told, and the note is known too
+pub record TellsPoll (told : Option Poll) (walk : PollWalk) (note : Note ℕ) (before : Journal ℕ) : Type 0 where
+  pub poll : told ≡ poll_noted note before
+  pub knows : KnowsTurns walk (note ∷ before)

@@ -8,7 +8,8 @@ use Rattle.rt_ids.specs.Journal.{Journal}
 use Rattle.rt_view.specs.Clocks.{clock_of}
 use Rattle.rt_view.specs.Spans.{spans, KnowsSpans}
 use Rattle.rt_view.specs.declared.spans.Span.{Span}
-use Rattle.rt_view.specs.declared.waits.Walk.{Walk}
+use Rattle.rt_view.specs.declared.waits.JobSpans.{JobSpans}
+use Rattle.rt_view.specs.declared.waits.JobWalk.{JobWalk}
 
 -- the job that a note says entered a queue
 abbrev pub name_taken : {T : Type 0} → Note T → Option JobId
@@ -24,7 +25,12 @@ abbrev pub runs : {T : Type 0} → Journal T → List Span
 runs = spans name_started name_finished
 
 -- the clock, and the spans of both kinds, are those of these notes
-pub record KnowsWalk (walk : Walk) (journal : Journal ℕ) : Type 0 where
+pub record KnowsWalk (walk : JobWalk) (journal : Journal ℕ) : Type 0 where
   pub clock : walk.clock ≡ clock_of journal
   pub waits : KnowsSpans name_taken name_started walk.waits journal
   pub runs : KnowsSpans name_started name_finished walk.runs journal
+
+-- the spans of both kinds are those of these notes
+pub record AreSpans (told : JobSpans) (journal : Journal ℕ) : Type 0 where
+  pub waits : told.waits.items ≡ waits journal
+  pub runs : told.runs.items ≡ runs journal

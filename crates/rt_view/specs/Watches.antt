@@ -7,8 +7,9 @@ use Rattle.rt_journal_facts.specs.AllAccounts.{KnowsAccounts}
 use Rattle.rt_journal_facts.specs.declared.accounts.Account.{Account}
 use Rattle.rt_stats.specs.Tallies.{no_tally}
 use Rattle.rt_journal_facts.specs.Parks.{KnowsParks}
-use Rattle.rt_stats.specs.Walks.{KnowsSums, KnowsTallies}
+use Rattle.rt_stats.specs.Walks.{KnowsFigures, KnowsTallies}
 use Rattle.rt_stats.specs.declared.tally.Tally.{Tally}
+use Rattle.rt_view.specs.Clocks.{clock_of}
 use Rattle.rt_view.specs.Shares.{due, most_waiting, part}
 use Rattle.rt_view.specs.declared.shares.CoreShares.{CoreShares}
 use Rattle.rt_view.specs.declared.watches.Watch.{Watch}
@@ -67,7 +68,8 @@ pub record KnowsWatches {T : Type 0} (watches : Watches) (journal : Journal T) :
   pub tallies : KnowsTallies 1 watches.tallies journal
   pub each : AreWatched watches.each journal
 
--- the sums and the watches are those of these notes, where a turn may have so many polls
+-- the clock, the figures and the watches are those of these notes, where a turn may have so many polls
 pub record KnowsShares {T : Type 0} (burst : ℕ) (shares : CoreShares) (journal : Journal T) : Type 0 where
-  pub sums : KnowsSums burst shares.sums journal
-  pub each : AreWatched shares.each journal
+  pub clock : shares.clock ≡ clock_of journal
+  pub figures : KnowsFigures burst shares.figures journal
+  pub watches : KnowsWatches shares.watches journal

@@ -1,7 +1,7 @@
 //! The polls of a core, each with its turn.
 
 ghost use Rattle.std.specs.Prelude.{◌≡◌, ◌<◌, ◌∷◌, ℕ, [], length, OnOk, IfOk};
-ghost use Rattle.rt_ids.specs.Journal.{Journal as Notes, or_else, latest_told};
+ghost use Rattle.rt_ids.specs.Journal.{Journal as Notes, or_else, latest_told, with_last};
 ghost use Rattle.rt_journal_facts.specs.Accounts.{greatest_count};
 ghost use Rattle.rt_view.specs.Polls as spec;
 
@@ -55,68 +55,83 @@ fn newer(pick: Option<Picked>, before: Option<Picked>) -> Option<Picked>
     }
 }
 
-/// Of the notes that were read: the turns, the newest pick, how many polls of each job are settled, and the polls.
+/// Of the notes that were read: the turns, the newest pick, and how many polls of each job are settled.
 #[derive(Drop)]
-struct PollWalk {
+pub struct PollWalk {
     clock: Clock,
     picked: Option<Picked>,
     steps: NameTable<u64>,
-    polls: Vec<Poll>,
 }
 
 impl PollWalk {
     /// No note was read.
-    fn new(alloc: Global) -> Self
-        ensures { spec.KnowsPolls result [] }
+    pub fn new(alloc: Global) -> Self
+        ensures { spec.KnowsTurns result [] }
     {
         PollWalk {
             clock: Clock::new(),
             picked: None,
             steps: NameTable::new(alloc),
-            polls: Vec::new(alloc),
         }
     }
 
-    /// Reads the next note.
-    fn add(&mut self, note: &Note<u64>) -> Result<(), AllocError>
-        ensures { OnOk result ((before : Notes ℕ) → length before < greatest_count → spec.KnowsPolls self.old before → spec.KnowsPolls self.new (note.now ∷ before)) }
+    /// Reads the next note, and answers the poll that it settles, if a pick stands before it.
+    ///
+    /// # Errors
+    ///
+    /// `AllocError` for want of memory; then nothing is known any more.
+    pub fn add(&mut self, note: &Note<u64>) -> Result<Option<Poll>, AllocError>
+        ensures { IfOk result (λ poll. (before : Notes ℕ) → length before < greatest_count → spec.KnowsTurns self.old before → spec.TellsPoll poll self.new note.now before) }
     {
-        self.settle_told(poll_settled(note), end_of(note))?;
+        let poll = self.settle_told(poll_settled(note), end_of(note))?;
         self.clock.add(note);
         self.picked = newer(pick_told(note), self.picked);
-        Ok(())
+        Ok(poll)
     }
 
     /// A poll of a job is settled, if there is one.
-    fn settle_told(&mut self, told: Option<(JobId, u64)>, end: End) -> Result<(), AllocError>
-        ensures { OnOk result (spec.SettlesTold self.old self.new told end) }
+    fn settle_told(
+        &mut self,
+        told: Option<(JobId, u64)>,
+        end: End,
+    ) -> Result<Option<Poll>, AllocError>
+        ensures { IfOk result (λ poll. spec.SettlesTold self.old self.new told end poll) }
     {
         let Some((name, time)) = told else {
-            return Ok(());
+            return Ok(None);
         };
         self.settle(name, time, end)
     }
 
     /// A poll of this job is settled.
-    fn settle(&mut self, name: JobId, time: u64, end: End) -> Result<(), AllocError>
-        ensures { OnOk result (spec.Settles self.old self.new name time end) }
+    fn settle(&mut self, name: JobId, time: u64, end: End) -> Result<Option<Poll>, AllocError>
+        ensures { IfOk result (λ poll. spec.Settles self.old self.new name time end poll) }
     {
         let step = self.steps.get(&name).unwrap_or(0).saturating_add(1);
         self.steps.set(name, step)?;
         let Some(picked) = self.picked else {
-            return Ok(());
+            return Ok(None);
         };
         let turn = self.clock.turns;
-        self.polls.push(Poll {
+        Ok(Some(Poll {
             turn,
             picked,
             name,
             step,
             time,
             end,
-        })?;
-        Ok(())
+        }))
     }
+}
+
+/// Puts a poll behind the others, if there is one.
+fn push_poll(polls: &mut Vec<Poll>, poll: Option<Poll>) -> Result<(), AllocError>
+    ensures { OnOk result (polls.new.items ≡ with_last polls.old.items poll) }
+{
+    if let Some(poll) = poll {
+        polls.push(poll)?;
+    }
+    Ok(())
 }
 
 /// The settled polls of a core that has picked, by its journal, the oldest first.
@@ -128,15 +143,11 @@ pub fn settled_polls(alloc: Global, journal: &Journal<u64>) -> Result<Vec<Poll>,
     ensures { IfOk result (λ polls. polls.items ≡ spec.polls journal.now.notes) }
 {
     let mut walk = PollWalk::new(alloc);
+    let mut told = Vec::new(alloc);
     for place in 0..journal.len() {
         let note = note_at(journal, place);
-        walk.add(&note)?;
+        let poll = walk.add(&note)?;
+        push_poll(&mut told, poll)?;
     }
-    let PollWalk {
-        clock: _,
-        picked: _,
-        steps: _,
-        polls,
-    } = walk;
-    Ok(polls)
+    Ok(told)
 }

@@ -1,15 +1,18 @@
 //! What each queue of a core got of its time, and what it should have got while it had work.
 
-ghost use Rattle.std.specs.Prelude.{◌≡◌, ℕ, IfOk};
+ghost use Rattle.std.specs.Prelude.{◌≡◌, ◌<◌, ◌∷◌, ℕ, [], length, IfOk, OnOk};
 ghost use Rattle.rt_ids.specs.Journal.{Journal as Notes};
+ghost use Rattle.rt_journal_facts.specs.Accounts.{greatest_count};
+ghost use Rattle.rt_view.specs.Clocks.{busy_time};
 ghost use Rattle.rt_view.specs.Shares as spec;
 ghost use Rattle.rt_view.specs.Watches as watches;
 
-use crate::watches::{Watch, Watches};
-use rt_ids::{QueueNo, QueueStats};
+use crate::clocks::Clock;
+use crate::watches::Watches;
+use rt_ids::{Note, QueueNo, QueueStats};
 use rt_journal_facts::note_at;
 use rt_journal_notes::Journal;
-use rt_stats::Sums;
+use rt_stats::Figures;
 use std::alloc::{AllocError, Global};
 
 /// What is told of the shares of a queue: its statistics, what it should have got while it had work, and how many jobs waited in it at most.
@@ -22,15 +25,41 @@ pub struct QueueShare {
     pub most_waiting: u64,
 }
 
-/// What is told of the shares of all queues of a core.
+/// Of the notes that were read: what is told of the shares of all queues of a core.
 #[derive(Drop)]
 pub struct CoreShares {
-    sums: Sums,
-    each: [Watch; 256],
+    clock: Clock,
+    figures: Figures,
+    watches: Watches,
 }
 
 impl CoreShares {
-    /// Reads the journal of a core, where a turn may have so many polls. It goes over all queues at each note.
+    /// No note was read. A turn may have so many polls: 0 and 1 mean a single one.
+    pub fn new(alloc: Global, burst: u8) -> Self
+        ensures { watches.KnowsShares {T = ℕ} burst result [] }
+    {
+        CoreShares {
+            clock: Clock::new(),
+            figures: Figures::new(burst),
+            watches: Watches::new(alloc),
+        }
+    }
+
+    /// Reads the next note. It goes over all queues.
+    ///
+    /// # Errors
+    ///
+    /// `AllocError` for want of memory; then nothing is known any more.
+    pub fn add(&mut self, note: &Note<u64>) -> Result<(), AllocError>
+        ensures { OnOk result ((burst : ℕ) (before : Notes ℕ) → length before < greatest_count → watches.KnowsShares burst self.old before → watches.KnowsShares burst self.new (note.now ∷ before)) }
+    {
+        let spot = self.watches.spot(note);
+        self.clock.add(note);
+        self.figures.add(note, &spot);
+        self.watches.add(note, &spot)
+    }
+
+    /// Reads the journal of a core, where a turn may have so many polls.
     ///
     /// # Errors
     ///
@@ -38,33 +67,31 @@ impl CoreShares {
     pub fn of(alloc: Global, journal: &Journal<u64>, burst: u8) -> Result<Self, AllocError>
         ensures { IfOk result (λ shares. watches.KnowsShares burst shares journal.now.notes) }
     {
-        let sums = Sums::of(alloc, journal, burst)?;
-        let each = watched(alloc, journal)?;
-        Ok(CoreShares { sums, each })
+        let mut shares = CoreShares::new(alloc, burst);
+        for place in 0..journal.len() {
+            let note = note_at(journal, place);
+            shares.add(&note)?;
+        }
+        Ok(shares)
+    }
+
+    /// The processor time of the core, in nanoseconds.
+    pub fn busy(&self) -> u128
+        ensures { (burst : ℕ) (journal : Notes ℕ) → watches.KnowsShares burst self.now journal → result ≡ busy_time journal }
+    {
+        self.clock.time
     }
 
     /// What is told of the shares of a queue, if there is such a queue.
     pub fn queue(&self, queue: QueueNo) -> Option<QueueShare>
         ensures { (burst : ℕ) (journal : Notes ℕ) → watches.KnowsShares burst self.now journal → result ≡ spec.queue_share burst queue journal }
     {
-        let stats = self.sums.queue_stats(queue)?;
-        let watch = self.each[queue.0 as usize];
+        let stats = self.figures.queue_stats(queue)?;
+        let watch = self.watches.of(queue);
         Some(QueueShare {
             stats,
             due: watch.due,
             most_waiting: watch.most_waiting,
         })
     }
-}
-
-/// What is known of each queue by all notes.
-fn watched(alloc: Global, journal: &Journal<u64>) -> Result<[Watch; 256], AllocError>
-    ensures { IfOk result (λ each. watches.AreWatched each journal.now.notes) }
-{
-    let mut all = Watches::new(alloc);
-    for place in 0..journal.len() {
-        let note = note_at(journal, place);
-        all.add(&note)?;
-    }
-    Ok(all.into_each())
 }

@@ -45,26 +45,30 @@ fn name_finished(note: &Note<u64>) -> Option<JobId>
 
 /// Of the notes that were read: the clock, and the spans of both kinds.
 #[derive(Drop)]
-struct Walk {
+pub struct JobWalk {
     clock: Clock,
     waits: Spans,
     runs: Spans,
 }
 
-impl Walk {
+impl JobWalk {
     /// No note was read.
-    fn new(alloc: Global) -> Self
+    pub fn new(alloc: Global) -> Self
         ensures { spec.KnowsWalk result [] }
     {
-        Walk {
+        JobWalk {
             clock: Clock::new(),
             waits: Spans::new(alloc),
             runs: Spans::new(alloc),
         }
     }
 
-    /// Reads the next note.
-    fn add(&mut self, note: &Note<u64>) -> Result<(), AllocError>
+    /// Reads the next note. It takes as many steps as the count of jobs has binary digits.
+    ///
+    /// # Errors
+    ///
+    /// `AllocError` for want of memory; then nothing is known any more.
+    pub fn add(&mut self, note: &Note<u64>) -> Result<(), AllocError>
         ensures { OnOk result ((before : Notes ℕ) → length before < greatest_count → spec.KnowsWalk self.old before → spec.KnowsWalk self.new (note.now ∷ before)) }
     {
         self.clock.add(note);
@@ -73,10 +77,23 @@ impl Walk {
         self.runs
             .add(&self.clock, name_started(note), name_finished(note))
     }
+    /// The spans of the jobs.
+    pub fn into_spans(self) -> JobSpans
+        ensures { (journal : Notes ℕ) → spec.KnowsWalk self journal → spec.AreSpans result journal }
+    {
+        let JobWalk {
+            clock: _,
+            waits,
+            runs,
+        } = self;
+        JobSpans {
+            waits: waits.into_ended(),
+            runs: runs.into_ended(),
+        }
+    }
 }
 
 /// How long the jobs of a core waited, and how long they ran, by its journal.
-/// It takes as many steps for a note as the count of jobs has binary digits.
 ///
 /// # Errors
 ///
@@ -85,18 +102,10 @@ pub fn job_spans(alloc: Global, journal: &Journal<u64>) -> Result<JobSpans, Allo
     ensures waits { IfOk result (λ spans. spans.waits.items ≡ spec.waits journal.now.notes) }
     ensures runs { IfOk result (λ spans. spans.runs.items ≡ spec.runs journal.now.notes) }
 {
-    let mut walk = Walk::new(alloc);
+    let mut walk = JobWalk::new(alloc);
     for place in 0..journal.len() {
         let note = note_at(journal, place);
         walk.add(&note)?;
     }
-    let Walk {
-        clock: _,
-        waits,
-        runs,
-    } = walk;
-    Ok(JobSpans {
-        waits: waits.into_ended(),
-        runs: runs.into_ended(),
-    })
+    Ok(walk.into_spans())
 }

@@ -1,15 +1,16 @@
 //! What a walk knows of the shares of all queues.
 
-ghost use Rattle.std.specs.Prelude.{◌≡◌, ◌<◌, ◌∷◌, ℕ, [], length, OnOk};
+ghost use Rattle.std.specs.Prelude.{◌≡◌, ◌<◌, ◌∷◌, ℕ, [], get_or, length, OnOk};
 ghost use Rattle.rt_ids.specs.Journal.{Journal as Notes};
 ghost use Rattle.rt_ids.specs.Limits.{most_queues};
 ghost use Rattle.rt_journal_facts.specs.Accounts.{greatest_count};
+ghost use Rattle.rt_journal_facts.specs.Spots.{FitsSpot};
 ghost use Rattle.rt_view.specs.Clocks.{time_settled};
 ghost use Rattle.rt_view.specs.Shares.{part};
 ghost use Rattle.rt_view.specs.Watches as spec;
 
-use rt_ids::{MOST_QUEUES, Note};
-use rt_journal_facts::{Account, Accounts, Parks};
+use rt_ids::{MOST_QUEUES, Note, QueueNo};
+use rt_journal_facts::{Account, Accounts, Parks, Spot};
 use rt_shares::Shares;
 use rt_stats::tally::{Tallies, Tally};
 use std::alloc::{AllocError, Global};
@@ -147,23 +148,29 @@ impl Watches {
         }
     }
 
-    /// Reads the next note.
-    pub fn add(&mut self, note: &Note<u64>) -> Result<(), AllocError>
-        ensures { OnOk result ((before : Notes ℕ) → length before < greatest_count → spec.KnowsWatches self.old before → spec.KnowsWatches self.new (note.now ∷ before)) }
+    /// The queue of the job that a note speaks of, and where it is parked.
+    pub fn spot(&self, note: &Note<u64>) -> Spot
+        ensures { (before : Notes ℕ) → spec.KnowsWatches self.now before → FitsSpot result note.now before }
     {
-        let spot = self.parks.spot(note);
+        self.parks.spot(note)
+    }
+
+    /// Reads the next note, which speaks of this queue.
+    pub fn add(&mut self, note: &Note<u64>, spot: &Spot) -> Result<(), AllocError>
+        ensures { OnOk result ((before : Notes ℕ) → length before < greatest_count → FitsSpot spot.now note.now before → spec.KnowsWatches self.old before → spec.KnowsWatches self.new (note.now ∷ before)) }
+    {
         owe_all(&mut self.each, settled_time(note), &self.accounts.queues);
         // No charge is asked for, so each poll may stand for a turn.
         self.tallies.add(note, &spot.queue, &self.accounts, 1);
-        self.accounts.add(note, &spot, 1);
+        self.accounts.add(note, spot, 1);
         see_all(&mut self.each, &self.accounts.queues, &self.tallies.queues);
         self.parks.add(note)
     }
 
-    /// What is known of each queue.
-    pub fn into_each(self) -> [Watch; 256]
-        ensures { result ≡ self.each }
+    /// What is known of a queue.
+    pub fn of(&self, queue: QueueNo) -> Watch
+        ensures { result ≡ get_or self.now.each queue spec.no_watch }
     {
-        self.each
+        self.each[queue.0 as usize]
     }
 }

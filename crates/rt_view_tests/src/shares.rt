@@ -36,7 +36,9 @@ fn shares_are_right(
         return false;
     };
     match shares.queue(QueueNo(row.0)) {
-        Some(share) => is_row(&share, row) && shares.queue(QueueNo(1)).is_none(),
+        Some(share) => {
+            is_row(&share, row) && shares.queue(QueueNo(1)).is_none() && shares.busy() == 60
+        }
         None => false,
     }
 }

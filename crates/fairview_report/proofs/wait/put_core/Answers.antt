@@ -7,7 +7,8 @@ pub returns : goal.returns
 returns c =
     on_ok_weaker c.put_kind-2.result
     (
-    core_put c.args.plain c.args.core c.args.journal.now.notes c.deref.result.now c.deref-2.result.now (string_bytes c.args.page.now) (string_bytes c.put_kind.new.page)
-    (string_bytes c.put_kind-2.new.page) (c.deref.ensures.value ∙ c.in_ok-spans.ensures.waits) (c.deref-2.ensures.value ∙ c.in_ok-spans.ensures.runs) c.in_ok-put_kind.ensures
+    λ second journal are.
+    core_put c.args.plain c.args.core journal c.deref.result.now c.deref-2.result.now (string_bytes c.args.page.now) (string_bytes c.put_kind.new.page)
+    (string_bytes c.put_kind-2.new.page) (c.deref.ensures.value ∙ are.waits) (c.deref-2.ensures.value ∙ are.runs) c.in_ok-put_kind.ensures second
     )
     c.put_kind-2.ensures

@@ -1,4 +1,4 @@
-use Rattle.std.proofs.Common.{ℕ, ◌<◌, length, sym, subst, ◌∙◌, arith}
+use Rattle.std.proofs.Common.{ℕ, ◌<◌, length, sym, subst, arith}
 use Rattle.rt_ids.specs.Journal.{Journal, at_place}
 use Rattle.rt_journal_facts.specs.Accounts.{greatest_count}
 use Rattle.rt_journal_facts.proofs.Walks.{at_start, whole_walk}
@@ -20,9 +20,9 @@ loop-place-preserved c =
 pub returns-clause-waits : goal.returns-clause-waits
 returns-clause-waits c =
     let known = whole_walk (λ journal. KnowsWalk c.loop-place.walk journal) c.args.journal.now.notes c.loop-place.place (omega arith) c.loop-place.invariant in
-    c.into_ended.ensures ∙ known.waits.ended
+    (c.into_spans.ensures c.args.journal.now.notes known).waits
 
 pub returns-clause-runs : goal.returns-clause-runs
 returns-clause-runs c =
     let known = whole_walk (λ journal. KnowsWalk c.loop-place.walk journal) c.args.journal.now.notes c.loop-place.place (omega arith) c.loop-place.invariant in
-    c.into_ended-2.ensures ∙ known.runs.ended
+    (c.into_spans.ensures c.args.journal.now.notes known).runs

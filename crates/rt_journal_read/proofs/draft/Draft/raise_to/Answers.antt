@@ -4,7 +4,7 @@ use Rattle.rt_journal_read.proofs.DraftLemmas.{raised_more}
 use Rattle.rt_journal_read.proofs.draft.Draft.raise_to.Goals as goal
 
 pub loop-i-preserved : goal.loop-i-preserved
-loop-i-preserved c =
+loop-i-preserved g c =
     let step = c.in_ok-next_actor.ensures.ok in
     let less : c.loop-i._i < c.args.actor = omega arith in
     let place = c.loop-i.invariant.place in
@@ -13,4 +13,5 @@ loop-i-preserved c =
       same = ap (λ (d : Drafted). raised (c.args.actor - (c.loop-i._i + 1)) d) step ∙ sym (raised_more c.args.actor c.loop-i._i c.loop-i.self less) ∙ c.loop-i.invariant.same;
       place = omega (arith, longer, length-append c.loop-i.self.earlier (c.loop-i.self.notes ∷ []));
       cores = ap (λ (d : Drafted). d.cores) step ∙ c.loop-i.invariant.cores;
+      part = ap (λ (d : Drafted). d.part) step ∙ c.loop-i.invariant.part;
     }

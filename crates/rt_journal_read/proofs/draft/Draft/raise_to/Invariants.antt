@@ -4,8 +4,9 @@ use Rattle.rt_journal_read.specs.Drafts.{raised, raised_to}
 use Rattle.rt_journal_read.proofs.draft.Draft.raise_to.Given as goal
 
 abbrev pub invariant-loop-i : goal.invariant-loop-i
-invariant-loop-i l = record {
+invariant-loop-i g l = record {
   same : raised (l.actor - l._i) l.self ≡ raised_to l.actor l.initial.self;
   place : length l.self.earlier ≡ l._i;
   cores : l.self.cores ≡ l.initial.self.cores;
+  part : l.self.part ≡ l.initial.self.part;
 }

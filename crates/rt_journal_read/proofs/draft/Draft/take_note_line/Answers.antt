@@ -1,22 +1,28 @@
-use Rattle.std.proofs.Common.{Err, ◌≡◌, ◌-◌, ap, sym, ◌∙◌, length, arith, codes, false, Some}
+use Rattle.std.proofs.Common.{Err, ◌≡◌, ◌-◌, ap, sym, subst, ◌∙◌, length, codes, false, Some}
 use Rattle.std.specs.Str.{bytes_eq}
-use Rattle.std.proofs.lemmas.List.{length-map}
 use Rattle.std.proofs.lemmas.Result.{on_ok_weaker}
 use Rattle.rt_words.specs.Words.{words, first, others}
 use Rattle.rt_journal_lines.specs.Fields.{number_in}
 use Rattle.rt_journal_lines.specs.NoteWords.{note_of}
 use Rattle.rt_journal_read.specs.declared.fault.JournalCause.{JournalCause}
 use Rattle.rt_journal_read.specs.Drafts.{Drafted, with_note, with_note_line}
+use Rattle.rt_journal_read.specs.Handed.{IsBegun}
 use Rattle.rt_journal_read.proofs.DraftLemmas.{line_read, raised_is}
 use Rattle.rt_lines.proofs.FaultLemmas.{IfErr_cause}
 use Rattle.rt_journal_read.proofs.draft.Draft.take_note_line.Goals as goal
 
+pub take_note-requires : goal.take_note-requires
+take_note-requires g c =
+    let draft = c.args.self.now in
+    let kept = raised_is (c.in-Some.actor - length draft.earlier) draft in
+    subst IsBegun (sym (ap (λ (d : Drafted). d.part) c.in_ok-raise_to-in-Some.ensures.ok ∙ kept.part ∙ c.requires)) tt
+
 pub returns-in_ok-raise_to-in-Some-clause-ok : goal.returns-in_ok-raise_to-in-Some-clause-ok
-returns-in_ok-raise_to-in-Some-clause-ok c =
+returns-in_ok-raise_to-in-Some-clause-ok g c =
     let draft = c.args.self.now in
     let line = c.args.line.now in
     let other : bytes_eq line (codes "end") ≡ false = sym c.is_word.ensures ∙ c.if-is_word.false in
-    let place : c.len-first.result ≡ length draft.earlier = omega (arith, c.len-first.ensures, simp length-map at (ap (λ (d : Drafted). length d.earlier) c.self.view_is)) in
+    let place : c.from-first.result ≡ length draft.earlier = c.from-first.ensures ∙ c.self.invariant.place ∙ ap (λ (d : Drafted). length d.earlier) c.self.view_is in
     let cores = ap (λ (d : Drafted). d.cores) c.self.view_is in
     let number : number_in (length draft.earlier) draft.cores (first (words line)) ≡ Some c.in-Some.actor = cc (place, cores, c.number_in.ensures.value, c.in-Some.is, c.next_word.ensures.word, c.of-fields.ensures, c.from.ensures) in
     let passed = c.in_ok-raise_to-in-Some.ensures.ok in
@@ -25,11 +31,11 @@ returns-in_ok-raise_to-in-Some-clause-ok c =
     on_ok_weaker c.take_note.result (λ taken. line_read draft c.raise_to.new.self line c.in-Some.actor c.note_of.result other number passed read ∙ taken) c.take_note.ensures.ok
 
 pub returns-in_ok-raise_to-in-Some-clause-faulty : goal.returns-in_ok-raise_to-in-Some-clause-faulty
-returns-in_ok-raise_to-in-Some-clause-faulty c =
+returns-in_ok-raise_to-in-Some-clause-faulty g c =
     let draft = c.args.self.now in
     let line = c.args.line.now in
     let other : bytes_eq line (codes "end") ≡ false = sym c.is_word.ensures ∙ c.if-is_word.false in
-    let place : c.len-first.result ≡ length draft.earlier = omega (arith, c.len-first.ensures, simp length-map at (ap (λ (d : Drafted). length d.earlier) c.self.view_is)) in
+    let place : c.from-first.result ≡ length draft.earlier = c.from-first.ensures ∙ c.self.invariant.place ∙ ap (λ (d : Drafted). length d.earlier) c.self.view_is in
     let cores = ap (λ (d : Drafted). d.cores) c.self.view_is in
     let number : number_in (length draft.earlier) draft.cores (first (words line)) ≡ Some c.in-Some.actor = cc (place, cores, c.number_in.ensures.value, c.in-Some.is, c.next_word.ensures.word, c.of-fields.ensures, c.from.ensures) in
     let passed = c.in_ok-raise_to-in-Some.ensures.ok in

@@ -9,10 +9,9 @@ pub returns : goal.returns
 returns c =
     on_ok_weaker c.add-3.result
     (
-    λ adds before short knows.
+    λ adds before short fits knows.
     let note = c.args.note.now in
     let old = c.args.self.now in
-    let fits = c.spot-spot.ensures before knows.parks in
     let accounts = c.add-2.ensures.known before fits short knows.accounts in
     let tallies = c.add.ensures before fits.queue short knows.accounts knows.tallies in
     record {
