@@ -14,7 +14,7 @@ import sys
 import tempfile
 
 # The most bytes that a note of the longer text may take beside those of the shorter one. Journals that are kept take 48 and more.
-MOST = {"share": 0.5, "wait": 24, "csv": 40}
+MOST = {"share": 0.5, "wait": 24, "csv": 24}
 ALL = ["why 4>0#1", "gantt", "lag --text", "lag", "trace"]
 
 
