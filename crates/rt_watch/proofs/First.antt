@@ -28,7 +28,7 @@ words-more from (suc count) =
 first_row-at : (places i : ℕ) → i < place_of places → get_or (first_row places) i 0 ≡ first_word i
 first_row-at places i within = word-at i 0 (place_of places) within ∙ ap first_word (let e : 0 + i ≡ i = omega arith in e)
 
-core-first : (i : ℕ) → i < 6 → first_word i ≡ get_or (core_words (core_stats false []) 1) i 0
+core-first : (i : ℕ) → i < 6 → first_word i ≡ get_or (core_words (core_stats {T = ℕ} false []) 1) i 0
 core-first zero within = refl
 core-first (suc zero) within = refl
 core-first (suc (suc zero)) within = refl
@@ -37,7 +37,7 @@ core-first (suc (suc (suc (suc zero)))) within = refl
 core-first (suc (suc (suc (suc (suc zero))))) within = refl
 core-first (suc (suc (suc (suc (suc (suc i)))))) within = absurd (omega arith)
 
-queue-first : (burst i : ℕ) → i < 9 → first_word (6 + i) ≡ get_or (queue_words (stats_of burst 0 [])) i 0
+queue-first : (burst i : ℕ) → i < 9 → first_word (6 + i) ≡ get_or (queue_words (stats_of {T = ℕ} burst 0 [])) i 0
 queue-first burst zero within = refl
 queue-first burst (suc zero) within = refl
 queue-first burst (suc (suc zero)) within = refl
@@ -57,7 +57,7 @@ false-true e = cc
 
 pub first-tells : (terms : Terms) → Tells terms [] (first_row terms.places)
 first-tells terms = record {
-  core = core_stats false [];
+  core = core_stats {T = ℕ} false [];
   core_is = record {
     sums = refl;
     drained = (λ no. absurd (false-true no), λ (is : IsDrained terms.cores []). absurd (none-some 0 (is.delivered_all 0 (omega arith))));
@@ -67,7 +67,7 @@ first-tells terms = record {
       ap (λ (k : ℕ). get_or (first_row terms.places) k 0) e ∙ (first_row-at terms.places i (omega arith) ∙ core-first i within);
   queue_stands = λ queue there placed.
       let first : 0 ≡ queue = omega arith in
-      subst (λ (q : ℕ). HasAt (first_row terms.places) (place_of q) (queue_words (stats_of terms.burst q []))) first
+      subst (λ (q : ℕ). HasAt (first_row terms.places) (place_of q) (queue_words (stats_of {T = ℕ} terms.burst q []))) first
       (λ i within. first_row-at terms.places (6 + i) (omega arith) ∙ queue-first terms.burst i within);
   shares_fit = λ queue there placed. record { positive = omega arith; bounded = omega arith };
 }

@@ -61,13 +61,13 @@ module _ (terms : Terms) (slots seat : ℕ) (me : Place) (go : me.0.publishes �
   ends old count journal knows done ahead begun grows tells s r wide at _ =
       let found : get_or s.words 1 0 ≡ p.done = ap (λ (words : List ℕ). get_or words 1 0) (words_known s r at) in
       exchanged (get_or s.words 1 0) old count (Goes s count journal (get_or s.words 1 0))
-          (λ _. (
-            with_done me.0 count journal.notes,
-            keeps,
-            tt,
-            publisher_steps terms s r seat me.0 at go (record p { done = count; notes = journal.notes }) (set s.words 1 count) (omega arith) (omega arith) (omega arith) grows refl
-                (λ _. subst (λ t. Tells t journal.notes p.row) ((r.views seat me.0 at).terms_are knows) tells)
-                (ap (λ (words : List ℕ). set words 1 count) (words_known s r at)),
-            λ said is. ap (λ (j : JournalView ℕ). (with_done me.0 count j.notes, me.1)) (some-injective journal said is),
-          ))
-          (λ differs. absurd (differs (found ∙ done)))
+      (λ _. (
+        with_done me.0 count journal.notes,
+        keeps,
+        tt,
+        publisher_steps terms s r seat me.0 at go (record p { done = count; notes = journal.notes }) (set s.words 1 count) (omega arith) (omega arith) (omega arith) grows refl
+            (λ _. subst (λ t. Tells t journal.notes p.row) ((r.views seat me.0 at).terms_are knows) tells)
+            (ap (λ (words : List ℕ). set words 1 count) (words_known s r at)),
+        λ said is. ap (λ (j : JournalView ℕ). (with_done me.0 count j.notes, me.1)) (some-injective journal said is),
+      ))
+      (λ differs. absurd (differs (found ∙ done)))

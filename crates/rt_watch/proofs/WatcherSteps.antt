@@ -76,36 +76,36 @@ module _ (terms : Terms) (slots seat : ℕ) (me : Place) where
       let told = r.views seat me.0 at in
       let found : get_or s.words 0 0 ≡ r.whole.begun = ap (λ (words : List ℕ). get_or words 0 0) r.words in
       dite (ℕ_discrete (get_or s.words 0 0) l.at)
-          (λ same.
-          let now : l.at ≡ r.whole.begun = sym same ∙ found in
-          let low = told.at_done in
-          let high = r.behind in
-          let both : r.whole.begun ≡ r.whole.done = omega arith in
-          let found_one : Finds me (with_seen me.0 r.whole.notes, me.1) = record {
-            notes = r.whole.notes;
-            row = r.whole.row;
-            seen = refl;
-            grows = told.saw;
-            reads = told.reads now;
-            wide = r.wide ∙ ap (λ (t : Terms). place_of t.places) (sym (told.terms_are knows));
-            tells = subst (λ (t : Terms). Tells t r.whole.notes r.whole.row) (sym (told.terms_are knows)) (r.tells both);
-          } in
-          let step : Goes s = (
-            with_seen me.0 r.whole.notes,
-            keeps,
-            tt,
-            seat_looks terms s r seat me.0 at 0 (record l { seen = r.whole.notes })
-                (record { terms_are = told.terms_are; publishes = told.publishes; at_done = told.at_done; reads = told.reads; saw = Grows-self r.whole.notes }),
-            record { same = λ _. found_one; other = λ differs. absurd (differs same) },
-          ) in
-          step)
-          (λ differs. (
-            me.0,
-            keeps,
-            tt,
-            seat_looks terms s r seat me.0 at 0 l told,
-            record { same = λ same. absurd (differs same); other = λ _. refl },
-          ))
+      (λ same.
+      let now : l.at ≡ r.whole.begun = sym same ∙ found in
+      let low = told.at_done in
+      let high = r.behind in
+      let both : r.whole.begun ≡ r.whole.done = omega arith in
+      let found_one : Finds me (with_seen me.0 r.whole.notes, me.1) = record {
+        notes = r.whole.notes;
+        row = r.whole.row;
+        seen = refl;
+        grows = told.saw;
+        reads = told.reads now;
+        wide = r.wide ∙ ap (λ (t : Terms). place_of t.places) (sym (told.terms_are knows));
+        tells = subst (λ (t : Terms). Tells t r.whole.notes r.whole.row) (sym (told.terms_are knows)) (r.tells both);
+      } in
+      let step : Goes s = (
+        with_seen me.0 r.whole.notes,
+        keeps,
+        tt,
+        seat_looks terms s r seat me.0 at 0 (record l { seen = r.whole.notes })
+            (record { terms_are = told.terms_are; publishes = told.publishes; at_done = told.at_done; reads = told.reads; saw = Grows-self r.whole.notes }),
+        record { same = λ _. found_one; other = λ differs. absurd (differs same) },
+      ) in
+      step)
+      (λ differs. (
+        me.0,
+        keeps,
+        tt,
+        seat_looks terms s r seat me.0 at 0 l told,
+        record { same = λ same. absurd (differs same); other = λ _. refl },
+      ))
 
   -- a further seat watches
   pub parts : Splits (IsBoard terms) seat me.0 me.0 (watching me.0)

@@ -35,9 +35,10 @@ turned = 1000 ∷ 1 ∷ 0 ∷ 30 ∷ 0 ∷ 30 ∷ 0 ∷ 1 ∷ 0 ∷ []
 abbrev pub busy : List ℕ
 busy = 1000 ∷ 1 ∷ 0 ∷ 0 ∷ 0 ∷ 0 ∷ 0 ∷ 0 ∷ 0 ∷ []
 
--- Refused are a row with the numbers of another queue, one with the numbers of two beginnings of the journal mixed, one with the halves
+-- A row with all these numbers tells them. Refused are a row with the numbers of another queue, one with the numbers of two beginnings of the journal mixed, one with the halves
 -- of the floor exchanged, one that lacks a queue, and one that tells of a drained core. An older journal isn't one that has grown.
 pub record RowsAreRefused : Type 0 where
+  pub right : Tells terms one_turn (core ++ (idle ++ turned))
   pub another_queue : Tells terms one_turn (core ++ (turned ++ idle)) → ⊥
   pub mixed : Tells terms one_turn (core ++ (idle ++ busy)) → ⊥
   pub halves_exchanged : Tells terms one_turn (1 ∷ 0 ∷ 1 ∷ 0 ∷ 0 ∷ 2 ∷ (idle ++ turned)) → ⊥

@@ -1,6 +1,6 @@
 //! How a board is opened.
 
-ghost use Rattle.std.specs.Prelude.{◌≡◌, ℕ, ◌+◌, [], length, IfOk, Ok};
+ghost use Rattle.std.specs.Prelude.{◌≡◌, ℕ, ◌+◌, [], ◌∷◌, length, IfOk, Ok};
 ghost use Rattle.rt_watch.specs.Views.{first_view, watching};
 ghost use Rattle.rt_watch.specs.Words as spec;
 
@@ -25,8 +25,8 @@ pub fn open(alloc: Global, terms: Terms) -> Result<(Publisher, Watcher), AllocEr
     ensures watcher { IfOk result (λ ends. ends.1 ≡ record { board = ends.0.board; terms = terms; notes = [] }) }
 {
     let row = first_row(alloc, &terms)?;
-    let seen = row.clone()?;
-    let next = row.clone()?;
+    let seen = Vec::from_slice(alloc, row.as_slice())?;
+    let next = Vec::from_slice(alloc, row.as_slice())?;
     let (board, seat, other) = lay(alloc, &terms, &row)?;
     let board = Arc::new(alloc, board)?;
     let again = Arc::try_clone(&board)?;
@@ -72,6 +72,15 @@ fn first_row(alloc: Global, terms: &Terms) -> Result<Vec<u64>, AllocError>
     Ok(row)
 }
 
+/// The words of a table: both counts at 0, and this row.
+fn words_of(alloc: Global, row: &Vec<u64>) -> Result<Vec<u64>, AllocError>
+    ensures { IfOk result (λ words. words.items ≡ 0 ∷ 0 ∷ row.now.items) }
+{
+    let mut words = vec![in alloc; 0, 0]?;
+    words.extend_from_slice(row.as_slice())?;
+    Ok(words)
+}
+
 /// The table, the publisher's seat and a watcher's.
 fn lay(alloc: Global, terms: &Terms, row: &Vec<u64>) -> Result<(Board, Place, Place), AllocError>
     requires { row.now.items ≡ spec.first_row terms.now.places }
@@ -79,8 +88,7 @@ fn lay(alloc: Global, terms: &Terms, row: &Vec<u64>) -> Result<(Board, Place, Pl
     ensures publisher { IfOk result (λ laid. laid.1.me ≡ (first_view terms.now, [])) }
     ensures watcher { IfOk result (λ laid. laid.2.me ≡ (watching (first_view terms.now), [])) }
 {
-    let mut words = vec![in alloc; 0, 0]?;
-    words.extend_from_slice(row.as_slice())?;
+    let words = words_of(alloc, row)?;
     let (table, mut seat) = Table::of_words(alloc, words.as_slice(), terms)?;
     let other = table.shared.split_seat::<Further>(&mut seat);
     Ok((table, seat, other))

@@ -93,12 +93,12 @@ impl Watcher {
     /// # Errors
     ///
     /// `AllocError` for want of memory.
-    pub fn again(&mut self) -> Result<Watcher, AllocError>
+    pub fn again(&mut self, alloc: Global) -> Result<Watcher, AllocError>
         ensures same { self.new ≡ self.old }
         ensures other { IfOk result (λ other. other ≡ self.old) }
     {
-        let row = self.row.clone()?;
-        let next = self.next.clone()?;
+        let row = Vec::from_slice(alloc, self.row.as_slice())?;
+        let next = Vec::from_slice(alloc, self.next.as_slice())?;
         let board = Arc::try_clone(&self.board)?;
         let seat = self.board.shared.split_seat::<Further>(&mut self.seat);
         Ok(Watcher {

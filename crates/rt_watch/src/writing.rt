@@ -114,7 +114,9 @@ fn end(board: &Board, seat: &mut Place, count: u64, journal: &RunningJournal<u64
     ensures view { seat.new.me.0 ≡ with_done seat.old.me.0 count journal.now.notes }
 {
     // step: end. No other seat changes the word, so this one try succeeds.
-    let _before = board.shared.compare_exchange_with::<End>(seat, DONE, count - 1, count, journal);
+    let _before = board
+        .shared
+        .compare_exchange_with::<End>(seat, DONE, count - 1, count, journal);
 }
 
 /// Publishes these numbers, behind so many publications.

@@ -48,7 +48,11 @@ fn tells_the_turn(watcher: &Watcher) -> bool {
     let core = watcher.core_stats();
     let ran = core.turns == 1 && core.floor == 18446744073709551616 && core.held == 0;
     let queue = match watcher.queue_stats(Q1) {
-        Some(stats) => stats.selected == 1 && stats.runtime == 30 && stats.finished == 1 && stats.waiting == 0 && stats.returned == 0,
+        Some(stats) => stats.selected == 1
+            && stats.runtime == 30
+            && stats.finished == 1
+            && stats.waiting == 0
+            && stats.returned == 0,
         None => false,
     };
     ran && queue && watcher.queue_count() == 2
@@ -83,7 +87,12 @@ fn tells_of_places_alone(alloc: Global) -> Result<bool, AllocError> {
     let (mut source, mut watcher) = Source::open(alloc, terms)?;
     add_turn(&mut source);
     let published = source.publish(alloc)? && watcher.look();
-    Ok(published && watcher.queue_count() == 2 && watcher.queue_stats(Q1).is_none() && watcher.queue_stats(Q0).is_some())
+    Ok(
+        published
+            && watcher.queue_count() == 2
+            && watcher.queue_stats(Q1).is_none()
+            && watcher.queue_stats(Q0).is_some(),
+    )
 }
 
 /// Whether a core that is drained is told to be so.

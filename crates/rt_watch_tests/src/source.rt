@@ -54,10 +54,7 @@ impl Source {
     pub fn open(alloc: Global, terms: Terms) -> Result<(Source, Watcher), AllocError> {
         let journal = RunningJournal::try_with_room(alloc, ROOM)?;
         let (publisher, watcher) = open(alloc, terms)?;
-        let source = Source {
-            journal,
-            publisher,
-        };
+        let source = Source { journal, publisher };
         Ok((source, watcher))
     }
 
@@ -89,7 +86,8 @@ impl Source {
         if self.publisher.is_spent() {
             return Ok(false);
         }
-        self.publisher.publish(&self.journal, &core, queues.as_slice());
+        self.publisher
+            .publish(&self.journal, &core, queues.as_slice());
         Ok(true)
     }
 }

@@ -25,9 +25,10 @@ pub end-requires-clause-board : goal.end-requires-clause-board
 end-requires-clause-board c = let is = c.requires.publisher in (c.put_row.ensures.table ∙ (c.begin.ensures.table ∙ is.at_table), omega (arith, is.words))
 
 pub end-requires-clause-publishes : goal.end-requires-clause-publishes
-end-requires-clause-publishes c =
-    (ap (λ v. v.publishes) c.put_row.ensures.view ∙ (ap (λ v. v.publishes) c.begin.ensures.view ∙ c.requires.publisher.publishes),
-    ap (λ v. v.knows) c.put_row.ensures.view ∙ (ap (λ v. v.knows) c.begin.ensures.view ∙ c.requires.publisher.knows))
+end-requires-clause-publishes c = (
+  ap (λ v. v.publishes) c.put_row.ensures.view ∙ (ap (λ v. v.publishes) c.begin.ensures.view ∙ c.requires.publisher.publishes),
+  ap (λ v. v.knows) c.put_row.ensures.view ∙ (ap (λ v. v.knows) c.begin.ensures.view ∙ c.requires.publisher.knows),
+)
 
 pub end-requires-clause-begun : goal.end-requires-clause-begun
 end-requires-clause-begun c =

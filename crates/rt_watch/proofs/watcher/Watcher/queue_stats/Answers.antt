@@ -23,6 +23,6 @@ returns-clause-told c = λ placed.
     let count : created_count seen ≡ created_count c.args.self.now.notes = ap (λ v. created_count v.notes) c.self.view_is in
     let low : number ≤ created_count seen = omega (arith, count, c.queue_count.ensures, c.if-number-queue_count.false) in
     let told = queue-told c.self.inside.terms seen c.self.inside.row.items c.self.invariant.tells number c.if-number-self.false low c.queue_of.result
-        (λ stats has. c.queue_of.ensures stats (subst (λ (z : List ℕ × ℕ). HasAt z.0 z.1 (queue_words stats)) (λ i. (sym c.as_slice.ensures.value i, sym c.place_of.ensures i)) has)) in
+    (λ stats has. c.queue_of.ensures stats (subst (λ (z : List ℕ × ℕ). HasAt z.0 z.1 (queue_words stats)) (λ i. (sym c.as_slice.ensures.value i, sym c.place_of.ensures i)) has)) in
     let same : number ≡ c.args.queue = c.from-number.ensures ∙ c.queue.view_is in
     told ∙ (λ i. queue_stats ((c.self.view_is i).terms.burst) (same i) ((c.self.view_is i).notes))

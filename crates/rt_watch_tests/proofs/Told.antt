@@ -1,0 +1,35 @@
+-- Which queues a journal has statistics of.
+use Rattle.std.proofs.Common.{◌≡◌, ℕ, ◌+◌, ◌<◌, ◌≤◌, true, false, Bool, List, refl, sym, ap, ◌∙◌, arith}
+use Rattle.std.specs.Prelude.{if◌then◌else◌, nat_le, Option, Some, None}
+use Rattle.rt_ids.specs.declared.stats.QueueStats.{QueueStats}
+use Rattle.rt_ids.specs.Commands.{created_count}
+use Rattle.rt_ids.specs.Journal.{Journal}
+use Rattle.rt_stats.specs.Stats.{queue_stats, stats_of}
+
+none-some : (stats : QueueStats) → None ≡ Some stats → ⊥
+none-some stats e = cc
+
+unwrap : (stats other : QueueStats) → Some stats ≡ Some other → stats ≡ other
+unwrap stats other e = cc
+
+low-if : (queue count : ℕ) (b : Bool) → nat_le queue count ≡ b → (b ≡ true → queue ≤ count) × (b ≡ false → count < queue)
+low-if queue count b is = ((λ yes. grind (arith, is, yes)), (λ no. grind (arith, is, no)))
+
+-- a queue that has statistics is there, and they are its own
+pub some-stats : (burst queue : ℕ) (notes : Journal ℕ) (stats : QueueStats) → Some stats ≡ queue_stats burst queue notes → (queue ≤ created_count notes) × (stats ≡ stats_of burst queue notes)
+some-stats burst queue notes stats e = cases (nat_le queue (created_count notes)) refl
+  where
+    cases : (b : Bool) → nat_le queue (created_count notes) ≡ b → (queue ≤ created_count notes) × (stats ≡ stats_of burst queue notes)
+    cases true is = (
+      (low-if queue (created_count notes) true is).0 refl,
+      unwrap stats (stats_of burst queue notes) (e ∙ (λ i. if is i then Some (stats_of burst queue notes) else None)),
+    )
+    cases false is = absurd (none-some stats (sym (e ∙ (λ i. if is i then Some (stats_of burst queue notes) else None))))
+
+-- and one that has none isn't
+pub none-stats : (burst queue : ℕ) (notes : Journal ℕ) → None ≡ queue_stats burst queue notes → created_count notes < queue
+none-stats burst queue notes e = cases (nat_le queue (created_count notes)) refl
+  where
+    cases : (b : Bool) → nat_le queue (created_count notes) ≡ b → created_count notes < queue
+    cases true is = absurd (none-some (stats_of burst queue notes) (e ∙ (λ i. if is i then Some (stats_of burst queue notes) else None)))
+    cases false is = (low-if queue (created_count notes) false is).1 refl
