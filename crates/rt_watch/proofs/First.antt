@@ -1,6 +1,6 @@
 -- The row of a core with no note tells the numbers of no note.
-use Rattle.std.proofs.Common.{◌≡◌, ℕ, zero, suc, ◌+◌, ◌<◌, ◌≤◌, false, true, List, [], ◌∷◌, ◌++◌, length, get_or, refl, ap, ◌∙◌, arith, subst}
-use Rattle.std.specs.Prelude.{Option, Some, None}
+use Rattle.std.proofs.Common.{◌≡◌, ℕ, zero, suc, ◌+◌, ◌<◌, false, true, List, [], ◌∷◌, ◌++◌, length, get_or, refl, ap, ◌∙◌, arith, subst}
+use Rattle.std.specs.Prelude.{Some, None}
 use Rattle.rt_ids.specs.Closing.{IsDrained}
 use Rattle.rt_stats.specs.Stats.{core_stats, stats_of}
 use Rattle.rt_watch.specs.Tells.{Tells}

@@ -1,14 +1,11 @@
 -- The numbers never fall.
-use Rattle.std.proofs.Common.{◌≡◌, ℕ, ◌+◌, ◌≤◌, max, List, [], ◌∷◌, ◌++◌, sym, subst, arith, le_refl}
+use Rattle.std.proofs.Common.{ℕ, ◌≤◌, [], ◌∷◌, ◌++◌, sym, subst, arith, le_refl}
 use Rattle.rt_ids.specs.declared.note.Note.{Note}
-use Rattle.rt_ids.specs.HandBacks.{picks_of, queue_picked}
+use Rattle.rt_ids.specs.HandBacks.{picks_of}
 use Rattle.rt_ids.specs.Journal.{Journal}
-use Rattle.rt_ids.specs.Names.{is_number}
-use Rattle.rt_ids.specs.Picks.{turns, pick_count}
-use Rattle.rt_ids.specs.Runtimes.{floor, runtime_picked}
-use Rattle.rt_ids.specs.Work.{number_if}
+use Rattle.rt_ids.specs.Picks.{turns}
+use Rattle.rt_ids.specs.Runtimes.{floor}
 use Rattle.rt_stats.specs.Sums.{run_time, finished_count, returned_count}
-use Rattle.rt_watch.specs.Growth.{Grows}
 use Rattle.rt_watch.specs.Laws.{NoLess, NumbersNeverFall}
 
 no-less : (count : Journal ℕ → ℕ) → ((note : Note ℕ) (before : Journal ℕ) → count before ≤ count (note ∷ before)) → (newer old : Journal ℕ) → count old ≤ count (newer ++ old)

@@ -1,5 +1,5 @@
 -- The steps of the publisher's seat: begin, put and end.
-use Rattle.std.proofs.Common.{◌≡◌, ◌≢◌, ℕ, ◌==◌, suc, ◌+◌, ◌-◌, ◌<◌, ◌≤◌, true, List, ◌∷◌, length, set, get_or, refl, sym, ap, ◌∙◌, arith, subst, length-set}
+use Rattle.std.proofs.Common.{◌≡◌, ℕ, ◌==◌, suc, ◌+◌, ◌-◌, ◌<◌, true, List, ◌∷◌, set, get_or, refl, sym, ap, ◌∙◌, arith, subst, length-set}
 use prog.Atomic.{either}
 use lib.ListN.{get_elem?}
 use mathlib.Core.Option.{some, some-injective}

@@ -1,13 +1,12 @@
 -- Rows that don't tell the numbers of a journal are refused.
-use Rattle.std.proofs.Common.{◌≡◌, ℕ, zero, suc, ◌+◌, ◌/◌, ◌^◌, ◌<◌, ◌≤◌, ◌&&◌, get_or, refl, true, false, Bool, List, [], ◌∷◌, ◌++◌, length, sym, ap, ◌∙◌, arith, length-append}
-use Rattle.std.specs.Prelude.{Option, Some, None, nat_eq}
+use Rattle.std.proofs.Common.{◌≡◌, ℕ, zero, suc, ◌+◌, ◌/◌, ◌^◌, ◌≤◌, ◌&&◌, get_or, refl, true, false, Bool, List, [], ◌∷◌, ◌++◌, length, ap, ◌∙◌, arith, length-append}
+use Rattle.std.specs.Prelude.{Some, None, nat_eq}
 use Rattle.rt_shares.specs.Charge.{InRange}
 use Rattle.rt_ids.specs.Closing.{IsDrained}
 use Rattle.rt_stats.specs.Stats.{core_stats, stats_of}
 use Rattle.rt_watch.specs.BadRows as bad
 use Rattle.rt_watch.specs.BadRows.{RowsAreRefused}
-use Rattle.rt_watch.specs.Tells.{Tells}
-use Rattle.rt_watch.specs.Words.{HasAt, place_of, queue_words, word_if}
+use Rattle.rt_watch.specs.Words.{HasAt, place_of, core_words, queue_words, word_if}
 
 none-some : (count : ℕ) → None ≡ Some count → ⊥
 none-some count e = cc
@@ -37,9 +36,12 @@ has row place (word ∷ words) e (suc i) within =
     let later = (both (nat_eq (get_or row place 0) word) (has_at row (suc place) words) e).1 in
     ap (λ (k : ℕ). get_or row k 0) (let e : place + suc i ≡ suc place + i = omega arith in e) ∙ has row (suc place) words later i (omega arith)
 
-right-queue : (queue : ℕ) → queue ≤ 1 → HasAt (bad.core ++ (bad.idle ++ bad.turned)) (place_of queue) (queue_words (stats_of 1 queue bad.one_turn)) × InRange (stats_of 1 queue bad.one_turn).shares
-right-queue zero low = (has _ 6 _ refl, record { positive = omega arith; bounded = omega arith })
-right-queue (suc zero) low = (has _ 15 _ refl, record { positive = omega arith; bounded = omega arith })
+abbrev row : List ℕ
+row = bad.core ++ (bad.idle ++ bad.turned)
+
+right-queue : (queue : ℕ) → queue ≤ 1 → HasAt row (place_of queue) (queue_words (stats_of 1 queue bad.one_turn)) × InRange (stats_of 1 queue bad.one_turn).shares
+right-queue zero low = (has row 6 (queue_words (stats_of 1 0 bad.one_turn)) refl, record { positive = omega arith; bounded = omega arith })
+right-queue (suc zero) low = (has row 15 (queue_words (stats_of 1 1 bad.one_turn)) refl, record { positive = omega arith; bounded = omega arith })
 right-queue (suc (suc queue)) low = absurd (omega arith)
 
 pub rows_refused : RowsAreRefused
@@ -47,7 +49,7 @@ rows_refused = record {
   right = record {
     core = core_stats false bad.one_turn;
     core_is = record { sums = refl; drained = (λ no. absurd (false-true no), λ (is : IsDrained 1 bad.one_turn). absurd (none-some 0 (is.delivered_all 0 (omega arith)))) };
-    core_stands = has _ 0 _ refl;
+    core_stands = has row 0 (core_words (core_stats false bad.one_turn) 2) refl;
     queue_stands = λ queue there placed. (right-queue queue (omega arith)).0;
     shares_fit = λ queue there placed. (right-queue queue (omega arith)).1;
   };

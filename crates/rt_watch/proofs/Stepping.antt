@@ -1,5 +1,5 @@
 -- The table behind a step of the publisher, and behind a step of any seat that changes no word.
-use Rattle.std.proofs.Common.{◌≡◌, ℕ, ◌+◌, ◌<◌, ◌≤◌, true, List, ◌∷◌, length, set, get_or, sym, ap, ◌∙◌, arith, subst, ⊎_elim}
+use Rattle.std.proofs.Common.{◌≡◌, ℕ, ◌<◌, ◌≤◌, true, List, ◌∷◌, length, set, get_or, sym, ap, ◌∙◌, arith, subst, ⊎_elim}
 use Rattle.std.proofs.lemmas.List.{set-get_or}
 use lib.ListN.{get_elem?}
 use mathlib.Core.Option.{some}

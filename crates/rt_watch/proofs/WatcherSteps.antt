@@ -1,13 +1,12 @@
 -- The steps of a watcher's seat: look, read and check, and how a seat is split.
-use Rattle.std.proofs.Common.{◌≡◌, ◌≢◌, ℕ, suc, ◌+◌, ◌<◌, ◌≤◌, true, false, List, [], ◌∷◌, ◌++◌, length, set, get_or, take, refl, sym, ap, ◌∙◌, arith, subst, length-append, ⊎_elim}
+use Rattle.std.proofs.Common.{◌≡◌, ℕ, suc, ◌+◌, ◌<◌, true, false, List, [], ◌∷◌, ◌++◌, length, set, get_or, take, refl, sym, ap, ◌∙◌, arith, subst, length-append, ⊎_elim}
 use mathlib.Core.Logic.{dite}
 use native.Mathlib.Decide.{ℕ_discrete}
 use lib.ListN.{get_elem?}
 use mathlib.Core.Option.{some}
 use Rattle.atomic_table.specs.Table.{State, Act, Valid, Allows, Splits, keeps, stepped, carried_after}
-use Rattle.atomic_table.proofs.Lists.{at_set, at_snoc, set_again}
+use Rattle.atomic_table.proofs.Lists.{at_snoc, set_again}
 use Rattle.rt_journal_notes.specs.Journals.{JournalView}
-use Rattle.rt_watch.specs.Growth.{Grows}
 use Rattle.rt_watch.specs.Rule.{IsBoard, IsTold}
 use Rattle.rt_watch.specs.Tells.{Tells}
 use Rattle.rt_watch.specs.Told.{Looks, Reads, Checks, Finds}

@@ -1,5 +1,5 @@
 -- What the publisher's seat knows on its way through a publication.
-use Rattle.std.proofs.Common.{◌≡◌, ℕ, ◌+◌, ◌-◌, ◌<◌, ◌≤◌, true, List, length, set, refl, sym, ap, ◌∙◌, arith, subst}
+use Rattle.std.proofs.Common.{◌≡◌, ℕ, ◌+◌, ◌-◌, ◌<◌, List, length, set, sym, ap, ◌∙◌, arith, subst}
 use Rattle.atomic_table.specs.Seated.{TableId}
 use Rattle.rt_ids.specs.Journal.{Journal}
 use Rattle.rt_watch.specs.Ends.{IsPublisher, IsWriting}

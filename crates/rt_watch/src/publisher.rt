@@ -1,6 +1,6 @@
 //! The end that publishes.
 
-ghost use Rattle.std.specs.Prelude.{◌≡◌, ◌↔◌, ℕ, ◌+◌, ◌-◌, ◌^◌, ◌<◌, true, IsTrue};
+ghost use Rattle.std.specs.Prelude.{◌≡◌, ◌↔◌, ◌+◌, ◌-◌, ◌^◌, ◌<◌, IsTrue};
 ghost use Rattle.rt_watch.specs.Growth.{Grows};
 ghost use Rattle.rt_watch.specs.Tells.{TellsCore, TellsQueues};
 

@@ -1,6 +1,6 @@
 //! How a board is opened.
 
-ghost use Rattle.std.specs.Prelude.{◌≡◌, ℕ, ◌+◌, [], ◌∷◌, length, IfOk, Ok};
+ghost use Rattle.std.specs.Prelude.{◌≡◌, ◌+◌, [], ◌∷◌, length, IfOk};
 ghost use Rattle.rt_watch.specs.Views.{first_view, watching};
 ghost use Rattle.rt_watch.specs.Words as spec;
 

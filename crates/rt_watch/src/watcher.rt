@@ -1,6 +1,6 @@
 //! The end that watches.
 
-ghost use Rattle.std.specs.Prelude.{◌≡◌, ℕ, ◌+◌, ◌<◌, ◌≤◌, false, IfOk, None};
+ghost use Rattle.std.specs.Prelude.{◌≡◌, ◌+◌, ◌<◌, ◌≤◌, false, IfOk, None};
 ghost use Rattle.rt_ids.specs.Commands.{created_count};
 ghost use Rattle.rt_stats.specs.Stats as spec;
 ghost use Rattle.rt_watch.specs.Growth.{Grows};
@@ -33,7 +33,7 @@ pub struct Watching {
 ///
 /// It tells the numbers that its last look found, and at first those of no note.
 ///
-/// No body of its calls asks for memory, takes a lock or waits; no clause says so.
+/// No body of its calls takes a lock or waits, and none except `again` asks for memory; no clause says so.
 #[derive(Drop)]
 pub struct Watcher {
     pub(crate) board: Arc<Board, Global>,

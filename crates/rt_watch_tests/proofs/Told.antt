@@ -1,6 +1,6 @@
 -- Which queues a journal has statistics of.
-use Rattle.std.proofs.Common.{◌≡◌, ℕ, ◌+◌, ◌<◌, ◌≤◌, true, false, Bool, List, refl, sym, ap, ◌∙◌, arith}
-use Rattle.std.specs.Prelude.{if◌then◌else◌, nat_le, Option, Some, None}
+use Rattle.std.proofs.Common.{◌≡◌, ℕ, ◌<◌, ◌≤◌, true, false, Bool, refl, sym, ◌∙◌, arith}
+use Rattle.std.specs.Prelude.{if◌then◌else◌, nat_le, Some, None}
 use Rattle.rt_ids.specs.declared.stats.QueueStats.{QueueStats}
 use Rattle.rt_ids.specs.Commands.{created_count}
 use Rattle.rt_ids.specs.Journal.{Journal}

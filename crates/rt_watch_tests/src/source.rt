@@ -1,6 +1,6 @@
 //! A core's journal as these tests write it, with the publisher of its numbers.
 
-ghost use Rattle.std.specs.Prelude.{◌≡◌, ◌+◌, ◌<◌, [], length, IfOk, IfSome};
+ghost use Rattle.std.specs.Prelude.{◌≡◌, ℕ, IfOk, IfSome};
 ghost use Rattle.rt_ids.specs.Journal.{Journal as Notes};
 ghost use Rattle.rt_stats.specs.Walks.{KnowsSums};
 ghost use Rattle.rt_watch.specs.Tells.{TellsQueues};

@@ -15,18 +15,22 @@ const LOOKS: u64 = 1 << 30;
 /// The jobs whose turns are published, each in a publication of its own.
 const JOBS: u64 = 100;
 
-/// A job and its turn: the queues take their turns.
-fn add_job(source: &mut Source, number: u64) {
-    let queue = if number % 2 == 0 { Q0 } else { Q1 };
-    let name = JobId {
+/// The job of this number.
+fn name_of(number: u64) -> JobId {
+    JobId {
         from: ActorNo(1),
         to: CoreNo(0),
         number,
-    };
-    source.add(Note::Took(name, queue));
+    }
+}
+
+/// A job and its turn: the queues take their turns.
+fn add_job(source: &mut Source, number: u64) {
+    let queue = if number % 2 == 0 { Q0 } else { Q1 };
+    source.add(Note::Took(name_of(number), queue));
     source.add(Note::Pick(queue, number as u128));
-    source.add(Note::Start(name));
-    source.add(Note::Done(name, 10, 0));
+    source.add(Note::Start(name_of(number)));
+    source.add(Note::Done(name_of(number), 10, 0));
 }
 
 /// Publishes behind each turn. Whether all was published.

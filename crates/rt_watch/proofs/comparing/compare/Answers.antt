@@ -1,5 +1,4 @@
-use Rattle.std.proofs.Common.{rules, ◌≡◌, ◌+◌, ◌≤◌, ◌∙◌, ap, sym, subst, arith}
-use Rattle.rt_watch.specs.Growth.{Grows}
+use Rattle.std.proofs.Common.{◌∙◌, ap, sym, arith}
 use Rattle.rt_watch.proofs.BothEnds.{same_table, joins, compares}
 use Rattle.rt_watch.proofs.WatcherSteps.{parts}
 use Rattle.rt_watch.proofs.comparing.compare.Goals as goal

@@ -1,7 +1,5 @@
-use Rattle.std.proofs.Common.{◌≡◌, ap, ◌∙◌, sym, refl, length, arith}
-use Rattle.rt_watch.specs.Views.{with_look, with_reads}
+use Rattle.std.proofs.Common.{ap, ◌∙◌, sym, arith}
 use Rattle.rt_watch.specs.Words.{place_of}
-use Rattle.rt_watch.proofs.Readers.{look-finds, look-misses}
 use Rattle.rt_watch.proofs.reading.look_on.Goals as goal
 
 pub look-at-requires : goal.look-at-requires

@@ -1,4 +1,4 @@
-use Rattle.std.proofs.Common.{◌≡◌, ℕ, ◌+◌, ◌<◌, ◌≤◌, ap, ◌∙◌, sym, refl, length, take, arith, length-set}
+use Rattle.std.proofs.Common.{◌≡◌, ap, ◌∙◌, refl, length, take, arith, length-set}
 use Rattle.std.proofs.Math.Seq.{take-length}
 use Rattle.rt_watch.specs.Views.{with_reads}
 use Rattle.rt_watch.specs.Words.{place_of}

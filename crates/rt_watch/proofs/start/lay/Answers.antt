@@ -1,4 +1,4 @@
-use Rattle.std.proofs.Common.{rules, ◌≡◌, ℕ, [], ◌∷◌, ◌∙◌, List, ap, sym, subst}
+use Rattle.std.proofs.Common.{rules, ℕ, [], ◌∷◌, ◌∙◌, List, ap, sym, subst}
 use Rattle.atomic_table.specs.Table.{opening}
 use Rattle.rt_watch.specs.Rule.{IsBoard}
 use Rattle.rt_watch.specs.Views.{first_view}

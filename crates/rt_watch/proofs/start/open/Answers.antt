@@ -1,4 +1,4 @@
-use Rattle.std.proofs.Common.{◌≡◌, ◌+◌, ◌∙◌, ap, sym, length}
+use Rattle.std.proofs.Common.{◌+◌, ◌∙◌, ap, sym, length}
 use Rattle.rt_watch.proofs.Beginning.{IsPublisher-first, IsWatcher-first}
 use Rattle.rt_watch.proofs.start.open.Goals as goal
 

@@ -1,4 +1,4 @@
-use Rattle.std.proofs.Common.{◌≡◌, ◌-◌, ◌<◌, ap, refl, arith}
+use Rattle.std.proofs.Common.{ap, refl, arith}
 use Rattle.rt_watch.proofs.PublisherSteps.{ends}
 use Rattle.rt_watch.proofs.writing.end.Goals as goal
 

@@ -1,7 +1,7 @@
-use Rattle.std.proofs.Common.{◌≡◌, ◌+◌, ◌≤◌, ap, ◌∙◌, sym, refl, length, arith, subst}
+use Rattle.std.proofs.Common.{◌+◌, ap, ◌∙◌, sym, refl, arith, subst}
 use Rattle.rt_watch.specs.Growth.{Grows}
 use Rattle.rt_watch.specs.Tells.{Tells}
-use Rattle.rt_watch.specs.Views.{with_begun, with_row, with_done}
+use Rattle.rt_watch.specs.Views.{with_row, with_done}
 use Rattle.rt_watch.proofs.Writers.{IsPublisher-begun, IsPublisher-done}
 use Rattle.rt_watch.proofs.Telling.{row-tells}
 use Rattle.rt_watch.proofs.writing.publish_on.Goals as goal

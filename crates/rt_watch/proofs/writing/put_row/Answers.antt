@@ -1,4 +1,4 @@
-use Rattle.std.proofs.Common.{◌≡◌, [], ◌≤◌, ◌+◌, ap, ◌∙◌, sym, refl, length, arith, subst}
+use Rattle.std.proofs.Common.{◌≡◌, [], ap, ◌∙◌, length, arith, subst}
 use Rattle.rt_watch.specs.Views.{with_row}
 use Rattle.rt_watch.specs.Words.{HasAt, core_words}
 use Rattle.rt_watch.proofs.Rows.{HasAt-kept}

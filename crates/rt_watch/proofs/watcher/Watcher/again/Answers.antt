@@ -1,4 +1,4 @@
-use Rattle.std.proofs.Common.{rules, ◌≡◌, ◌+◌, ◌≤◌, ◌∙◌, ap, sym, arith}
+use Rattle.std.proofs.Common.{◌∙◌, ap, sym, arith}
 use Rattle.rt_watch.proofs.Readers.{IsWatcher-again}
 use Rattle.rt_watch.proofs.WatcherSteps.{parts}
 use Rattle.rt_watch.proofs.watcher.Watcher.again.Goals as goal

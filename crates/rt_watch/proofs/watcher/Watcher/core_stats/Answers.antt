@@ -1,4 +1,4 @@
-use Rattle.std.proofs.Common.{◌≡◌, ◌+◌, ◌∙◌, ap, sym, subst}
+use Rattle.std.proofs.Common.{◌+◌, sym, subst}
 use Rattle.rt_ids.specs.Commands.{created_count}
 use Rattle.rt_watch.specs.Tells.{TellsCore}
 use Rattle.rt_watch.specs.Words.{HasAt, core_words}

@@ -1,4 +1,4 @@
-use Rattle.std.proofs.Common.{◌≡◌, ◌∙◌, refl, subst}
+use Rattle.std.proofs.Common.{◌∙◌, refl, subst}
 use Rattle.rt_watch.specs.Growth.{Grows}
 use Rattle.rt_watch.proofs.watcher.Watcher.look.Goals as goal
 

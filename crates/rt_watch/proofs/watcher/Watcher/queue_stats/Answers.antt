@@ -1,9 +1,9 @@
-use Rattle.std.proofs.Common.{◌≡◌, ℕ, ◌+◌, ◌<◌, ◌≤◌, ◌∙◌, List, ap, sym, subst, arith}
-use Rattle.std.specs.Prelude.{Some, slice_index}
+use Rattle.std.proofs.Common.{◌≡◌, ℕ, ◌≤◌, ◌∙◌, List, ap, sym, subst, arith}
+use Rattle.std.specs.Prelude.{slice_index}
 use Rattle.rt_shares.specs.Charge.{InRange}
 use Rattle.rt_ids.specs.Commands.{created_count}
 use Rattle.rt_stats.specs.Stats.{queue_stats}
-use Rattle.rt_watch.specs.Words.{HasAt, place_of, queue_words}
+use Rattle.rt_watch.specs.Words.{HasAt, queue_words}
 use Rattle.rt_watch.proofs.Telling.{shares-told, queue-told}
 use Rattle.rt_watch.proofs.watcher.Watcher.queue_stats.Goals as goal
 
