@@ -1,6 +1,6 @@
 //! The end that publishes.
 
-ghost use Rattle.std.specs.Prelude.{◌≡◌, ◌↔◌, ◌+◌, ◌-◌, ◌^◌, ◌<◌, IsTrue};
+ghost use Rattle.std.specs.Prelude.{◌≡◌, ◌↔◌, ◌+◌, ◌-◌, ◌^◌, ◌<◌, ◌≤◌, IsTrue};
 ghost use Rattle.rt_watch.specs.Growth.{Grows};
 ghost use Rattle.rt_watch.specs.Tells.{TellsCore, TellsQueues};
 
@@ -60,7 +60,7 @@ impl Publisher {
 
     /// Whether it has made as many publications as it may.
     pub fn is_spent(&self) -> bool
-        ensures { IsTrue result ↔ (self.now.count ≡ 2 ^ 64 - 1) }
+        ensures { IsTrue result ↔ (2 ^ 64 - 1 ≤ self.now.count) }
     {
         self.count == u64::MAX
     }

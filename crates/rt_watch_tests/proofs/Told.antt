@@ -1,6 +1,6 @@
 -- Which queues a journal has statistics of.
-use Rattle.std.proofs.Common.{◌≡◌, ℕ, ◌<◌, ◌≤◌, true, false, Bool, refl, sym, ◌∙◌, arith}
-use Rattle.std.specs.Prelude.{if◌then◌else◌, nat_le, Some, None}
+use Rattle.std.proofs.Common.{◌≡◌, ℕ, zero, suc, ◌<◌, ◌≤◌, true, false, Bool, List, [], ◌∷◌, ◌++◌, length, refl, sym, ◌∙◌, arith}
+use Rattle.std.specs.Prelude.{if◌then◌else◌, nat_le, Some, None, slice_get}
 use Rattle.rt_ids.specs.declared.stats.QueueStats.{QueueStats}
 use Rattle.rt_ids.specs.Commands.{created_count}
 use Rattle.rt_ids.specs.Journal.{Journal}
@@ -33,3 +33,15 @@ none-stats burst queue notes e = cases (nat_le queue (created_count notes)) refl
     cases : (b : Bool) → nat_le queue (created_count notes) ≡ b → created_count notes < queue
     cases true is = absurd (none-some (stats_of burst queue notes) (e ∙ (λ i. if is i then Some (stats_of burst queue notes) else None)))
     cases false is = (low-if queue (created_count notes) false is).1 refl
+
+-- the last of a list, and those before it
+pub get-last : (list : List QueueStats) (last : QueueStats) (i : ℕ) → i ≡ length list → slice_get (list ++ last ∷ []) i ≡ Some last
+get-last [] last zero is = refl
+get-last [] last (suc i) is = absurd (omega arith)
+get-last (x ∷ list) last zero is = absurd (omega arith)
+get-last (x ∷ list) last (suc i) is = get-last list last i (omega arith)
+
+pub get-before : (list : List QueueStats) (last : QueueStats) (i : ℕ) → i < length list → slice_get (list ++ last ∷ []) i ≡ slice_get list i
+get-before [] last i below = absurd (omega arith)
+get-before (x ∷ list) last zero below = refl
+get-before (x ∷ list) last (suc i) below = get-before list last i (omega arith)
