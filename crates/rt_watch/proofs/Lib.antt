@@ -1,0 +1,13 @@
+pub mod Lists
+pub mod Rows
+pub mod Stepping
+pub mod PublisherSteps
+pub mod WatcherSteps
+pub mod First
+pub mod Beginning
+pub mod Writers
+pub mod Readers
+pub mod Telling
+pub mod NeverFalling
+pub mod RowsRefused
+pub mod BothEnds

@@ -1,0 +1,9 @@
+pub mod Growth
+pub mod Words
+pub mod Tells
+pub mod Views
+pub mod Rule
+pub mod Told
+pub mod Ends
+pub mod Laws
+pub mod BadRows

@@ -1,0 +1,48 @@
+-- What each step tells the seat that makes it: of the seat before, the word found, and the seat after.
+use Rattle.std.specs.Prelude.{◌≡◌, ◌≢◌, ℕ, List, [], ◌∷◌, ◌++◌, length, slice_set, take}
+use mathlib.Core.Option.{Option, some}
+use Rattle.rt_ids.specs.Journal.{Journal}
+use Rattle.rt_journal_notes.specs.Journals.{JournalView}
+use Rattle.rt_watch.specs.Growth.{Grows}
+use Rattle.rt_watch.specs.Tells.{Tells}
+use Rattle.rt_watch.specs.Views.{Place, with_begun, with_row, with_done, with_look, with_reads, with_seen}
+use Rattle.rt_watch.specs.Words.{place_of}
+
+-- begin: so many publications are begun
+abbrev pub Begins : ℕ → Place → ℕ → Place → Type 0
+Begins count old found new = new ≡ (with_begun old.0 count, old.1)
+
+-- put: the word of the row at this place is this one
+abbrev pub Puts : ℕ → ℕ → Place → ℕ → Place → Type 0
+Puts place word old found new = new ≡ (with_row old.0 (slice_set old.0.published.row place word), old.1)
+
+-- end: so many publications are done, the last of which was of the notes of this journal
+abbrev pub Ends : ℕ → Option (JournalView ℕ) → Place → ℕ → Place → Type 0
+Ends count said old found new = (journal : JournalView ℕ) → said ≡ some journal → new ≡ (with_done old.0 count journal.notes, old.1)
+
+-- look: so many publications are done, and no word of the row was read yet
+abbrev pub Looks : Place → ℕ → Place → Type 0
+Looks old found new = new ≡ (with_look old.0 found, old.1)
+
+-- read: one more word was read
+abbrev pub Reads : Place → ℕ → Place → Type 0
+Reads old found new = new ≡ (with_reads old.0 (old.0.looked.read ++ found ∷ []), old.1)
+
+-- the words that were read are the first of a row that tells the numbers of some notes, which begin with those that were seen
+pub record Finds (old new : Place) : Type 0 where
+  pub notes : Journal ℕ
+  pub row : List ℕ
+  pub seen : new ≡ (with_seen old.0 notes, old.1)
+  pub grows : Grows old.0.looked.seen notes
+  pub reads : old.0.looked.read ≡ take (length old.0.looked.read) row
+  pub wide : length row ≡ place_of old.0.terms.places
+  pub tells : Tells old.0.terms notes row
+
+-- check: if no more publications were begun than were done when the look began, then the look found one publication
+pub record Checks (old : Place) (found : ℕ) (new : Place) : Type 0 where
+  pub same : found ≡ old.0.looked.at → Finds old new
+  pub other : found ≢ old.0.looked.at → new ≡ old
+
+-- compare: the notes that were published last begin with those that were seen
+abbrev pub Compares : Place → ℕ → Place → Type 0
+Compares old found new = (new ≡ old) × Grows old.0.looked.seen old.0.published.notes

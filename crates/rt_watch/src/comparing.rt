@@ -1,0 +1,23 @@
+//! What a watcher has seen, beside what was published.
+
+ghost use Rattle.std.specs.Prelude.{◌≡◌};
+ghost use Rattle.rt_watch.specs.Growth.{Grows};
+
+use crate::board::BEGUN;
+use crate::plays::{Beside, Compare, Further};
+use crate::publisher::Publisher;
+use crate::watcher::Watcher;
+
+/// Tells, for proofs alone, that the notes which were published last begin with those whose numbers the watcher tells. Both ends stay as they are.
+pub fn compare(publisher: &mut Publisher, watcher: &mut Watcher)
+    requires { watcher.old.board ≡ publisher.old.board }
+    ensures publisher { publisher.new ≡ publisher.old }
+    ensures watcher { watcher.new ≡ watcher.old }
+    ensures grows { Grows watcher.old.notes publisher.old.notes }
+{
+    let shared = &publisher.board.shared;
+    let other = shared.split_seat::<Further>(&mut watcher.seat);
+    shared.join_seat::<Beside>(&mut publisher.seat, other);
+    // step: compare.
+    let _begun = shared.load::<Compare>(&mut publisher.seat, BEGUN);
+}

@@ -1,0 +1,146 @@
+//! The steps of the publisher's seat.
+
+ghost use Rattle.std.specs.Prelude.{◌≡◌, ℕ, ◌+◌, ◌-◌, ◌<◌, ◌≤◌, ◌^◌, [], true, length, slice_get, slice_set, Some};
+ghost use Rattle.rt_ids.specs.declared.stats.QueueStats.{QueueStats as Queue};
+ghost use Rattle.rt_shares.specs.Charge.{InRange};
+ghost use Rattle.rt_watch.specs.Ends.{IsPublisher, IsWriting};
+ghost use Rattle.rt_watch.specs.Growth.{Grows};
+ghost use Rattle.rt_watch.specs.Tells.{Tells, TellsCore, TellsQueues};
+ghost use Rattle.rt_watch.specs.Views.{with_begun, with_row, with_done};
+ghost use Rattle.rt_watch.specs.Words.{HasAt, Writes};
+ghost use Rattle.rt_watch.specs.Words as spec;
+
+use crate::board::{BEGUN, Board, DONE, Place, ROW, Terms};
+use crate::plays::{Begin, End, Put};
+use crate::words::{core_words, place_of, words_at};
+use rt_ids::{CoreStats, QueueStats};
+use rt_journal_notes::RunningJournal;
+
+/// So many publications are begun.
+fn begin(board: &Board, seat: &mut Place, count: u64)
+    requires board { (seat.old.table_id ≡ board.now.shared.table_id) × (2 ≤ board.now.shared.table_id.words) }
+    requires publishes { seat.old.me.0.publishes ≡ true }
+    requires next { seat.old.me.0.published.done < count }
+    ensures table { seat.new.table_id ≡ seat.old.table_id }
+    ensures view { seat.new.me.0 ≡ with_begun seat.old.me.0 count }
+{
+    // step: begin. From here on no look that is on the way finds one publication.
+    board.shared.store::<Begin>(seat, BEGUN, count);
+}
+
+/// The word of the row at this place becomes this one, and in the publisher's own row too. A word that is so already isn't stored.
+fn put(board: &Board, seat: &mut Place, row: &mut Vec<u64>, place: usize, word: u64)
+    requires writing { IsWriting seat.old.table_id board.now.shared.table_id seat.old.me row.old.items }
+    requires within { place < length row.old.items }
+    ensures writing { IsWriting seat.new.table_id board.now.shared.table_id seat.new.me row.new.items }
+    ensures table { seat.new.table_id ≡ seat.old.table_id }
+    ensures view { seat.new.me.0 ≡ with_row seat.old.me.0 row.new.items }
+    ensures row { row.new.items ≡ slice_set row.old.items place word }
+{
+    if row[place] == word {
+        return;
+    }
+    // step: put. The two counts differ meanwhile.
+    board.shared.store::<Put>(seat, ROW + place, word);
+    row[place] = word;
+}
+
+/// The words of the row from this place on become these.
+fn put_words(board: &Board, seat: &mut Place, row: &mut Vec<u64>, place: usize, words: &[u64])
+    requires writing { IsWriting seat.old.table_id board.now.shared.table_id seat.old.me row.old.items }
+    requires within { place + length words.now ≤ length row.old.items }
+    ensures writing { IsWriting seat.new.table_id board.now.shared.table_id seat.new.me row.new.items }
+    ensures table { seat.new.table_id ≡ seat.old.table_id }
+    ensures view { seat.new.me.0 ≡ with_row seat.old.me.0 row.new.items }
+    ensures writes { Writes place words.now row.old.items row.new.items }
+{
+    for index in 0..words.len() {
+        put(board, seat, row, place + index, words[index]);
+    }
+}
+
+/// The words of each queue that has a place become those of its numbers.
+fn put_queues(
+    board: &Board,
+    seat: &mut Place,
+    row: &mut Vec<u64>,
+    places: usize,
+    queues: &[QueueStats],
+)
+    requires writing { IsWriting seat.old.table_id board.now.shared.table_id seat.old.me row.old.items }
+    requires places { (places < 2 ^ 16) × (length row.old.items ≡ spec.place_of places) }
+    ensures writing { IsWriting seat.new.table_id board.now.shared.table_id seat.new.me row.new.items }
+    ensures table { seat.new.table_id ≡ seat.old.table_id }
+    ensures view { seat.new.me.0 ≡ with_row seat.old.me.0 row.new.items }
+    ensures writes { Writes 6 [] row.old.items row.new.items }
+    ensures has { (queue : ℕ) (stats : Queue) → queue < places → slice_get queues.now queue ≡ Some stats → HasAt row.new.items (spec.place_of queue) (spec.queue_words stats) × InRange stats.shares }
+{
+    for number in 0..queues.len().min(places) {
+        let words = words_at(queues, number);
+        put_words(board, seat, row, place_of(number), &words);
+    }
+}
+
+/// The row becomes that of these numbers.
+fn put_row(
+    board: &Board,
+    seat: &mut Place,
+    row: &mut Vec<u64>,
+    places: usize,
+    core: &CoreStats,
+    queues: &[QueueStats],
+)
+    requires writing { IsWriting seat.old.table_id board.now.shared.table_id seat.old.me row.old.items }
+    requires places { (places < 2 ^ 16) × (length row.old.items ≡ spec.place_of places) }
+    ensures table { seat.new.table_id ≡ seat.old.table_id }
+    ensures view { seat.new.me.0 ≡ with_row seat.old.me.0 row.new.items }
+    ensures wide { length row.new.items ≡ length row.old.items }
+    ensures core { HasAt row.new.items 0 (spec.core_words core.now (length queues.now)) }
+    ensures queues { (queue : ℕ) (stats : Queue) → queue < places → slice_get queues.now queue ≡ Some stats → HasAt row.new.items (spec.place_of queue) (spec.queue_words stats) × InRange stats.shares }
+{
+    let head = core_words(core, queues.len());
+    put_words(board, seat, row, 0, &head);
+    put_queues(board, seat, row, places, queues);
+}
+
+/// So many publications are done, the last of which was of the notes of this journal.
+fn end(board: &Board, seat: &mut Place, count: u64, journal: &RunningJournal<u64>)
+    requires board { (seat.old.table_id ≡ board.now.shared.table_id) × (2 ≤ board.now.shared.table_id.words) }
+    requires publishes { (seat.old.me.0.publishes ≡ true) × (seat.old.me.0.knows ≡ true) }
+    requires begun { (seat.old.me.0.published.done + 1 ≡ count) × (seat.old.me.0.published.begun ≡ count) }
+    requires grows { Grows seat.old.me.0.published.notes journal.now.notes }
+    requires tells { Tells seat.old.me.0.terms journal.now.notes seat.old.me.0.published.row }
+    ensures table { seat.new.table_id ≡ seat.old.table_id }
+    ensures view { seat.new.me.0 ≡ with_done seat.old.me.0 count journal.now.notes }
+{
+    // step: end. No other seat changes the word, so this one try succeeds.
+    let _before = board
+        .shared
+        .compare_exchange_with::<End>(seat, DONE, count - 1, count, journal);
+}
+
+/// Publishes these numbers, behind so many publications.
+pub(crate) fn publish_on(
+    board: &Board,
+    seat: &mut Place,
+    row: &mut Vec<u64>,
+    terms: Terms,
+    count: u64,
+    journal: &RunningJournal<u64>,
+    core: &CoreStats,
+    queues: &[QueueStats],
+)
+    requires publisher { IsPublisher seat.old.table_id board.now.shared.table_id seat.old.me terms row.old.items count }
+    requires spent { count < 2 ^ 64 - 1 }
+    requires grows { Grows seat.old.me.0.published.notes journal.now.notes }
+    requires core { TellsCore terms.cores journal.now.notes core.now }
+    requires queues { TellsQueues terms.burst journal.now.notes queues.now }
+    ensures publisher { IsPublisher seat.new.table_id board.now.shared.table_id seat.new.me terms row.new.items (count + 1) }
+    ensures table { seat.new.table_id ≡ seat.old.table_id }
+    ensures notes { seat.new.me.0.published.notes ≡ journal.now.notes }
+{
+    let next = count + 1;
+    begin(board, seat, next);
+    put_row(board, seat, row, terms.places as usize, core, queues);
+    end(board, seat, next, journal);
+}
