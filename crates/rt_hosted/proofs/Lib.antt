@@ -1,1 +1,5 @@
 mod Asked
+pub mod Kept
+pub mod OnIns
+pub mod OnOuts
+pub mod Turned

@@ -36,11 +36,14 @@ told_of (Err error.Spent) = Err refusal.Spent
 abbrev pub EndsIfOpen : RecordedView HostJob ℕ → RecordedView HostJob ℕ → Type 0
 EndsIfOpen old over = ((queue_in_turn old.core.bursts.burst old.journal.notes ≡ None) × (over ≡ old)) ⊎ ((time : ℕ) × EndsTurn old time over)
 
--- the open turn goes on with the first job of its queue, or there is a pick once no turn is open
+-- the open turn goes on with the first job of its queue
+abbrev pub GoesOn : RecordedView HostJob ℕ → Turned → RecordedView HostJob ℕ → Type 0
+GoesOn old (Ok turn) new = Follows old (Some turn) new
+GoesOn old (Err error) new = ⊥
+
+-- the open turn goes on, or there is a pick once no turn is open
 abbrev pub TurnsTo : RecordedView HostJob ℕ → Turned → RecordedView HostJob ℕ → Type 0
-TurnsTo old turned new =
-    ((followed : Turn HostJob) × (turned ≡ Ok followed) × Follows old (Some followed) new)
-    ⊎ ((over : RecordedView HostJob ℕ) × EndsIfOpen old over × Picks host_meaning over turned new)
+TurnsTo old turned new = GoesOn old turned new ⊎ ((over : RecordedView HostJob ℕ) × EndsIfOpen old over × Picks host_meaning over turned new)
 
 -- a turn, and what the host is told of it
 pub record Goes (old : HostedView) (told : Result Picked Refusal) (new : HostedView) : Type 0 where

@@ -14,7 +14,8 @@ ghost use Rattle.rt_hosted.specs.Turns.{Nexts, SettlesStep};
 use crate::answers::{Picked, Refusal};
 use crate::job::HostJob;
 use crate::lent::{collect_on, deliver_on, shut_on};
-use crate::outs::{detach_on, host_order, redeem_on, submit_on};
+use crate::outs::{detach_on, redeem_on, submit_on};
+use crate::told::host_order;
 use crate::turns::{Run, go_on, settle_on};
 use crate::word::poll_told;
 use arrayvec::ArrayVec;
@@ -53,7 +54,7 @@ impl Model for Hosted {
 
 impl Hosted {
     /// Opens the core that has these ends, with queue 0 alone.
-    pub(crate) fn open(
+    pub fn open(
         alloc: Global,
         ends: Ends<HostJob>,
         cores: u8,

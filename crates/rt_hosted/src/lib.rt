@@ -3,9 +3,10 @@
 
 pub mod answers;
 pub mod hosted;
-mod job;
+pub mod job;
 mod lent;
 mod outs;
+pub mod told;
 mod turns;
 mod word;
 

@@ -11,6 +11,7 @@ ghost use Rattle.rt_journal_desk.specs.Ends.{KeepsOuts};
 ghost use Rattle.rt_link.specs.Fits.{Fits};
 ghost use Rattle.rt_ring_mesh.specs.Ends.{SameEnds};
 ghost use Rattle.rt_runtime_worker.specs.Linked.{AreBeside, AreOwing, SeesNoLess, StaysLinked};
+ghost use Rattle.rt_hosted.specs.declared.answers.Picked.TheVariants.{Start, Resume};
 ghost use Rattle.rt_hosted.specs.Hosted.{IsHosted, IsRunOf};
 ghost use Rattle.rt_hosted.specs.Jobs.{host_meaning};
 ghost use Rattle.rt_hosted.specs.Turns.{EndsIfOpen, Goes, TurnsTo};
@@ -18,7 +19,7 @@ ghost use Rattle.rt_hosted.specs.Turns.{EndsIfOpen, Goes, TurnsTo};
 use crate::answers::{Picked, Refusal};
 use crate::job::HostJob;
 use rt_core::{PickError, Settled, Turn};
-use rt_ids::{JobId, Order, Reason};
+use rt_ids::{JobId, Order, QueueNo, Reason};
 use rt_jobs::Ran;
 use rt_journal::Recorded;
 use rt_ring_mesh::Ends;
@@ -28,6 +29,24 @@ use rt_ring_mesh::Ends;
 pub(crate) struct Run {
     pub(crate) name: JobId,
     pub(crate) job: HostJob,
+}
+
+/// The host is to run this job of a queue for the first time.
+fn started(run: Run, queue: QueueNo) -> (Result<Picked, Refusal>, Option<Run>)
+    ensures told { result.0 ≡ Ok (Start run.name queue run.job.handle) }
+    ensures run { result.1 ≡ Some run }
+{
+    let told = Picked::Start(run.name, queue, run.job.handle);
+    (Ok(told), Some(run))
+}
+
+/// The host is to run this job again.
+fn resumed(run: Run, queue: QueueNo) -> (Result<Picked, Refusal>, Option<Run>)
+    ensures told { result.0 ≡ Ok (Resume run.name queue run.job.handle) }
+    ensures run { result.1 ≡ Some run }
+{
+    let told = Picked::Resume(run.name, queue, run.job.handle);
+    (Ok(told), Some(run))
 }
 
 /// Takes out the next job of the open turn. If none is open, or the open one may not go on and is ended, there is none.
@@ -107,14 +126,8 @@ pub(crate) fn go_on(
     ensures stays { StaysLinked (record { recorded = recorded.old; ends = ends.old }) (record { recorded = recorded.new; ends = ends.new }) }
 {
     match take_out(recorded) {
-        Ok(Turn::Start(name, queue, job)) => {
-            let told = Picked::Start(name, queue, job.handle);
-            (Ok(told), Some(Run { name, job }))
-        }
-        Ok(Turn::Resume(name, queue, job)) => {
-            let told = Picked::Resume(name, queue, job.handle);
-            (Ok(told), Some(Run { name, job }))
-        }
+        Ok(Turn::Start(name, queue, job)) => started(Run { name, job }, queue),
+        Ok(Turn::Resume(name, queue, job)) => resumed(Run { name, job }, queue),
         Ok(Turn::Back(name, reason, order)) => {
             give_on(recorded, ends, name, reason, order);
             (Ok(Picked::Back(name, reason)), None)

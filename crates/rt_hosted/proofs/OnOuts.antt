@@ -1,0 +1,145 @@
+-- A core and its ends after a call on the end to one core.
+use Rattle.std.proofs.Common.{◌≡◌, ◌≢◌, inl, inr, ℕ, ◌+◌, ◌<◌, ◌≤◌, get_or, length, set, get_or-set_same, get_or-set_other, length-set, refl, sym, ◌∙◌, ap, subst, arith}
+use Rattle.std.specs.Prelude.{Some, Result, Ok, Err, [], ◌∷◌, slice_get}
+use Rattle.std.proofs.lemmas.Bool.Decides.{eqb_tells}
+use Rattle.std.proofs.lemmas.List.{get_or_default}
+use Rattle.std.proofs.lemmas.Option.{slice_get-get_or}
+use Rattle.rt_ids.specs.declared.names.JobId.{JobId}
+use Rattle.rt_ids.specs.declared.names.TicketError.{TicketError}
+use Rattle.rt_ids.specs.declared.names.TicketError.TheVariants.{Unknown, Gone, Pending}
+use Rattle.rt_ids.specs.declared.note.Note.TheVariants.{Sent, Redeemed, Detached}
+use Rattle.rt_ids.specs.declared.order.Order.{Order}
+use Rattle.rt_ids.specs.declared.order.Outcome.{Outcome}
+use Rattle.rt_ids.specs.declared.order.SendError.{SendError}
+use Rattle.rt_ids.specs.declared.order.SendError.TheVariants.{Closed, Full, Spent, NoCore}
+use Rattle.rt_ids.specs.Orders.{without_job}
+use Rattle.rt_ids.specs.Outcomes.{outcome_note}
+use Rattle.rt_desk.proofs.Cores.{changed, unchanged}
+use Rattle.rt_jobs.specs.Meanings.{Meaning}
+use Rattle.rt_link.specs.declared.ends.Outward.{Outward}
+use Rattle.rt_link.specs.Calls.{Sends}
+use Rattle.rt_link.specs.Fits.{Fits}
+use Rattle.rt_ring.specs.declared.ring_out.Sending.{Sending}
+use Rattle.rt_journal.specs.Recorded.{RecordedView, desk_of}
+use Rattle.rt_journal.specs.Ends.{IsSameSeat, KeepsIn}
+use Rattle.rt_journal_desk.specs.Ends.{IsOutOf}
+use Rattle.rt_journal_desk.specs.Posts.{AreOutsOf}
+use Rattle.rt_journal_desk.specs.Submissions.{DeskView, Submits, numbered}
+use Rattle.rt_journal_desk.specs.Tickets.{HasLane, StaysBeside, RedeemsTicket, DetachesTicket}
+use Rattle.rt_ring_mesh.specs.Ends.{EndsView, out_at, no_out, SameEnds}
+use Rattle.rt_ring_mesh.proofs.Using.{out_used}
+use Rattle.rt_runtime_worker.specs.Linked.{AreBeside, Grows, SeesNoLess, StaysLinked}
+use Rattle.rt_runtime_worker.specs.Queues.{opening_of}
+use Rattle.rt_runtime_worker.proofs.Along.{grows_same}
+use Rattle.rt_runtime_worker.proofs.Posted.{resent_beside}
+use Rattle.rt_runtime_worker.proofs.Seen.{out_put_sees}
+use Rattle.rt_runtime_worker.proofs.Stepping.{Opens}
+use Rattle.rt_hosted.specs.Submissions.{UsesOut}
+
+module _ {J T : Type 0} where
+  -- the journal has grown by what was noted, and that created nothing
+  pub record Adds (old new : DeskView J T) : Type 0 where
+    pub opening : opening_of new.journal.notes ≡ opening_of old.journal.notes
+    pub grows : Grows old.journal.notes new.journal.notes
+
+  adds_none : (old new : DeskView J T) → new ≡ old → Adds old new
+  adds_none old new same = record { opening = ap (λ (desk : DeskView J T). opening_of desk.journal.notes) same; grows = ([], ap (λ (desk : DeskView J T). desk.journal.notes) same) }
+
+  pub submits_add : (to : ℕ) (order : Order J) (old : DeskView J T) (answer : Result JobId (SendError J)) (new : DeskView J T) → Submits to order old answer new → Adds old new
+  submits_add to order old (Ok name) new submits = record {
+    opening = ap (λ journal. opening_of journal.notes) submits.2;
+    grows = (Sent name (without_job order) ∷ [], ap (λ journal. journal.notes) submits.2);
+  }
+  submits_add to order old (Err (Closed back final)) new submits = adds_none old new submits.2
+  submits_add to order old (Err (Full back)) new submits = adds_none old new submits.2
+  submits_add to order old (Err (Spent back)) new submits = adds_none old new submits.3
+  submits_add to order old (Err (NoCore back)) new submits = absurd submits
+
+  pub redeems_add : (name : JobId) (old : DeskView J T) (answer : Result (Outcome J T) TicketError) (new : DeskView J T) → RedeemsTicket name old answer new → Adds old new
+  redeems_add name old (Ok outcome) new redeems = record {
+    opening = ap (λ journal. opening_of journal.notes) redeems.2;
+    grows = (Redeemed name (outcome_note outcome) ∷ [], ap (λ journal. journal.notes) redeems.2);
+  }
+  redeems_add name old (Err error) new redeems = adds_none old new redeems.1
+
+  pub detaches_add : (name : JobId) (old : DeskView J T) (answer : Result (Unit {0}) TicketError) (new : DeskView J T) → DetachesTicket name old answer new → Adds old new
+  detaches_add name old (Ok done) new detaches = record {
+    opening = ap (λ journal. opening_of journal.notes) detaches.1;
+    grows = (Detached name ∷ [], ap (λ journal. journal.notes) detaches.1);
+  }
+  detaches_add name old (Err Unknown) new detaches = adds_none old new detaches.1
+  detaches_add name old (Err Gone) new detaches = adds_none old new detaches.1
+  detaches_add name old (Err Pending) new detaches = absurd detaches
+
+  -- a send sees no more than before
+  pub sends_seen : (old : Outward J T) (credited : ℕ) (order : Order J) (new : Outward J T) (answer : Result ℕ (SendError J)) → Sends old credited order new answer → new.seen ≡ old.seen
+  sends_seen old credited order new (Ok number) sends = ap (λ out. out.seen) sends.4
+  sends_seen old credited order new (Err (Closed back final)) sends = ap (λ out. out.seen) sends.2
+  sends_seen old credited order new (Err (Full back)) sends = ap (λ out. out.seen) sends.3
+  sends_seen old credited order new (Err (Spent back)) sends = ap (λ out. out.seen) sends.4
+  sends_seen old credited order new (Err (NoCore back)) sends = absurd sends
+
+module _ {J T : Type 0} (meaning : Meaning J T) (core : ℕ) (recorded : RecordedView J T) (ends : EndsView J T) (known : core < recorded.core.cores) (at : ℕ) (inside : EndsView J T)
+    (opens : Opens core ends at inside) (before : Sending J T) (is : before ≡ get_or inside.outs at before) (beside : AreBeside (Fits meaning) recorded ends) where
+  out_in_place : core < length ends.outs
+  out_in_place = omega (arith, known, beside.outs.count)
+
+  pub out_here : before ≡ out_at core ends
+  out_here =
+      subst (λ number. before ≡ get_or ends.outs number before) opens.number (subst (λ ends. before ≡ get_or ends.outs at before) opens.seen is)
+      ∙ get_or_default ends.outs core before no_out out_in_place
+
+  out_there : slice_get ends.outs core ≡ Some before
+  out_there = subst (λ end. slice_get ends.outs core ≡ Some end) (sym out_here) (slice_get-get_or ends.outs core no_out out_in_place)
+
+  pub out_beside : IsOutOf core (desk_of recorded) before.out before.credited
+  out_beside = beside.outs.beside core before out_there
+
+  pub out_lane : HasLane (Fits meaning) core (desk_of recorded) before.out before.credited
+  out_lane = beside.outs.lanes core before out_there
+
+  module _ (now : RecordedView J T) (after : Sending J T) where
+    -- the end is put back
+    put_seen : record ends { outs = set ends.outs core after } ≡ record inside { outs = set inside.outs at after }
+    put_seen = ap (λ number. record ends { outs = set ends.outs number after }) (sym opens.number) ∙ ap (λ (ends : EndsView J T). record ends { outs = set ends.outs at after }) (sym opens.seen)
+
+    pub out_now : out_at core (record inside { outs = set inside.outs at after }) ≡ after
+    out_now = subst (λ (ends : EndsView J T). out_at core ends ≡ after) put_seen (get_or-set_same ends.outs core after no_out out_in_place)
+
+    -- no other end changes
+    pub out_uses : UsesOut core ends (record inside { outs = set inside.outs at after })
+    out_uses =
+        subst (UsesOut core ends) put_seen
+        (record { others = λ other away. get_or-set_other ends.outs core other after no_out away; rest = refl })
+
+    pub out_stays : IsSameSeat recorded now → after.link ≡ before.link → length before.out.seen ≤ length after.out.seen → Adds (desk_of recorded) (desk_of now) →
+        StaysLinked (record { recorded = recorded; ends = ends }) (record { recorded = now; ends = record inside { outs = set inside.outs at after } })
+    out_stays seat link longer adds =
+        let same : length before.out.seen ≡ length (out_at core ends).out.seen = ap (λ (end : Sending J T). length end.out.seen) out_here in
+        record {
+          seat = seat;
+          sees = subst (SeesNoLess ends) put_seen (out_put_sees core ends after out_in_place (omega (arith, longer, same)));
+          ends = subst (SameEnds ends) put_seen (out_used ends core after out_in_place (link ∙ ap (λ (end : Sending J T). end.link) out_here));
+          opening = adds.opening;
+          grows = adds.grows;
+        }
+
+    module _ (stays : StaysBeside (Fits meaning) core (desk_of recorded) (desk_of now) after.out after.credited) where
+      outs_now : AreOutsOf (Fits meaning) (λ (end : Sending J T). end.out) (λ (end : Sending J T). end.credited) (desk_of now) (set ends.outs core after)
+      outs_now = record {
+        count = length-set ends.outs core after ∙ (beside.outs.count ∙ ap (λ desk. desk.cores) (sym stays.rest));
+        beside = λ other its at. elim (eqb_tells other core) [
+          | inl one ↦ subst (λ (end : Sending J T). IsOutOf other (desk_of now) end.out end.credited) (sym (changed ends.outs core other after its at one.1)) (subst (λ core. IsOutOf core (desk_of now) after.out after.credited) (sym one.1) stays.beside)
+          | inr away ↦ (stays.others other away.1).each its.out its.credited (beside.outs.beside other its (unchanged ends.outs core other after its at away.1))
+        ];
+        lanes = λ other its at. elim (eqb_tells other core) [
+          | inl one ↦ subst (λ (end : Sending J T). HasLane (Fits meaning) other (desk_of now) end.out end.credited) (sym (changed ends.outs core other after its at one.1)) (subst (λ core. HasLane (Fits meaning) core (desk_of now) after.out after.credited) (sym one.1) stays.lane)
+          | inr away ↦
+              let had = beside.outs.lanes other its (unchanged ends.outs core other after its at away.1) in
+              record { lane = had.lane; is = stays.lanes other away.1 ∙ had.is; lane_of = had.lane_of }
+        ];
+      }
+
+      pub out_put_beside : ((sender : ℕ) → KeepsIn sender recorded now) → IsSameSeat recorded now → AreBeside (Fits meaning) now (record inside { outs = set inside.outs at after })
+      out_put_beside ins seat =
+          subst (AreBeside (Fits meaning) now) put_seen (resent_beside recorded now ends ends refl (set ends.outs core after) beside ins seat outs_now)
