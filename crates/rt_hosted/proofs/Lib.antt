@@ -1,4 +1,5 @@
 mod Asked
+pub mod Begun
 pub mod Kept
 pub mod OnIns
 pub mod OnOuts

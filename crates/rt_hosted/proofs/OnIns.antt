@@ -33,7 +33,7 @@ settled_open name time Parked before = refl
 settled_open name time Stayed before = refl
 settled_open name time (Finished answer) before = refl
 
-module _ {J T : Type 0} {meaning : Meaning J T} (sender : ℕ) (recorded now : RecordedView J T) (ends : EndsView J T) (at : ℕ) (inside : EndsView J T) (before after : Receiving J T) (opens : Opens sender ends at inside)
+module _ {J T : Type 0} (meaning : Meaning J T) (sender : ℕ) (recorded now : RecordedView J T) (ends : EndsView J T) (at : ℕ) (inside : EndsView J T) (before after : Receiving J T) (opens : Opens sender ends at inside)
     (beside : AreBeside (Fits meaning) recorded ends) (known : sender ≤ recorded.core.cores) (is : lent at inside before) where
   before_is : before ≡ in_at sender ends
   before_is = lent_here sender recorded ends at inside before opens beside known is

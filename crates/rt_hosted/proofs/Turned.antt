@@ -1,37 +1,38 @@
 -- What a turn notes, which job it leaves out, and what it leaves of the ends.
-use Rattle.std.proofs.Common.{◌≡◌, ℕ, ◌+◌, ◌≤◌, inl, inr, length, refl, sym, ◌∙◌, ap, subst, arith}
-use Rattle.std.specs.Prelude.{Bool, true, false, Option, Some, None, is_some, [], ◌∷◌, Result, Ok, Err}
+use Rattle.std.proofs.Common.{◌≡◌, ℕ, ◌+◌, ◌<◌, ◌≤◌, inl, inr, length, refl, sym, ◌∙◌, ap, subst, arith}
+use Rattle.std.specs.Prelude.{Bool, true, false, Option, Some, None, is_some, [], ◌∷◌, Ok, Err}
 use Rattle.rt_ids.specs.declared.names.JobId.{JobId}
 use Rattle.rt_ids.specs.declared.note.Note.TheVariants as writes
+use Rattle.rt_ids.specs.declared.order.Mode.{Mode}
 use Rattle.rt_ids.specs.declared.order.Order.{Order}
 use Rattle.rt_ids.specs.declared.order.Reason.{Reason}
 use Rattle.rt_ids.specs.Journal.{Journal}
-use Rattle.rt_jobs.specs.Meanings.{Meaning}
 use Rattle.rt_core.specs.declared.turn.Turn.{Turn}
 use Rattle.rt_core.specs.declared.turn.Turn.TheVariants.{Start, Resume, Back, Idle}
-use Rattle.rt_core.specs.declared.turn.PickError.{PickError}
 use Rattle.rt_core.specs.declared.turn.PickError.TheVariants.{Busy, Spent}
 use Rattle.rt_link.specs.Fits.{Fits}
 use Rattle.rt_journal_notes.specs.Journals.{JournalView}
 use Rattle.rt_journal.specs.Polls.{poll_note}
 use Rattle.rt_journal.specs.Recorded.{RecordedView, IsRecorded, desk_of, order_taken}
-use Rattle.rt_journal.specs.Ends.{IsSameSeat, KeepsIn}
+use Rattle.rt_ids.specs.declared.note.OutcomeNote.{OutcomeNote}
+use Rattle.rt_journal.specs.Ends.{IsSameSeat, KeepsIn, LeavesOwed}
+use Rattle.rt_journal.specs.Owed.{owed_back}
 use Rattle.rt_ids.specs.Work.{number_if}
-use Rattle.rt_core.specs.State.{JobOut}
 use Rattle.rt_jobs.specs.Steps.{AfterPoll}
 use Rattle.rt_core.specs.declared.turn.Settled.{Settled}
-use Rattle.rt_journal.specs.Turns.{Follows, IsFurther, IsHandBack, IsOutUnder, IsPick, Picks, Settles}
+use Rattle.rt_journal.specs.Steps.{ClosesItself}
+use Rattle.rt_journal.specs.Turns.{Follows, IsFurther, IsHandBack, IsPick, Picks, Settles}
 use Rattle.rt_journal_desk.specs.Ends.{KeepsOuts}
 use Rattle.rt_ring_mesh.proofs.Using.{ends_same}
 use Rattle.rt_ring_mesh.specs.Ends.{EndsView}
 use Rattle.rt_runtime_worker.specs.Linked.{AreBeside, Grows, StaysLinked}
 use Rattle.rt_runtime_worker.specs.Queues.{opening_of}
-use Rattle.rt_runtime_worker.proofs.Along.{grows_along, grows_same, sees_same}
+use Rattle.rt_runtime_worker.proofs.Along.{grows_along, sees_same}
 use Rattle.rt_runtime_worker.proofs.Growing.{grows_returned}
 use Rattle.rt_runtime_worker.proofs.Openings.{opening_returned}
 use Rattle.rt_runtime_worker.proofs.Stepping.{sends_kept}
 use Rattle.rt_hosted.specs.declared.job.HostJob.{HostJob}
-use Rattle.rt_hosted.specs.Hosted.{HasRoom, IsRunOf}
+use Rattle.rt_hosted.specs.Hosted.{HasRoom, IsHosted, IsRunOf}
 use Rattle.rt_hosted.specs.Jobs.{host_meaning}
 use Rattle.rt_hosted.specs.Turns.{EndsIfOpen, GoesOn, Turned, TurnsTo}
 
@@ -90,6 +91,15 @@ adds_picked old new (Ok (Back name reason order)) picks = adds_back old new name
 adds_picked old new (Ok Idle) picks = let none = adds_none old new picks.1 in record { few = omega (arith, none.few); opening = none.opening; grows = none.grows }
 adds_picked old new (Err Busy) picks = let none = adds_none old new picks.1 in record { few = omega (arith, none.few); opening = none.opening; grows = none.grows }
 adds_picked old new (Err Spent) picks = let none = adds_none old new picks.2 in record { few = omega (arith, none.few); opening = none.opening; grows = none.grows }
+
+-- a core that closes by itself
+pub adds_closing : (old new : View) (mode : Mode) (closed : Bool) → ClosesItself old mode closed new → Adds 1 old new
+adds_closing old new mode true does = record {
+  few = let now : length new.journal.notes ≡ length old.journal.notes + 1 = ap (λ (journal : JournalView ℕ). length journal.notes) does.1 ∙ omega arith in omega (arith, now);
+  opening = ap (λ (journal : JournalView ℕ). opening_of journal.notes) does.1;
+  grows = (writes.CoreClosed mode ∷ [], ap (λ (journal : JournalView ℕ). journal.notes) does.1);
+}
+adds_closing old new mode false does = let none = adds_none old new does.1 in record { few = omega (arith, none.few); opening = none.opening; grows = none.grows }
 
 -- the end of a turn, if one was open
 pub adds_end : (old over : View) → EndsIfOpen old over → Adds 1 old over
@@ -166,14 +176,6 @@ back_did old new name reason order (inr picks) = record { over = picks.0; did = 
 pub back_known : (new : View) (name : JobId) (reason : Reason) (order : Order HostJob) → IsHandedBack new name reason order → IsRecorded host_meaning new → name.from ≤ new.core.cores
 back_known new name reason order back sound = (sound.taken name _ (ap (λ took. order_taken took name) back.did.took ∙ back.did.task)).sender
 
--- so is the sender of the job that is out
-pub out_known : (view : View) (name : JobId) → IsRecorded host_meaning view → IsOutUnder view.core.out name → name.from ≤ view.core.cores
-out_known view name sound named = by_out view.core.out refl named
-  where
-    by_out : (out : Option (JobOut HostJob)) → view.core.out ≡ out → IsOutUnder out name → name.from ≤ view.core.cores
-    by_out None is named = absurd named
-    by_out (Some out) is named = subst (λ (name : JobId). name.from ≤ view.core.cores) named (let task = sound.out out is in (sound.taken out.name _ task.task).sender)
-
 -- there is room for the settling of a job that is out
 one_at_most : {A : Type 0} (out : Option A) → number_if (is_some out) ≤ 1
 one_at_most None = omega arith
@@ -199,8 +201,28 @@ pub kept_stays : (count : ℕ) (old new : View) (ends : EndsView HostJob ℕ) �
 kept_stays count old new ends seat adds = record { seat = seat; ends = ends_same ends; sees = sees_same ends; opening = adds.opening; grows = adds.grows }
 
 -- nobody is out behind a settled run, so its room is free again
-pub settled_room : (old new : View) (ran : AfterPoll HostJob ℕ) (spent : ℕ) (settled : Settled ℕ) → Settles host_meaning old ran spent settled new → IsSameSeat old new → length old.journal.notes + 1 ≤ old.journal.room → HasRoom 0 new
+pub settled_room : (old new : View) (ran : AfterPoll HostJob ℕ) (spent : ℕ) (settled : Settled ℕ) → Settles host_meaning old ran spent settled new → IsSameSeat old new → length old.journal.notes < old.journal.room → HasRoom 0 new
 settled_room old new ran spent settled settles seat room =
     let longer : length new.journal.notes ≡ length old.journal.notes + 1 = ap (λ (journal : JournalView ℕ). length journal.notes) settles.journal ∙ omega arith in
     let none : number_if (is_some new.core.out) ≡ 0 = ap (λ out. number_if (is_some out)) settles.out_now in
     omega (arith, longer, none, room, seat.room)
+
+-- a job of the open turn owes nothing yet
+pub followed_owes : (old new : View) (turn : Turn HostJob) (sender : ℕ) → Follows old (Some turn) new → KeepsIn sender old new → LeavesOwed sender (owed_back (Ok turn) sender) old new
+followed_owes old new (Start name queue job) sender follows keeps = keeps
+followed_owes old new (Resume name queue job) sender follows keeps = keeps
+followed_owes old new (Back name reason order) sender follows keeps = absurd follows
+followed_owes old new Idle sender follows keeps = keeps
+
+-- what is owed behind two steps, where the first owes nothing
+pub owes_along : (owed : Option (JobId × OutcomeNote ℕ)) (old middle new : View) (sender : ℕ) → KeepsIn sender old middle → LeavesOwed sender owed middle new → LeavesOwed sender owed old new
+owes_along owed old middle new sender one two = record { each = λ inward is. two.each inward (one.each inward is) }
+
+-- a turn that hands nothing back leaves the core and its ends so
+pub turn_hosted : (old new : View) (turned : Turned) (ends : EndsView HostJob ℕ) → TurnsTo old turned new → AreBeside (Fits host_meaning) old ends → ((sender : ℕ) → KeepsIn sender old new) → KeepsOuts (desk_of old) (desk_of new) → new.lanes ≡ old.lanes →
+    IsSameSeat old new → IsRecorded host_meaning new → length old.journal.notes + 4 ≤ old.journal.room → IsHosted (record { recorded = new; ends = ends })
+turn_hosted old new turned ends turns beside ins outs lanes seat sound room = record {
+  recorded = sound;
+  beside = kept_beside old new ends beside ins outs lanes seat;
+  room = turn_room old new turned turns seat room;
+}

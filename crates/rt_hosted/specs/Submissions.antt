@@ -1,5 +1,5 @@
 -- What an actor of the house does with its submissions, by what the host is told.
-use Rattle.std.specs.Prelude.{◌≡◌, ◌≢◌, ◌⊎◌, ℕ, ◌<◌, ◌≤◌, false, Result, Ok, Err, IfOk}
+use Rattle.std.specs.Prelude.{◌≡◌, ◌≢◌, ◌⊎◌, ℕ, ◌<◌, ◌≤◌, false, Result, Ok, Err}
 use Rattle.rt_ids.specs.declared.names.JobId.{JobId}
 use Rattle.rt_ids.specs.declared.names.TicketError.{TicketError}
 use Rattle.rt_ids.specs.declared.names.TicketError.TheVariants as ticket

@@ -1,5 +1,5 @@
 -- How the host runs jobs: the core tells the next one, and settles its run.
-use Rattle.std.specs.Prelude.{◌≡◌, ◌⊎◌, ℕ, Bool, Option, Some, None, IsSome, Result, Ok, Err}
+use Rattle.std.specs.Prelude.{◌≡◌, ◌⊎◌, ℕ, Some, None, IsSome, Result, Ok, Err}
 use Rattle.rt_ids.specs.Bursts.{queue_in_turn}
 use Rattle.rt_jobs.specs.declared.job.Step.{Step}
 use Rattle.rt_jobs.specs.Steps.{AfterPoll}
@@ -15,7 +15,6 @@ use Rattle.rt_hosted.specs.declared.answers.Picked.TheVariants as picked
 use Rattle.rt_hosted.specs.declared.answers.Refusal.{Refusal}
 use Rattle.rt_hosted.specs.declared.answers.Refusal.TheVariants as refusal
 use Rattle.rt_hosted.specs.declared.job.HostJob.{HostJob}
-use Rattle.rt_hosted.specs.declared.turns.Run.{Run}
 use Rattle.rt_hosted.specs.Hosted.{HostedView, HasRoom}
 use Rattle.rt_hosted.specs.Jobs.{host_meaning}
 

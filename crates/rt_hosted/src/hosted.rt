@@ -65,7 +65,8 @@ impl Hosted {
         requires { AreEndsOf cores cap ends }
         ensures { IfOk result (λ hosted. IsOpenedOver cores cap burst room ends hosted) }
     {
-        let core = CoreNo(ends.number.0);
+        let number = ends.number;
+        let core = CoreNo(number.0);
         let recorded = Recorded::open_burst(alloc, alloc, core, cores, cap, burst, room)?;
         Ok(Hosted {
             cores,

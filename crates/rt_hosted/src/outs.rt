@@ -40,6 +40,7 @@ pub(crate) fn redeem_on(
     ends: &mut Ends<HostJob>,
     ticket: Ticket,
 ) -> Result<Outcome<HostJob, u64>, Refusal>
+    requires sound { IsRecorded host_meaning recorded.old }
     requires beside { AreBeside (Fits host_meaning) recorded.old ends.old }
     requires room { length recorded.old.journal.notes < recorded.old.journal.room }
     ensures does { RedeemsBy ticket (record { recorded = recorded.old; ends = ends.old }) result (record { recorded = recorded.new; ends = ends.new }) }
@@ -63,6 +64,7 @@ pub(crate) fn detach_on(
     ends: &mut Ends<HostJob>,
     ticket: Ticket,
 ) -> Result<(), Refusal>
+    requires sound { IsRecorded host_meaning recorded.old }
     requires beside { AreBeside (Fits host_meaning) recorded.old ends.old }
     requires room { length recorded.old.journal.notes < recorded.old.journal.room }
     ensures does { DetachesBy ticket (record { recorded = recorded.old; ends = ends.old }) result (record { recorded = recorded.new; ends = ends.new }) }

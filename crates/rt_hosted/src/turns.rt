@@ -11,7 +11,7 @@ ghost use Rattle.rt_journal_desk.specs.Ends.{KeepsOuts};
 ghost use Rattle.rt_link.specs.Fits.{Fits};
 ghost use Rattle.rt_ring_mesh.specs.Ends.{SameEnds};
 ghost use Rattle.rt_runtime_worker.specs.Linked.{AreBeside, AreOwing, SeesNoLess, StaysLinked};
-ghost use Rattle.rt_hosted.specs.declared.answers.Picked.TheVariants.{Start, Resume};
+ghost use Rattle.rt_hosted.specs.declared.answers.Picked.TheVariants.{Back, Resume, Start};
 ghost use Rattle.rt_hosted.specs.Hosted.{IsHosted, IsRunOf};
 ghost use Rattle.rt_hosted.specs.Jobs.{host_meaning};
 ghost use Rattle.rt_hosted.specs.Turns.{EndsIfOpen, Goes, TurnsTo};
@@ -47,6 +47,13 @@ fn resumed(run: Run, queue: QueueNo) -> (Result<Picked, Refusal>, Option<Run>)
 {
     let told = Picked::Resume(run.name, queue, run.job.handle);
     (Ok(told), Some(run))
+}
+
+/// This job was handed back to its sender.
+fn back(name: &JobId, reason: &Reason) -> Picked
+    ensures { result ≡ Back name.now reason.now }
+{
+    Picked::Back(*name, *reason)
 }
 
 /// Takes out the next job of the open turn. If none is open, or the open one may not go on and is ended, there is none.
@@ -87,10 +94,10 @@ fn take_out(recorded: &mut Recorded<HostJob>) -> Result<Turn<HostJob>, PickError
     ensures lanes { recorded.new.lanes ≡ recorded.old.lanes }
     ensures sound { IsRecorded host_meaning recorded.new }
 {
-    if let Some(turn) = follow_or_end(recorded) {
-        return Ok(turn);
+    match follow_or_end(recorded) {
+        Some(turn) => Ok(turn),
+        None => recorded.pick(),
     }
-    recorded.pick()
 }
 
 /// Gives the outcome of a job that was handed back, on the end of its sender.
@@ -129,8 +136,9 @@ pub(crate) fn go_on(
         Ok(Turn::Start(name, queue, job)) => started(Run { name, job }, queue),
         Ok(Turn::Resume(name, queue, job)) => resumed(Run { name, job }, queue),
         Ok(Turn::Back(name, reason, order)) => {
+            let told = back(&name, &reason);
             give_on(recorded, ends, name, reason, order);
-            (Ok(Picked::Back(name, reason)), None)
+            (Ok(told), None)
         }
         Ok(Turn::Idle) => (Ok(Picked::Idle), None),
         Err(PickError::Busy) => (Err(Refusal::Busy), None),

@@ -31,10 +31,9 @@ SendsFrom view = AreOutsOf (Fits host_meaning) (λ end. end.out) (λ end. end.cr
 abbrev pub HasRoom : ℕ → CallerView → Type 0
 HasRoom count view = length view.desk.journal.notes + count ≤ view.desk.journal.room
 
--- what no call changes: whose journal it is, the links of its ends, and each note that stands
+-- what no call changes: whose journal it is and how many notes there may be, the links of its ends, and each note that stands
 pub record StaysOutside (old new : CallerView) : Type 0 where
-  pub seat : new.desk ≡ record old.desk { journal = new.desk.journal; lanes = new.desk.lanes }
-  pub room : new.desk.journal.room ≡ old.desk.journal.room
+  pub seat : new.desk ≡ record old.desk { journal = record old.desk.journal { notes = new.desk.journal.notes }; lanes = new.desk.lanes }
   pub ends : SameEnds old.ends new.ends
   pub grows : Grows old.desk.journal.notes new.desk.journal.notes
 
