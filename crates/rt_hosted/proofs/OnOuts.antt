@@ -1,6 +1,6 @@
 -- A core and its ends after a call on the end to one core.
 use Rattle.std.proofs.Common.{◌≡◌, inl, inr, ℕ, suc, ◌+◌, ◌<◌, ◌≤◌, get_or, length, set, get_or-set_same, get_or-set_other, length-set, refl, sym, ◌∙◌, ap, subst, arith}
-use Rattle.std.specs.Prelude.{Some, Result, Ok, Err, [], ◌∷◌, slice_get}
+use Rattle.std.specs.Prelude.{Some, Result, Ok, Err, IfOk, [], ◌∷◌, slice_get}
 use Rattle.std.proofs.lemmas.Bool.Decides.{eqb_tells}
 use Rattle.std.proofs.lemmas.List.{get_or_default}
 use Rattle.std.proofs.lemmas.Option.{slice_get-get_or}
@@ -121,6 +121,10 @@ module _ {J T : Type 0} (meaning : Meaning J T) (core : ℕ) (desk : DeskView J 
 
   out_there : slice_get ends.outs core ≡ Some before
   out_there = subst (λ end. slice_get ends.outs core ≡ Some end) (sym out_here) (slice_get-get_or ends.outs core no_out out_in_place)
+
+  -- what was sent on this end was sent on that to the core
+  pub out_fits : {A E : Type 0} (answer : Result A E) (fact : Outward J T → A → Type 0) → IfOk answer (fact before.out) → IfOk answer (fact (out_at core ends).out)
+  out_fits answer fact holds = subst (λ (end : Sending J T). IfOk answer (fact end.out)) out_here holds
 
   pub out_beside : IsOutOf core desk before.out before.credited
   out_beside = outs.beside core before out_there

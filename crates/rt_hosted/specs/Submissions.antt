@@ -1,5 +1,5 @@
 -- What an actor of the house does with its submissions, by what the host is told.
-use Rattle.std.specs.Prelude.{◌≡◌, ◌≢◌, ◌⊎◌, ℕ, ◌<◌, ◌≤◌, false, Result, Ok, Err}
+use Rattle.std.specs.Prelude.{◌≡◌, ◌≢◌, ◌⊎◌, ℕ, ◌<◌, ◌≤◌, false, Result, Ok, Err, IfOk}
 use Rattle.rt_ids.specs.declared.names.JobId.{JobId}
 use Rattle.rt_ids.specs.declared.names.TicketError.{TicketError}
 use Rattle.rt_ids.specs.declared.names.TicketError.TheVariants as ticket
@@ -8,7 +8,9 @@ use Rattle.rt_ids.specs.declared.order.Order.TheVariants as order
 use Rattle.rt_ids.specs.declared.order.Outcome.{Outcome}
 use Rattle.rt_ids.specs.declared.order.SendError.{SendError}
 use Rattle.rt_ids.specs.declared.order.SendError.TheVariants as send
+use Rattle.rt_desk.specs.Lanes.{FitsSent}
 use Rattle.rt_link.specs.Calls.{Sends}
+use Rattle.rt_link.specs.Fits.{Fits}
 use Rattle.rt_journal.specs.Recorded.{desk_of}
 use Rattle.rt_journal_desk.specs.Submissions.{Submits, numbered}
 use Rattle.rt_journal_desk.specs.Tickets.{RedeemsTicket, DetachesTicket}
@@ -17,6 +19,7 @@ use Rattle.rt_hosted.specs.declared.answers.Refusal.{Refusal}
 use Rattle.rt_hosted.specs.declared.answers.Refusal.TheVariants as refusal
 use Rattle.rt_hosted.specs.declared.job.HostJob.{HostJob}
 use Rattle.rt_hosted.specs.Hosted.{HostedView, HasRoom}
+use Rattle.rt_hosted.specs.Jobs.{host_meaning}
 
 -- an order of the host, with the job of its number, which wasn't run yet
 abbrev pub order_of_host : Order ℕ → Order HostJob
@@ -66,10 +69,11 @@ Posts to order old told new =
     ⊎ ((to < old.recorded.core.cores) × (HasRoom 1 old.recorded → ⊥) × (told ≡ Err refusal.JournalFull) × (new ≡ old))
     ⊎ ((to < old.recorded.core.cores) × HasRoom 1 old.recorded × SubmitsTo to order old told new)
 
--- an outcome is redeemed, or the ticket is refused
+-- an outcome is redeemed, and fits the order that was sent under its name, or the ticket is refused
 pub record RedeemsBy (name : JobId) (old : HostedView) (told : Result (Outcome HostJob ℕ) Refusal) (new : HostedView) : Type 0 where
   pub answer : Result (Outcome HostJob ℕ) TicketError
   pub redeems : RedeemsTicket name (desk_of old.recorded) answer (desk_of new.recorded)
+  pub fits : IfOk answer (FitsSent (Fits host_meaning) (out_at name.to old.ends).out name.number)
   pub told_is : told ≡ told_of_ticket answer
   pub rest : new.recorded ≡ record old.recorded { journal = new.recorded.journal; lanes = new.recorded.lanes }
 

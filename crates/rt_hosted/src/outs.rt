@@ -10,7 +10,7 @@ ghost use Rattle.rt_hosted.specs.Submissions.{DetachesBy, RedeemsBy, SubmitsTo};
 
 use crate::answers::Refusal;
 use crate::job::HostJob;
-use crate::told::{told_refused, told_sent};
+use crate::told::{told_detached, told_redeemed, told_sent};
 use rt_ids::{CoreNo, Order, Outcome, Ticket};
 use rt_journal::Recorded;
 use rt_ring_mesh::Ends;
@@ -52,10 +52,7 @@ pub(crate) fn redeem_on(
         return Err(Refusal::Unknown);
     }
     let to = ticket.name().to;
-    match recorded.redeem(&mut ends.outs[to.0 as usize], ticket) {
-        Ok(outcome) => Ok(outcome),
-        Err(error) => Err(told_refused(error)),
-    }
+    told_redeemed(recorded.redeem(&mut ends.outs[to.0 as usize], ticket))
 }
 
 /// Detaches a ticket on the end to its core.
@@ -76,8 +73,5 @@ pub(crate) fn detach_on(
         return Err(Refusal::Unknown);
     }
     let to = ticket.name().to;
-    match recorded.detach(&mut ends.outs[to.0 as usize], ticket) {
-        Ok(()) => Ok(()),
-        Err(error) => Err(told_refused(error)),
-    }
+    told_detached(recorded.detach(&mut ends.outs[to.0 as usize], ticket))
 }

@@ -1,10 +1,11 @@
 -- The outside actor of a house, which no core belongs to: its journal, and its ends of the links.
-use Rattle.std.specs.Prelude.{◌≡◌, ◌⊎◌, ℕ, ◌+◌, ◌<◌, ◌≤◌, Result, Ok, Err, length}
+use Rattle.std.specs.Prelude.{◌≡◌, ◌⊎◌, ℕ, ◌+◌, ◌<◌, ◌≤◌, Result, Ok, Err, IfOk, length}
 use Rattle.rt_ids.specs.declared.names.JobId.{JobId}
 use Rattle.rt_ids.specs.declared.names.TicketError.{TicketError}
 use Rattle.rt_ids.specs.declared.order.Order.{Order}
 use Rattle.rt_ids.specs.declared.order.Outcome.{Outcome}
 use Rattle.rt_ids.specs.declared.order.SendError.{SendError}
+use Rattle.rt_desk.specs.Lanes.{FitsSent}
 use Rattle.rt_link.specs.Calls.{Sends}
 use Rattle.rt_link.specs.Fits.{Fits}
 use Rattle.rt_journal_desk.specs.Posts.{AreOutsOf}
@@ -65,10 +66,11 @@ Collects core old (Err refusal.NoCore) new = (old.desk.cores ≤ core) × (new �
 Collects core old (Err refusal.JournalFull) new = (core < old.desk.cores) × (HasRoom old.desk.cap old → ⊥) × (new ≡ old)
 Collects core old (Err other) new = ⊥
 
--- an outcome is redeemed, or the ticket is refused
+-- an outcome is redeemed, and fits the order that was sent under its name, or the ticket is refused
 pub record RedeemsBy (name : JobId) (old : CallerView) (told : Result (Outcome HostJob ℕ) Refusal) (new : CallerView) : Type 0 where
   pub answer : Result (Outcome HostJob ℕ) TicketError
   pub redeems : RedeemsTicket name old.desk answer new.desk
+  pub fits : IfOk answer (FitsSent (Fits host_meaning) (out_at name.to old.ends).out name.number)
   pub told_is : told ≡ told_of_ticket answer
 
 -- the same, unless there is too little room

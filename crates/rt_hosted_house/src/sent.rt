@@ -5,7 +5,7 @@ ghost use Rattle.rt_jobs.specs.Ready.{HasReadyJob};
 ghost use Rattle.rt_hosted.specs.Jobs.{host_meaning};
 ghost use Rattle.rt_hosted_house.specs.Outside.{CollectsOf, DetachesBy, RedeemsBy, SendsFrom, StaysOutside, SubmitsTo};
 
-use rt_hosted::told::{told_refused, told_sent};
+use rt_hosted::told::{told_detached, told_redeemed, told_sent};
 use rt_hosted::{HostJob, Refusal};
 use rt_ids::{CoreNo, Order, Outcome, Ticket};
 use rt_journal_desk::RecordedDesk;
@@ -61,10 +61,7 @@ pub(crate) fn redeem_on(
         return Err(Refusal::Unknown);
     }
     let to = ticket.name().to;
-    match desk.redeem(&mut ends.outs[to.0 as usize], ticket) {
-        Ok(outcome) => Ok(outcome),
-        Err(error) => Err(told_refused(error)),
-    }
+    told_redeemed(desk.redeem(&mut ends.outs[to.0 as usize], ticket))
 }
 
 /// Detaches a ticket on the end to its core.
@@ -83,8 +80,5 @@ pub(crate) fn detach_on(
         return Err(Refusal::Unknown);
     }
     let to = ticket.name().to;
-    match desk.detach(&mut ends.outs[to.0 as usize], ticket) {
-        Ok(()) => Ok(()),
-        Err(error) => Err(told_refused(error)),
-    }
+    told_detached(desk.detach(&mut ends.outs[to.0 as usize], ticket))
 }

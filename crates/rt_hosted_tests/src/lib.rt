@@ -6,4 +6,6 @@ mod host;
 #[cfg(test)]
 mod houses;
 #[cfg(test)]
+mod parks;
+#[cfg(test)]
 mod refusals;

@@ -27,3 +27,11 @@ pub returns-clause-beside : goal.returns-clause-beside
 returns-clause-beside c =
     out_put_beside host_meaning c.args.ticket.to c.args.recorded.now c.args.ends.now (c.knows.ensures.knows.0 c.if-not-knows.false).1 c.to.inside.0 _ (record { number = c.to.view_is ∙ ap (λ name. name.to) c.name-to.ensures; seen = c.ends.view_is }) c.index_mut.result.now c.index_mut.ensures.value c.requires.beside
     c.detach.new.self c.detach.new.end c.detach.ensures.stays c.detach.ensures.ins c.detach.ensures.seat
+
+pub returns-clause-does : goal.returns-clause-does
+returns-clause-does c = record {
+  answer = c.detach.result;
+  detaches = c.detach.ensures.detaches;
+  told_is = c.told_detached.ensures;
+  rest = c.detach.ensures.rest;
+}

@@ -27,3 +27,10 @@ returns-clause-stays c = record {
   ends = out_ends host_meaning c.args.ticket.to c.args.desk.now c.args.ends.now (c.knows.ensures.knows.0 c.if-not-knows.false).1 c.to.inside.0 _ (record { number = c.to.view_is ∙ ap (λ name. name.to) c.name-to.ensures; seen = c.ends.view_is }) c.index_mut.result.now c.index_mut.ensures.value c.requires.sends c.detach.new.end c.detach.ensures.untouched;
   grows = (detaches_add _ _ _ _ c.detach.ensures.detaches).grows;
 }
+
+pub returns-clause-does : goal.returns-clause-does
+returns-clause-does c = record {
+  answer = c.detach.result;
+  detaches = c.detach.ensures.detaches;
+  told_is = c.told_detached.ensures;
+}

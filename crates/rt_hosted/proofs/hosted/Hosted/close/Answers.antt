@@ -7,8 +7,9 @@ use Rattle.rt_hosted.proofs.hosted.Hosted.close.Goals as goal
 
 pub invariant_of-self : goal.invariant_of-self
 invariant_of-self c = (
-  hosted_after 1 c.self.inside.recorded c.close.new.self c.self.inside.ends c.close.ensures.sound (kept_beside c.self.inside.recorded c.close.new.self c.self.inside.ends c.self.invariant.0.beside c.close.ensures.ins c.close.ensures.outs c.close.ensures.lanes c.close.ensures.seat)
-  (subst (λ (view : HostedView). HasRoom 1 view.recorded) (sym c.self.view_is) (c.has_room.ensures.0 c.if-not-has_room.false)) (adds_closing c.self.inside.recorded c.close.new.self _ _ c.close.ensures.closes).few (closed_run c.self.inside.recorded c.close.new.self _ _ c.close.ensures.closes) c.close.ensures.seat,
+  hosted_after 1 c.self.inside.recorded c.close.new.self c.self.inside.ends c.close.ensures.sound
+      (kept_beside c.self.inside.recorded c.close.new.self c.self.inside.ends c.self.invariant.0.beside c.close.ensures.ins c.close.ensures.outs c.close.ensures.lanes c.close.ensures.seat)
+      (subst (λ (view : HostedView). HasRoom 1 view.recorded) (sym c.self.view_is) (c.has_room.ensures.0 c.if-not-has_room.false)) (adds_closing c.self.inside.recorded c.close.new.self _ _ c.close.ensures.closes).few (closed_run c.self.inside.recorded c.close.new.self _ _ c.close.ensures.closes) c.close.ensures.seat,
   (closed_run c.self.inside.recorded c.close.new.self _ _ c.close.ensures.closes).runs _ c.self.invariant.1,
   c.self.invariant.2 ∙ sym c.close.ensures.seat.cores,
 )
@@ -20,5 +21,6 @@ returns-clause-stays c =
 
 pub returns-clause-hosted : goal.returns-clause-hosted
 returns-clause-hosted c =
-    hosted_after 1 c.self.inside.recorded c.close.new.self c.self.inside.ends c.close.ensures.sound (kept_beside c.self.inside.recorded c.close.new.self c.self.inside.ends c.self.invariant.0.beside c.close.ensures.ins c.close.ensures.outs c.close.ensures.lanes c.close.ensures.seat)
+    hosted_after 1 c.self.inside.recorded c.close.new.self c.self.inside.ends c.close.ensures.sound
+    (kept_beside c.self.inside.recorded c.close.new.self c.self.inside.ends c.self.invariant.0.beside c.close.ensures.ins c.close.ensures.outs c.close.ensures.lanes c.close.ensures.seat)
     (subst (λ (view : HostedView). HasRoom 1 view.recorded) (sym c.self.view_is) (c.has_room.ensures.0 c.if-not-has_room.false)) (adds_closing c.self.inside.recorded c.close.new.self _ _ c.close.ensures.closes).few (closed_run c.self.inside.recorded c.close.new.self _ _ c.close.ensures.closes) c.close.ensures.seat

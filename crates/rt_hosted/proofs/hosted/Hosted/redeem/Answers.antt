@@ -8,7 +8,7 @@ use Rattle.rt_hosted.proofs.hosted.Hosted.redeem.Goals as goal
 pub invariant_of-self : goal.invariant_of-self
 invariant_of-self c = (
   hosted_after 1 c.self.inside.recorded c.redeem_on.new.recorded c.redeem_on.new.ends c.redeem_on.ensures.sound c.redeem_on.ensures.beside (subst (λ (view : HostedView). HasRoom 1 view.recorded) (sym c.self.view_is) (c.has_room.ensures.0 c.if-not-has_room.false))
-    (redeemed_few _ _ _ _ c.redeem_on.ensures.does.redeems) (rest_run c.self.inside.recorded c.redeem_on.new.recorded c.redeem_on.ensures.does.rest) c.redeem_on.ensures.stays.seat,
+      (redeemed_few _ _ _ _ c.redeem_on.ensures.does.redeems) (rest_run c.self.inside.recorded c.redeem_on.new.recorded c.redeem_on.ensures.does.rest) c.redeem_on.ensures.stays.seat,
   (rest_run c.self.inside.recorded c.redeem_on.new.recorded c.redeem_on.ensures.does.rest).runs _ c.self.invariant.1,
   c.self.invariant.2 ∙ sym c.redeem_on.ensures.stays.seat.cores,
 )

@@ -8,7 +8,7 @@ use Rattle.rt_hosted.proofs.hosted.Hosted.shut.Goals as goal
 pub invariant_of-self : goal.invariant_of-self
 invariant_of-self c = (
   hosted_after 1 c.self.inside.recorded c.shut_on.new.recorded c.shut_on.new.ends c.shut_on.ensures.sound c.shut_on.ensures.beside (subst (λ (view : HostedView). HasRoom 1 view.recorded) (sym c.self.view_is) (c.has_room.ensures.0 c.if-not-has_room.false))
-    (let longer : length c.shut_on.new.recorded.journal.notes ≡ length c.self.inside.recorded.journal.notes + 1 = ap (λ journal. length journal.notes) c.shut_on.ensures.does.tells.journal ∙ omega arith in omega (arith, longer)) (same_run c.self.inside.recorded.core.out c.shut_on.new.recorded.core.out c.shut_on.ensures.does.tells.out) c.shut_on.ensures.does.stays.seat,
+      (let longer : length c.shut_on.new.recorded.journal.notes ≡ length c.self.inside.recorded.journal.notes + 1 = ap (λ journal. length journal.notes) c.shut_on.ensures.does.tells.journal ∙ omega arith in omega (arith, longer)) (same_run c.self.inside.recorded.core.out c.shut_on.new.recorded.core.out c.shut_on.ensures.does.tells.out) c.shut_on.ensures.does.stays.seat,
   (same_run c.self.inside.recorded.core.out c.shut_on.new.recorded.core.out c.shut_on.ensures.does.tells.out).runs _ c.self.invariant.1,
   c.self.invariant.2 ∙ sym c.shut_on.ensures.does.stays.seat.cores,
 )

@@ -8,7 +8,7 @@ use Rattle.rt_hosted.proofs.hosted.Hosted.submit.Goals as goal
 pub invariant_of-self : goal.invariant_of-self
 invariant_of-self c = (
   hosted_after 1 c.self.inside.recorded c.submit_on.new.recorded c.submit_on.new.ends c.submit_on.ensures.sound c.submit_on.ensures.beside (subst (λ (view : HostedView). HasRoom 1 view.recorded) (sym c.self.view_is) (c.has_room.ensures.0 c.if-not-has_room.false))
-    (submitted_few _ _ _ _ _ c.submit_on.ensures.does.submits) (rest_run c.self.inside.recorded c.submit_on.new.recorded c.submit_on.ensures.does.rest) c.submit_on.ensures.stays.seat,
+      (submitted_few _ _ _ _ _ c.submit_on.ensures.does.submits) (rest_run c.self.inside.recorded c.submit_on.new.recorded c.submit_on.ensures.does.rest) c.submit_on.ensures.stays.seat,
   (rest_run c.self.inside.recorded c.submit_on.new.recorded c.submit_on.ensures.does.rest).runs _ c.self.invariant.1,
   c.self.invariant.2 ∙ sym c.submit_on.ensures.stays.seat.cores,
 )
