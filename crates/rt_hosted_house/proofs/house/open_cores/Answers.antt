@@ -17,7 +17,7 @@ loop-ends-init c =
 pub open-requires : goal.open-requires
 open-requires c =
     holds_next (AreEndsOf c.args.cores c.args.cap) c.args.all.items c.loop-ends.invariant.made.done (into_iter_items c.loop-ends.ends-iterator)
-    (into_iter_items c.next.new.self) c.in-Some.ends c.requires c.loop-ends.invariant.made.split c.in-Some.ensures.steps.0
+    (into_iter_items c.next.new.self) c.in-Some.ends c.requires.each c.loop-ends.invariant.made.split c.in-Some.ensures.steps.0
 
 pub loop-ends-preserved : goal.loop-ends-preserved
 loop-ends-preserved c =

@@ -22,7 +22,7 @@ pub returns-clause-stays : goal.returns-clause-stays
 returns-clause-stays c = record {
   seat = c.collect_from.ensures.stays.rest;
   ends = out_ends host_meaning c.args.core c.args.desk.now c.args.ends.now c.requires.known c.core.inside.0 _ (record { number = c.core.view_is; seen = c.ends.view_is }) c.index_mut.result.now c.index_mut.ensures.value c.requires.sends c.collect_from.new.end c.collect_from.ensures.untouched;
-  grows = (collects_add _ _ _ _ c.collect_from.ensures.collects).grows;
+  grows = (collects_add c.args.core c.args.desk.now c.collect_from.result c.collect_from.new.self c.collect_from.ensures.collects).grows;
 }
 
 pub returns-clause-does : goal.returns-clause-does
