@@ -20,6 +20,11 @@ fn open(alloc: Global, burst: u8) -> Option<(Hosted, Outside)> {
     }
 }
 
+/// Job 7 for queue 0.
+fn job() -> Order<u64> {
+    Order::Job(QueueNo(0), 7)
+}
+
 /// Submits an order to the core, and lets the core take it in.
 fn hand_in(core: &mut Hosted, outside: &mut Outside, order: Order<u64>) -> Option<Ticket> {
     match outside.submit(CoreNo(0), order) {
@@ -33,7 +38,7 @@ fn hand_in(core: &mut Hosted, outside: &mut Outside, order: Order<u64>) -> Optio
 
 /// Whether a job that parks is no work until it is woken, and then has its outcome.
 fn parks_until_woken(core: &mut Hosted, outside: &mut Outside) -> bool {
-    let Some(ticket) = hand_in(core, outside, Order::Job(QueueNo(0), 7)) else {
+    let Some(ticket) = hand_in(core, outside, job()) else {
         return false;
     };
     let parked = matches!(core.next(), Ok(Picked::Start(_, _, 7)))
@@ -65,10 +70,9 @@ fn run_next(core: &mut Hosted) -> bool {
 
 /// Whether two jobs are polled in one turn of two polls, and the third in a turn of its own.
 fn goes_on_in_its_turn(core: &mut Hosted, outside: &mut Outside) -> bool {
-    let order = Order::Job(QueueNo(0), 7);
-    let sent = hand_in(core, outside, order).is_some()
-        && hand_in(core, outside, order).is_some()
-        && hand_in(core, outside, order).is_some();
+    let sent = hand_in(core, outside, job()).is_some()
+        && hand_in(core, outside, job()).is_some()
+        && hand_in(core, outside, job()).is_some();
     let ran = run_next(core) && run_next(core) && run_next(core);
     let (stats, _queues) = core.stats();
     let notes = core.journal().kept().as_slice();

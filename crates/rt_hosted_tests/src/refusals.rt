@@ -19,6 +19,11 @@ fn open(alloc: Global, room: u32) -> Option<(Hosted, Outside)> {
     }
 }
 
+/// Job 7 for queue 0.
+fn job() -> Order<u64> {
+    Order::Job(QueueNo(0), 7)
+}
+
 /// Submits a job to the core, and lets the core take it in.
 fn hand_in(core: &mut Hosted, outside: &mut Outside) -> bool {
     outside.submit(CoreNo(0), Order::Job(QueueNo(0), 7)).is_ok()
@@ -67,13 +72,12 @@ fn calls_out_of_order_are_refused(rt: HostRuntime) -> Result<(), Fail> {
 
 /// Whether a core refuses actors and cores that there aren't.
 fn refuses_strangers(core: &mut Hosted, outside: &mut Outside) -> bool {
-    let order = Order::CloseCore(Mode::Finish);
     matches!(core.deliver(ActorNo(2)), Err(Refusal::NoActor))
         && matches!(core.shut(ActorNo(2)), Err(Refusal::NoActor))
         && matches!(core.collect(CoreNo(1)), Err(Refusal::NoCore))
-        && matches!(core.submit(CoreNo(1), order), Err(Refusal::NoCore))
+        && matches!(core.submit(CoreNo(1), job()), Err(Refusal::NoCore))
         && matches!(outside.collect(CoreNo(1)), Err(Refusal::NoCore))
-        && matches!(outside.submit(CoreNo(1), order), Err(Refusal::NoCore))
+        && matches!(outside.submit(CoreNo(1), job()), Err(Refusal::NoCore))
 }
 
 /// The ticket of the outside actor's submission of this number to core 0.
@@ -99,12 +103,11 @@ fn refuses_tickets(core: &mut Hosted, outside: &mut Outside) -> bool {
 
 /// Whether gates are shut once the core is closed, and once only.
 fn shuts_once(core: &mut Hosted, outside: &mut Outside) -> bool {
-    let order = Order::Job(QueueNo(0), 7);
     let open = matches!(core.shut(ActorNo(1)), Err(Refusal::Open));
     let closed = matches!(core.close(Mode::Return), Ok(true))
         && matches!(core.close(Mode::Finish), Ok(false));
     let shut = core.shut(ActorNo(1)).is_ok() && matches!(core.shut(ActorNo(1)), Err(Refusal::Shut));
-    let refused = matches!(outside.submit(CoreNo(0), order), Err(Refusal::Closed(1)));
+    let refused = matches!(outside.submit(CoreNo(0), job()), Err(Refusal::Closed(1)));
     let back = core.shut(ActorNo(0)).is_ok()
         && !core.is_drained()
         && matches!(core.next(), Ok(Picked::Back(_, _)));
@@ -126,11 +129,10 @@ fn strangers_and_tickets_are_refused(rt: HostRuntime) -> Result<(), Fail> {
 
 /// Whether a core with room for five notes makes one turn and no other.
 fn makes_one_turn(core: &mut Hosted, outside: &mut Outside) -> bool {
-    let order = Order::Job(QueueNo(0), 7);
     let started = hand_in(core, outside) && matches!(core.next(), Ok(Picked::Start(_, _, 7)));
     // The fifth note may be had, and the last one is kept for the settling.
-    let sent = core.submit(CoreNo(0), order).is_ok();
-    let full = matches!(core.submit(CoreNo(0), order), Err(Refusal::JournalFull))
+    let sent = core.submit(CoreNo(0), job()).is_ok();
+    let full = matches!(core.submit(CoreNo(0), job()), Err(Refusal::JournalFull))
         && matches!(core.deliver(ActorNo(1)), Err(Refusal::JournalFull));
     let settled = core.settle(Step::Yield, 1).is_ok();
     let spent = matches!(core.next(), Err(Refusal::JournalFull))
