@@ -1,0 +1,6 @@
+mod Asked
+pub mod Begun
+pub mod Kept
+pub mod OnIns
+pub mod OnOuts
+pub mod Turned

@@ -1,0 +1,25 @@
+use Rattle.std.proofs.Common.{◌≡◌, ◌+◌, ap, length, sym, subst, ◌∙◌, arith}
+use Rattle.rt_runtime_worker.specs.Linked.{StaysLinked}
+use Rattle.rt_hosted.specs.Hosted.{HasRoom, HostedView}
+use Rattle.rt_runtime_worker.specs.Steps.{ShutsGate}
+use Rattle.rt_hosted.proofs.Kept.{hosted_after, same_run}
+use Rattle.rt_hosted.proofs.hosted.Hosted.shut.Goals as goal
+
+pub invariant_of-self : goal.invariant_of-self
+invariant_of-self c = (
+  hosted_after 1 c.self.inside.recorded c.shut_on.new.recorded c.shut_on.new.ends c.shut_on.ensures.sound c.shut_on.ensures.beside (subst (λ (view : HostedView). HasRoom 1 view.recorded) (sym c.self.view_is) (c.has_room.ensures.0 c.if-not-has_room.false))
+      (let longer : length c.shut_on.new.recorded.journal.notes ≡ length c.self.inside.recorded.journal.notes + 1 = ap (λ journal. length journal.notes) c.shut_on.ensures.does.tells.journal ∙ omega arith in omega (arith, longer)) (same_run c.self.inside.recorded.core.out c.shut_on.new.recorded.core.out c.shut_on.ensures.does.tells.out) c.shut_on.ensures.does.stays.seat,
+  (same_run c.self.inside.recorded.core.out c.shut_on.new.recorded.core.out c.shut_on.ensures.does.tells.out).runs _ c.self.invariant.1,
+  c.self.invariant.2 ∙ sym c.shut_on.ensures.does.stays.seat.cores,
+)
+
+pub returns-clause-hosted : goal.returns-clause-hosted
+returns-clause-hosted c =
+    hosted_after 1 c.self.inside.recorded c.shut_on.new.recorded c.shut_on.new.ends c.shut_on.ensures.sound c.shut_on.ensures.beside (subst (λ (view : HostedView). HasRoom 1 view.recorded) (sym c.self.view_is) (c.has_room.ensures.0 c.if-not-has_room.false))
+    (let longer : length c.shut_on.new.recorded.journal.notes ≡ length c.self.inside.recorded.journal.notes + 1 = ap (λ journal. length journal.notes) c.shut_on.ensures.does.tells.journal ∙ omega arith in omega (arith, longer)) (same_run c.self.inside.recorded.core.out c.shut_on.new.recorded.core.out c.shut_on.ensures.does.tells.out) c.shut_on.ensures.does.stays.seat
+
+pub returns-clause-stays : goal.returns-clause-stays
+returns-clause-stays c = subst (λ (old : HostedView). StaysLinked old (record { recorded = c.shut_on.new.recorded; ends = c.shut_on.new.ends })) c.self.view_is c.shut_on.ensures.does.stays
+
+pub returns-clause-shuts : goal.returns-clause-shuts
+returns-clause-shuts c = subst (λ (old : HostedView). ShutsGate c.args.sender old (record { recorded = c.shut_on.new.recorded; ends = c.shut_on.new.ends })) c.self.view_is c.shut_on.ensures.does

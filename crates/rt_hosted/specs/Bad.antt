@@ -1,0 +1,18 @@
+-- Answers that no call may give, each refused by the definition that judges it.
+use Rattle.std.specs.Prelude.{[], ◌∷◌, Err}
+use Rattle.rt_jobs.specs.Calls.Call.{Redeem}
+use Rattle.rt_jobs.specs.declared.job.Step.TheVariants.{Done, Yield}
+use Rattle.rt_ids.specs.declared.names.JobId.{JobId}
+use Rattle.rt_ids.specs.declared.names.TicketError.TheVariants.{Pending}
+use Rattle.rt_hosted.specs.declared.answers.Refusal.TheVariants as refusal
+use Rattle.rt_hosted.specs.Hosted.{HostedView}
+use Rattle.rt_hosted.specs.Jobs.{AsksOnce}
+use Rattle.rt_hosted.specs.Turns.{SettlesStep}
+
+-- a job is done that hears that its run isn't
+pub done_unheard : (name : JobId) → AsksOnce (Redeem name (Err Pending) ∷ []) (Done 0) → ⊥
+done_unheard name told = cc told
+
+-- a settled run is told that the journal is full
+pub settling_is_full : (old new : HostedView) → SettlesStep old Yield 10 (Err refusal.JournalFull) new → ⊥
+settling_is_full old new told = told

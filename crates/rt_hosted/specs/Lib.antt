@@ -1,0 +1,7 @@
+pub mod Bad
+pub mod Hosted
+pub mod Jobs
+pub mod Links
+pub mod Submissions
+pub mod Turns
+pub mod Words

@@ -1,0 +1,310 @@
+//! A core whose jobs the host runs, over its actor's ends of the links.
+
+ghost use Rattle.std.specs.Prelude.{◌≡◌, ◌≢◌, ◌^◌, ◌<◌, ◌↔◌, IfErr, IfOk, IsTrue, length};
+ghost use Rattle.arrayvec.specs.ArrayVec.{array_vec_len};
+ghost use Rattle.rt_ids.specs.Closing.{IsDrained};
+ghost use Rattle.rt_journal.specs.Stats.{TellsCore, TellsQueues};
+ghost use Rattle.rt_runtime_worker.specs.Linked.{StaysLinked};
+ghost use Rattle.rt_runtime_worker.specs.Opening.{AreEndsOf, IsOpenedOver};
+ghost use Rattle.rt_hosted.specs.Hosted.{HasRoom, IsAtRest, IsHosted};
+ghost use Rattle.rt_hosted.specs.Links.{Closes, Collects, Hears, Shuts};
+ghost use Rattle.rt_hosted.specs.Submissions.{Detaches, Posts, Redeems, order_of_host};
+ghost use Rattle.rt_hosted.specs.Turns.{Nexts, SettlesStep};
+
+use crate::answers::{Picked, Refusal};
+use crate::job::HostJob;
+use crate::lent::{collect_on, deliver_on, shut_on};
+use crate::outs::{detach_on, redeem_on, submit_on};
+use crate::told::host_order;
+use crate::turns::{Run, go_on, settle_on};
+use crate::word::poll_told;
+use arrayvec::ArrayVec;
+use rt_core::Settled;
+use rt_ids::{ActorNo, CoreNo, CoreStats, Mode, Order, Outcome, QueueStats, Ticket};
+use rt_jobs::Step;
+use rt_journal::{Recorded, RunningJournal, told_stats};
+use rt_ring_mesh::Ends;
+use std::alloc::{AllocError, Global};
+use std::marker::Model;
+
+/// The notes that a turn may take: the end of the one before, a pick with its note, and the settling.
+const TURN_NOTES: u16 = 4;
+
+/// A core beside its journal, its actor's ends of the links, and the job of it that the host runs.
+#[derive(Drop)]
+pub struct Hosted {
+    cores: u8,
+    recorded: Recorded<HostJob>,
+    ends: Ends<HostJob>,
+    run: Option<Run>,
+}
+
+impl Model for Hosted {
+    ghost use Rattle.rt_hosted.specs.Hosted.{HostedView, IsHosted, IsRunOf};
+
+    ghost Value = { HostedView };
+
+    ghost use Rattle.std.specs.Prelude.{◌≡◌};
+
+    ghost view = { λ h. record { recorded = h.recorded; ends = h.ends } };
+
+    ghost invariant = { λ h.
+        IsHosted (record { recorded = h.recorded; ends = h.ends }) × IsRunOf h.recorded.core.out h.run × (h.cores ≡ h.recorded.core.cores) };
+}
+
+impl Hosted {
+    /// Opens the core that has these ends, with queue 0 alone.
+    pub fn open(
+        alloc: Global,
+        ends: Ends<HostJob>,
+        cores: u8,
+        cap: u16,
+        burst: u8,
+        room: u32,
+    ) -> Result<Self, AllocError>
+        requires { AreEndsOf cores cap ends }
+        ensures { IfOk result (λ hosted. IsOpenedOver cores cap burst room ends hosted) }
+    {
+        let number = ends.number;
+        let core = CoreNo(number.0);
+        let recorded = Recorded::open_burst(alloc, alloc, core, cores, cap, burst, room)?;
+        Ok(Hosted {
+            cores,
+            recorded,
+            ends,
+            run: None,
+        })
+    }
+
+    /// Whether there is room for so many notes, beside the one that settles the job that is out.
+    fn has_room(&self, count: u16) -> bool
+        ensures { IsTrue result ↔ HasRoom count self.now.recorded }
+    {
+        let kept: u64 = if self.run.is_some() { 1 } else { 0 };
+        kept + u64::from(count) <= u64::from(self.recorded.journal().free())
+    }
+
+    /// Makes the next turn: a job goes out for the host to run it, or is handed back to its sender.
+    ///
+    /// # Errors
+    ///
+    /// Tried in this order: `Busy` while the host runs a job of this core; `JournalFull` where fewer than four notes are free; `Spent` where all
+    /// turns are used and a queue has work. With `Spent` an open turn may have ended; else nothing changes.
+    pub fn next(&mut self) -> Result<Picked, Refusal>
+        ensures nexts { Nexts self.old result self.new }
+        ensures stays { StaysLinked self.old self.new }
+        ensures hosted { IsHosted self.new }
+    {
+        if self.run.is_some() {
+            return Err(Refusal::Busy);
+        }
+        if !self.has_room(TURN_NOTES) {
+            return Err(Refusal::JournalFull);
+        }
+        let (told, run) = go_on(&mut self.recorded, &mut self.ends);
+        self.run = run;
+        told
+    }
+
+    /// Settles the run that the host made of the job that is out: what it came to, and how many nanoseconds it took.
+    ///
+    /// # Errors
+    ///
+    /// `NoJob` if the host runs no job of this core.
+    pub fn settle(&mut self, step: Step<u64>, spent: u64) -> Result<Settled<u64>, Refusal>
+        ensures settles { SettlesStep self.old step spent result self.new }
+        ensures stays { StaysLinked self.old self.new }
+        ensures hosted { IsHosted self.new }
+    {
+        let Some(run) = self.run.take() else {
+            return Err(Refusal::NoJob);
+        };
+        let Run { name, job } = run;
+        let ran = poll_told(job, step);
+        Ok(settle_on(&mut self.recorded, &mut self.ends, name, ran, spent))
+    }
+
+    /// Delivers the next order of this sender, if one shows. Whether there was one. The host may run a job meanwhile.
+    ///
+    /// # Errors
+    ///
+    /// Tried in this order: `NoActor`; `JournalFull` where fewer than two notes are free.
+    pub fn deliver(&mut self, sender: ActorNo) -> Result<bool, Refusal>
+        ensures hears { Hears sender self.old result self.new }
+        ensures stays { StaysLinked self.old self.new }
+        ensures hosted { IsHosted self.new }
+    {
+        if sender.0 > self.cores {
+            return Err(Refusal::NoActor);
+        }
+        if !self.has_room(2) {
+            return Err(Refusal::JournalFull);
+        }
+        Ok(deliver_on(&mut self.recorded, &mut self.ends, sender))
+    }
+
+    /// Collects all outcomes that the link to this core shows. How many there were.
+    ///
+    /// # Errors
+    ///
+    /// Tried in this order: `NoCore`; `JournalFull` where fewer notes are free than a link holds submissions.
+    pub fn collect(&mut self, core: CoreNo) -> Result<usize, Refusal>
+        ensures collects { Collects core self.old result self.new }
+        ensures stays { StaysLinked self.old self.new }
+        ensures hosted { IsHosted self.new }
+    {
+        if core.0 >= self.cores {
+            return Err(Refusal::NoCore);
+        }
+        if !self.has_room(self.recorded.cap()) {
+            return Err(Refusal::JournalFull);
+        }
+        Ok(collect_on(&mut self.recorded, &mut self.ends, core))
+    }
+
+    /// Shuts the gate of this sender.
+    ///
+    /// # Errors
+    ///
+    /// Tried in this order: `NoActor`; `Open` if the core isn't closed; `Shut` if the gate was shut before; `JournalFull`.
+    pub fn shut(&mut self, sender: ActorNo) -> Result<(), Refusal>
+        ensures shuts { Shuts sender self.old result self.new }
+        ensures stays { StaysLinked self.old self.new }
+        ensures hosted { IsHosted self.new }
+    {
+        if sender.0 > self.cores {
+            return Err(Refusal::NoActor);
+        }
+        if !self.recorded.is_closed() {
+            return Err(Refusal::Open);
+        }
+        if self.recorded.gate(sender).is_some() {
+            return Err(Refusal::Shut);
+        }
+        if !self.has_room(1) {
+            return Err(Refusal::JournalFull);
+        }
+        shut_on(&mut self.recorded, &mut self.ends, sender);
+        Ok(())
+    }
+
+    /// Closes the core by itself. Whether that did anything: the first closing does, and `Return` after `Finish`.
+    ///
+    /// # Errors
+    ///
+    /// `JournalFull` where no note is free.
+    pub fn close(&mut self, mode: Mode) -> Result<bool, Refusal>
+        ensures closes { Closes mode self.old result self.new }
+        ensures stays { StaysLinked self.old self.new }
+        ensures hosted { IsHosted self.new }
+    {
+        if !self.has_room(1) {
+            return Err(Refusal::JournalFull);
+        }
+        Ok(self.recorded.close(mode))
+    }
+
+    /// Sends an order to a core, this one or another, with the host's number of its job. A job that the host runs may do so.
+    ///
+    /// # Errors
+    ///
+    /// Tried in this order: `NoCore`; `JournalFull` where no note is free; `Closed`, `Full` and `Spent`, as the link.
+    pub fn submit(&mut self, to: CoreNo, order: Order<u64>) -> Result<Ticket, Refusal>
+        ensures posts { Posts to (order_of_host order) self.old result self.new }
+        ensures stays { StaysLinked self.old self.new }
+        ensures hosted { IsHosted self.new }
+    {
+        if to.0 >= self.cores {
+            return Err(Refusal::NoCore);
+        }
+        if !self.has_room(1) {
+            return Err(Refusal::JournalFull);
+        }
+        let order = host_order(order);
+        submit_on(&mut self.recorded, &mut self.ends, to, order)
+    }
+
+    /// The outcome of a submission, which is gone from then on.
+    ///
+    /// # Errors
+    ///
+    /// Tried in this order: `JournalFull` where no note is free; `Unknown`, `Gone` and `Pending`.
+    pub fn redeem(&mut self, ticket: Ticket) -> Result<Outcome<HostJob, u64>, Refusal>
+        ensures redeems { Redeems ticket self.old result self.new }
+        ensures stays { StaysLinked self.old self.new }
+        ensures hosted { IsHosted self.new }
+    {
+        if !self.has_room(1) {
+            return Err(Refusal::JournalFull);
+        }
+        redeem_on(&mut self.recorded, &mut self.ends, ticket)
+    }
+
+    /// Nobody will ask for the outcome of a submission.
+    ///
+    /// # Errors
+    ///
+    /// Tried in this order: `JournalFull` where no note is free; `Unknown` and `Gone`.
+    pub fn detach(&mut self, ticket: Ticket) -> Result<(), Refusal>
+        ensures detaches { Detaches ticket self.old result self.new }
+        ensures stays { StaysLinked self.old self.new }
+        ensures hosted { IsHosted self.new }
+    {
+        if !self.has_room(1) {
+            return Err(Refusal::JournalFull);
+        }
+        detach_on(&mut self.recorded, &mut self.ends, ticket)
+    }
+
+    /// Whether a link shows an order or an outcome that wasn't seen yet: one load for each link. No clause says that the answer is right.
+    pub fn shows(&self) -> bool {
+        self.ends.ins.iter().any(|end| end.shows()) || self.ends.outs.iter().any(|end| end.shows())
+    }
+
+    /// Whether the host runs no job of this core, and no turn of it is open.
+    fn is_at_rest(&self) -> bool
+        ensures { IsTrue result ↔ IsAtRest self.now.recorded }
+    {
+        !self.run.is_some() && !self.recorded.has_open_turn()
+    }
+
+    /// Whether the core has come to its end: the host runs no job of it, no turn is open, every gate is shut, all behind it was delivered, no
+    /// queue has work, and no job is parked.
+    pub fn is_drained(&self) -> bool
+        ensures { IsTrue result ↔ (IsAtRest self.now.recorded × IsDrained self.now.recorded.core.cores self.now.recorded.journal.notes) }
+    {
+        self.is_at_rest() && self.recorded.is_drained()
+    }
+
+    /// The numbers of the core and of its queues, by number. Times are in nanoseconds.
+    pub fn stats(&self) -> (CoreStats, ArrayVec<QueueStats, 256>)
+        ensures core { TellsCore self.now.recorded.core.cores self.now.recorded.journal.notes result.0 }
+        ensures queues { length self.now.recorded.journal.notes < 2 ^ 64 → TellsQueues self.now.recorded.core.bursts.burst self.now.recorded.journal.notes (array_vec_len result.1) result.1.items }
+    {
+        told_stats(&self.recorded)
+    }
+
+    /// The notes of this core.
+    pub fn journal(&self) -> &RunningJournal<u64>
+        ensures { result.now ≡ self.now.recorded.journal }
+    {
+        self.recorded.journal()
+    }
+
+    /// The notes of this core and its ends, which are given up.
+    ///
+    /// # Errors
+    ///
+    /// The core comes back if it isn't drained.
+    pub fn end(self) -> Result<(RunningJournal<u64>, Ends<HostJob>), Self>
+        ensures ended { IfOk result (λ parts. (parts.0 ≡ self.recorded.journal) × (parts.1 ≡ self.ends)) }
+        ensures drained { IfOk result (λ _. IsAtRest self.recorded × IsDrained self.recorded.core.cores self.recorded.journal.notes) }
+        ensures refused { IfErr result (λ same. (same ≡ self) × (IsAtRest self.recorded × IsDrained self.recorded.core.cores self.recorded.journal.notes → ⊥)) }
+    {
+        if !self.is_drained() {
+            return Err(self);
+        }
+        let Hosted { recorded, ends, .. } = self;
+        Ok((recorded.into_journal(), ends))
+    }
+}

@@ -1,0 +1,15 @@
+//! Cores of a house whose jobs the host runs: each beside its journal, over its actor's ends of the links.
+#![tactic(auto)]
+
+pub mod answers;
+pub mod hosted;
+pub mod job;
+mod lent;
+mod outs;
+pub mod told;
+mod turns;
+mod word;
+
+pub use answers::{Picked, Refusal};
+pub use hosted::Hosted;
+pub use job::HostJob;

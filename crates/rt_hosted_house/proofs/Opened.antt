@@ -1,0 +1,138 @@
+-- A house that was just opened.
+use Rattle.std.proofs.Common.{◌≡◌, ℕ, zero, suc, ◌+◌, ◌<◌, List, [], ◌∷◌, ◌++◌, length, map, get_or, refl, sym, ◌∙◌, ap, subst, arith, length-append}
+use Rattle.std.specs.Prelude.{All, Some, slice_get}
+use Rattle.std.proofs.lemmas.List.{get_or_append_left, get_or_default}
+use Rattle.std.proofs.lemmas.Option.{slice_get_within, get_or_from_slice_get}
+use Rattle.std.proofs.Math.Seq.{get_or-append_seam}
+use Rattle.rt_link.specs.Fits.{Fits}
+use Rattle.rt_link.specs.Whole.{fresh, out_of}
+use Rattle.rt_desk.specs.Lanes.{IsLaneOf, IsUnused}
+use Rattle.rt_desk.proofs.Cores.{IsUnused-fresh}
+use Rattle.rt_ring.specs.declared.ring_out.Sending.{Sending}
+use Rattle.rt_journal_desk.specs.Ends.{IsOutOf}
+use Rattle.rt_journal_desk.specs.Posts.{AreOutsOf}
+use Rattle.rt_journal_desk.specs.Submissions.{DeskView, opened_desk}
+use Rattle.rt_journal_desk.specs.Tickets.{HasLane}
+use Rattle.rt_journal_desk.proofs.LaneEnds.{fresh_has_lane}
+use Rattle.rt_ring_mesh.specs.Ends.{EndsView, AreFresh, IsFreshOut, no_out}
+use Rattle.rt_ring_mesh.specs.Grid.{IsGrid, AreAllFresh, ends_at, no_ends}
+use Rattle.rt_ring_mesh.proofs.Parts.{at_end}
+use Rattle.rt_ring_mesh.proofs.Using.{ends_same}
+use Rattle.rt_runtime_team.specs.Works.{Together}
+use Rattle.rt_runtime_team.proofs.Lists.{together_length}
+use Rattle.rt_runtime_worker.specs.Linked.{LinkedView}
+use Rattle.rt_runtime_worker.specs.Opening.{AreEndsOf, IsOpenedOver, IsWorkerOf}
+use Rattle.rt_runtime_worker.specs.Together.{no_linked, worker_at}
+use Rattle.rt_runtime_worker.proofs.Opened.{fresh_out}
+use Rattle.rt_hosted.specs.declared.job.HostJob.{HostJob}
+use Rattle.rt_hosted.specs.Hosted.{HostedView}
+use Rattle.rt_hosted.specs.Jobs.{host_meaning}
+use Rattle.rt_hosted_house.specs.Houses.{IsOpened}
+use Rattle.rt_hosted_house.specs.Outside.{CallerView, SendsFrom, StaysOutside}
+
+abbrev Ends : Type 0
+Ends = EndsView HostJob ℕ
+
+all_from : {A : Type 0} (P : A → Type 0) (xs : List A) (d : A) → ((i : ℕ) → i < length xs → P (get_or xs i d)) → All P xs
+all_from P xs d each place other low = subst P (sym (get_or_default xs place other d low)) (each place low)
+
+-- what holds of all holds of the next one
+pub holds_next : {A : Type 0} (P : A → Type 0) (all done rest rest' : List A) (x : A) → All P all → all ≡ done ++ rest → rest ≡ x ∷ rest' → P x
+holds_next P all done rest rest' x each split is =
+    let here : all ≡ done ++ x ∷ rest' = split ∙ ap (λ rest. done ++ rest) is in
+    let at : get_or all (length done) x ≡ x = ap (λ all. get_or all (length done) x) here ∙ get_or-append_seam done x rest' x in
+    let low : length done < length all = omega (arith, ap length here, length-append done (x ∷ rest')) in
+    subst P at (each (length done) x low)
+
+-- two lists that belong together do at each place
+together_at : {A B : Type 0} (related : A → B → Type 0) (xs : List A) (ys : List B) (d : A) (e : B) (place : ℕ) → Together related xs ys → place < length xs → related (get_or xs place d) (get_or ys place e)
+together_at related [] [] d e place both low = absurd (none place low)
+  where
+    none : (place : ℕ) → place < 0 → ⊥
+    none place low = omega (arith, low)
+together_at related [] (y ∷ ys) d e place both low = absurd both
+together_at related (x ∷ xs) [] d e place both low = absurd both
+together_at related (x ∷ xs) (y ∷ ys) d e zero both low = both.0
+together_at related (x ∷ xs) (y ∷ ys) d e (suc place) both low = together_at related xs ys d e place both.1 (omega (arith, low))
+
+module _ (cores cap burst room : ℕ) where
+  -- the cores have the ends over which they were opened
+  over_same : (front : List Ends) (opened : List HostedView) → Together (IsOpenedOver cores cap burst room) front opened → map (λ core. core.ends) opened ≡ front
+  over_same [] [] both = refl
+  over_same [] (core ∷ opened) both = absurd both
+  over_same (ends ∷ front) [] both = absurd both
+  over_same (ends ∷ front) (core ∷ opened) both = ap (λ ends. ends ∷ map (λ (core : HostedView). core.ends) opened) both.0.ends_are ∙ ap (λ front. ends ∷ front) (over_same front opened both.1)
+
+  module _ (all front : List Ends) (last : Ends) (is : all ≡ front ++ last ∷ []) (grid : IsGrid cores all) (are_fresh : AreAllFresh cores cap all) where
+    front_count : length front ≡ cores
+    front_count = let longer : length all ≡ length front + 1 = ap length is ∙ length-append front (last ∷ []) in omega (arith, longer, grid.count)
+
+    at_front : (core : ℕ) → core < length front → ends_at core all ≡ get_or front core no_ends
+    at_front core low = ap (λ all. ends_at core all) is ∙ get_or_append_left front (last ∷ []) no_ends core low
+
+    at_last : ends_at cores all ≡ last
+    at_last = ap (λ all. ends_at cores all) is ∙ at_end front last no_ends cores front_count
+
+    fresh_front : (core : ℕ) → core < length front → AreFresh cap core (get_or front core no_ends)
+    fresh_front core low = subst (AreFresh cap core) (at_front core low) (are_fresh core (omega (arith, low, front_count)))
+
+    -- each of the first ends may be opened
+    pub may_open : All (AreEndsOf cores cap) front
+    may_open = all_from (AreEndsOf cores cap) front no_ends (λ core low.
+        let there : core < cores = omega (arith, low, front_count) in
+        let fresh = fresh_front core low in
+        record {
+          core = omega (arith, fresh.number_is, there);
+          outs = subst (λ ends. length ends.outs ≡ cores) (at_front core low) (grid.outs core (omega (arith, there)));
+          ins = subst (λ ends. length ends.ins ≡ cores + 1) (at_front core low) (grid.ins core there);
+          fresh = subst (λ number. AreFresh cap number (get_or front core no_ends)) (sym fresh.number_is) fresh;
+        })
+
+    -- so may those of the outside actor
+    pub last_outs : length last.outs ≡ cores
+    last_outs = subst (λ ends. length ends.outs ≡ cores) at_last (grid.outs cores (omega arith))
+
+    pub last_fresh : AreFresh cap cores last
+    last_fresh = subst (AreFresh cap cores) at_last (are_fresh cores (omega arith))
+
+    pub opened_house : (opened : List HostedView) (outside : CallerView) → Together (IsOpenedOver cores cap burst room) front opened → outside.desk ≡ opened_desk cores cores cap room burst → outside.ends ≡ last →
+        IsOpened cores cap burst room (record { cores = opened; outside = outside })
+    opened_house opened outside both desk ends = record {
+      count = sym (together_length (IsOpenedOver cores cap burst room) front opened both) ∙ front_count;
+      each = λ core low.
+          let there : core < length front = omega (arith, low, front_count) in
+          let one = together_at (IsOpenedOver cores cap burst room) front opened no_ends no_linked core both there in
+          subst (λ number. IsWorkerOf number cores cap burst room (worker_at core opened)) (fresh_front core there).number_is one.of;
+      outside_is = desk;
+      grid =
+          subst (IsGrid cores) (is ∙ (ap (λ front. front ++ last ∷ []) (sym (over_same front opened both)) ∙ ap (λ last. map (λ (core : HostedView). core.ends) opened ++ last ∷ []) (sym ends))) grid;
+    }
+
+-- the outside actor, over fresh ends
+module _ (cores cap burst room : ℕ) (desk : DeskView HostJob ℕ) (ends : Ends) (opened : desk ≡ opened_desk cores cores cap room burst) (count : length ends.outs ≡ cores) (are : AreFresh cap cores ends) where
+  opened_end : (core : ℕ) (end : Sending HostJob ℕ) → slice_get ends.outs core ≡ Some end → IsFreshOut cores core cap end × (core < cores)
+  opened_end core end there =
+      let low = slice_get_within ends.outs core end there in
+      (subst (IsFreshOut cores core cap) (get_or_from_slice_get ends.outs core end no_out there) (are.outs core low), omega (arith, low, count))
+
+  opened_lane : (core : ℕ) (end : Sending HostJob ℕ) → slice_get ends.outs core ≡ Some end → HasLane (Fits host_meaning) core (opened_desk cores cores cap room burst) end.out end.credited
+  opened_lane core end there =
+      let is = opened_end core end there in
+      let unused : IsUnused cap end.out end.credited = IsUnused-fresh (λ (end : Sending HostJob ℕ). end.out) (λ end. end.credited) cores core cap 0 end (omega arith) is.0.out is.0.credited in
+      let has : HasLane (Fits host_meaning) core (opened_desk cores cores cap room burst) end.out 0 = fresh_has_lane (Fits host_meaning) core cores cores cap room burst end.out is.1 (subst (IsUnused cap end.out) is.0.credited unused) in
+      record { lane = has.lane; is = has.is; lane_of = subst (IsLaneOf (Fits host_meaning) has.lane end.out) (sym is.0.credited) has.lane_of }
+
+  opened_out : (core : ℕ) (end : Sending HostJob ℕ) → slice_get ends.outs core ≡ Some end → IsOutOf core (opened_desk cores cores cap room burst) end.out end.credited
+  opened_out core end there =
+      let is = opened_end core end there in
+      subst (λ out. IsOutOf core (opened_desk cores cores cap room burst) out end.credited) (sym is.0.out)
+      (subst (IsOutOf core (opened_desk cores cores cap room burst) (out_of (fresh cores core cap 0))) (sym is.0.credited) (fresh_out cores core cores cap room burst is.1))
+
+  pub outside_sends : SendsFrom (record { desk = desk; ends = ends })
+  outside_sends =
+      subst (λ desk. AreOutsOf (Fits host_meaning) (λ (end : Sending HostJob ℕ). end.out) (λ (end : Sending HostJob ℕ). end.credited) desk ends.outs) (sym opened)
+      (record { count = count; beside = opened_out; lanes = opened_lane })
+
+-- a call that is refused leaves the outside actor as it was
+pub stays_same : (view : CallerView) → StaysOutside view view
+stays_same view = record { seat = refl; ends = ends_same view.ends; grows = ([], refl) }

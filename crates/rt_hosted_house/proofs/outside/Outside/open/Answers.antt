@@ -1,0 +1,9 @@
+use Rattle.std.proofs.Common.{sym, ap}
+use Rattle.rt_hosted_house.proofs.Opened.{outside_sends}
+use Rattle.rt_hosted_house.proofs.outside.Outside.open.Goals as goal
+
+pub invariant_of-result : goal.invariant_of-result
+invariant_of-result c = (
+  outside_sends _ _ _ _ c.in_ok-desk.desk c.args.ends c.in_ok-desk.ensures.opened c.requires.outs c.requires.fresh,
+  ap (λ desk. desk.cores) (sym c.in_ok-desk.ensures.opened),
+)

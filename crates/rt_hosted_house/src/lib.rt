@@ -1,0 +1,9 @@
+//! A house of cores whose jobs the host runs: how it is opened, and the outside actor.
+#![tactic(auto)]
+
+pub mod house;
+pub mod outside;
+mod sent;
+
+pub use house::{House, OpenError, open_house};
+pub use outside::Outside;

@@ -1,0 +1,152 @@
+//! The outside actor: the host's part of the house that belongs to no core.
+
+ghost use Rattle.std.specs.Prelude.{◌≡◌, ◌+◌, ◌≤◌, ◌↔◌, IfOk, IsTrue, length};
+ghost use Rattle.rt_journal_desk.specs.Submissions.{opened_desk};
+ghost use Rattle.rt_ring_mesh.specs.Ends.{AreFresh};
+ghost use Rattle.rt_hosted.specs.Submissions.{order_of_host};
+ghost use Rattle.rt_hosted_house.specs.Outside.{Collects, Detaches, HasRoom, Posts, Redeems, StaysOutside};
+
+use crate::sent::{collect_on, detach_on, redeem_on, submit_on};
+use rt_hosted::told::host_order;
+use rt_hosted::{HostJob, Refusal};
+use rt_ids::{ActorNo, CoreNo, Order, Outcome, Ticket};
+use rt_journal_desk::RecordedDesk;
+use rt_journal_notes::RunningJournal;
+use rt_ring_mesh::Ends;
+use std::alloc::{AllocError, Global};
+use std::marker::Model;
+
+/// The outside actor's journal, what it knows of its submissions, and its ends of the links. It receives from nobody.
+#[derive(Drop)]
+pub struct Outside {
+    cores: u8,
+    desk: RecordedDesk<HostJob>,
+    ends: Ends<HostJob>,
+}
+
+impl Model for Outside {
+    ghost use Rattle.rt_hosted_house.specs.Outside.{CallerView, SendsFrom};
+
+    ghost Value = { CallerView };
+
+    ghost use Rattle.std.specs.Prelude.{◌≡◌};
+
+    ghost view = { λ o. record { desk = o.desk; ends = o.ends } };
+
+    ghost invariant = { λ o. SendsFrom (record { desk = o.desk; ends = o.ends }) × (o.cores ≡ o.desk.cores) };
+}
+
+impl Outside {
+    /// Opens the outside actor over its ends of links that were just opened.
+    pub(crate) fn open(
+        alloc: Global,
+        ends: Ends<HostJob>,
+        cores: u8,
+        cap: u16,
+        burst: u8,
+        room: u32,
+    ) -> Result<Self, AllocError>
+        requires outs { length ends.outs ≡ cores }
+        requires fresh { AreFresh cap cores ends }
+        ensures desk { IfOk result (λ outside. outside.desk ≡ opened_desk cores cores cap room burst) }
+        ensures ends { IfOk result (λ outside. outside.ends ≡ ends) }
+    {
+        let desk = RecordedDesk::open_burst(alloc, ActorNo(cores), cores, cap, burst, room)?;
+        Ok(Outside { cores, desk, ends })
+    }
+
+    /// Whether there is room for so many notes.
+    fn has_room(&self, count: u16) -> bool
+        ensures { IsTrue result ↔ HasRoom count self.now }
+    {
+        u32::from(count) <= self.desk.journal().free()
+    }
+
+    /// Sends an order to a core, with the host's number of its job.
+    ///
+    /// # Errors
+    ///
+    /// Tried in this order: `NoCore`; `JournalFull` where no note is free; `Closed`, `Full` and `Spent`, as the link.
+    pub fn submit(&mut self, to: CoreNo, order: Order<u64>) -> Result<Ticket, Refusal>
+        ensures posts { Posts to (order_of_host order) self.old result self.new }
+        ensures stays { StaysOutside self.old self.new }
+    {
+        if to.0 >= self.cores {
+            return Err(Refusal::NoCore);
+        }
+        if !self.has_room(1) {
+            return Err(Refusal::JournalFull);
+        }
+        let order = host_order(order);
+        submit_on(&mut self.desk, &mut self.ends, to, order)
+    }
+
+    /// Collects all outcomes that the link to this core shows. How many there were.
+    ///
+    /// # Errors
+    ///
+    /// Tried in this order: `NoCore`; `JournalFull` where fewer notes are free than a link holds submissions.
+    pub fn collect(&mut self, core: CoreNo) -> Result<usize, Refusal>
+        ensures collects { Collects core self.old result self.new }
+        ensures stays { StaysOutside self.old self.new }
+    {
+        if core.0 >= self.cores {
+            return Err(Refusal::NoCore);
+        }
+        if !self.has_room(self.desk.cap()) {
+            return Err(Refusal::JournalFull);
+        }
+        Ok(collect_on(&mut self.desk, &mut self.ends, core))
+    }
+
+    /// The outcome of a submission, which is gone from then on.
+    ///
+    /// # Errors
+    ///
+    /// Tried in this order: `JournalFull` where no note is free; `Unknown`, `Gone` and `Pending`.
+    pub fn redeem(&mut self, ticket: Ticket) -> Result<Outcome<HostJob, u64>, Refusal>
+        ensures redeems { Redeems ticket self.old result self.new }
+        ensures stays { StaysOutside self.old self.new }
+    {
+        if !self.has_room(1) {
+            return Err(Refusal::JournalFull);
+        }
+        redeem_on(&mut self.desk, &mut self.ends, ticket)
+    }
+
+    /// Nobody will ask for the outcome of a submission.
+    ///
+    /// # Errors
+    ///
+    /// Tried in this order: `JournalFull` where no note is free; `Unknown` and `Gone`.
+    pub fn detach(&mut self, ticket: Ticket) -> Result<(), Refusal>
+        ensures detaches { Detaches ticket self.old result self.new }
+        ensures stays { StaysOutside self.old self.new }
+    {
+        if !self.has_room(1) {
+            return Err(Refusal::JournalFull);
+        }
+        detach_on(&mut self.desk, &mut self.ends, ticket)
+    }
+
+    /// Whether a link shows an outcome that wasn't seen yet: one load for each link. No clause says that the answer is right.
+    pub fn shows(&self) -> bool {
+        self.ends.outs.iter().any(|end| end.shows())
+    }
+
+    /// The notes of the outside actor.
+    pub fn journal(&self) -> &RunningJournal<u64>
+        ensures { result.now ≡ self.now.desk.journal }
+    {
+        self.desk.journal()
+    }
+
+    /// The notes and the ends, which are given up.
+    pub fn end(self) -> (RunningJournal<u64>, Ends<HostJob>)
+        ensures journal { result.0 ≡ self.desk.journal }
+        ensures ends { result.1 ≡ self.ends }
+    {
+        let Outside { desk, ends, .. } = self;
+        (desk.into_journal(), ends)
+    }
+}
