@@ -83,15 +83,4 @@ impl Host {
         }
         ran
     }
-
-    /// Makes rounds until the core is drained, at most so many. Whether it is.
-    pub(crate) fn drain(&mut self, tries: u64) -> bool {
-        for _ in 0..tries {
-            if self.core.is_drained() {
-                return true;
-            }
-            self.round();
-        }
-        false
-    }
 }

@@ -1,4 +1,4 @@
-//! Tests of hosted cores over their public calls: two cores and the outside actor, on one thread and on two, and calls that are refused.
+//! Tests of hosted cores over their public calls: two cores and the outside actor, on one thread, and calls that are refused.
 #![tactic(auto)]
 
 #[cfg(test)]
