@@ -1,6 +1,5 @@
 pub mod Digits
 pub mod Sides
-pub mod Overs
 pub mod Remainders
 pub mod Tops
 pub mod Taken
