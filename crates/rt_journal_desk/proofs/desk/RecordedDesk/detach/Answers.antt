@@ -2,7 +2,7 @@ use Rattle.rt_journal_desk.proofs.Names.{ap, refl, subst, ◌∙◌, Unknown, Re
 use Rattle.rt_journal_desk.proofs.Desked.{are_same, are_apart, lane_taken, its_name}
 use Rattle.rt_journal_desk.proofs.Redeemed.{foreign}
 use Rattle.rt_journal_desk.proofs.Spending.{held_detached, may_note}
-use Rattle.rt_journal_desk.proofs.TakenCalls.{detached_call, detach_refused}
+use Rattle.rt_journal_desk.proofs.TicketCalls.{detached_call, detach_refused}
 use Rattle.rt_journal_desk.proofs.desk.RecordedDesk.detach.Goals as goal
 
 pub returns-then-ne-clause-detaches : goal.returns-then-ne-clause-detaches

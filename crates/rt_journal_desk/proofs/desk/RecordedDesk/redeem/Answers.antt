@@ -2,7 +2,7 @@ use Rattle.rt_journal_desk.proofs.Names.{ap, refl, subst, ◌∙◌, Unknown, Fi
 use Rattle.rt_journal_desk.proofs.Desked.{are_same, are_apart, lane_taken, its_name}
 use Rattle.rt_journal_desk.proofs.Redeemed.{foreign}
 use Rattle.rt_journal_desk.proofs.Spending.{held_gone, may_note}
-use Rattle.rt_journal_desk.proofs.TakenCalls.{redeemed_call, redeem_refused}
+use Rattle.rt_journal_desk.proofs.TicketCalls.{redeemed_call, redeem_refused}
 use Rattle.rt_journal_desk.proofs.desk.RecordedDesk.redeem.Goals as goal
 
 pub returns-then-ne-clause-redeems : goal.returns-then-ne-clause-redeems
