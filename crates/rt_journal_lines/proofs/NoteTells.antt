@@ -23,7 +23,8 @@ use Rattle.rt_journal_lines.specs.NoteWords.{own_rest, received_rest, core_rest,
 use Rattle.rt_journal_lines.proofs.Decimals.{number_in_text}
 use Rattle.rt_journal_lines.proofs.FieldTexts.{queue_word, queue_text_read, name_text_read, mode_text_read, back_reason_text_read, return_reason_text_read}
 use Rattle.rt_journal_lines.proofs.NoteTexts.{note_words}
-use Rattle.rt_journal_lines.proofs.PhraseTexts.{shares_text_read, queue_mode_read, order_text_read, answer_text_read, outcome_text_read}
+use Rattle.rt_journal_lines.proofs.PhraseTexts.{shares_text_read, queue_mode_read, order_text_read, answer_text_read}
+use Rattle.rt_journal_lines.proofs.OutcomeTexts.{outcome_text_read}
 
 kept : (actor end : ℕ) (name : JobId) → end ≡ actor → cond (end == actor) (Some name) None ≡ Some name
 kept actor end name same = let e : (end == actor) ≡ true = grind (arith, nat_tests) in ap (λ b. cond b (Some name) None) e
