@@ -4,7 +4,8 @@ use Rattle.rt_ids.specs.Bursts.{polls_in_turn}
 use Rattle.rt_journal_desk.specs.Spending.{left_of}
 use Rattle.rt_journal_desk.proofs.Posting.{room_for}
 use Rattle.rt_journal.proofs.Beginnings.{further_begins, further_in_turn}
-use Rattle.rt_journal.proofs.PostingTurn.{did_follow, follow_ahead, outs_noted, noted_followed, may_settle, turned_invariant, turned_noted}
+use Rattle.rt_journal.proofs.PostingTurn.{may_settle, turned_invariant, turned_noted}
+use Rattle.rt_journal.proofs.NotedTurns.{did_follow, follow_ahead, outs_noted, noted_followed}
 use Rattle.rt_journal.proofs.QuietSteps.{quiet_noted, view_of}
 use Rattle.rt_journal.proofs.recorded.Recorded.further_noted.Goals as goal
 

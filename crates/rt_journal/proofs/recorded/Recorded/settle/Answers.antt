@@ -1,5 +1,5 @@
 use Rattle.rt_journal.proofs.Names.{subst, Gives}
-use Rattle.rt_journal.proofs.SettledPolls.{settled_given, others_settled}
+use Rattle.rt_journal.proofs.SettledEnds.{settled_given, others_settled}
 use Rattle.rt_journal.proofs.recorded.Recorded.settle.Goals as goal
 
 pub give_if-requires : goal.give_if-requires

@@ -2,7 +2,8 @@ use Rattle.rt_journal.proofs.Names.{◌≡◌, ◌+◌, ◌*◌, ◌<◌, ◌≤
 use Rattle.rt_journal_desk.specs.Spending.{left_of}
 use Rattle.rt_journal_desk.proofs.Posting.{room_for}
 use Rattle.rt_journal.proofs.Beginnings.{pick_begins, pick_in_turn}
-use Rattle.rt_journal.proofs.PostingTurn.{did_pick, pick_ahead, outs_noted, noted_pick, may_settle, turned_invariant, turned_noted}
+use Rattle.rt_journal.proofs.PostingTurn.{may_settle, turned_invariant, turned_noted}
+use Rattle.rt_journal.proofs.NotedTurns.{did_pick, pick_ahead, outs_noted, noted_pick}
 use Rattle.rt_journal.proofs.QuietSteps.{quiet_noted, view_of}
 use Rattle.rt_journal.proofs.recorded.Recorded.turn_noted.Goals as goal
 
