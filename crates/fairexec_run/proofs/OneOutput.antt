@@ -29,7 +29,8 @@ use Rattle.fairexec_script.specs.Drafts.{Drafted}
 use Rattle.fairexec_script.specs.Scripts.{script_of}
 use Rattle.fairexec_run.specs.Replies.{event_of, ends_of, quiet_of}
 use Rattle.fairexec_run.specs.Printed.{IsRunText, IsFront, IsPrinted}
-use Rattle.fairexec_run.specs.Transcripts.{ScriptWorld, event_text, Prints, PrintsAll, with_queue, with_queues, script_room, RunsOf, IsOutput}
+use Rattle.fairexec_run.specs.Transcripts.{ScriptWorld, Prints, PrintsAll, with_queue, with_queues, script_room, RunsOf, IsOutput}
+use Rattle.fairexec_run.specs.EventTexts.{event_text}
 use Rattle.fairexec_run.specs.OneOutput.{OutputIsDetermined, OutputOfJobsIsDetermined, TextHasOneOutput}
 
 -- what an event prints is determined, if what it does is
