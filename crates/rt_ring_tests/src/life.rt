@@ -146,6 +146,35 @@ pub const SEEN_AHEAD: [(Step, Told); 11] = [
     (Step::Redeem, Told::Nothing),
 ];
 
+/// Orders and outcomes that come while others are still seen ahead: each end looks several times, and shut shows what no look did.
+pub const ACROSS_LOOKS: [(Step, Told); 25] = [
+    (Step::Send(1), Told::Sent(1)),
+    (Step::Send(2), Told::Sent(2)),
+    (Step::Serve, Told::Taken(1)),
+    (Step::Send(3), Told::Sent(3)),
+    (Step::Send(4), Told::Sent(4)),
+    (Step::Serve, Told::Taken(2)),
+    (Step::Serve, Told::Taken(3)),
+    (Step::Redeem, Told::Finished(1, 1)),
+    (Step::Send(5), Told::Sent(5)),
+    (Step::Serve, Told::Taken(4)),
+    (Step::Redeem, Told::Finished(2, 2)),
+    (Step::Redeem, Told::Finished(3, 3)),
+    (Step::Send(6), Told::Sent(6)),
+    (Step::Send(7), Told::Sent(7)),
+    (Step::Redeem, Told::Finished(4, 4)),
+    (Step::Redeem, Told::Nothing),
+    (Step::Serve, Told::Taken(5)),
+    (Step::Send(8), Told::Sent(8)),
+    (Step::Shut, Told::Count(8)),
+    (Step::Serve, Told::Taken(6)),
+    (Step::Serve, Told::Taken(7)),
+    (Step::Serve, Told::Taken(8)),
+    (Step::Serve, Told::Nothing),
+    (Step::Redeem, Told::Finished(5, 5)),
+    (Step::Redeem, Told::Finished(6, 6)),
+];
+
 /// The whole life of a link with two places.
 pub const WHOLE_LIFE: [(Step, Told); 17] = [
     (Step::Send(4), Told::Sent(1)),

@@ -3,8 +3,8 @@
 ghost use Rattle.std.specs.Prelude.{◌≡◌, ◌^◌, ◌<◌};
 
 use crate::life::{
-    COMMANDS, LAST_NUMBERS, Link, NO_PLACE, ONE_PLACE, Ring, SEEN, SEEN_AHEAD, Step, WHOLE_LIFE,
-    first_wrong, runs_laps,
+    ACROSS_LOOKS, COMMANDS, LAST_NUMBERS, Link, NO_PLACE, ONE_PLACE, Ring, SEEN, SEEN_AHEAD, Step,
+    WHOLE_LIFE, first_wrong, runs_laps,
 };
 use crate::numbers::{FROM, Number, TO, Told};
 use rt_ids::{Order, QueueNo};
@@ -88,6 +88,14 @@ fn many_laps_of_a_ring(rt: HostRuntime) {
     assert!(rt; laps_right(rt.alloc()));
     for capacity in 1..4u16 {
         assert!(rt; rows_right(rt.alloc(), capacity, 0, &SEEN));
+    }
+}
+
+/// In a ring of four places the rows go through each place twice, and in one of seven they stay within a lap longer.
+#[test]
+fn orders_arrive_across_several_looks(rt: HostRuntime) {
+    for capacity in 4..8u16 {
+        assert!(rt; rows_right(rt.alloc(), capacity, 0, &ACROSS_LOOKS));
     }
 }
 
