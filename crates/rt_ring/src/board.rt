@@ -30,7 +30,7 @@ pub(crate) const ACCEPT: usize = 0;
 /// The return word.
 pub(crate) const RETURN: usize = 16;
 
-/// A word that nobody changes, 64 bytes from each of the two: so on a cache line that nobody writes, wherever the words lie.
+/// A word that nobody changes, 64 bytes from each of the two: so nobody writes its cache line of 64 bytes, wherever the words lie.
 pub(crate) const STILL: usize = 8;
 
 /// Each of the two words stands at the head of 128 bytes, of which the rest is 0 and never changes.
