@@ -2,7 +2,7 @@
 
 ghost use Rattle.std.specs.Prelude.{◌≡◌, ℕ, ◌∷◌, None};
 ghost use Rattle.atomic_table.specs.Table.{rest};
-ghost use Rattle.rt_ring.specs.Slots.{job_of, label_back, without_word, word_of, Empty, Sent, Back};
+ghost use Rattle.rt_ring.specs.Slots.{job_back, job_of, label_back, label_of, without_word, word_of, Empty, Sent, Back};
 
 use crate::board::{Bare, Board, Label, Notice, Place, Slot};
 use rt_ids::{Order, Outcome, Reason};
@@ -92,6 +92,28 @@ impl<J: Drop, T: Drop> Slot<J, T> {
                 };
                 Order::Job(queue, job)
             }
+            command => self.whole_order(word, command),
+        }
+    }
+
+    /// The same, for a command.
+    ///
+    /// It stands by itself so that a job, which comes most often, is told by one comparison and not by a table of jumps.
+    #[inline(never)]
+    fn whole_order(&mut self, word: u64, bare: Bare) -> Order<J>
+        requires { (whole : Order J) × (word ≡ word_of whole) × (bare ≡ without_word whole) × (self.old.job ≡ job_of whole) }
+        ensures word { word ≡ word_of result }
+        ensures label { bare ≡ without_word result }
+        ensures job { self.old.job ≡ job_of result }
+        ensures rest { self.new ≡ record self.old { job = None } }
+    {
+        match bare {
+            Bare::Job(queue) => {
+                let Some(job) = replace(&mut self.job, None) else {
+                    unreachable!()
+                };
+                Order::Job(queue, job)
+            }
             Bare::Create(shares) => Order::Create(shares),
             Bare::SetShares(queue, shares) => Order::SetShares(queue, shares),
             Bare::Close(queue, mode) => Order::Close(queue, mode),
@@ -130,6 +152,22 @@ impl<J: Drop, T: Drop> Slot<J, T> {
         ensures empty { self.new ≡ Empty }
     {
         match replace(&mut self.label, Label::Empty) {
+            Label::Finished(number, out) => (number, Outcome::Finished(out)),
+            label => self.whole_outcome(label),
+        }
+    }
+
+    /// The outcome of this label, with the job that lies here.
+    ///
+    /// It stands by itself so that a finished job is told by one comparison.
+    #[inline(never)]
+    fn whole_outcome(&mut self, label: Label<T>) -> (u64, Outcome<J, T>)
+        requires { (number : ℕ) × (outcome : Outcome J T) × (label ≡ label_of number outcome) × (self.old.job ≡ job_back outcome) }
+        ensures label { label ≡ label_of result.0 result.1 }
+        ensures job { self.old.job ≡ job_back result.1 }
+        ensures rest { self.new ≡ record self.old { job = None } }
+    {
+        match label {
             Label::Finished(number, out) => (number, Outcome::Finished(out)),
             Label::Notice(number, Notice::Returned(reason, bare)) => {
                 (number, Outcome::Returned(reason, self.with_job(0, bare)))
