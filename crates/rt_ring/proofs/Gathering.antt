@@ -25,7 +25,7 @@ use Rattle.rt_ring.specs.Slots.{Empty}
 use Rattle.rt_ring.specs.declared.board.Terms.{Terms}
 use Rattle.rt_ring.proofs.SeatViews.{AreTold-sender}
 use Rattle.rt_ring.proofs.GotSlots.{outcome-there, emptied-there, AreInPlace-got}
-use Rattle.rt_ring.proofs.Stepping.{Rule, Owes, return-word, return-same, still-same, Rule-sender_learns}
+use Rattle.rt_ring.proofs.Stepping.{Rule, Owes, return-word, return-same, accept-same, Rule-sender_learns}
 
 -- what is of these orders is so in each beginning
 AreOf-front : {J T : Type 0} (fits : Order J → Outcome J T → Type 0) (base : ℕ) (orders : List (Order J)) (front whole : List (ℕ × Outcome J T)) → IsPrefix front whole
@@ -97,7 +97,7 @@ module _ {J T : Type 0} (fits : Order J → Outcome J T → Type 0) (ready : Ord
     named = AreOf-front fits out.base out.sent out.seen r.link.given k.sees sees.named;
   }
 
-  lift-goes : out.got < length out.seen → Owes fits ready terms s 8 seat me (LiftsOutcome fits me) (get_or s.words 8 0)
+  lift-goes : out.got < length out.seen → Owes fits ready terms s 0 seat me (LiftsOutcome fits me) (get_or s.words 0 0)
   lift-goes within =
       let got : out.got ≡ r.link.got = ap (λ (o : Outward J T). o.got) k.knows in
       let capacity : out.capacity ≡ r.link.capacity = ap (λ (o : Outward J T). o.capacity) k.knows in
@@ -117,7 +117,7 @@ module _ {J T : Type 0} (fits : Order J → Outcome J T → Type 0) (ready : Ord
           law = IsLink-credit collected (omega (arith, r.credits));
           credits = ap (λ (z : ℕ). z + 1) r.credits;
           terms_are = r.terms_are;
-          words = still-same fits ready terms s r ∙ r.words;
+          words = accept-same fits ready terms s r ∙ r.words;
           slots = AreInPlace-got fits ready r.link r.law r.credits s.homes r.slots more;
           views = AreTold-sender r.link later s.homes (set (set s.homes (outcome_slot r.link.capacity r.link.got) none) (order_slot r.link.capacity r.link.got) none) r.sender r.receiver seat s.views me.0 r.views at used
               (record out { got = out.got + 1 }) go (KnowsOut-got r.link out k (omega arith)) (KnowsInward-got r.link);
@@ -132,5 +132,5 @@ module _ {J T : Type 0} (fits : Order J → Outcome J T → Type 0) (ready : Ord
   pub gathers : Allows (Rule fits ready terms) slots seat me 16 (λ y. y) (Gathers fits me)
   gathers s r wide at _ = gather-goes fits ready terms slots seat me s r at go used
 
-  pub lifts_outcome : me.0.out.got < length me.0.out.seen → Allows (Rule fits ready terms) slots seat me 8 (λ y. y) (LiftsOutcome fits me)
+  pub lifts_outcome : me.0.out.got < length me.0.out.seen → Allows (Rule fits ready terms) slots seat me 0 (λ y. y) (LiftsOutcome fits me)
   lifts_outcome within s r wide at _ = lift-goes fits ready terms slots seat me s r at go used within

@@ -25,7 +25,7 @@ use Rattle.rt_ring.specs.Slots.{Empty}
 use Rattle.rt_ring.specs.declared.board.Terms.{Terms}
 use Rattle.rt_ring.proofs.SeatViews.{AreTold-receiver}
 use Rattle.rt_ring.proofs.TakenSlots.{order-there, vacant-there, AreInPlace-taken}
-use Rattle.rt_ring.proofs.Stepping.{Rule, Owes, accept-word, accept-same, still-same, Rule-receiver_learns}
+use Rattle.rt_ring.proofs.Stepping.{Rule, Owes, accept-word, accept-same, return-same, Rule-receiver_learns}
 use Rattle.rt_ring.proofs.TakenViews.{KnowsInward-seen, KnowsInward-taken, KnowsInward-shut, KnowsOut-taken, KnowsOut-shut}
 
 -- a count with its top bit set
@@ -85,7 +85,7 @@ module _ {J T : Type 0} (fits : Order J → Outcome J T → Type 0) (ready : Ord
     ready_orders = λ i order there. r.law.ready_orders i order (slice_get-seen r.link.sent inward.seen k.sees i order there);
   }
 
-  lift-goes : inward.taken < length inward.seen → Owes fits ready terms s 8 seat me (LiftsOrder ready me) (get_or s.words 8 0)
+  lift-goes : inward.taken < length inward.seen → Owes fits ready terms s 16 seat me (LiftsOrder ready me) (get_or s.words 16 0)
   lift-goes within =
       let taken : inward.taken ≡ r.link.taken = ap (λ (i : Inward J T). i.taken) k.knows in
       let capacity : inward.capacity ≡ r.link.capacity = ap (λ (i : Inward J T). i.capacity) k.knows in
@@ -104,7 +104,7 @@ module _ {J T : Type 0} (fits : Order J → Outcome J T → Type 0) (ready : Ord
           law = IsLink-take r.law more;
           credits = r.credits;
           terms_are = r.terms_are;
-          words = still-same fits ready terms s r ∙ r.words;
+          words = return-same fits ready terms s r ∙ r.words;
           slots = AreInPlace-taken fits ready r.link r.law r.credits s.homes r.slots more;
           views = AreTold-receiver r.link later s.homes (set (set s.homes (order_slot r.link.capacity r.link.taken) none) (outcome_slot r.link.capacity r.link.taken) none) r.sender r.receiver seat s.views me.0 r.views at used
               (record inward { taken = inward.taken + 1 }) go (KnowsInward-taken r.link inward k (omega arith)) (KnowsOut-taken r.link);
@@ -141,7 +141,7 @@ module _ {J T : Type 0} (fits : Order J → Outcome J T → Type 0) (ready : Ord
   pub looks : Allows (Rule fits ready terms) slots seat me 0 (λ y. y) (Looks ready me)
   looks s r wide at _ = look-goes fits ready terms slots seat me s r at go used
 
-  pub lifts_order : me.0.inward.taken < length me.0.inward.seen → Allows (Rule fits ready terms) slots seat me 8 (λ y. y) (LiftsOrder ready me)
+  pub lifts_order : me.0.inward.taken < length me.0.inward.seen → Allows (Rule fits ready terms) slots seat me 16 (λ y. y) (LiftsOrder ready me)
   lifts_order within s r wide at _ = lift-goes fits ready terms slots seat me s r at go used within
 
   pub shuts : (gate : ℕ) → gate ≡ 2 ^ 63 → Allows (Rule fits ready terms) slots seat me 0 (λ y. bit_or y gate) (Closes ready me)

@@ -48,9 +48,6 @@ module _ {J T : Type 0} (fits : Order J → Outcome J T → Type 0) (ready : Ord
     pub return-same : set s.words 16 (get_or s.words 16 0) ≡ s.words
     return-same = ap (λ (words : List ℕ). set words 16 (get_or words 16 0)) r.words ∙ sym r.words
 
-    pub still-same : set s.words 8 (get_or s.words 8 0) ≡ s.words
-    still-same = ap (λ (words : List ℕ). set words 8 (get_or words 8 0)) r.words ∙ sym r.words
-
     module _ (word seat : ℕ) (view : Known J T) (same : set s.words word (get_or s.words word 0) ≡ s.words) (at : get_elem? s.views seat ≡ some view) where
       abbrev now_knows : Known J T → State (Slot J T) (Known J T)
       now_knows later = record { words = set s.words word (get_or s.words word 0); homes = s.homes; views = set s.views seat later }

@@ -8,8 +8,7 @@
 //! **The return word.** The number before the first order, and as many more as outcomes were given. Only the receiver
 //! changes it, and it only rises.
 //!
-//! An end loads the other's word to see more. To take slots out of the table it loads a word between the two that nobody
-//! changes: a slot goes out in a step alone, and an end's own word may lie in the other's cache, which looked at it.
+//! An end loads the other's word to see more, and its own to take slots out of the table: a slot goes out in a step alone.
 //!
 //! **What can't be at once.** The gate is shut and an order is accepted. The low bits of the accept word reach the top
 //! bit: the sender stops at the greatest number. The return word is above the low bits of the accept word, or behind
@@ -29,9 +28,6 @@ pub(crate) const ACCEPT: usize = 0;
 
 /// The return word.
 pub(crate) const RETURN: usize = 16;
-
-/// A word that nobody changes, 64 bytes from each of the two: so nobody writes its cache line of 64 bytes, wherever the words lie.
-pub(crate) const STILL: usize = 8;
 
 /// Each of the two words stands at the head of 128 bytes, of which the rest is 0 and never changes.
 ///

@@ -11,7 +11,7 @@ ghost use Rattle.rt_ring.specs.Slots.{order_slot, outcome_slot};
 ghost use Rattle.rt_ring.specs.After.{with_taken, with_shut, with_given};
 ghost use Rattle.rt_ring.specs.Told.{SeesOrders};
 
-use crate::board::{ACCEPT, Board, GATE, Place, RETURN, STILL};
+use crate::board::{ACCEPT, Board, GATE, Place, RETURN};
 use crate::plays::{Give, LiftOrder, Look, Shut};
 use crate::slots::{put_outcome, take_order};
 use rt_ids::{Order, Outcome};
@@ -62,8 +62,8 @@ pub(crate) fn lift_order<J: Task>(
     ensures lifted { seat.new.me.0 ≡ with_taken seat.old.me.0 seat.old.me.0.inward.seen (seat.old.me.0.inward.taken + 1) }
     ensures order { slice_get seat.old.me.0.inward.seen seat.old.me.0.inward.taken ≡ Some result }
 {
-    // step: lift an order. The word tells nothing, and no other end writes its cache line.
-    let _still = board.shared.load::<LiftOrder>(seat, STILL);
+    // step: lift an order. What the word holds is known: the receiver alone changes it.
+    let _given = board.shared.load::<LiftOrder>(seat, RETURN);
     seat.turn();
     let order = take_order(board, seat, slot, lone);
     seat.turn();

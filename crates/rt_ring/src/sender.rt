@@ -9,7 +9,7 @@ ghost use Rattle.rt_ring.specs.Slots.{order_slot, outcome_slot};
 ghost use Rattle.rt_ring.specs.After.{with_sent, with_closed, with_got};
 ghost use Rattle.rt_ring.specs.Told.{SeesOutcomes};
 
-use crate::board::{ACCEPT, Board, Place, RETURN, STILL};
+use crate::board::{ACCEPT, Board, Place, RETURN};
 use crate::plays::{Accept, Gather, LiftOutcome, Probe};
 use crate::slots::{put_order, take_order, take_outcome};
 use rt_ids::{Order, Outcome};
@@ -105,8 +105,8 @@ pub(crate) fn lift_outcome<J: Task>(
     ensures lifted { seat.new.me.0 ≡ with_got seat.old.me.0 seat.old.me.0.out.seen (seat.old.me.0.out.got + 1) }
     ensures outcome { slice_get seat.old.me.0.out.seen seat.old.me.0.out.got ≡ Some result }
 {
-    // step: lift an outcome. The word tells nothing, and no other end writes its cache line.
-    let _still = board.shared.load::<LiftOutcome>(seat, STILL);
+    // step: lift an outcome. The sender alone changes the word's count, so it learns nothing by it.
+    let _sent = board.shared.load::<LiftOutcome>(seat, ACCEPT);
     seat.turn();
     let found = take_outcome(board, seat, slot, lone);
     seat.turn();
