@@ -8,6 +8,8 @@ mod bursts;
 #[cfg(test)]
 mod devices;
 #[cfg(test)]
+mod each_note;
+#[cfg(test)]
 mod journals;
 #[cfg(test)]
 mod pages;

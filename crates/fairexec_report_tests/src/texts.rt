@@ -1,5 +1,6 @@
 //! Texts of journals: whole ones, and faulty ones with their first faulty line.
 
+use crate::each_note::EACH_NOTE;
 use rt_journal_read::JournalCause;
 
 /// Two jobs of one queue take turns.
@@ -10,10 +11,7 @@ pub(crate) const TURNS: &str =
 pub(crate) const WHOLE: [(u32, &str); 5] = [
     (0, "journal 1\ncores 1 cap 4\nend\n"),
     (1, TURNS),
-    (
-        2,
-        "journal 1\ncores 2 cap 1024\n0 queue q1 10000\n0 sent 0>1#1 job q255\n0 sent 0>1#2 create 1\n0 sent 0>1#3 shares q0 500\n0 sent 0>1#4 close q7 finish\n0 sent 0>1#5 closecore return\n0 sent 0>1#6 wake 255#18446744073709551615\n0 sent 0>1#7 wake 0#0\n0 took 2>0#9223372036854775807 q0\n0 back 2>0#2 noqueue\n0 back 2>0#3 queueclosed\n0 back 2>0#4 coreclosing\n0 answered 1>0#1 created q2\n0 answered 1>0#2 toomany\n0 answered 1>0#3 nomemory\n0 answered 1>0#4 closing\n0 answered 1>0#5 sharesset\n0 answered 1>0#6 noqueue\n0 answered 1>0#7 closed\n0 answered 1>0#8 alreadyclosed\n0 answered 1>0#9 woken\n0 answered 1>0#10 nojob\n0 woken 2>0#1\n0 shares q2 900\n0 closed q2 return\n0 coreclosed finish\n0 pick q0 at 340282366920938463463374607431768211455\n0 start 2>0#1\n0 resume 2>0#1\n0 yield 2>0#1 18446744073709551615\n0 park 2>0#1 18446744073709551615\n0 stayed 2>0#1 0\n0 done 2>0#1 0 = 18446744073709551615\n0 returned 2>0#1 queuereturned\n0 returned 2>0#1 corereturned\n0 shut 2 9223372036854775807\n0 collected 0>1#1 finished 18446744073709551615\n0 collected 0>1#2 answered created q255\n0 redeemed 0>1#1 returned noqueue\n0 redeemed 0>1#4 answered alreadyclosed\n0 detached 0>1#3\n2 sent 2>0#1 job q0\n2 detached 2>0#1\nend\n",
-    ),
+    (2, EACH_NOTE),
     (
         3,
         "journal 1\ncores 16 cap 1\n15 pick q0 at 0\n16 sent 16>15#1 closecore finish\nend\n",

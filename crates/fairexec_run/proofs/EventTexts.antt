@@ -23,7 +23,8 @@ use Rattle.fairexec_run.specs.Begun.{WritesFirst}
 use Rattle.fairexec_run.specs.Outputs.{WritesAll}
 use Rattle.fairexec_run.specs.Replies.{event_of, ends_of, quiet_of}
 use Rattle.fairexec_run.specs.Rooms.{IsRoomy}
-use Rattle.fairexec_run.specs.Transcripts.{ScriptWorld, Occurs, IsHeard, Prints, PrintsAll, event_text, note_lines, quiet_text, script_room}
+use Rattle.fairexec_run.specs.Transcripts.{ScriptWorld, Occurs, IsHeard, Prints, PrintsAll, script_room}
+use Rattle.fairexec_run.specs.EventTexts.{event_text, note_lines, quiet_text}
 use Rattle.fairexec_run.proofs.EventLimits.{are_there, is_there}
 use Rattle.fairexec_run.proofs.WorldSteps.{event_grows, event_short, is_heard, is_free}
 

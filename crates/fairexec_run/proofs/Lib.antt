@@ -11,5 +11,6 @@ pub mod RearLemmas
 pub mod PlayLemmas
 pub mod RunLemmas
 pub mod CollectedCounts
+pub mod UpTo
 pub mod SentCounts
 pub mod CountLemmas

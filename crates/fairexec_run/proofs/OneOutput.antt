@@ -29,7 +29,8 @@ use Rattle.fairexec_script.specs.Drafts.{Drafted}
 use Rattle.fairexec_script.specs.Scripts.{script_of}
 use Rattle.fairexec_run.specs.Replies.{event_of, ends_of, quiet_of}
 use Rattle.fairexec_run.specs.Printed.{IsRunText, IsFront, IsPrinted}
-use Rattle.fairexec_run.specs.Transcripts.{ScriptWorld, event_text, Prints, PrintsAll, with_queue, with_queues, script_room, RunsOf, IsOutput}
+use Rattle.fairexec_run.specs.Transcripts.{ScriptWorld, Prints, PrintsAll, with_queue, with_queues, script_room, RunsOf, IsOutput}
+use Rattle.fairexec_run.specs.EventTexts.{event_text}
 use Rattle.fairexec_run.specs.OneOutput.{OutputIsDetermined, OutputOfJobsIsDetermined, TextHasOneOutput}
 
 -- what an event prints is determined, if what it does is
@@ -105,7 +106,11 @@ module _ (script : Drafted) (output : List ℕ) (is : IsOutput script output) wh
       (run_plain script_meaning scripts_order_none (map event_of script.events) none start is.end run.0 run.1 (plain_unbegun start (begins script is.cores is.cap is.empty is.fresh))).told
 
 -- and there is one such world
-module _ (script : Drafted) (cores cap other_cores other_cap : ℕ) (size : script.size ≡ Some (cores, cap)) (other_size : script.size ≡ Some (other_cores, other_cap)) (empty other_empty : ScriptWorld) (fresh : IsFresh cores cap script.burst (script_room cores cap script.burst) empty) (other_fresh : IsFresh other_cores other_cap script.burst (script_room other_cores other_cap script.burst) other_empty) where
+module _ (script : Drafted) (cores cap other_cores other_cap : ℕ)
+    (size : script.size ≡ Some (cores, cap)) (other_size : script.size ≡ Some (other_cores, other_cap))
+    (empty other_empty : ScriptWorld)
+    (fresh : IsFresh cores cap script.burst (script_room cores cap script.burst) empty)
+    (other_fresh : IsFresh other_cores other_cap script.burst (script_room other_cores other_cap script.burst) other_empty) where
   abbrev first_size : ℕ × ℕ
   first_size = (cores, cap)
 

@@ -95,7 +95,10 @@ no_part : (stats : Bool) (assembly : Assembly ℕ) → IsRearPart stats assembly
 no_part true assembly = (0, omega arith, no_cores assembly.cores assembly.burst _)
 no_part false assembly = refl
 
-module _ (script : Drafted) (cores cap : ℕ) (size : script.size ≡ Some (cores, cap)) (model : ScriptWorld) (opened : IsOpened cores cap script.burst script.queues model) (assembly : Assembly ℕ) (runs : RunsOf (map event_of script.events) model assembly) (spelled : IsSpelled assembly) (joined : AreJoined assembly) (sound : IsSound assembly) where
+module _ (script : Drafted) (cores cap : ℕ) (size : script.size ≡ Some (cores, cap))
+    (model : ScriptWorld) (opened : IsOpened cores cap script.burst script.queues model)
+    (assembly : Assembly ℕ) (runs : RunsOf (map event_of script.events) model assembly)
+    (spelled : IsSpelled assembly) (joined : AreJoined assembly) (sound : IsSound assembly) where
   run_text : IsRunText script assembly (journal_text assembly)
   run_text = record {
     cores = cores;

@@ -3,7 +3,7 @@ use Rattle.std.proofs.Common.{◌≡◌, ℕ, zero, suc, ◌+◌, List, [], ◌�
 use Rattle.std.specs.Prelude.{slice_get}
 use Rattle.rt_ids.specs.declared.note.Note.{Note}
 use Rattle.rt_text.specs.Notes.{note_line}
-use Rattle.fairexec_run.specs.Transcripts.{note_lines}
+use Rattle.fairexec_run.specs.EventTexts.{note_lines}
 
 -- what is left of a list begins with what stands at that place
 drop_suc_at : {A : Type 0} (items : List A) (place : ℕ) (item : A) → slice_get items place ≡ Some item → drop place items ≡ item ∷ drop (suc place) items

@@ -1,4 +1,5 @@
 pub mod Replies
+pub mod EventTexts
 pub mod Transcripts
 pub mod Printed
 pub mod Begun

@@ -9,8 +9,8 @@ use Rattle.fairexec_script.specs.Limits.{IsSize, IsBurst}
 use Rattle.fairexec_run.specs.Counts.{sent_count, collected_count, delivered_count}
 use Rattle.fairexec_run.specs.Transcripts.{ScriptWorld, script_room, with_queues}
 
--- A world of this size after so many events. A poll that submits writes five notes at most: where each poll is a turn, an event
--- leaves six notes or fewer, counted with the submissions, less the outcomes collected. Where a turn may have 64 polls, it leaves 194 or fewer
+-- A world of this size after so many events. A poll that submits writes five notes at most: if each poll is a turn, an event
+-- leaves six notes or fewer, counted with the submissions, less the outcomes collected. If a turn may have 64 polls, it leaves 194 or fewer
 -- that aren't paid by submissions and collected outcomes; and an event delivers one order at most, so that few submissions come to be collected.
 pub record IsRoomy (cores cap burst events : ℕ) (world : ScriptWorld) : Type 0 where
   pub cores_are : world.cores ≡ cores

@@ -1,5 +1,5 @@
 -- What is printed of a script's events.
-use Rattle.std.specs.Prelude.{◌≡◌, ℕ, ◌+◌, ◌*◌, ◌++◌, List, [], ◌∷◌, codes, reverse, Option, Some, None, if◌then◌else◌}
+use Rattle.std.specs.Prelude.{◌≡◌, ℕ, ◌+◌, ◌*◌, ◌++◌, List, [], ◌∷◌, reverse, Some, if◌then◌else◌}
 use Rattle.rt_ids.specs.declared.note.Note.{Note}
 use Rattle.rt_ids.specs.declared.note.Note.TheVariants.{Created}
 use Rattle.rt_ids.specs.Bursts.{has_bursts}
@@ -17,12 +17,9 @@ use Rattle.rt_world.specs.Sends.{actor_of}
 use Rattle.rt_world.specs.Opening.{IsFresh, HasAllLists}
 use Rattle.rt_world.specs.Runs.{Happens, IsRun, RunsTo}
 use Rattle.rt_jobs.specs.ScriptMeaning.{script_meaning}
-use Rattle.rt_text.specs.declared.reply.Ends.{Ends}
-use Rattle.rt_text.specs.declared.reply.Quiet.{Quiet}
 use Rattle.fairexec_script.specs.Drafts.{Drafted}
-use Rattle.rt_text.specs.Notes.{note_line}
 use Rattle.fairexec_run.specs.Replies.{event_of, ends_of, quiet_of}
-use Rattle.rt_text.specs.Replies.{reply_line}
+use Rattle.fairexec_run.specs.EventTexts.{event_text}
 
 -- a world of script jobs
 abbrev pub ScriptWorld : Type 0
@@ -45,20 +42,6 @@ abbrev pub IsHeard : Reply Script → Type 0
 IsHeard (reply.NoActor back) = ⊥
 IsHeard (reply.NoRoom back) = ⊥
 IsHeard _ = Unit {0}
-
--- an actor's notes as lines, the oldest first
-abbrev pub note_lines : ℕ → List (Note ℕ) → List ℕ
-note_lines actor [] = []
-note_lines actor (note ∷ rest) = note_line actor note ++ codes "\n" ++ note_lines actor rest
-
-abbrev pub quiet_text : Ends → Option Quiet → List ℕ
-quiet_text ends None = []
-quiet_text ends (Some quiet) = reply_line ends quiet ++ codes "\n"
-
--- the text of an event: its notes, the oldest first, or one line where it made none
-abbrev pub event_text : Ends → List (Note ℕ) → Option Quiet → List ℕ
-event_text ends [] quiet = quiet_text ends quiet
-event_text ends (note ∷ rest) quiet = note_lines ends.actor (note ∷ rest)
 
 -- the event happens, and this is its text
 pub record Prints (event : ScriptEvent) (old new : ScriptWorld) (text : List ℕ) : Type 0 where

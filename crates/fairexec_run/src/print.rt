@@ -9,7 +9,8 @@ ghost use Rattle.rt_text.specs.Faults.{IfUnread, IfUnwritten};
 ghost use Rattle.fairexec_run.specs.Begun.{WritesFirst};
 ghost use Rattle.fairexec_run.specs.Outputs.{WritesAll};
 ghost use Rattle.fairexec_run.specs.Rooms.{IsRoomy};
-ghost use Rattle.fairexec_run.specs.Transcripts.{Prints, note_lines};
+ghost use Rattle.fairexec_run.specs.Transcripts.{Prints};
+ghost use Rattle.fairexec_run.specs.EventTexts.{note_lines};
 
 use crate::reply::{ends_of, event_of, quiet_of};
 use fairexec_script::ScriptEvent;

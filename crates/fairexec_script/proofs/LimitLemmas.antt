@@ -128,7 +128,10 @@ limits_more draft queue limits core room = record {
 }
 
 -- a `queue` line more is counted
-pub counted_more : (draft : Drafted) (queue : ℕ × ℕ) (old new : List ℕ) → HasCountedLines draft old → IsCoreOf draft.size queue.0 → queue_lines queue.0 draft.queues < 255 → ((core : ℕ) → count_of core new ≡ count_of core old + cond (eqb queue.0 core) 1 0) → HasCountedLines (record { size = draft.size; burst = draft.burst; queues = draft.queues ++ queue ∷ []; events = draft.events }) new
+pub counted_more : (draft : Drafted) (queue : ℕ × ℕ) (old new : List ℕ) → HasCountedLines draft old →
+    IsCoreOf draft.size queue.0 → queue_lines queue.0 draft.queues < 255 →
+    ((core : ℕ) → count_of core new ≡ count_of core old + cond (eqb queue.0 core) 1 0) →
+    HasCountedLines (record { size = draft.size; burst = draft.burst; queues = draft.queues ++ queue ∷ []; events = draft.events }) new
 counted_more draft queue old new counted core room more = record {
   limits = limits_more draft queue counted.limits core room;
   each = λ c. more c ∙ ap (λ n. n + cond (eqb queue.0 c) 1 0) (counted.each c) ∙ sym (count_more c draft.queues queue);

@@ -1,5 +1,6 @@
 pub mod Rooming
 pub mod Sending
+pub mod Closings
 pub mod Good
 pub mod Walking
 pub mod Running

@@ -139,8 +139,12 @@ fn is_next_sent(numbers: &Numbers, name: &JobId) -> bool
 
 /// Whether a note stands in order.
 fn stands_in_order(orders: &[NameTable<Order<()>>], numbers: &Numbers, note: &Note<u64>) -> bool
-    ensures right { (assembly : Assembly ℕ) (before : Notes ℕ) → KnowsOrders orders.now assembly → KnowsNumbers assembly numbers.now before → EnteredAsSent assembly before → StartsRight assembly note.now before → IsTrue result → StandsInOrder assembly note.now before }
-    ensures only { (assembly : Assembly ℕ) (before : Notes ℕ) (terms : Terms) → KnowsOrders orders.now assembly → KnowsOrder assembly numbers.now before → terms.cores ≡ assembly.cores → IsSpelledNote terms note.now → StartsRight assembly note.now before → StandsInOrder assembly note.now before → IsTrue result }
+    ensures right { (assembly : Assembly ℕ) (before : Notes ℕ) → KnowsOrders orders.now assembly
+        → KnowsNumbers assembly numbers.now before → EnteredAsSent assembly before
+        → StartsRight assembly note.now before → IsTrue result → StandsInOrder assembly note.now before }
+    ensures only { (assembly : Assembly ℕ) (before : Notes ℕ) (terms : Terms) → KnowsOrders orders.now assembly
+        → KnowsOrder assembly numbers.now before → terms.cores ≡ assembly.cores → IsSpelledNote terms note.now
+        → StartsRight assembly note.now before → StandsInOrder assembly note.now before → IsTrue result }
 {
     match *note {
         Note::Start(name) => is_above(orders, numbers, &name),
@@ -152,8 +156,11 @@ fn stands_in_order(orders: &[NameTable<Order<()>>], numbers: &Numbers, note: &No
 
 /// The line of the first note that doesn't stand in order, in a journal whose starts are right.
 pub fn order_fault(orders: &[NameTable<Order<()>>], journal: &Journal<u64>) -> Option<usize>
-    ensures kept { result ≡ None → (assembly : Assembly ℕ) → KnowsOrders orders.now assembly → EachNote (StartsRight assembly) journal.now.notes → EachNote (StandsInOrder assembly) journal.now.notes }
-    ensures named { IfSome result (λ at. (assembly : Assembly ℕ) (terms : Terms) → assembly.cores ≤ most_cores → terms.cores ≡ assembly.cores → KnowsOrders orders.now assembly → AreSpelledNotes terms journal.now.notes → EachNote (StartsRight assembly) journal.now.notes → IsFirstFault (StandsInOrder assembly) journal.now.notes at) }
+    ensures kept { result ≡ None → (assembly : Assembly ℕ) → KnowsOrders orders.now assembly
+        → EachNote (StartsRight assembly) journal.now.notes → EachNote (StandsInOrder assembly) journal.now.notes }
+    ensures named { IfSome result (λ at. (assembly : Assembly ℕ) (terms : Terms) → assembly.cores ≤ most_cores
+        → terms.cores ≡ assembly.cores → KnowsOrders orders.now assembly → AreSpelledNotes terms journal.now.notes
+        → EachNote (StartsRight assembly) journal.now.notes → IsFirstFault (StandsInOrder assembly) journal.now.notes at) }
 {
     let mut numbers = Numbers::new();
     for place in 0..journal.len() {

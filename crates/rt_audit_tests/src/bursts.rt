@@ -2,10 +2,36 @@
 
 use crate::rows::Row;
 
+/// Two queues take turns of two polls.
+const TWO_QUEUES: &str = "\
+journal 2
+cores 1 cap 4 burst 2
+0 queue q1 1000
+0 took 1>0#1 q0
+0 took 1>0#2 q1
+0 pick q0 at 0
+0 start 1>0#1
+0 yield 1>0#1 10
+0 resume 1>0#1
+0 yield 1>0#1 10
+0 turned q0 20
+0 pick q1 at 0
+0 start 1>0#2
+0 done 1>0#2 5 = 7
+0 turned q1 5
+0 pick q0 at 20
+0 resume 1>0#1
+0 done 1>0#1 0 = 7
+0 turned q0 1
+1 sent 1>0#1 job q0
+1 sent 1>0#2 job q1
+end
+";
+
 /// Sound journals: two queues take turns of two polls, shares that change within a turn count for all of it, a turn ends though it may go on,
 /// a turn goes on though its queue was closed, a journal ends within a turn, and a drained core's does.
 pub(crate) const TURNED: [&str; 6] = [
-    "journal 2\ncores 1 cap 4 burst 2\n0 queue q1 1000\n0 took 1>0#1 q0\n0 took 1>0#2 q1\n0 pick q0 at 0\n0 start 1>0#1\n0 yield 1>0#1 10\n0 resume 1>0#1\n0 yield 1>0#1 10\n0 turned q0 20\n0 pick q1 at 0\n0 start 1>0#2\n0 done 1>0#2 5 = 7\n0 turned q1 5\n0 pick q0 at 20\n0 resume 1>0#1\n0 done 1>0#1 0 = 7\n0 turned q0 1\n1 sent 1>0#1 job q0\n1 sent 1>0#2 job q1\nend\n",
+    TWO_QUEUES,
     "journal 2\ncores 1 cap 4 burst 2\n0 took 1>0#1 q0\n0 pick q0 at 0\n0 start 1>0#1\n0 yield 1>0#1 10\n0 shares q0 500\n0 resume 1>0#1\n0 yield 1>0#1 10\n0 turned q0 20\n0 pick q0 at 40\n0 resume 1>0#1\n1 sent 1>0#1 job q0\nend\n",
     "journal 2\ncores 1 cap 4 burst 2\n0 took 1>0#1 q0\n0 pick q0 at 0\n0 start 1>0#1\n0 yield 1>0#1 10\n0 turned q0 10\n1 sent 1>0#1 job q0\nend\n",
     "journal 2\ncores 1 cap 4 burst 2\n0 took 1>0#1 q0\n0 pick q0 at 0\n0 start 1>0#1\n0 yield 1>0#1 10\n0 answered 1>0#2 closed\n0 closed q0 return\n0 resume 1>0#1\n1 sent 1>0#1 job q0\n1 sent 1>0#2 close q0 return\nend\n",

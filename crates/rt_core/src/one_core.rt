@@ -205,7 +205,7 @@ impl<J: Task, A: Allocator + Clone> Core<J, A> {
     }
 
     /// Picks the queue of least virtual runtime, then least number, and takes its first job out, or hands it back if the queue or the
-    /// core is closed so. Where a turn may have several polls, a pick for a poll opens the turn of its queue.
+    /// core is closed so. If a turn may have several polls, a pick for a poll opens the turn of its queue.
     pub fn pick(&mut self) -> (Result<Turn<J>, PickError>, Notes<J::Out>)
     where
         J::Out: Copy,

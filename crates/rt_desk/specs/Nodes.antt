@@ -1,6 +1,6 @@
 -- What a node holds with what is below it.
-use Rattle.std.specs.Prelude.{◌≡◌, ℕ, List, []}
-use Rattle.rt_desk.specs.Held.{held_below, IsNodeSound}
+use Rattle.std.specs.Prelude.{◌≡◌, ℕ, List, [], ◌∷◌, None}
+use Rattle.rt_desk.specs.Held.{at, held_below, IsNodeSound}
 use Rattle.rt_desk.specs.declared.trie.Link.{Link}
 use Rattle.rt_desk.specs.declared.trie.Link.TheVariants.{Empty, Top}
 use Rattle.rt_desk.specs.declared.trie.Node.{Node}
@@ -19,3 +19,13 @@ module _ {V : Type 0} where
   -- a node with nothing below
   abbrev pub IsLoose : Node V → Type 0
   IsLoose node = (node.even ≡ []) × (node.odd ≡ [])
+
+  -- what a tree holds, and the node over it
+  abbrev pub over : Link V → List (ℕ × V) → List (ℕ × V)
+  over Empty met = met
+  over (Top node) met = (node.value.rest, node.value.value) ∷ met
+
+  -- The node over a tree has nothing below itself, and its number isn't in the tree.
+  abbrev pub IsOver : Link V → List (ℕ × V) → Type 0
+  IsOver Empty met = Unit {0}
+  IsOver (Top node) met = IsLoose node.value × (at met node.value.rest ≡ None)

@@ -8,7 +8,7 @@ use Rattle.rt_ids.specs.declared.names.TicketError.TheVariants as refusal
 use Rattle.rt_link.specs.declared.ends.Outward.{Outward}
 use Rattle.rt_link.specs.Calls.{Collects}
 use Rattle.rt_ids.specs.Assembly.{IsPrefix}
-use Rattle.rt_desk.specs.Held.{at, tally, Adds, Removes, Becomes}
+use Rattle.rt_desk.specs.Held.{at, tally, Removes, Becomes}
 use Rattle.rt_desk.specs.Lanes.{Lane, is_detached, IsGiven, IsGone}
 use Rattle.rt_desk.specs.declared.entry.Standing.{Standing}
 use Rattle.rt_desk.specs.declared.entry.Standing.TheVariants as standing

@@ -68,7 +68,7 @@ impl<J: Task> Lane<J> {
         ensures refused { OnErr result (self.new ≡ self.old) }
     {
         let number = end.send(order)?;
-        self.shelf.put(number, Entry::Pending);
+        self.shelf.put(number);
         self.count += 1;
         self.last = number;
         Ok(number)

@@ -4,6 +4,7 @@
 pub mod desk;
 pub mod entry;
 pub mod lane;
+mod row;
 mod rows;
 mod shelf;
 mod trie;

@@ -1,22 +1,23 @@
-//! Numbers with values in several trees: each stands in the tree of its last digits.
+//! Numbers with values in several rows: each stands in the row of its last digits.
 //!
-//! The numbers of a link follow each other. So those that are outstanding lie in different trees as long as there are fewer of them
-//! than trees, and a search makes a step or two. Whichever they are, it makes at most one for each digit.
+//! The numbers of a link follow each other. So those that are outstanding lie in different rows unless some were kept long, and a
+//! search makes one step. Whichever they are, it makes at most one more for each digit.
 
 ghost use Rattle.std.specs.Prelude.{◌≡◌, ◌≤◌, ℕ, [], None, length, IfOk, IfSome, IfNone, option_copied};
 ghost use Rattle.rt_desk.specs.Held.{at, Adds, Removes, Becomes};
 ghost use Rattle.rt_desk.specs.Nodes.{IsLoose};
 
-use crate::trie::{Node, Trie};
+use crate::row::Row;
+use crate::trie::Node;
 use std::alloc::{AllocError, Global};
 use std::marker::Model;
 
 /// Values by number.
 #[derive(Drop)]
 pub(crate) struct Rows<V: Drop> {
-    /// How many of the last digits say which tree it is.
+    /// How many of the last digits say which row it is.
     digits: u32,
-    trees: Vec<Trie<V>, Global>,
+    rows: Vec<Row<V>, Global>,
 }
 
 impl<V: Drop> Model for Rows<V> {
@@ -27,44 +28,47 @@ impl<V: Drop> Model for Rows<V> {
     ghost use Rattle.std.specs.Prelude.{◌≡◌, ◌≤◌, ◌^◌, length};
     ghost use Rattle.rt_desk.specs.Rows.{spread};
 
-    ghost view = { λ r. spread (2 ^ r.digits) 0 r.trees.items };
+    ghost view = { λ r. spread (2 ^ r.digits) 0 r.rows.items };
 
-    ghost invariant = { λ r. (r.digits ≤ 16) × (length r.trees.items ≡ 2 ^ r.digits) };
+    ghost invariant = { λ r. (r.digits ≤ 16) × (length r.rows.items ≡ 2 ^ r.digits) };
 }
 
 impl<V: Drop> Rows<V> {
-    /// As many trees as numbers that are expected at a time, or up to twice as many.
+    /// More rows than numbers that are expected at a time, and at most twice as many.
     pub(crate) fn open(alloc: Global, expected: u16) -> Result<Self, AllocError>
         ensures { IfOk result (λ rows. rows ≡ []) }
     {
         let digits = u16::BITS - expected.leading_zeros();
         let count = 1usize << digits;
-        let mut trees = Vec::with_capacity(alloc, count)?;
+        let mut rows = Vec::with_capacity(alloc, count)?;
         for _ in 0..count {
-            trees.push_reserved(Trie::new());
+            rows.push_reserved(Row::new());
         }
-        Ok(Rows { digits, trees })
+        Ok(Rows { digits, rows })
     }
 
     /// The value at a number.
+    #[inline(always)]
     pub(crate) fn get(&self, number: u64) -> Option<&V>
         ensures { option_copied result ≡ at self.now number }
     {
         let count = 1u64 << self.digits;
-        self.trees[(number % count) as usize].get(number / count)
+        self.rows[(number % count) as usize].get(number / count)
     }
 
     /// Adds a node at a number that isn't held.
+    #[inline(always)]
     pub(crate) fn add(&mut self, number: u64, node: Box<Node<V>, Global>)
         requires absent { at self.old number ≡ None }
         requires loose { IsLoose node.value }
         ensures { Adds self.old self.new number node.value.value }
     {
         let count = 1u64 << self.digits;
-        self.trees[(number % count) as usize].add(number / count, node);
+        self.rows[(number % count) as usize].add(number / count, node);
     }
 
     /// Takes out the node at a number, if it is held.
+    #[inline(always)]
     pub(crate) fn remove(&mut self, number: u64) -> Option<Box<Node<V>, Global>>
         ensures none { IfNone result (at self.old number ≡ None) }
         ensures unchanged { IfNone result (self.new ≡ self.old) }
@@ -72,16 +76,17 @@ impl<V: Drop> Rows<V> {
         ensures taken { IfSome result (λ node. Removes self.old self.new number node.value.value) }
     {
         let count = 1u64 << self.digits;
-        self.trees[(number % count) as usize].remove(number / count)
+        self.rows[(number % count) as usize].remove(number / count)
     }
 
     /// Puts a value in the place of the one at a number, which comes back. If the number isn't held, nothing changes.
+    #[inline(always)]
     pub(crate) fn swap(&mut self, number: u64, value: V) -> Option<V>
         ensures none { IfNone result (at self.old number ≡ None) }
         ensures unchanged { IfNone result (self.new ≡ self.old) }
         ensures becomes { IfSome result (λ before. Becomes self.old self.new number before value) }
     {
         let count = 1u64 << self.digits;
-        self.trees[(number % count) as usize].swap(number / count, value)
+        self.rows[(number % count) as usize].swap(number / count, value)
     }
 }

@@ -12,7 +12,7 @@ use std::alloc::{AllocError, Global};
 use std::marker::Model;
 use std::mem;
 
-/// A node that is in no tree.
+/// A node that is in no tree. Its entry waits, so that it needn't be written when it is used.
 #[derive(Drop)]
 struct Slip<J: Drop, T: Drop> {
     node: Box<Node<Entry<J, T>>, Global>,
@@ -25,9 +25,11 @@ impl<J: Drop, T: Drop> Model for Slip<J, T> {
 
     ghost view = { λ s. s.node.value.value };
 
+    ghost use Rattle.std.specs.Prelude.{◌≡◌};
     ghost use Rattle.rt_desk.specs.Nodes.{IsLoose};
+    ghost use Rattle.rt_desk.specs.declared.entry.Entry.TheVariants.{Pending};
 
-    ghost invariant = { λ s. IsLoose s.node.value };
+    ghost invariant = { λ s. IsLoose s.node.value × (s.node.value.value ≡ Pending) };
 }
 
 impl<J: Drop, T: Drop> Slip<J, T> {
@@ -36,13 +38,12 @@ impl<J: Drop, T: Drop> Slip<J, T> {
         Ok(Slip { node })
     }
 
-    /// The node, with this entry.
-    fn filled(self, entry: Entry<J, T>) -> Box<Node<Entry<J, T>>, Global>
+    /// The node.
+    fn taken(self) -> Box<Node<Entry<J, T>>, Global>
         ensures loose { IsLoose result.value }
-        ensures value { result.value.value ≡ entry }
+        ensures value { result.value.value ≡ Pending }
     {
-        let Slip { mut node } = self;
-        node.value = entry;
+        let Slip { node } = self;
         node
     }
 
@@ -95,26 +96,29 @@ impl<J: Drop, T: Drop> Shelf<J, T> {
     }
 
     /// The entry at a number.
+    #[inline(always)]
     pub(crate) fn get(&self, number: u64) -> Option<&Entry<J, T>>
         ensures { option_copied result ≡ at self.now.entries number }
     {
         self.held.get(number)
     }
 
-    /// Adds an entry at a number that has none.
-    pub(crate) fn put(&mut self, number: u64, entry: Entry<J, T>)
+    /// Adds an entry that waits at a number that has none.
+    #[inline(always)]
+    pub(crate) fn put(&mut self, number: u64)
         requires absent { at self.old.entries number ≡ None }
         requires room { count_of self.old.entries < self.old.room }
-        ensures adds { Adds self.old.entries self.new.entries number entry }
+        ensures adds { Adds self.old.entries self.new.entries number Pending }
         ensures room { self.new.room ≡ self.old.room }
     {
         let Some(slip) = self.free.pop() else {
             unreachable!()
         };
-        self.held.add(number, slip.filled(entry));
+        self.held.add(number, slip.taken());
     }
 
     /// Takes the entry of a number out, if it has one.
+    #[inline(always)]
     pub(crate) fn pull(&mut self, number: u64) -> Option<Entry<J, T>>
         ensures none { IfNone result (at self.old.entries number ≡ None) }
         ensures unchanged { IfNone result (self.new ≡ self.old) }
@@ -128,6 +132,7 @@ impl<J: Drop, T: Drop> Shelf<J, T> {
     }
 
     /// Puts an entry in the place of the one of a number, which comes back. If the number has none, nothing changes.
+    #[inline(always)]
     pub(crate) fn swap(&mut self, number: u64, entry: Entry<J, T>) -> Option<Entry<J, T>>
         ensures none { IfNone result (at self.old.entries number ≡ None) }
         ensures becomes { IfSome result (λ before. Becomes self.old.entries self.new.entries number before entry) }

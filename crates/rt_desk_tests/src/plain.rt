@@ -7,7 +7,7 @@ ghost use Rattle.rt_link.specs.Fits.{Fits};
 ghost use Rattle.rt_link.specs.Whole.{IsLink, out_of};
 ghost use Rattle.rt_desk.specs.Desks.{AreEndsOf};
 
-use crate::rows::{DETACHED, FULL_TWICE, LAST, ONE_PLACE, Office, STRANGERS, first_wrong};
+use crate::rows::{DETACHED, FULL_TWICE, LAST, MEETING, ONE_PLACE, Office, STRANGERS, first_wrong};
 use crate::steps::{Act, Came, FROM, at_desk};
 use rt_desk::desk::Desk;
 use rt_ids::{CoreNo, Envelope, Order, Outcome, Reason};
@@ -114,6 +114,7 @@ fn lives_right(alloc: Global) -> bool {
     rows_right(alloc, 2, 0, &FULL_TWICE) == Some(12)
         && rows_right(alloc, 1, 0, &ONE_PLACE) == Some(9)
         && rows_right(alloc, 2, 0, &DETACHED) == Some(15)
+        && rows_right(alloc, 2, 0, &MEETING) == Some(18)
         && rows_right(alloc, 4, 0, &STRANGERS) == Some(10)
         && rows_right(alloc, 4, LAST_NUMBER - 1, &LAST) == Some(7)
 }

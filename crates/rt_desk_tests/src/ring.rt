@@ -3,7 +3,8 @@
 ghost use Rattle.std.specs.Prelude.{◌<◌, ◌^◌};
 
 use crate::rows::{
-    DETACHED, FULL_TWICE, LAST, ONE_PLACE, Office, STRANGERS, first_wrong, keeps_the_old,
+    DETACHED, FULL_TWICE, LAST, MEETING, ONE_PLACE, Office, STRANGERS, first_wrong,
+    keeps_all_but_one, keeps_the_old,
 };
 use crate::steps::{Act, Came, FROM, at_desk, hand_back, serve};
 use rt_desk::desk::Desk;
@@ -78,11 +79,20 @@ fn old_right(alloc: Global) -> bool {
     }
 }
 
+/// Whether each ticket stays good where all places but one are kept.
+fn kept_right(alloc: Global, cap: u16) -> bool {
+    match opened(alloc, cap, 0) {
+        Some(mut office) => keeps_all_but_one(&mut office, cap),
+        None => false,
+    }
+}
+
 /// Whether each row of each life comes to what it should.
 fn lives_right(alloc: Global) -> bool {
     rows_right(alloc, 2, 0, &FULL_TWICE) == Some(12)
         && rows_right(alloc, 1, 0, &ONE_PLACE) == Some(9)
         && rows_right(alloc, 2, 0, &DETACHED) == Some(15)
+        && rows_right(alloc, 2, 0, &MEETING) == Some(18)
         && rows_right(alloc, 4, 0, &STRANGERS) == Some(10)
         && rows_right(alloc, 4, LAST_NUMBER - 1, &LAST) == Some(7)
 }
@@ -91,4 +101,11 @@ fn lives_right(alloc: Global) -> bool {
 fn lives_of_desks_over_rings(rt: HostRuntime) {
     assert!(rt; lives_right(rt.alloc()));
     assert!(rt; old_right(rt.alloc()));
+}
+
+#[test]
+fn desks_of_any_room_keep_all_but_one(rt: HostRuntime) {
+    let alloc = rt.alloc();
+    let right = kept_right(alloc, 1) && kept_right(alloc, 64) && kept_right(alloc, 1024);
+    assert!(rt; right);
 }

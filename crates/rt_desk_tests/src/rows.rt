@@ -107,9 +107,59 @@ pub const LAST: [(Act, Came); 7] = [
     ),
 ];
 
+/// A number is kept until one that ends in the same digits has the place of its row. Each is found under its own name.
+pub const MEETING: [(Act, Came); 18] = [
+    (Act::Submit(0, 1), Came::Sent(1)),
+    (Act::Serve, Came::Taken(1)),
+    (Act::Collect, Came::Count(1)),
+    (Act::Submit(0, 2), Came::Sent(2)),
+    (Act::Detach(2, 0, 2), Came::Detached),
+    (Act::Serve, Came::Taken(2)),
+    (Act::Collect, Came::Count(1)),
+    (Act::Submit(0, 3), Came::Sent(3)),
+    (Act::Serve, Came::Taken(3)),
+    (Act::Collect, Came::Count(1)),
+    (Act::Detach(2, 0, 3), Came::Detached),
+    (Act::Submit(0, 4), Came::Sent(4)),
+    (Act::HandBack, Came::Taken(4)),
+    (Act::CollectOne, Came::Returned(4)),
+    (Act::Redeem(2, 0, 4), Came::Returned(4)),
+    (Act::Submit(0, 5), Came::Sent(5)),
+    (Act::Redeem(2, 0, 5), Came::Refused(TicketError::Pending)),
+    (Act::Detach(2, 0, 1), Came::Detached),
+];
+
 /// Whether a row comes to what it should.
 fn is_right<L: Office>(office: &mut L, act: Act, want: Came) -> bool {
     office.does(act) == want
+}
+
+/// Whether a submission is answered and collected, and keeps its place.
+fn holds<L: Office>(office: &mut L, number: u64) -> bool {
+    is_right(office, Act::Submit(0, number), Came::Sent(number))
+        && is_right(office, Act::Serve, Came::Taken(number))
+        && is_right(office, Act::Collect, Came::Count(1))
+}
+
+/// All places but one are kept, and one submission after another has the last one. Those that are far apart meet in a row.
+pub fn keeps_all_but_one<L: Office>(office: &mut L, cap: u16) -> bool {
+    let kept = cap as u64;
+    for number in 1..kept {
+        if !holds(office, number) {
+            return false;
+        }
+    }
+    for number in kept..kept * 5 {
+        if !(holds(office, number) && redeems(office, number) && is_gone(office, number)) {
+            return false;
+        }
+    }
+    for number in 1..kept {
+        if !(redeems(office, number) && is_gone(office, number)) {
+            return false;
+        }
+    }
+    is_right(office, Act::Outstanding, Came::Count(0))
 }
 
 /// Whether the ticket is one that is kept long.
@@ -141,5 +191,13 @@ fn redeems<L: Office>(office: &mut L, number: u64) -> bool {
         office,
         Act::Redeem(2, 0, number),
         Came::Finished(number, number),
+    )
+}
+
+fn is_gone<L: Office>(office: &mut L, number: u64) -> bool {
+    is_right(
+        office,
+        Act::Redeem(2, 0, number),
+        Came::Refused(TicketError::Gone),
     )
 }

@@ -9,7 +9,7 @@ use Rattle.rt_ids.specs.declared.order.Mode.TheVariants.{Finish}
 use Rattle.rt_ids.specs.declared.order.Order.{Order}
 use Rattle.rt_ids.specs.declared.order.Order.TheVariants.{Wake}
 use Rattle.rt_ids.specs.BadJournals.{submission}
-use Rattle.rt_ids.specs.BadParks.{asleep}
+use Rattle.rt_ids.specs.Asleep.{asleep}
 use Rattle.rt_ids.specs.BadWakes.{WakesAreRefused}
 use Rattle.rt_ids.specs.Commands.{IsAnswer, effect_note}
 use Rattle.rt_ids.specs.Keys.{KeyAtMost}

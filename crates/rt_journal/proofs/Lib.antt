@@ -25,9 +25,11 @@ pub mod OneBeginning
 pub mod Opened
 pub mod OwedNotes
 pub mod OwedSteps
+pub mod SeenEnds
 pub mod OwedTurns
 pub mod Places
 pub mod PollsRefused
+pub mod NotedTurns
 pub mod PostingTurn
 pub mod QuietSteps
 pub mod Received
@@ -35,6 +37,7 @@ pub mod RefusalsCounted
 pub mod ScriptPolls
 pub mod SentNotes
 pub mod SettledPolls
+pub mod SettledEnds
 pub mod StatsTold
 pub mod Sums
 pub mod Together

@@ -312,7 +312,7 @@ impl<J: Task<Out = u64>, A: Allocator + Clone> Recorded<J, A> {
         ensures lanes { self.new.lanes ≡ self.old.lanes }
         ensures sound { IsRecorded J.meaning self.new }
     {
-        // An error is told ahead. Where there is none, a turn is left for each queue that has work.
+        // An error is told ahead. If there is none, a turn is left for each queue that has work.
         if let Err(error) = self.core.ahead() {
             return Err(error);
         }

@@ -9,4 +9,6 @@ pub mod CollectedNext
 pub mod LaneEnds
 pub mod Spending
 pub mod TakenCalls
+pub mod TicketCalls
+pub mod Posts
 pub mod Posting

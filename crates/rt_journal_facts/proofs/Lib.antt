@@ -1,4 +1,5 @@
 pub mod AccountSteps
+pub mod WokenAccounts
 pub mod AllAccounts
 pub mod Counts
 pub mod FactSteps

@@ -1,4 +1,4 @@
--- Where the jobs of a journal are parked, told so that one note changes little.
+-- The queue in which each job of a journal is parked, told so that one note changes little.
 use Rattle.std.specs.Prelude.{◌≡◌, ℕ, ◌≤◌, Bool, false, ◌==◌, if◌then◌else◌, Option, Some, None, unwrap_or, [], ◌∷◌, length}
 use Rattle.rt_ids.specs.declared.names.JobId.{JobId}
 use Rattle.rt_ids.specs.declared.note.Note.{Note}

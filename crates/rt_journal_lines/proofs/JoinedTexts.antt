@@ -11,7 +11,8 @@ use Rattle.rt_ids.specs.declared.order.Order.{Order}
 use Rattle.rt_ids.specs.declared.order.Order.TheVariants as order
 use Rattle.rt_text.specs.Notes.{name_text, reason_text, mode_text, order_text, answer_text, outcome_text, note_text, note_line}
 use Rattle.rt_journal_lines.proofs.NoteTexts.{note_words}
-use Rattle.rt_journal_lines.proofs.PhraseTexts.{order_words, answer_words, outcome_words}
+use Rattle.rt_journal_lines.proofs.PhraseTexts.{order_words, answer_words}
+use Rattle.rt_journal_lines.proofs.OutcomeTexts.{outcome_words}
 
 abbrev pub joined : List (List ℕ) → List ℕ
 joined ws = join_with_byte 32 ws

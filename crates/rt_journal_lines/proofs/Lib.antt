@@ -3,7 +3,9 @@ pub mod Cuts
 pub mod Options
 pub mod FieldTexts
 pub mod PhraseTexts
+pub mod OutcomeTexts
 pub mod NoteTexts
+pub mod CoreTexts
 pub mod NoteReads
 pub mod NoteTells
 pub mod JoinedTexts

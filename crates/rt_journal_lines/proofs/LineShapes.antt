@@ -26,7 +26,8 @@ use Rattle.rt_journal_lines.specs.Laws.{IsActor, HoldsTimes, HoldsOrder, HoldsOu
 use Rattle.rt_journal_lines.proofs.FieldTexts.{queue_word, name_joined}
 use Rattle.rt_journal_lines.proofs.JoinedTexts.{joined, line_joined}
 use Rattle.rt_journal_lines.proofs.NoteTexts.{note_words}
-use Rattle.rt_journal_lines.proofs.PhraseTexts.{order_words, answer_words, outcome_words}
+use Rattle.rt_journal_lines.proofs.PhraseTexts.{order_words, answer_words}
+use Rattle.rt_journal_lines.proofs.OutcomeTexts.{outcome_words}
 use Rattle.rt_journal_lines.proofs.WholeWords.{HasNo, HaveNo, number_word, note_whole}
 
 -- how many bytes words take, each with what parts it from the next

@@ -19,7 +19,8 @@ use Rattle.rt_journal_lines.specs.Kinds.{own_kind_of, received_kind_of, core_kin
 use Rattle.rt_journal_lines.specs.NoteWords.{own_rest, received_rest, core_rest, own_name, received_name, own_note, received_note, core_note, if_kind, note_of}
 use Rattle.rt_journal_lines.proofs.FieldTexts.{name_read, name_of-none}
 use Rattle.rt_journal_lines.proofs.Options.{either, bind_some, chosen, told, led}
-use Rattle.rt_journal_lines.proofs.NoteTexts.{own_word, received_word, inner_word, WordsOf, own_rest_read, received_rest_read, core_rest_read}
+use Rattle.rt_journal_lines.proofs.NoteTexts.{own_word, received_word, inner_word, WordsOf, own_rest_read, received_rest_read}
+use Rattle.rt_journal_lines.proofs.CoreTexts.{core_rest_read}
 
 -- the first word says the kind
 own_kind_read : (word : List ℕ) (kind : OwnKind) → own_kind_of word ≡ Some kind → word ≡ own_word kind

@@ -23,32 +23,45 @@ use Rattle.rt_journal_lines.specs.NoteWords.{own_rest, received_rest, core_rest,
 use Rattle.rt_journal_lines.proofs.Decimals.{number_in_text}
 use Rattle.rt_journal_lines.proofs.FieldTexts.{queue_word, queue_text_read, name_text_read, mode_text_read, back_reason_text_read, return_reason_text_read}
 use Rattle.rt_journal_lines.proofs.NoteTexts.{note_words}
-use Rattle.rt_journal_lines.proofs.PhraseTexts.{shares_text_read, queue_mode_read, order_text_read, answer_text_read, outcome_text_read}
+use Rattle.rt_journal_lines.proofs.PhraseTexts.{shares_text_read, queue_mode_read, order_text_read, answer_text_read}
+use Rattle.rt_journal_lines.proofs.OutcomeTexts.{outcome_text_read}
 
 kept : (actor end : ℕ) (name : JobId) → end ≡ actor → cond (end == actor) (Some name) None ≡ Some name
 kept actor end name same = let e : (end == actor) ≡ true = grind (arith, nat_tests) in ap (λ b. cond b (Some name) None) e
 
 -- a note that the sender of its submission writes
-by_own : (terms : Terms) (word : List ℕ) (kind : OwnKind) (name : JobId) (ws : List (List ℕ)) (written : Note ℕ) → terms.cores ≤ most_cores → IsOwn terms name → own_kind_of word ≡ Some kind → own_rest kind name ws ≡ Some written → note_of terms.actor terms.cores terms.burst (word ∷ name_text name ∷ ws) ≡ Some written
+by_own : (terms : Terms) (word : List ℕ) (kind : OwnKind) (name : JobId) (ws : List (List ℕ)) (written : Note ℕ) →
+    terms.cores ≤ most_cores → IsOwn terms name → own_kind_of word ≡ Some kind → own_rest kind name ws ≡ Some written →
+    note_of terms.actor terms.cores terms.burst (word ∷ name_text name ∷ ws) ≡ Some written
 unfolding note_of
 by_own terms word kind name ws written few mine key rest =
-    ap (λ k. if_kind k (λ kind. own_note terms.actor terms.cores kind (name_text name ∷ ws)) (if_kind (received_kind_of word) (λ kind. received_note terms.actor terms.cores kind (name_text name ∷ ws)) (if_kind (core_kind_of word) (λ kind. core_note terms.actor terms.cores terms.burst kind (name_text name ∷ ws)) None))) key
+    ap (λ k. if_kind k (λ kind. own_note terms.actor terms.cores kind (name_text name ∷ ws))
+    (if_kind (received_kind_of word) (λ kind. received_note terms.actor terms.cores kind (name_text name ∷ ws))
+    (if_kind (core_kind_of word) (λ kind. core_note terms.actor terms.cores terms.burst kind (name_text name ∷ ws)) None))) key
     ∙ ap (λ (o : Option JobId). (o >>= λ n. cond (n.from == terms.actor) (Some n) None) >>= λ n. own_rest kind n ws) (name_text_read terms.cores name few mine.0)
     ∙ ap (λ (o : Option JobId). o >>= λ n. own_rest kind n ws) (kept terms.actor name.from name mine.1)
     ∙ rest
 
 -- a note that its receiver writes
-by_received : (terms : Terms) (word : List ℕ) (kind : ReceivedKind) (name : JobId) (ws : List (List ℕ)) (written : Note ℕ) → terms.cores ≤ most_cores → IsReceived terms name → own_kind_of word ≡ None → received_kind_of word ≡ Some kind → received_rest kind name ws ≡ Some written → note_of terms.actor terms.cores terms.burst (word ∷ name_text name ∷ ws) ≡ Some written
+by_received : (terms : Terms) (word : List ℕ) (kind : ReceivedKind) (name : JobId) (ws : List (List ℕ)) (written : Note ℕ) →
+    terms.cores ≤ most_cores → IsReceived terms name → own_kind_of word ≡ None → received_kind_of word ≡ Some kind →
+    received_rest kind name ws ≡ Some written →
+    note_of terms.actor terms.cores terms.burst (word ∷ name_text name ∷ ws) ≡ Some written
 unfolding note_of
 by_received terms word kind name ws written few mine unowned key rest =
-    ap (λ k. if_kind k (λ kind. own_note terms.actor terms.cores kind (name_text name ∷ ws)) (if_kind (received_kind_of word) (λ kind. received_note terms.actor terms.cores kind (name_text name ∷ ws)) (if_kind (core_kind_of word) (λ kind. core_note terms.actor terms.cores terms.burst kind (name_text name ∷ ws)) None))) unowned
+    ap (λ k. if_kind k (λ kind. own_note terms.actor terms.cores kind (name_text name ∷ ws))
+    (if_kind (received_kind_of word) (λ kind. received_note terms.actor terms.cores kind (name_text name ∷ ws))
+    (if_kind (core_kind_of word) (λ kind. core_note terms.actor terms.cores terms.burst kind (name_text name ∷ ws)) None))) unowned
     ∙ ap (λ k. if_kind k (λ kind. received_note terms.actor terms.cores kind (name_text name ∷ ws)) (if_kind (core_kind_of word) (λ kind. core_note terms.actor terms.cores terms.burst kind (name_text name ∷ ws)) None)) key
     ∙ ap (λ (o : Option JobId). (o >>= λ n. cond (n.to == terms.actor) (Some n) None) >>= λ n. received_rest kind n ws) (name_text_read terms.cores name few mine.0)
     ∙ ap (λ (o : Option JobId). o >>= λ n. received_rest kind n ws) (kept terms.actor name.to name mine.1)
     ∙ rest
 
 -- a note of a core that names no submission
-by_core : (terms : Terms) (word : List ℕ) (kind : CoreKind) (ws : List (List ℕ)) (written : Note ℕ) → terms.actor < terms.cores → own_kind_of word ≡ None → received_kind_of word ≡ None → core_kind_of word ≡ Some kind → core_rest kind terms.cores terms.burst ws ≡ Some written → note_of terms.actor terms.cores terms.burst (word ∷ ws) ≡ Some written
+by_core : (terms : Terms) (word : List ℕ) (kind : CoreKind) (ws : List (List ℕ)) (written : Note ℕ) →
+    terms.actor < terms.cores → own_kind_of word ≡ None → received_kind_of word ≡ None → core_kind_of word ≡ Some kind →
+    core_rest kind terms.cores terms.burst ws ≡ Some written →
+    note_of terms.actor terms.cores terms.burst (word ∷ ws) ≡ Some written
 unfolding note_of
 by_core terms word kind ws written core unowned alien key rest =
     ap (λ k. if_kind k (λ kind. own_note terms.actor terms.cores kind ws) (if_kind (received_kind_of word) (λ kind. received_note terms.actor terms.cores kind ws) (if_kind (core_kind_of word) (λ kind. core_note terms.actor terms.cores terms.burst kind ws) None))) unowned

@@ -26,7 +26,8 @@ use Rattle.rt_journal_lines.specs.Laws.{HoldsTimes, HoldsOrder, HoldsOut}
 use Rattle.rt_journal_lines.proofs.Decimals.{no_sign}
 use Rattle.rt_journal_lines.proofs.FieldTexts.{queue_word, target_word, name_joined}
 use Rattle.rt_journal_lines.proofs.NoteTexts.{note_words}
-use Rattle.rt_journal_lines.proofs.PhraseTexts.{order_words, answer_words, outcome_words}
+use Rattle.rt_journal_lines.proofs.PhraseTexts.{order_words, answer_words}
+use Rattle.rt_journal_lines.proofs.OutcomeTexts.{outcome_words}
 
 -- each byte of a word stands behind the space
 abbrev visible : List ℕ → Bool

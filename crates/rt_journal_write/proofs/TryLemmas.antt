@@ -6,13 +6,17 @@ use Rattle.rt_text.specs.declared.fault.Fault.{Fault}
 use Rattle.rt_text.specs.declared.fault.Fault.TheVariants.{Text, Read, Write, Memory}
 use Rattle.rt_text.specs.Faults.{IfUnwritten}
 
-pub unwritten_since : {S C : Type 0} (tries : S → Option ℕ) (interrupts fails : S → S → Type 0) (old now new : S) (fault : Fault C) → IsNoFewer (tries old) (tries now) → IfUnwritten (HasFailedSince tries interrupts fails now new) fault → IfUnwritten (HasFailedSince tries interrupts fails old new) fault
+pub unwritten_since : {S C : Type 0} (tries : S → Option ℕ) (interrupts fails : S → S → Type 0) (old now new : S) (fault : Fault C) →
+    IsNoFewer (tries old) (tries now) →
+    IfUnwritten (HasFailedSince tries interrupts fails now new) fault → IfUnwritten (HasFailedSince tries interrupts fails old new) fault
 unwritten_since tries interrupts fails old now new (Text line cause) few failed = tt
 unwritten_since tries interrupts fails old now new Read few failed = tt
 unwritten_since tries interrupts fails old now new Write few failed = failed_since tries interrupts fails old now new few failed
 unwritten_since tries interrupts fails old now new Memory few failed = tt
 
-pub call_unwritten_since : {S C T : Type 0} (tries : S → Option ℕ) (interrupts fails : S → S → Type 0) (old now new : S) (result : Result T (Fault C)) → IsNoFewer (tries old) (tries now) → IfErr result (IfUnwritten (HasFailedSince tries interrupts fails now new)) → IfErr result (IfUnwritten (HasFailedSince tries interrupts fails old new))
+pub call_unwritten_since : {S C T : Type 0} (tries : S → Option ℕ) (interrupts fails : S → S → Type 0) (old now new : S) (result : Result T (Fault C)) →
+    IsNoFewer (tries old) (tries now) →
+    IfErr result (IfUnwritten (HasFailedSince tries interrupts fails now new)) → IfErr result (IfUnwritten (HasFailedSince tries interrupts fails old new))
 call_unwritten_since tries interrupts fails old now new (Ok value) few failed = tt
 call_unwritten_since tries interrupts fails old now new (Err fault) few failed = unwritten_since tries interrupts fails old now new fault few failed
 
@@ -25,6 +29,8 @@ known_unwritten (Err Write) known = known
 known_unwritten (Err Memory) known = tt
 
 -- a part of a call that tells nothing but a failed write
-pub written_since : {S C T : Type 0} (tries : S → Option ℕ) (interrupts fails : S → S → Type 0) (old now new : S) (result : Result T (Fault C)) → IsNoFewer (tries old) (tries now) → OnErr result (HasFailedSince tries interrupts fails now new) → IfErr result (IfUnwritten (HasFailedSince tries interrupts fails old new))
+pub written_since : {S C T : Type 0} (tries : S → Option ℕ) (interrupts fails : S → S → Type 0) (old now new : S) (result : Result T (Fault C)) →
+    IsNoFewer (tries old) (tries now) →
+    OnErr result (HasFailedSince tries interrupts fails now new) → IfErr result (IfUnwritten (HasFailedSince tries interrupts fails old new))
 written_since tries interrupts fails old now new (Ok value) few failed = tt
 written_since {T = T} tries interrupts fails old now new (Err fault) few failed = known_unwritten {T = T} (Err fault) (failed_since tries interrupts fails old now new few failed)

@@ -127,7 +127,10 @@ module _ {J S : Type 0} (meaning : Meaning J ℕ) (has : S → Journal ℕ) (ref
     pub notes_together : map (notes_of has) (actors ++ last ∷ []) ≡ told view.desk.journal.notes ended
     notes_together =
         map-append (notes_of has) actors (last ∷ [])
-        ∙ (ap (λ front. front ++ notes_of has last ∷ []) (same_maps (λ (worker : EndedView J ℕ S). worker.linked.recorded.journal.notes) (notes_of has) (IsPart meaning has refused) (λ worker actor part. part.notes_are) all actors each ∙ sym (map_twice (λ (worker : LinkedView J ℕ). worker.recorded.journal.notes) (λ (worker : EndedView J ℕ S). worker.linked) all))
+        ∙ (ap (λ front. front ++ notes_of has last ∷ [])
+        (same_maps (λ (worker : EndedView J ℕ S). worker.linked.recorded.journal.notes)
+        (notes_of has) (IsPart meaning has refused) (λ worker actor part. part.notes_are) all actors each
+        ∙ sym (map_twice (λ (worker : LinkedView J ℕ). worker.recorded.journal.notes) (λ (worker : EndedView J ℕ S). worker.linked) all))
         ∙ ap (λ notes. map (λ (worker : LinkedView J ℕ). worker.recorded.journal.notes) ended ++ notes ∷ []) outside)
 
     pub all_rest : All (KeepsRefused has refused) (actors ++ last ∷ [])

@@ -119,7 +119,10 @@ module _ {J T : Type 0} where
     same_links : SameEnds view.ends put
     same_links = out_used view.ends core later there link
 
-    runtime_put : (closing : List Bool) → length closing ≡ view.desk.cores → (rung : RingsView J T) → length rung.times ≡ view.desk.cores + 1 → booked desk ≤ desk.journal.room → IsRuntime fits (record { desk = desk; ends = put; closing = closing; workers = view.workers; room = view.room; rung = rung; bells = view.bells; refused = view.refused })
+    runtime_put : (closing : List Bool) → length closing ≡ view.desk.cores →
+        (rung : RingsView J T) → length rung.times ≡ view.desk.cores + 1 →
+        booked desk ≤ desk.journal.room →
+        IsRuntime fits (record { desk = desk; ends = put; closing = closing; workers = view.workers; room = view.room; rung = rung; bells = view.bells; refused = view.refused })
     runtime_put closing count rung bells room = record {
       count = is.count ∙ sym cores;
       each = subst (λ (desk : DeskView J T). (core : ℕ) → core < desk.cores → IsWorkerOf core desk.cores desk.cap desk.burst view.room (worker_at core view.workers)) (sym stays.rest) is.each;

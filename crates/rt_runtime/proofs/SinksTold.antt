@@ -1,4 +1,4 @@
--- Where no sink refused, no core closed by itself, and the sinks have all notes.
+-- If no sink refused, then no core closed by itself, and the sinks have all notes.
 use Rattle.std.proofs.Common.{◌≡◌, ℕ, List, [], subst, get_or, ⊎_elim}
 use Rattle.std.specs.Prelude.{All, Some, slice_get}
 use Rattle.std.proofs.lemmas.Option.{get_or_from_slice_get, slice_get_within}

@@ -94,7 +94,9 @@ module _ {J T : Type 0} (cores cap burst room : ℕ) (queues : List Entry) where
 
   -- a runtime in which nothing has happened
   module _ (workers : List (LinkedView J T)) (ends : EndsView J T) (desk : DeskView J T) (closing : List Bool) (house : IsHouse cores cap burst room queues workers ends) (opened : desk ≡ opened_desk cores cores cap room burst)
-      (written : IsWritten (terms_of_desk desk) desk.journal.notes) (none : closing ≡ replicate cores false) (rung : RingsView J T) (bells : List (List ℕ)) (silent : rung.times ≡ replicate (cores + 1) 0) (refused : Bool) (enough : least_room cores cap burst ≤ room) (limits : IsWithinLimits cores cap burst) where
+      (written : IsWritten (terms_of_desk desk) desk.journal.notes) (none : closing ≡ replicate cores false)
+      (rung : RingsView J T) (bells : List (List ℕ)) (silent : rung.times ≡ replicate (cores + 1) 0)
+      (refused : Bool) (enough : least_room cores cap burst ≤ room) (limits : IsWithinLimits cores cap burst) where
     outs_opened : (core : ℕ) → core < cores → IsOutOf core (opened_desk cores cores cap room burst) (out_at core ends).out (out_at core ends).credited
     outs_opened core low =
         let is = house.fresh.outs core (omega (arith, low, house.outs)) in

@@ -128,7 +128,7 @@ impl<J: Task<Out = u64>, C: Drop, G: Drop, S: Sink> Runtime<J, C, G, S> {
         answer
     }
 
-    /// Sends an order to a core, and leaves room for what the submissions may still need. Where the outside journal has too few notes free,
+    /// Sends an order to a core, and leaves room for what the submissions may still need. If the outside journal has too few notes free,
     /// those that are kept are passed on first.
     ///
     /// # Errors

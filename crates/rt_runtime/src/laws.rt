@@ -49,7 +49,7 @@ pub fn waits_submit_once<J: Task<Out = u64>>()
     ensures { WaitsSubmitOnce J ℕ }
 {}
 
-/// Where no sink refused no core closed by itself, and the sinks have all notes.
+/// If no sink refused, then no core closed by itself, and the sinks have all notes.
 pub fn never_refused_never_short<J: Task<Out = u64>, S: Sink>()
     ensures { NeverRefusedNeverShort J.meaning S.has S.refused }
 {}

@@ -48,7 +48,7 @@ module _ {J T M G : Type 0} (meaning : Meaning J T) (tells : M → ℕ → M →
   PollsOn [] old new = new ≡ old
   PollsOn (name ∷ before) old new = (middle : TurnView J T M G) × PollsOn before old middle × GoesFurther name middle new
 
-  -- What is done behind the first poll. Where each poll ends its turn, that is nothing. Where a note of its own ends a turn, there are further polls, as long as
+  -- What is done behind the first poll. If each poll ends its turn, that is nothing. If a note of its own ends a turn, there are further polls, as long as
   -- the turn may go on, and the end.
   abbrev pub GoesThrough : Bool → TurnView J T M G → TurnView J T M G → Type 0
   GoesThrough false old new = new ≡ old

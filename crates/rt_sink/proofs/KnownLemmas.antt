@@ -29,7 +29,9 @@ Appends-later (Some x) (Some y) None bs p q = absurd q
 Appends-later (Some x) (Some y) (Some z) bs p q = q ∙ ap (λ xs. xs ++ bs) p
 
 -- so many bytes, and then so many of those that are left
-pub Appends-more : (a b c : Option (List ℕ)) (bytes : List ℕ) (done count : ℕ) → done ≤ length bytes → count ≤ length (take (length bytes - done) (drop done bytes)) → Appends a b (take done bytes) → Appends b c (take count (take (length bytes - done) (drop done bytes))) → Appends a c (take (done + count) bytes)
+pub Appends-more : (a b c : Option (List ℕ)) (bytes : List ℕ) (done count : ℕ) →
+    done ≤ length bytes → count ≤ length (take (length bytes - done) (drop done bytes)) →
+    Appends a b (take done bytes) → Appends b c (take count (take (length bytes - done) (drop done bytes))) → Appends a c (take (done + count) bytes)
 Appends-more a b c bytes done count within fits first second =
     let most = length-take (length bytes - done) (drop done bytes) in
     let joined : take done bytes ++ take count (take (length bytes - done) (drop done bytes)) ≡ take (done + count) bytes = ap (λ xs. take done bytes ++ xs) (take-take count (length bytes - done) (drop done bytes) (omega arith)) ∙ sym (take-add done count bytes) in

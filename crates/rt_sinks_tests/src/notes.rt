@@ -59,8 +59,29 @@ const PARKS: [Note<u64>; 20] = [
 ];
 
 /// The lines of the core's notes.
-pub(crate) const CORE_LINES: &str =
-    "0 queue q1 500\n0 took 1>0#1 q0\n0 took 1>0#2 q1\n0 pick q0 at 0\n0 start 1>0#1\n0 park 1>0#1 10\n0 pick q1 at 0\n0 start 1>0#2\n0 park 1>0#2 20\n0 answered 1>0#3 woken\n0 woken 1>0#1\n0 pick q0 at 10\n0 resume 1>0#1\n0 yield 1>0#1 5\n0 answered 1>0#4 closed\n0 closed q1 return\n0 pick q0 at 15\n0 resume 1>0#1\n0 done 1>0#1 7 = 9\n0 pick q1 at 40\n0 returned 1>0#2 queuereturned\n";
+pub(crate) const CORE_LINES: &str = "\
+0 queue q1 500
+0 took 1>0#1 q0
+0 took 1>0#2 q1
+0 pick q0 at 0
+0 start 1>0#1
+0 park 1>0#1 10
+0 pick q1 at 0
+0 start 1>0#2
+0 park 1>0#2 20
+0 answered 1>0#3 woken
+0 woken 1>0#1
+0 pick q0 at 10
+0 resume 1>0#1
+0 yield 1>0#1 5
+0 answered 1>0#4 closed
+0 closed q1 return
+0 pick q0 at 15
+0 resume 1>0#1
+0 done 1>0#1 7 = 9
+0 pick q1 at 40
+0 returned 1>0#2 queuereturned
+";
 
 /// What the outside actor sent.
 const SENT: [Note<u64>; 4] = [

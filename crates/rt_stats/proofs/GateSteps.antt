@@ -20,7 +20,7 @@ use Rattle.rt_stats.specs.declared.gates.Gates.{Gates}
 use Rattle.rt_stats.specs.Gates.{gate_of, gate_after, gate_noted, open_gate, creation_count}
 use Rattle.rt_stats.specs.Walks.{KnowsGates}
 use Rattle.rt_stats.proofs.Tables.{each_next}
-use Rattle.rt_stats.proofs.TallySteps.{number_if-within, still, is_this, one_more_fits}
+use Rattle.rt_stats.proofs.TallyCounts.{number_if-within, still, is_this, one_more_fits}
 
 counts : (count more notes : ℕ) → count ≤ notes → more ≤ 1 → notes < greatest_count → min (count + more) greatest_count ≡ count + more
 counts count more notes within few short = omega arith

@@ -12,7 +12,7 @@ use Rattle.rt_journal_facts.specs.declared.accounts.Accounts.{Accounts}
 use Rattle.rt_journal_facts.specs.Accounts.{fresh_account}
 use Rattle.rt_journal_facts.specs.AllAccounts.{KnowsAccounts}
 use Rattle.rt_stats.specs.Walks.{inside, inside_below}
-use Rattle.rt_stats.proofs.TallySteps.{number_if-within}
+use Rattle.rt_stats.proofs.TallyCounts.{number_if-within}
 
 -- past the end stands what is given for it
 read_past : {A : Type 0} (items : List A) (place : ℕ) (default : A) → length items ≤ place → get_or items place default ≡ default

@@ -1,4 +1,5 @@
 pub mod Tables
+pub mod TallyCounts
 pub mod TallySteps
 pub mod GateSteps
 pub mod HeldSteps

@@ -12,7 +12,7 @@ use rt_fixed::{SealedSlab, SealedVec};
 use rt_ids::{JobId, QueueNo};
 use std::alloc::Allocator;
 
-/// Where a job stands in a line.
+/// The place of a job in a line.
 #[derive(Clone, Copy)]
 pub struct Found {
     /// Its key.
@@ -23,7 +23,7 @@ pub struct Found {
     pub before: usize,
 }
 
-/// Where a job stands among all lines.
+/// The place of a job among all lines.
 #[derive(Clone, Copy)]
 pub enum Seat {
     /// Among the parked jobs of this queue.

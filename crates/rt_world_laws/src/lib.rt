@@ -70,7 +70,7 @@ pub fn a_core_closes()
     ensures { CoreCloses }
 {}
 
-/// Where a turn may have four polls, a job of three polls has one pick, and its queue is charged once.
+/// If a turn may have four polls, a job of three polls has one pick, and its queue is charged once.
 pub fn a_turn_has_several_polls()
     ensures { TurnOfPolls }
 {}

@@ -36,7 +36,7 @@ pub enum Turned {
     Spent,
 }
 
-/// One core picks a queue and polls its first job once, or hands it back. Where a turn may have several polls, further jobs of that queue
+/// One core picks a queue and polls its first job once, or hands it back. If a turn may have several polls, further jobs of that queue
 /// are polled, each once, as long as the turn may go on; then it ends, which charges the queue. A job's post has the links on which the
 /// core sends. The outcome of a job that is done is given on the link of its sender, right behind its poll. Each poll takes `spent`,
 /// unless its job tells a time of its own.

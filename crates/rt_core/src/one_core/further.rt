@@ -29,7 +29,9 @@ impl<J: Job, A: Allocator + Clone> Core<J, A> {
         spent: u64,
     ) -> (Step<J::Out>, u64)
         requires ahead { IsAheadInTurn self.old next.now.queue next.now.vr next.now.name next.now.started next.now.woken }
-        ensures whole { MakesCalls P.Does post.old post.new (λ calls. FollowsWhole J.meaning self.old spent calls next.now.name next.now.queue next.now.started (follow_notes next.now.name next.now.started) (settled_of result.0 next.now.woken) (settle_notes next.now.name result.1 result.0 next.now.woken) self.new) }
+        ensures whole { MakesCalls P.Does post.old post.new (λ calls. FollowsWhole J.meaning self.old spent calls
+            next.now.name next.now.queue next.now.started (follow_notes next.now.name next.now.started)
+            (settled_of result.0 next.now.woken) (settle_notes next.now.name result.1 result.0 next.now.woken) self.new) }
         ensures bounded { IsBounded self.new }
     {
         let mut known = spent;
@@ -45,7 +47,10 @@ impl<J: Job, A: Allocator + Clone> Core<J, A> {
         meter: &mut M,
     ) -> (Step<J::Out>, u64)
         requires ahead { IsAheadInTurn self.old next.now.queue next.now.vr next.now.name next.now.started next.now.woken }
-        ensures whole { MakesCalls P.Does post.old post.new (λ calls. (spent : ℕ) × M.Tells meter.old spent meter.new × FollowsWhole J.meaning self.old spent calls next.now.name next.now.queue next.now.started (follow_notes next.now.name next.now.started) (settled_of result.0 next.now.woken) (settle_notes next.now.name result.1 result.0 next.now.woken) self.new) }
+        ensures whole { MakesCalls P.Does post.old post.new (λ calls. (spent : ℕ) × M.Tells meter.old spent meter.new
+            × FollowsWhole J.meaning self.old spent calls
+            next.now.name next.now.queue next.now.started (follow_notes next.now.name next.now.started)
+            (settled_of result.0 next.now.woken) (settle_notes next.now.name result.1 result.0 next.now.woken) self.new) }
         ensures bounded { IsBounded self.new }
     {
         let _named = next;

@@ -17,7 +17,7 @@ use std::alloc::Allocator;
 use std::snapshot::Snapshot;
 
 impl<J: Task, A: Allocator + Clone> Core<J, A> {
-    /// Takes out the first job of the queue of least key, with that key and whether the job was started. Where a turn may have several
+    /// Takes out the first job of the queue of least key, with that key and whether the job was started. If a turn may have several
     /// polls, the turn of the queue opens.
     pub(super) fn take_out(&mut self) -> (Key, JobId, bool, J)
         requires free { self.old.out ≡ None }

@@ -87,7 +87,8 @@ impl<J: Task, A: Allocator + Clone> Core<J, A> {
 
 impl<J: Job, A: Allocator + Clone> Core<J, A> {
     /// Makes the first poll of the turn of the job that `ahead` told, with the job in its place: it is polled with this post, and settled.
-    /// Where a turn may have several polls, the turn stays open. The answer: what the poll came to, and the time that counts, which is the told one or else `spent`.
+    /// If a turn may have several polls, the turn stays open. The answer: what the poll came to, and the time that counts, which is the
+    /// told one or else `spent`.
     ///
     /// The state is that of `pick`, `Ran::poll` and `settle` together. The caller notes the pick before it calls, and the settling
     /// behind what the poll noted at its post.
@@ -98,7 +99,9 @@ impl<J: Job, A: Allocator + Clone> Core<J, A> {
         spent: u64,
     ) -> (Step<J::Out>, u64)
         requires ahead { IsAhead self.old next.now.queue next.now.vr next.now.name next.now.started next.now.woken }
-        ensures whole { MakesCalls P.Does post.old post.new (λ calls. TurnsWhole J.meaning self.old spent calls next.now.name next.now.queue next.now.started (pick_notes next.now.queue next.now.vr next.now.name next.now.started) (settled_of result.0 next.now.woken) (settle_notes next.now.name result.1 result.0 next.now.woken) self.new) }
+        ensures whole { MakesCalls P.Does post.old post.new (λ calls. TurnsWhole J.meaning self.old spent calls
+            next.now.name next.now.queue next.now.started (pick_notes next.now.queue next.now.vr next.now.name next.now.started)
+            (settled_of result.0 next.now.woken) (settle_notes next.now.name result.1 result.0 next.now.woken) self.new) }
         ensures bounded { IsBounded self.new }
     {
         let mut known = spent;
@@ -114,7 +117,10 @@ impl<J: Job, A: Allocator + Clone> Core<J, A> {
         meter: &mut M,
     ) -> (Step<J::Out>, u64)
         requires ahead { IsAhead self.old next.now.queue next.now.vr next.now.name next.now.started next.now.woken }
-        ensures whole { MakesCalls P.Does post.old post.new (λ calls. (spent : ℕ) × M.Tells meter.old spent meter.new × TurnsWhole J.meaning self.old spent calls next.now.name next.now.queue next.now.started (pick_notes next.now.queue next.now.vr next.now.name next.now.started) (settled_of result.0 next.now.woken) (settle_notes next.now.name result.1 result.0 next.now.woken) self.new) }
+        ensures whole { MakesCalls P.Does post.old post.new (λ calls. (spent : ℕ) × M.Tells meter.old spent meter.new
+            × TurnsWhole J.meaning self.old spent calls
+            next.now.name next.now.queue next.now.started (pick_notes next.now.queue next.now.vr next.now.name next.now.started)
+            (settled_of result.0 next.now.woken) (settle_notes next.now.name result.1 result.0 next.now.woken) self.new) }
         ensures bounded { IsBounded self.new }
     {
         let _named = next;

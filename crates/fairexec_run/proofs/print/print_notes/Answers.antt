@@ -1,5 +1,5 @@
 use Rattle.std.proofs.Common.{ap, sym, ◌++◌, drop, ◌∙◌, reverse, string_bytes}
-use Rattle.fairexec_run.specs.Transcripts.{note_lines}
+use Rattle.fairexec_run.specs.EventTexts.{note_lines}
 use Rattle.fairexec_run.proofs.PrintLemmas.{next_line, no_line}
 use Rattle.fairexec_run.proofs.print.print_notes.Goals as goal
 use Rattle.fairexec_run.proofs.print.print_notes.Goals.{in-Some+in_ok-writeln, in_default}

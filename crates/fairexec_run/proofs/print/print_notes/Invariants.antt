@@ -1,6 +1,6 @@
 -- With the lines of the notes that are left, the page is what it is to be.
 use Rattle.std.proofs.Common.{◌≡◌, ◌++◌, drop, reverse, string_bytes}
-use Rattle.fairexec_run.specs.Transcripts.{note_lines}
+use Rattle.fairexec_run.specs.EventTexts.{note_lines}
 use Rattle.fairexec_run.proofs.print.print_notes.Given as goal
 
 abbrev pub invariant-loop-place : goal.invariant-loop-place

@@ -1,7 +1,8 @@
 use Rattle.std.proofs.Common.{◌≡◌, ◌<◌, ◌∙◌, length, refl, sym, subst, arith}
 use Rattle.fairexec_threads.specs.Counting.{AreClosedBelow}
 use Rattle.fairexec_threads.specs.Offers.{OffersAll, closings}
-use Rattle.fairexec_threads.proofs.Sending.{place_to_close, closed_more, grows}
+use Rattle.fairexec_threads.proofs.Sending.{grows}
+use Rattle.fairexec_threads.proofs.Closings.{place_to_close, closed_more}
 use Rattle.fairexec_threads.proofs.Walking.{closings_more}
 use Rattle.fairexec_threads.proofs.calls.close_all.Goals as goal
 

@@ -4,7 +4,8 @@ use Rattle.std.proofs.lemmas.Iterator.Consumers.{YieldsList-so_far, YieldsList-t
 use Rattle.std.proofs.lemmas.List.{map-id}
 use Rattle.fairexec_threads_script.specs.Limits.{IsToldOf}
 use Rattle.fairexec_threads.specs.Offers.{OffersAll}
-use Rattle.fairexec_threads.proofs.Sending.{nothing_sent, place_of_order, can_close, offers_more, grows}
+use Rattle.fairexec_threads.proofs.Sending.{nothing_sent, place_of_order, offers_more, grows}
+use Rattle.fairexec_threads.proofs.Closings.{can_close}
 use Rattle.fairexec_threads.proofs.Walking.{parts}
 use Rattle.fairexec_threads.proofs.calls.offer_all.Goals as goal
 

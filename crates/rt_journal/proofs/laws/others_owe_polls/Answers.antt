@@ -1,5 +1,5 @@
 use Rattle.rt_journal.specs.OwedPolls.{seen_by}
-use Rattle.rt_journal.proofs.OwedTurns.{seen_got}
+use Rattle.rt_journal.proofs.SeenEnds.{seen_got}
 use Rattle.rt_journal.proofs.OwedSteps.{delivers_keep, creates_keep, shuts_keep, closes_keep, picks_keep, follows_keep, ends_keep, collects_keep}
 use Rattle.rt_journal.proofs.OwedSteps.{submits_keep, redeems_keep, detaches_keep}
 use Rattle.rt_journal.proofs.laws.others_owe_polls.Goals as goal

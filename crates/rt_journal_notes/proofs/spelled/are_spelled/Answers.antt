@@ -14,8 +14,12 @@ loop-note-preserved c =
     (subst P c.note-item.is (c.is_spelled_note.ensures.0 (search rules)))
 
 pub returns-then-not-is_spelled_note : goal.returns-then-not-is_spelled_note
-returns-then-not-is_spelled_note c =
-    (λ no. absurd (search rules), λ each. subst IsTrue c.if-not-is_spelled_note.true (c.is_spelled_note.ensures.1 (each_at (spec.IsSpelledNote (terms_seen c.args.writer)) c.args.journal.now.notes c.as_slice-note-items.result.now c.loop-note.note-index c.note-item.result c.as_slice-note-items.ensures c.loop-note-test.true c.note-item.is each)))
+returns-then-not-is_spelled_note c = (
+  λ no. absurd (search rules),
+  λ each. subst IsTrue c.if-not-is_spelled_note.true (c.is_spelled_note.ensures.1
+      (each_at (spec.IsSpelledNote (terms_seen c.args.writer)) c.args.journal.now.notes
+      c.as_slice-note-items.result.now c.loop-note.note-index c.note-item.result c.as_slice-note-items.ensures c.loop-note-test.true c.note-item.is each)),
+)
 
 pub returns : goal.returns
 returns c =

@@ -10,7 +10,10 @@ loop-seat-init g c =
     let gives = c.into_iter-seat-iterator.ensures.into_iter_gives in
     record {
       reserved = omega (arith, c.in_ok-workers.ensures.capacity, c.len.ensures, c.args.seats.ok.0);
-      made = made_first (λ seat worker. IsWiredWith (IsOpenedWith c.args.config.now.cores c.args.config.now.cap c.args.config.now.burst c.args.config.now.room c.args.config.now.queues.items seat.ends) seat.clock seat.gate seat.sink c.args.bells.now.names worker) c.args.seats.items (into_iter_items c.into_iter-seat-iterator.result)
+      made = made_first
+          (λ seat worker. IsWiredWith (IsOpenedWith c.args.config.now.cores c.args.config.now.cap c.args.config.now.burst c.args.config.now.room c.args.config.now.queues.items seat.ends)
+          seat.clock seat.gate seat.sink c.args.bells.now.names worker)
+          c.args.seats.items (into_iter_items c.into_iter-seat-iterator.result)
           (into_iter_len c.into_iter-seat-iterator.result) c.in_ok-workers.workers.items gives.0 (gives.1 ∙ c.args.seats.ok.0) c.in_ok-workers.ensures.items;
     }
 
@@ -35,7 +38,10 @@ loop-seat-preserved g c =
     record {
       reserved = omega (arith, loop.invariant.reserved, c.push_reserved.ensures.capacity);
       made = rw c.push_reserved.ensures.items
-          (made_more (λ seat worker. IsWiredWith (IsOpenedWith c.args.config.now.cores c.args.config.now.cap c.args.config.now.burst c.args.config.now.room c.args.config.now.queues.items seat.ends) seat.clock seat.gate seat.sink c.args.bells.now.names worker) c.args.seats.items (into_iter_items loop.seat-iterator) (into_iter_items c.next.new.self)
+          (made_more
+          (λ seat worker. IsWiredWith (IsOpenedWith c.args.config.now.cores c.args.config.now.cap c.args.config.now.burst c.args.config.now.room c.args.config.now.queues.items seat.ends)
+          seat.clock seat.gate seat.sink c.args.bells.now.names worker)
+          c.args.seats.items (into_iter_items loop.seat-iterator) (into_iter_items c.next.new.self)
           (into_iter_len loop.seat-iterator) (into_iter_len c.next.new.self) loop.workers.items c.in-Some.seat c.in_ok-open.field-0 loop.invariant.made steps.0 steps.1
           (record { linked = record { over = c.in_ok-open.ensures.over; queues_are = c.in_ok-open.ensures.queues }; clock_is = c.in_ok-open.ensures.clock; gate_is = c.in_ok-open.ensures.gate; sink_is = c.in_ok-open.ensures.sink; bells_are = c.in_ok-open.ensures.bells }));
     }
@@ -43,5 +49,13 @@ loop-seat-preserved g c =
 pub returns : goal.returns
 returns g c =
     let rest = into_iter_items c.loop-seat.seat-iterator in
-    made_all (λ seat worker. IsWiredWith (IsOpenedWith c.args.config.now.cores c.args.config.now.cap c.args.config.now.burst c.args.config.now.room c.args.config.now.queues.items seat.ends) seat.clock seat.gate seat.sink c.args.bells.now.names worker) c.args.seats.items rest c.loop-seat.workers.items
-    (subst (λ left. IsMade (λ seat worker. IsWiredWith (IsOpenedWith c.args.config.now.cores c.args.config.now.cap c.args.config.now.burst c.args.config.now.room c.args.config.now.queues.items seat.ends) seat.clock seat.gate seat.sink c.args.bells.now.names worker) c.args.seats.items rest left c.loop-seat.workers.items) c.in-None.ensures.steps.0 c.loop-seat.invariant.made)
+    made_all
+    (λ seat worker. IsWiredWith (IsOpenedWith c.args.config.now.cores c.args.config.now.cap c.args.config.now.burst c.args.config.now.room c.args.config.now.queues.items seat.ends)
+    seat.clock seat.gate seat.sink c.args.bells.now.names worker)
+    c.args.seats.items rest c.loop-seat.workers.items
+    (subst
+    (λ left. IsMade
+    (λ seat worker. IsWiredWith (IsOpenedWith c.args.config.now.cores c.args.config.now.cap c.args.config.now.burst c.args.config.now.room c.args.config.now.queues.items seat.ends)
+    seat.clock seat.gate seat.sink c.args.bells.now.names worker)
+    c.args.seats.items rest left c.loop-seat.workers.items)
+    c.in-None.ensures.steps.0 c.loop-seat.invariant.made)

@@ -6,22 +6,34 @@ use Rattle.rt_runtime.proofs.Sent.{lent_out, put_seen, put_at}
 use Rattle.rt_runtime.proofs.tickets.detach_on.Goals as goal
 
 pub detach-requires-clause-beside : goal.detach-requires-clause-beside
-detach-requires-clause-beside g c = subst (λ end. IsOutOf c.args.ticket.to c.args.desk.now end.out end.credited) (sym (lent_out c.args.ticket.to c.args.ends.now c.requires.there c.to.inside.0 _ (c.to.view_is ∙ ap (λ name. name.to) c.name-to.ensures) c.ends.view_is c.index_mut.result.now c.index_mut.ensures.value)) c.requires.beside
+detach-requires-clause-beside g c =
+    let lent = lent_out c.args.ticket.to c.args.ends.now c.requires.there c.to.inside.0 _ (c.to.view_is ∙ ap (λ name. name.to) c.name-to.ensures) c.ends.view_is c.index_mut.result.now c.index_mut.ensures.value in
+    subst (λ end. IsOutOf c.args.ticket.to c.args.desk.now end.out end.credited) (sym lent) c.requires.beside
 
 pub detach-requires-clause-lane : goal.detach-requires-clause-lane
-detach-requires-clause-lane g c = subst (λ end. HasLane (Fits g.J.Task.meaning) c.args.ticket.to c.args.desk.now end.out end.credited) (sym (lent_out c.args.ticket.to c.args.ends.now c.requires.there c.to.inside.0 _ (c.to.view_is ∙ ap (λ name. name.to) c.name-to.ensures) c.ends.view_is c.index_mut.result.now c.index_mut.ensures.value)) c.requires.lane
+detach-requires-clause-lane g c =
+    let lent = lent_out c.args.ticket.to c.args.ends.now c.requires.there c.to.inside.0 _ (c.to.view_is ∙ ap (λ name. name.to) c.name-to.ensures) c.ends.view_is c.index_mut.result.now c.index_mut.ensures.value in
+    subst (λ end. HasLane (Fits g.J.Task.meaning) c.args.ticket.to c.args.desk.now end.out end.credited) (sym lent) c.requires.lane
 
 pub returns-clause-out : goal.returns-clause-out
-returns-clause-out g c = ap (λ end. end.out) (put_at c.args.ticket.to c.args.ends.now c.requires.there c.to.inside.0 _ (c.to.view_is ∙ ap (λ name. name.to) c.name-to.ensures) c.ends.view_is c.detach.new.end) ∙ (c.detach.ensures.out ∙ ap (λ end. end.out) (lent_out c.args.ticket.to c.args.ends.now c.requires.there c.to.inside.0 _ (c.to.view_is ∙ ap (λ name. name.to) c.name-to.ensures) c.ends.view_is c.index_mut.result.now c.index_mut.ensures.value))
+returns-clause-out g c =
+    let put = put_at c.args.ticket.to c.args.ends.now c.requires.there c.to.inside.0 _ (c.to.view_is ∙ ap (λ name. name.to) c.name-to.ensures) c.ends.view_is c.detach.new.end in
+    let lent = lent_out c.args.ticket.to c.args.ends.now c.requires.there c.to.inside.0 _ (c.to.view_is ∙ ap (λ name. name.to) c.name-to.ensures) c.ends.view_is c.index_mut.result.now c.index_mut.ensures.value in
+    ap (λ end. end.out) put ∙ (c.detach.ensures.out ∙ ap (λ end. end.out) lent)
 
 pub returns-clause-stays : goal.returns-clause-stays
 returns-clause-stays g c =
-    subst (λ end. StaysBeside (Fits g.J.Task.meaning) c.args.ticket.to c.args.desk.now c.detach.new.self end.out end.credited) (sym (put_at c.args.ticket.to c.args.ends.now c.requires.there c.to.inside.0 _ (c.to.view_is ∙ ap (λ name. name.to) c.name-to.ensures) c.ends.view_is c.detach.new.end)) c.detach.ensures.stays
+    let put = put_at c.args.ticket.to c.args.ends.now c.requires.there c.to.inside.0 _ (c.to.view_is ∙ ap (λ name. name.to) c.name-to.ensures) c.ends.view_is c.detach.new.end in
+    subst (λ end. StaysBeside (Fits g.J.Task.meaning) c.args.ticket.to c.args.desk.now c.detach.new.self end.out end.credited) (sym put) c.detach.ensures.stays
 
 pub returns-clause-ends : goal.returns-clause-ends
 returns-clause-ends g c =
+    let put = put_at c.args.ticket.to c.args.ends.now c.requires.there c.to.inside.0 _ (c.to.view_is ∙ ap (λ name. name.to) c.name-to.ensures) c.ends.view_is c.detach.new.end in
     put_seen c.args.ticket.to c.args.ends.now c.requires.there c.to.inside.0 _ (c.to.view_is ∙ ap (λ name. name.to) c.name-to.ensures) c.ends.view_is c.detach.new.end
-    ∙ ap (λ end. record c.args.ends.now { outs = set c.args.ends.now.outs c.args.ticket.to end }) (sym (put_at c.args.ticket.to c.args.ends.now c.requires.there c.to.inside.0 _ (c.to.view_is ∙ ap (λ name. name.to) c.name-to.ensures) c.ends.view_is c.detach.new.end))
+    ∙ ap (λ end. record c.args.ends.now { outs = set c.args.ends.now.outs c.args.ticket.to end }) (sym put)
 
 pub returns-clause-link : goal.returns-clause-link
-returns-clause-link g c = ap (λ end. end.link) (put_at c.args.ticket.to c.args.ends.now c.requires.there c.to.inside.0 _ (c.to.view_is ∙ ap (λ name. name.to) c.name-to.ensures) c.ends.view_is c.detach.new.end) ∙ (c.detach.ensures.untouched ∙ ap (λ end. end.link) (lent_out c.args.ticket.to c.args.ends.now c.requires.there c.to.inside.0 _ (c.to.view_is ∙ ap (λ name. name.to) c.name-to.ensures) c.ends.view_is c.index_mut.result.now c.index_mut.ensures.value))
+returns-clause-link g c =
+    let put = put_at c.args.ticket.to c.args.ends.now c.requires.there c.to.inside.0 _ (c.to.view_is ∙ ap (λ name. name.to) c.name-to.ensures) c.ends.view_is c.detach.new.end in
+    let lent = lent_out c.args.ticket.to c.args.ends.now c.requires.there c.to.inside.0 _ (c.to.view_is ∙ ap (λ name. name.to) c.name-to.ensures) c.ends.view_is c.index_mut.result.now c.index_mut.ensures.value in
+    ap (λ end. end.link) put ∙ (c.detach.ensures.untouched ∙ ap (λ end. end.link) lent)

@@ -17,14 +17,20 @@ returns-clause-linked g c = record {
   at_rest = c.requires.rest;
   beside =
       given_beside c.args.name.from _ c.args.recorded.now c.args.ends.now c.name.inside.0.0.0 _ (record { number = ap (λ name. name.from) c.name.view_is; seen = c.ends.view_is }) c.requires.owing c.requires.known c.give_back.new.end c.give_back.ensures.beside
-      (c.give_back.ensures.untouched ∙ ap (λ end. end.link) (owing_here c.args.name.from _ c.args.recorded.now c.args.ends.now c.name.inside.0.0.0 _ (record { number = ap (λ name. name.from) c.name.view_is; seen = c.ends.view_is }) c.requires.owing c.requires.known c.index_mut.result.now c.index_mut.ensures.value));
+      (c.give_back.ensures.untouched
+      ∙ ap (λ end. end.link)
+      (owing_here c.args.name.from _ c.args.recorded.now c.args.ends.now c.name.inside.0.0.0 _ (record { number = ap (λ name. name.from) c.name.view_is; seen = c.ends.view_is })
+      c.requires.owing c.requires.known c.index_mut.result.now c.index_mut.ensures.value));
   owed = subst (λ (ends : EndsView _ _). PollsAsOwed g.J.Task.meaning c.args.recorded.now ends) (sym c.ends.view_is) c.requires.polls;
 }
 
 pub returns-clause-ends : goal.returns-clause-ends
 returns-clause-ends g c =
     given_ends c.args.name.from _ c.args.recorded.now c.args.ends.now c.name.inside.0.0.0 _ (record { number = ap (λ name. name.from) c.name.view_is; seen = c.ends.view_is }) c.requires.owing c.requires.known c.give_back.new.end c.give_back.ensures.beside
-    (c.give_back.ensures.untouched ∙ ap (λ end. end.link) (owing_here c.args.name.from _ c.args.recorded.now c.args.ends.now c.name.inside.0.0.0 _ (record { number = ap (λ name. name.from) c.name.view_is; seen = c.ends.view_is }) c.requires.owing c.requires.known c.index_mut.result.now c.index_mut.ensures.value))
+    (c.give_back.ensures.untouched
+    ∙ ap (λ end. end.link)
+    (owing_here c.args.name.from _ c.args.recorded.now c.args.ends.now c.name.inside.0.0.0 _ (record { number = ap (λ name. name.from) c.name.view_is; seen = c.ends.view_is })
+    c.requires.owing c.requires.known c.index_mut.result.now c.index_mut.ensures.value))
 
 pub returns-clause-sees : goal.returns-clause-sees
 returns-clause-sees g c =

@@ -79,7 +79,10 @@ returns-in-Err-clause-creates g c =
     let inside = c.self.inside in
     let old = core_view inside.core inside.cores (queues_alone inside.queues) inside.tallies.items inside.floor inside.turns (job_out inside.out) inside.senders inside.mode inside.bursts in
     let same = ap (λ queues. core_view inside.core inside.cores (queues_alone queues) inside.tallies.items inside.floor inside.turns (job_out inside.out) inside.senders inside.mode inside.bursts) c.in-Err.ensures.refused in
-    subst (λ (view : CoreView g.row.J.Denot). CreatesQueue view c.args.shares (Err c.in-Err.error) (core_view inside.core inside.cores (queues_alone c.try_create.new.self) inside.tallies.items inside.floor inside.turns (job_out inside.out) inside.senders inside.mode inside.bursts) c.new.result.items) c.self.view_is (creates_nothing old c.args.shares c.in-Err.error _ c.new.result.items c.in-Err.ensures.too_many c.self.invariant.counted.limits.few_queues same c.new.ensures)
+    subst (λ (view : CoreView g.row.J.Denot). CreatesQueue view c.args.shares (Err c.in-Err.error)
+    (core_view inside.core inside.cores (queues_alone c.try_create.new.self) inside.tallies.items inside.floor inside.turns (job_out inside.out) inside.senders inside.mode inside.bursts) c.new.result.items)
+    c.self.view_is (creates_nothing old c.args.shares c.in-Err.error _ c.new.result.items
+    c.in-Err.ensures.too_many c.self.invariant.counted.limits.few_queues same c.new.ensures)
 
 pub invariant_of-self-in-Err : goal.invariant_of-self-in-Err
 invariant_of-self-in-Err g c = rw c.in-Err.ensures.refused c.self.invariant

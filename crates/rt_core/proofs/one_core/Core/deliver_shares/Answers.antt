@@ -33,7 +33,12 @@ returns-clause-delivers g c =
     subst (λ (view : CoreView g.row.J.Denot). c.args.queue < queue_count view.queues) (sym c.self.view_is) (c.has_queue.ensures.0 c.if-not-has_queue.false) in
     let gates = ap (λ (senders : SendersView). senders.gates) c.count-2.ensures in
     rw (← c.self.view_is) (
-      record { exists = exists; shares = c.set_shares.ensures.given.queues; rest = λ i. core_view inside.core inside.cores (queues_alone c.set_shares.new.self) inside.tallies.items inside.floor inside.turns (job_out inside.out) (record { delivered = c.count-2.new.self.delivered; gates = gates i }) inside.mode inside.bursts },
+      record {
+        exists = exists;
+        shares = c.set_shares.ensures.given.queues;
+        rest = λ i. core_view inside.core inside.cores (queues_alone c.set_shares.new.self) inside.tallies.items inside.floor inside.turns (job_out inside.out)
+            (record { delivered = c.count-2.new.self.delivered; gates = gates i }) inside.mode inside.bursts;
+      },
       (let v = c.name.view_is in let counted = ap (λ (senders : SendersView). senders.delivered) c.count-2.ensures in search rules),
       c.two_notes.ensures,
     )

@@ -6,7 +6,7 @@ use Rattle.rt_desk.proofs.rows.Rows.open.Given as goal
 -- a tree for each step of the loop, each empty, and room for all
 abbrev pub invariant-loop : goal.invariant-loop
 invariant-loop g l = record {
-  count : length l.trees.items ≡ l.counter;
-  empty : spread (2 ^ l.digits) 0 l.trees.items ≡ [];
-  capacity : vec_capacity l.trees ≡ l.count;
+  count : length l.rows.items ≡ l.counter;
+  empty : spread (2 ^ l.digits) 0 l.rows.items ≡ [];
+  capacity : vec_capacity l.rows ≡ l.count;
 }

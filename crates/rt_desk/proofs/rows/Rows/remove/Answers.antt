@@ -16,7 +16,7 @@ pub returns-clause-none : goal.returns-clause-none
 returns-clause-none g c =
     if_none c.remove.result
     (λ none. sym (ap (λ held. at held c.args.number) c.self.view_is)
-    ∙ (at-tree (2 ^ c.self.inside.digits) c.self.inside.trees.items c.self.invariant.1 (some_trees c.self.inside.digits) c.args.number _
+    ∙ (at-tree (2 ^ c.self.inside.digits) c.self.inside.rows.items c.self.invariant.1 (some_trees c.self.inside.digits) c.args.number _
     (shifted c.self.inside.digits c.self.invariant.0) c.index_mut.result.now c.index_mut.ensures.value ∙ none))
     c.remove.ensures.none
 
@@ -24,6 +24,6 @@ pub returns-clause-taken : goal.returns-clause-taken
 returns-clause-taken g c =
     rw (← c.self.view_is)
     (if_some c.remove.result
-    (λ node. λ removes. Removes-tree (2 ^ c.self.inside.digits) c.self.inside.trees.items c.self.invariant.1 (some_trees c.self.inside.digits) c.args.number _
+    (λ node. λ removes. Removes-tree (2 ^ c.self.inside.digits) c.self.inside.rows.items c.self.invariant.1 (some_trees c.self.inside.digits) c.args.number _
     (shifted c.self.inside.digits c.self.invariant.0) c.index_mut.result.now c.index_mut.ensures.value c.remove.new.self node.value.value removes)
     c.remove.ensures.taken)

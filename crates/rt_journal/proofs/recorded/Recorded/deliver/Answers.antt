@@ -11,7 +11,8 @@ pub give_if-requires : goal.give_if-requires
 give_if-requires g c =
     let next = next_in c.args.self.now _ _ c.in-Some.envelope c.requires.beside c.in-Some.ensures.takes c.in-Some.ensures.sound in
     let taken = g.I.InEnd.inward c.take.new.self in
-    let owes = beside_owes c.args.self.now c.receive-outcome.new.self c.in-Some.envelope next c.receive-outcome.ensures.receives c.receive-outcome.ensures.seat c.receive-outcome.result c.receive-outcome.ensures.gives _ taken c.requires.beside c.in-Some.ensures.takes c.in-Some.ensures.sound c.in-Some.ensures.named in
+    let owes = beside_owes c.args.self.now c.receive-outcome.new.self c.in-Some.envelope next c.receive-outcome.ensures.receives c.receive-outcome.ensures.seat
+    c.receive-outcome.result c.receive-outcome.ensures.gives _ taken c.requires.beside c.in-Some.ensures.takes c.in-Some.ensures.sound c.in-Some.ensures.named in
     (given c.receive-outcome.new.self c.in-Some.envelope.name c.in-Some.envelope.order c.receive-outcome.ensures.stands taken (c.receive-outcome.ensures.sound.taken _ _ c.receive-outcome.ensures.stands)
     (Fits g.J.Task.meaning) c.receive-outcome.result c.receive-outcome.ensures.fits owes).0
 

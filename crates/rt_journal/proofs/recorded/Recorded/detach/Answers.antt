@@ -6,10 +6,19 @@ pub detach-requires : goal.detach-requires
 detach-requires g c = rw (c.self.invariant.1 ∙ ap desk_of c.self.view_is) (assumption c.requires)
 
 pub invariant_of-self : goal.invariant_of-self
-invariant_of-self g c = let now = has_said c.self.inside.core c.self.inside.took.items c.self.inside.said c.self.invariant c.self.view_is c.detach.ensures.stays.rest c.detach.ensures.stays.written (detached_silent c.self.inside.said c.detach.new.self c.args.ticket c.detach.result c.detach.ensures.detaches) in (now.sound, now.is_its)
+invariant_of-self g c =
+    let silent = detached_silent c.self.inside.said c.detach.new.self c.args.ticket c.detach.result c.detach.ensures.detaches in
+    let now = has_said c.self.inside.core c.self.inside.took.items c.self.inside.said c.self.invariant c.self.view_is c.detach.ensures.stays.rest c.detach.ensures.stays.written silent in
+    (now.sound, now.is_its)
 
 pub returns-clause-ins : goal.returns-clause-ins
-returns-clause-ins g c = (has_said c.self.inside.core c.self.inside.took.items c.self.inside.said c.self.invariant c.self.view_is c.detach.ensures.stays.rest c.detach.ensures.stays.written (detached_silent c.self.inside.said c.detach.new.self c.args.ticket c.detach.result c.detach.ensures.detaches)).ins
+returns-clause-ins g c =
+    let silent = detached_silent c.self.inside.said c.detach.new.self c.args.ticket c.detach.result c.detach.ensures.detaches in
+    let now = has_said c.self.inside.core c.self.inside.took.items c.self.inside.said c.self.invariant c.self.view_is c.detach.ensures.stays.rest c.detach.ensures.stays.written silent in
+    now.ins
 
 pub returns-clause-sound : goal.returns-clause-sound
-returns-clause-sound g c = (has_said c.self.inside.core c.self.inside.took.items c.self.inside.said c.self.invariant c.self.view_is c.detach.ensures.stays.rest c.detach.ensures.stays.written (detached_silent c.self.inside.said c.detach.new.self c.args.ticket c.detach.result c.detach.ensures.detaches)).sound
+returns-clause-sound g c =
+    let silent = detached_silent c.self.inside.said c.detach.new.self c.args.ticket c.detach.result c.detach.ensures.detaches in
+    let now = has_said c.self.inside.core c.self.inside.took.items c.self.inside.said c.self.invariant c.self.view_is c.detach.ensures.stays.rest c.detach.ensures.stays.written silent in
+    now.sound

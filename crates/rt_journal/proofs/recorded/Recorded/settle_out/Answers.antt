@@ -1,5 +1,6 @@
 use Rattle.rt_journal.proofs.Names.{sym, subst, arith, IsOut, OwesSettled}
-use Rattle.rt_journal.proofs.SettledPolls.{task_out, settled_did, owes_settled}
+use Rattle.rt_journal.proofs.SettledPolls.{task_out, settled_did}
+use Rattle.rt_journal.proofs.SettledEnds.{owes_settled}
 use Rattle.rt_journal.proofs.QuietSteps.{view_of, quiet_invariant, seen_so, quiet_now, quiet_noted, ins_step}
 use Rattle.rt_journal.proofs.recorded.Recorded.settle_out.Goals as goal
 

@@ -6,10 +6,19 @@ pub submit-requires : goal.submit-requires
 submit-requires g c = rw (c.self.invariant.1 ∙ ap desk_of c.self.view_is) (assumption c.requires)
 
 pub invariant_of-self : goal.invariant_of-self
-invariant_of-self g c = let now = has_said c.self.inside.core c.self.inside.took.items c.self.inside.said c.self.invariant c.self.view_is c.submit.ensures.stays.rest c.submit.ensures.stays.written (submitted_silent c.self.inside.said c.submit.new.self c.args.to c.args.order c.submit.result c.submit.ensures.submits) in (now.sound, now.is_its)
+invariant_of-self g c =
+    let silent = submitted_silent c.self.inside.said c.submit.new.self c.args.to c.args.order c.submit.result c.submit.ensures.submits in
+    let now = has_said c.self.inside.core c.self.inside.took.items c.self.inside.said c.self.invariant c.self.view_is c.submit.ensures.stays.rest c.submit.ensures.stays.written silent in
+    (now.sound, now.is_its)
 
 pub returns-clause-ins : goal.returns-clause-ins
-returns-clause-ins g c = (has_said c.self.inside.core c.self.inside.took.items c.self.inside.said c.self.invariant c.self.view_is c.submit.ensures.stays.rest c.submit.ensures.stays.written (submitted_silent c.self.inside.said c.submit.new.self c.args.to c.args.order c.submit.result c.submit.ensures.submits)).ins
+returns-clause-ins g c =
+    let silent = submitted_silent c.self.inside.said c.submit.new.self c.args.to c.args.order c.submit.result c.submit.ensures.submits in
+    let now = has_said c.self.inside.core c.self.inside.took.items c.self.inside.said c.self.invariant c.self.view_is c.submit.ensures.stays.rest c.submit.ensures.stays.written silent in
+    now.ins
 
 pub returns-clause-sound : goal.returns-clause-sound
-returns-clause-sound g c = (has_said c.self.inside.core c.self.inside.took.items c.self.inside.said c.self.invariant c.self.view_is c.submit.ensures.stays.rest c.submit.ensures.stays.written (submitted_silent c.self.inside.said c.submit.new.self c.args.to c.args.order c.submit.result c.submit.ensures.submits)).sound
+returns-clause-sound g c =
+    let silent = submitted_silent c.self.inside.said c.submit.new.self c.args.to c.args.order c.submit.result c.submit.ensures.submits in
+    let now = has_said c.self.inside.core c.self.inside.took.items c.self.inside.said c.self.invariant c.self.view_is c.submit.ensures.stays.rest c.submit.ensures.stays.written silent in
+    now.sound

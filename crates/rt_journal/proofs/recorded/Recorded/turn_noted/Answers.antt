@@ -2,7 +2,8 @@ use Rattle.rt_journal.proofs.Names.{◌≡◌, ◌+◌, ◌*◌, ◌<◌, ◌≤
 use Rattle.rt_journal_desk.specs.Spending.{left_of}
 use Rattle.rt_journal_desk.proofs.Posting.{room_for}
 use Rattle.rt_journal.proofs.Beginnings.{pick_begins, pick_in_turn}
-use Rattle.rt_journal.proofs.PostingTurn.{did_pick, pick_ahead, outs_noted, noted_pick, may_settle, turned_invariant, turned_noted}
+use Rattle.rt_journal.proofs.PostingTurn.{may_settle, turned_invariant, turned_noted}
+use Rattle.rt_journal.proofs.NotedTurns.{did_pick, pick_ahead, outs_noted, noted_pick}
 use Rattle.rt_journal.proofs.QuietSteps.{quiet_noted, view_of}
 use Rattle.rt_journal.proofs.recorded.Recorded.turn_noted.Goals as goal
 
@@ -11,7 +12,9 @@ write-requires g c =
     let next = c.args.next.now in
     let left : turns c.self.inside.said.journal.notes < most_turns = omega (arith, c.requires.ahead.left, c.self.invariant.0.kept.agrees.turns, ap (λ view. view.core.turns) c.self.view_is) in
     let ahead = subst (λ view. IsAhead view.core next.queue next.vr next.name next.started next.woken) (sym c.self.view_is) c.requires.ahead in
-    let may = quiet_noted c.self.inside.core c.self.inside.took.items c.self.inside.said c.self.invariant c.picked_notes-picked.ensures (pick_ahead c.self.inside.core c.self.inside.took.items c.self.inside.said c.self.invariant next.queue next.vr next.name next.started left next.woken ahead).2 c.self.view_is (omega (arith, c.requires.room)) in
+    let may = quiet_noted c.self.inside.core c.self.inside.took.items c.self.inside.said c.self.invariant c.picked_notes-picked.ensures
+    (pick_ahead c.self.inside.core c.self.inside.took.items c.self.inside.said c.self.invariant next.queue next.vr next.name next.started left next.woken ahead).2
+    c.self.view_is (omega (arith, c.requires.room)) in
     assumption
 
 pub turn_lent-step-requires-clause-outs : goal.turn_lent-step-requires-clause-outs
@@ -20,7 +23,9 @@ turn_lent-step-requires-clause-outs g c =
     let left : turns c.self.inside.said.journal.notes < most_turns = omega (arith, c.requires.ahead.left, c.self.invariant.0.kept.agrees.turns, ap (λ view. view.core.turns) c.self.view_is) in
     let ahead = subst (λ view. IsAhead view.core next.queue next.vr next.name next.started next.woken) (sym c.self.view_is) c.requires.ahead in
     let outs = subst (λ view. AreOutsOf (Fits g.J.Task.meaning) g.O.OutEnd.out g.O.OutEnd.credited (desk_of view) c.args.ends.now.items) (sym c.self.view_is) c.requires.outs in
-    outs_noted c.self.inside.core c.self.inside.took.items c.self.inside.said c.self.invariant c.picked_notes-picked.ensures (pick_ahead c.self.inside.core c.self.inside.took.items c.self.inside.said c.self.invariant next.queue next.vr next.name next.started left next.woken ahead).2 c.args.ends.now.items outs c.write.new.self c.write.ensures
+    outs_noted c.self.inside.core c.self.inside.took.items c.self.inside.said c.self.invariant c.picked_notes-picked.ensures
+    (pick_ahead c.self.inside.core c.self.inside.took.items c.self.inside.said c.self.invariant next.queue next.vr next.name next.started left next.woken ahead).2
+    c.args.ends.now.items outs c.write.new.self c.write.ensures
 
 pub turn_lent-step-requires-clause-spare : goal.turn_lent-step-requires-clause-spare
 turn_lent-step-requires-clause-spare g c =
@@ -78,7 +83,8 @@ returns g c =
     let few_left = room_for c.self.inside.said c.args.ends.now.items (subst (λ desk. AreOutsOf (Fits g.J.Task.meaning) g.O.OutEnd.out g.O.OutEnd.credited desk c.args.ends.now.items) (sym c.self.invariant.1) outs) c.see_lanes.ensures.known in
     let few_here : sum_by left_of c.self.inside.said.lanes ≤ c.self.inside.core.cores * (3 * c.self.inside.said.cap) = omega (arith, few_left, ap (λ desk. desk.cores * (3 * desk.cap)) c.self.invariant.1) in
     let noted_own : length c.write.new.self.journal.notes + 1 ≡ length c.self.inside.said.journal.notes + 3 = omega (arith, noted_pick c.self.inside.said c.write.new.self c.picked_notes-picked.result c.write.ensures next.queue next.vr next.name next.started c.picked_notes-picked.ensures) in
-    rw (← c.self.view_is, c.note_settled.ensures.settled) (turned_noted g.met.J.Task.laws IsPick c.self.inside.core c.self.inside.took.items c.self.inside.said c.self.invariant next.queue 1 next.name next.started turn.2.0 turn.0 c.turn_lent-step.result.0 c.turn_lent-step.result.1 next.woken c.turn_lent-step.new.core
+    rw (← c.self.view_is, c.note_settled.ensures.settled) (turned_noted g.met.J.Task.laws IsPick c.self.inside.core c.self.inside.took.items c.self.inside.said c.self.invariant
+    next.queue 1 next.name next.started turn.2.0 turn.0 c.turn_lent-step.result.0 c.turn_lent-step.result.1 next.woken c.turn_lent-step.new.core
     turn.2.2.mid turn.2.2.ran turn.2.2.polled turn.2.2.settles did (λ picked. pick_begins (view_of c.self.inside.core c.self.inside.took.items c.self.inside.said) next.name next.queue next.started turn.2.2.ran.before picked)
     (λ picked. pick_in_turn (view_of c.self.inside.core c.self.inside.took.items c.self.inside.said) next.name next.queue next.started turn.2.2.ran.before picked)
     c.picked_notes-picked.result c.picked_notes-picked.ensures c.write.new.self c.write.ensures c.turn_lent-step.new.said c.args.ends.now.items c.turn_lent-step.new.ends.items posted c.turn_lent-step.ensures.written

@@ -1,5 +1,5 @@
 use Rattle.rt_journal.proofs.Names.{◌∙◌, ap, desk_with, reverse}
-use Rattle.rt_journal.proofs.PostingTurn.{one_settled}
+use Rattle.rt_journal.proofs.NotedTurns.{one_settled}
 use Rattle.rt_journal.proofs.recorded.whole.note_settled.Goals as goal
 
 pub write-requires : goal.write-requires

@@ -1,5 +1,5 @@
 use Rattle.rt_journal_desk.proofs.Names.{arith}
-use Rattle.rt_journal_desk.proofs.Posting.{room_for}
+use Rattle.rt_journal_desk.proofs.Posts.{room_for}
 use Rattle.rt_journal_desk.proofs.post.RecordedPost.lend.Goals as goal
 
 pub lend_further-requires-clause-spare : goal.lend_further-requires-clause-spare

@@ -18,8 +18,12 @@ invariant_of-self g c =
     let to_is = ap (λ id. id.to) (c.index_mut.view_is ∙ c.name.ensures) in
     let known = c.if-not-knows.ensures.knows.0 refl in
     let there = found c.self.inside.ends.items c.index_mut.inside.0.1.0.0 c.index_mut-end.result.now (omega (arith, known.1, c.self.invariant.outs.count, to_is)) c.index_mut-end.ensures.value in
-    lent_did (Fits g.J.Task.meaning) g.O.OutEnd.out g.O.OutEnd.credited g.O.OutEnd.untouched (record { desk = c.self.inside.said; ends = c.self.inside.ends.items }) (record { desk = c.detach.new.self; ends = set c.self.inside.ends.items c.index_mut.inside.0.1.0.0 c.detach.new.end }) (Detach c.args.ticket c.detach.result)
-    (inr (detached_on (Fits g.J.Task.meaning) g.O.OutEnd.out g.O.OutEnd.credited g.O.OutEnd.untouched c.self.inside.said c.detach.new.self c.self.inside.ends.items c.index_mut.inside.0.1.0.0 c.args.ticket to_is c.index_mut-end.result.now c.detach.new.end there c.detach.ensures.stays c.detach.ensures.untouched c.detach.ensures.out known c.detach.result c.detach.ensures.detaches c.detach.ensures.spends)) c.self.invariant
+    lent_did (Fits g.J.Task.meaning) g.O.OutEnd.out g.O.OutEnd.credited g.O.OutEnd.untouched
+    (record { desk = c.self.inside.said; ends = c.self.inside.ends.items })
+    (record { desk = c.detach.new.self; ends = set c.self.inside.ends.items c.index_mut.inside.0.1.0.0 c.detach.new.end }) (Detach c.args.ticket c.detach.result)
+    (inr (detached_on (Fits g.J.Task.meaning) g.O.OutEnd.out g.O.OutEnd.credited g.O.OutEnd.untouched c.self.inside.said c.detach.new.self c.self.inside.ends.items
+    c.index_mut.inside.0.1.0.0 c.args.ticket to_is c.index_mut-end.result.now c.detach.new.end there c.detach.ensures.stays c.detach.ensures.untouched c.detach.ensures.out known
+    c.detach.result c.detach.ensures.detaches c.detach.ensures.spends)) c.self.invariant
 
 pub returns-clause-does : goal.returns-clause-does
 returns-clause-does g c =
@@ -27,4 +31,6 @@ returns-clause-does g c =
     let known = c.if-not-knows.ensures.knows.0 refl in
     let there = found c.self.inside.ends.items c.index_mut.inside.0.1.0.0 c.index_mut-end.result.now (omega (arith, known.1, c.self.invariant.outs.count, to_is)) c.index_mut-end.ensures.value in
     subst (λ post. Does (Fits g.J.Task.meaning) g.O.OutEnd.out g.O.OutEnd.credited g.O.OutEnd.untouched post (Detach c.args.ticket c.detach.result) (record { desk = c.detach.new.self; ends = set c.self.inside.ends.items c.index_mut.inside.0.1.0.0 c.detach.new.end })) c.self.view_is
-    (inr (detached_on (Fits g.J.Task.meaning) g.O.OutEnd.out g.O.OutEnd.credited g.O.OutEnd.untouched c.self.inside.said c.detach.new.self c.self.inside.ends.items c.index_mut.inside.0.1.0.0 c.args.ticket to_is c.index_mut-end.result.now c.detach.new.end there c.detach.ensures.stays c.detach.ensures.untouched c.detach.ensures.out known c.detach.result c.detach.ensures.detaches c.detach.ensures.spends))
+    (inr (detached_on (Fits g.J.Task.meaning) g.O.OutEnd.out g.O.OutEnd.credited g.O.OutEnd.untouched c.self.inside.said c.detach.new.self c.self.inside.ends.items
+    c.index_mut.inside.0.1.0.0 c.args.ticket to_is c.index_mut-end.result.now c.detach.new.end there c.detach.ensures.stays c.detach.ensures.untouched c.detach.ensures.out known
+    c.detach.result c.detach.ensures.detaches c.detach.ensures.spends))

@@ -18,8 +18,12 @@ invariant_of-self g c =
     let to_is = ap (λ id. id.to) (c.index_mut.view_is ∙ c.name.ensures) in
     let known = c.if-not-knows.ensures.knows.0 refl in
     let there = found c.self.inside.ends.items c.index_mut.inside.0.1.0.0 c.index_mut-end.result.now (omega (arith, known.1, c.self.invariant.outs.count, to_is)) c.index_mut-end.ensures.value in
-    lent_did (Fits g.J.Task.meaning) g.O.OutEnd.out g.O.OutEnd.credited g.O.OutEnd.untouched (record { desk = c.self.inside.said; ends = c.self.inside.ends.items }) (record { desk = c.redeem.new.self; ends = set c.self.inside.ends.items c.index_mut.inside.0.1.0.0 c.redeem.new.end }) (Redeem c.args.ticket c.redeem.result)
-    (inr (redeemed_on (Fits g.J.Task.meaning) g.O.OutEnd.out g.O.OutEnd.credited g.O.OutEnd.untouched c.self.inside.said c.redeem.new.self c.self.inside.ends.items c.index_mut.inside.0.1.0.0 c.args.ticket to_is c.index_mut-end.result.now c.redeem.new.end there c.redeem.ensures.stays c.redeem.ensures.untouched c.redeem.ensures.out known c.redeem.result c.redeem.ensures.redeems c.redeem.ensures.given c.redeem.ensures.fits c.redeem.ensures.spends)) c.self.invariant
+    lent_did (Fits g.J.Task.meaning) g.O.OutEnd.out g.O.OutEnd.credited g.O.OutEnd.untouched
+    (record { desk = c.self.inside.said; ends = c.self.inside.ends.items })
+    (record { desk = c.redeem.new.self; ends = set c.self.inside.ends.items c.index_mut.inside.0.1.0.0 c.redeem.new.end }) (Redeem c.args.ticket c.redeem.result)
+    (inr (redeemed_on (Fits g.J.Task.meaning) g.O.OutEnd.out g.O.OutEnd.credited g.O.OutEnd.untouched c.self.inside.said c.redeem.new.self c.self.inside.ends.items
+    c.index_mut.inside.0.1.0.0 c.args.ticket to_is c.index_mut-end.result.now c.redeem.new.end there c.redeem.ensures.stays c.redeem.ensures.untouched c.redeem.ensures.out known
+    c.redeem.result c.redeem.ensures.redeems c.redeem.ensures.given c.redeem.ensures.fits c.redeem.ensures.spends)) c.self.invariant
 
 pub returns-clause-does : goal.returns-clause-does
 returns-clause-does g c =
@@ -27,4 +31,6 @@ returns-clause-does g c =
     let known = c.if-not-knows.ensures.knows.0 refl in
     let there = found c.self.inside.ends.items c.index_mut.inside.0.1.0.0 c.index_mut-end.result.now (omega (arith, known.1, c.self.invariant.outs.count, to_is)) c.index_mut-end.ensures.value in
     subst (λ post. Does (Fits g.J.Task.meaning) g.O.OutEnd.out g.O.OutEnd.credited g.O.OutEnd.untouched post (Redeem c.args.ticket c.redeem.result) (record { desk = c.redeem.new.self; ends = set c.self.inside.ends.items c.index_mut.inside.0.1.0.0 c.redeem.new.end })) c.self.view_is
-    (inr (redeemed_on (Fits g.J.Task.meaning) g.O.OutEnd.out g.O.OutEnd.credited g.O.OutEnd.untouched c.self.inside.said c.redeem.new.self c.self.inside.ends.items c.index_mut.inside.0.1.0.0 c.args.ticket to_is c.index_mut-end.result.now c.redeem.new.end there c.redeem.ensures.stays c.redeem.ensures.untouched c.redeem.ensures.out known c.redeem.result c.redeem.ensures.redeems c.redeem.ensures.given c.redeem.ensures.fits c.redeem.ensures.spends))
+    (inr (redeemed_on (Fits g.J.Task.meaning) g.O.OutEnd.out g.O.OutEnd.credited g.O.OutEnd.untouched c.self.inside.said c.redeem.new.self c.self.inside.ends.items
+    c.index_mut.inside.0.1.0.0 c.args.ticket to_is c.index_mut-end.result.now c.redeem.new.end there c.redeem.ensures.stays c.redeem.ensures.untouched c.redeem.ensures.out known
+    c.redeem.result c.redeem.ensures.redeems c.redeem.ensures.given c.redeem.ensures.fits c.redeem.ensures.spends))

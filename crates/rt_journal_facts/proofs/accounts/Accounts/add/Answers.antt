@@ -7,7 +7,8 @@ use Rattle.rt_journal_facts.specs.declared.recent.Recent.{Recent}
 use Rattle.rt_journal_facts.specs.Accounts.{greatest_runtime}
 use Rattle.rt_journal_facts.specs.AllAccounts.{account_of}
 use Rattle.rt_journal_facts.specs.Recent.{Holds}
-use Rattle.rt_journal_facts.proofs.AllAccounts.{all_known, each_ended, each_going, left_alone, woken}
+use Rattle.rt_journal_facts.proofs.AllAccounts.{all_known, each_ended, each_going, left_alone}
+use Rattle.rt_journal_facts.proofs.WokenAccounts.{woken}
 use Rattle.rt_journal_facts.proofs.accounts.Accounts.add.Goals as goal
 use Rattle.rt_journal_facts.proofs.accounts.Accounts.add.Goals.{then-core_ended, else-core_ended}
 

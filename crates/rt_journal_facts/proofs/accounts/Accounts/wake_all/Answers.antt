@@ -2,7 +2,8 @@ use Rattle.std.proofs.Common.{ap, sym, ◌∙◌, refl, arith}
 use Rattle.rt_journal_facts.specs.declared.recent.Recent.{Recent}
 use Rattle.rt_journal_facts.specs.AllAccounts.{account_of}
 use Rattle.rt_journal_facts.specs.Recent.{queue_at}
-use Rattle.rt_journal_facts.proofs.AllAccounts.{changed_one, wakes_next, woken}
+use Rattle.rt_journal_facts.proofs.AllAccounts.{changed_one}
+use Rattle.rt_journal_facts.proofs.WokenAccounts.{wakes_next, woken}
 use Rattle.rt_journal_facts.proofs.accounts.Accounts.wake_all.Goals as goal
 
 pub loop-place-preserved : goal.loop-place-preserved

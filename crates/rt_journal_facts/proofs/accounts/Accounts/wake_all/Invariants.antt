@@ -1,4 +1,4 @@
-use Rattle.rt_journal_facts.proofs.AllAccounts.{WakesSoFar}
+use Rattle.rt_journal_facts.proofs.WokenAccounts.{WakesSoFar}
 use Rattle.rt_journal_facts.proofs.accounts.Accounts.wake_all.Given as goal
 
 abbrev pub invariant-loop-place : goal.invariant-loop-place

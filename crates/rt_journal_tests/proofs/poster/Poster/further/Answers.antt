@@ -30,6 +30,8 @@ invariant_of-self g c =
       c.ends_turn.ensures.seat.cores ∙ (c.further_posting-settled.ensures.seat.cores ∙ c.self.invariant.0),
       outs_kept c.further_posting-settled.new.self c.ends_turn.new.core (record { seat = c.ends_turn.ensures.seat; outs = c.ends_turn.ensures.outs; lanes = c.ends_turn.ensures.lanes })
           c.further_posting-settled.new.ends.items c.further_posting-settled.ensures.outs,
-      (c.ends_turn.ensures.ins 0).each _ (turn_keeps c.self.inside.core c.further_posting-settled.new.self c.in-Some.next.name (option_map outcome_note (outcome_settled {J = ScriptJob} c.further_posting-settled.result)) (g.I.InEnd.inward c.self.inside.own) 0 (c.further_posting-settled.ensures.owes 0) c.self.invariant.2 (λ same. omega (arith, same, is))),
+      (c.ends_turn.ensures.ins 0).each _
+          (turn_keeps c.self.inside.core c.further_posting-settled.new.self c.in-Some.next.name (option_map outcome_note (outcome_settled {J = ScriptJob} c.further_posting-settled.result))
+          (g.I.InEnd.inward c.self.inside.own) 0 (c.further_posting-settled.ensures.owes 0) c.self.invariant.2 (λ same. omega (arith, same, is))),
       (c.ends_turn.ensures.ins 1).each _ (subst (λ from. IsInOf from c.further_posting-settled.new.self (g.I.InEnd.inward c.give_done.new.end)) is c.give_done.ensures.beside),
     )

@@ -19,7 +19,8 @@ invariant_of-self g c =
       c.turn_posting-settled.ensures.seat.cores ∙ c.self.invariant.0,
       c.turn_posting-settled.ensures.outs,
       subst (λ from. IsInOf from c.turn_posting-settled.new.self (g.I.InEnd.inward c.give_done.new.end)) is c.give_done.ensures.beside,
-      turn_keeps c.self.inside.core c.turn_posting-settled.new.self c.in-Ok-Job.next.name (option_map outcome_note (outcome_settled {J = ScriptJob} c.turn_posting-settled.result)) (g.I.InEnd.inward c.self.inside.outside) 1 (c.turn_posting-settled.ensures.owes 1) c.self.invariant.3 (λ same. omega (arith, same, is)),
+      turn_keeps c.self.inside.core c.turn_posting-settled.new.self c.in-Ok-Job.next.name (option_map outcome_note (outcome_settled {J = ScriptJob} c.turn_posting-settled.result))
+          (g.I.InEnd.inward c.self.inside.outside) 1 (c.turn_posting-settled.ensures.owes 1) c.self.invariant.3 (λ same. omega (arith, same, is)),
     )
 
 pub give_done-requires-then-eq-2-clause-owed : goal.give_done-requires-then-eq-2-clause-owed
@@ -32,7 +33,8 @@ invariant_of-self-then-eq-2 g c =
     let is : c.in-Ok-Job.next.name.from ≡ 1 = eqb-true c.in-Ok-Job.next.name.from 1 (sym c.eq-else-eq.ensures ∙ c.if-eq-2.true) in (
       c.turn_posting-settled.ensures.seat.cores ∙ c.self.invariant.0,
       c.turn_posting-settled.ensures.outs,
-      turn_keeps c.self.inside.core c.turn_posting-settled.new.self c.in-Ok-Job.next.name (option_map outcome_note (outcome_settled {J = ScriptJob} c.turn_posting-settled.result)) (g.I.InEnd.inward c.self.inside.own) 0 (c.turn_posting-settled.ensures.owes 0) c.self.invariant.2 (λ same. omega (arith, same, is)),
+      turn_keeps c.self.inside.core c.turn_posting-settled.new.self c.in-Ok-Job.next.name (option_map outcome_note (outcome_settled {J = ScriptJob} c.turn_posting-settled.result))
+          (g.I.InEnd.inward c.self.inside.own) 0 (c.turn_posting-settled.ensures.owes 0) c.self.invariant.2 (λ same. omega (arith, same, is)),
       subst (λ from. IsInOf from c.turn_posting-settled.new.self (g.I.InEnd.inward c.give_done-then-eq-2.new.end)) is c.give_done-then-eq-2.ensures.beside,
     )
 
@@ -40,6 +42,8 @@ pub invariant_of-self-else-eq-2 : goal.invariant_of-self-else-eq-2
 invariant_of-self-else-eq-2 g c = (
   c.turn_posting-settled.ensures.seat.cores ∙ c.self.invariant.0,
   c.turn_posting-settled.ensures.outs,
-  turn_keeps c.self.inside.core c.turn_posting-settled.new.self c.in-Ok-Job.next.name (option_map outcome_note (outcome_settled {J = ScriptJob} c.turn_posting-settled.result)) (g.I.InEnd.inward c.self.inside.own) 0 (c.turn_posting-settled.ensures.owes 0) c.self.invariant.2 (eqb-false c.in-Ok-Job.next.name.from 0 (sym c.eq.ensures ∙ c.if-eq.false)),
-  turn_keeps c.self.inside.core c.turn_posting-settled.new.self c.in-Ok-Job.next.name (option_map outcome_note (outcome_settled {J = ScriptJob} c.turn_posting-settled.result)) (g.I.InEnd.inward c.self.inside.outside) 1 (c.turn_posting-settled.ensures.owes 1) c.self.invariant.3 (eqb-false c.in-Ok-Job.next.name.from 1 (sym c.eq-else-eq.ensures ∙ c.if-eq-2.false)),
+  turn_keeps c.self.inside.core c.turn_posting-settled.new.self c.in-Ok-Job.next.name (option_map outcome_note (outcome_settled {J = ScriptJob} c.turn_posting-settled.result))
+      (g.I.InEnd.inward c.self.inside.own) 0 (c.turn_posting-settled.ensures.owes 0) c.self.invariant.2 (eqb-false c.in-Ok-Job.next.name.from 0 (sym c.eq.ensures ∙ c.if-eq.false)),
+  turn_keeps c.self.inside.core c.turn_posting-settled.new.self c.in-Ok-Job.next.name (option_map outcome_note (outcome_settled {J = ScriptJob} c.turn_posting-settled.result))
+      (g.I.InEnd.inward c.self.inside.outside) 1 (c.turn_posting-settled.ensures.owes 1) c.self.invariant.3 (eqb-false c.in-Ok-Job.next.name.from 1 (sym c.eq-else-eq.ensures ∙ c.if-eq-2.false)),
 )

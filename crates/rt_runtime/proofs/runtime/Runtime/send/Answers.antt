@@ -30,7 +30,16 @@ returns g c =
     let low : c.args.to < c.self.inside.desk.cores = omega (arith, c.if-to-self.false, c.to.view_is, c.self.invariant.1.cores_are) in
     let names = ap (λ rung. rung.names) c.ring.ensures in
     let grows = sent_grows c.args.order c.args.to c.self.inside.desk c.send_on-answer.new.desk c.send_on-answer.result sent.submits in
-    let new : RuntimeView g.row.J.Denot ℕ = record { desk = c.send_on-answer.new.desk; ends = c.send_on-answer.new.ends; closing = c.mark.new.closing.items; workers = map (λ worker. worker.linked) c.self.inside.team; room = c.self.inside.room; rung = c.ring.new.self; bells = map (λ worker. worker.bells) c.self.inside.team; refused = c.self.inside.refused } in
+    let new : RuntimeView g.row.J.Denot ℕ = record {
+      desk = c.send_on-answer.new.desk;
+      ends = c.send_on-answer.new.ends;
+      closing = c.mark.new.closing.items;
+      workers = map (λ worker. worker.linked) c.self.inside.team;
+      room = c.self.inside.room;
+      rung = c.ring.new.self;
+      bells = map (λ worker. worker.bells) c.self.inside.team;
+      refused = c.self.inside.refused;
+    } in
     record {
       there = λ there. record {
         submits = search rules;

@@ -16,7 +16,9 @@ pub returns-clause-steps : goal.returns-clause-steps
 returns-clause-steps g c =
     subst (λ some. StepsServed c.args.self.now.served some c.plan.new.self.served) (sym (c.either.ensures ∙ ap (λ came. c.take_turn-turned.result || came) c.either-came.ensures))
     (subst (λ served. StepsServed c.args.self.now.served (c.take_turn-turned.result || (c.take_in-taken.result || c.gather-collected.result)) served) (sym (ap (λ rounds. rounds.served) c.plan.ensures))
-    (steps_three c.take_in-taken.result c.take_turn-turned.result c.gather-collected.result c.args.self.now.served c.take_in-taken.new.self.served c.take_turn-turned.new.self.served c.gather-collected.new.self.served c.take_in-taken.ensures.steps c.take_turn-turned.ensures.steps c.gather-collected.ensures.steps))
+    (steps_three c.take_in-taken.result c.take_turn-turned.result c.gather-collected.result c.args.self.now.served
+    c.take_in-taken.new.self.served c.take_turn-turned.new.self.served c.gather-collected.new.self.served
+    c.take_in-taken.ensures.steps c.take_turn-turned.ensures.steps c.gather-collected.ensures.steps))
 
 pub returns-clause-looks : goal.returns-clause-looks
 returns-clause-looks g c = record {

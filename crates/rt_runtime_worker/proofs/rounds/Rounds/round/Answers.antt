@@ -69,16 +69,24 @@ returns-then-turn_alone-clause-few g c =
 pub returns-then-has_nothing-clause-few : goal.returns-then-has_nothing-clause-few
 returns-then-has_nothing-clause-few g c =
     few_more 0 _ c.args.self.now.served c.turn_alone.new.self.served (omega arith)
-    (alone_none g.J.Task.meaning g.C.Clock.Reads g.G.Gate.Asked c.args.self.now.turns c.turn_alone.new.self.turns (round_view c.args.self.now.served c.args.self.now.watch.clock c.args.self.now.watch.taken c.args.self.now.gate) (round_view c.turn_alone.new.self.served c.turn_alone.new.self.watch.clock c.turn_alone.new.self.watch.taken c.turn_alone.new.self.gate)
+    (alone_none g.J.Task.meaning g.C.Clock.Reads g.G.Gate.Asked c.args.self.now.turns c.turn_alone.new.self.turns
+    (round_view c.args.self.now.served c.args.self.now.watch.clock c.args.self.now.watch.taken c.args.self.now.gate)
+    (round_view c.turn_alone.new.self.served c.turn_alone.new.self.watch.clock c.turn_alone.new.self.watch.taken c.turn_alone.new.self.gate)
     (subst
-    (λ some. TurnsAlone g.J.Task.meaning g.C.Clock.Reads g.G.Gate.Asked c.args.self.now.turns (round_view c.args.self.now.served c.args.self.now.watch.clock c.args.self.now.watch.taken c.args.self.now.gate) some c.turn_alone.new.self.turns (round_view c.turn_alone.new.self.served c.turn_alone.new.self.watch.clock c.turn_alone.new.self.watch.taken c.turn_alone.new.self.gate))
+    (λ some. TurnsAlone g.J.Task.meaning g.C.Clock.Reads g.G.Gate.Asked c.args.self.now.turns
+    (round_view c.args.self.now.served c.args.self.now.watch.clock c.args.self.now.watch.taken c.args.self.now.gate) some c.turn_alone.new.self.turns
+    (round_view c.turn_alone.new.self.served c.turn_alone.new.self.watch.clock c.turn_alone.new.self.watch.taken c.turn_alone.new.self.gate))
     c.if-turn_alone.false c.turn_alone.ensures.alone))
 
 pub returns-clause-few : goal.returns-clause-few
 returns-clause-few g c =
     few_along 0 _ _ _ _ c.args.self.now.served c.turn_alone.new.self.served c.look.new.self.served c.turn_alone.ensures.steps c.look.ensures.steps
-    (alone_none g.J.Task.meaning g.C.Clock.Reads g.G.Gate.Asked c.args.self.now.turns c.turn_alone.new.self.turns (round_view c.args.self.now.served c.args.self.now.watch.clock c.args.self.now.watch.taken c.args.self.now.gate) (round_view c.turn_alone.new.self.served c.turn_alone.new.self.watch.clock c.turn_alone.new.self.watch.taken c.turn_alone.new.self.gate)
+    (alone_none g.J.Task.meaning g.C.Clock.Reads g.G.Gate.Asked c.args.self.now.turns c.turn_alone.new.self.turns
+    (round_view c.args.self.now.served c.args.self.now.watch.clock c.args.self.now.watch.taken c.args.self.now.gate)
+    (round_view c.turn_alone.new.self.served c.turn_alone.new.self.watch.clock c.turn_alone.new.self.watch.taken c.turn_alone.new.self.gate)
     (subst
-    (λ some. TurnsAlone g.J.Task.meaning g.C.Clock.Reads g.G.Gate.Asked c.args.self.now.turns (round_view c.args.self.now.served c.args.self.now.watch.clock c.args.self.now.watch.taken c.args.self.now.gate) some c.turn_alone.new.self.turns (round_view c.turn_alone.new.self.served c.turn_alone.new.self.watch.clock c.turn_alone.new.self.watch.taken c.turn_alone.new.self.gate))
+    (λ some. TurnsAlone g.J.Task.meaning g.C.Clock.Reads g.G.Gate.Asked c.args.self.now.turns
+    (round_view c.args.self.now.served c.args.self.now.watch.clock c.args.self.now.watch.taken c.args.self.now.gate) some c.turn_alone.new.self.turns
+    (round_view c.turn_alone.new.self.served c.turn_alone.new.self.watch.clock c.turn_alone.new.self.watch.taken c.turn_alone.new.self.gate))
     c.if-turn_alone.false c.turn_alone.ensures.alone))
     c.look.ensures.few (omega (arith, least_along c.args.self.now.served.linked.recorded c.turn_alone.new.self.served.linked.recorded c.turn_alone.ensures.steps.stays.seat))

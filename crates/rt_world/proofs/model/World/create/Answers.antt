@@ -20,8 +20,13 @@ invariant_of-self g c =
     let did = rw view at c.create.ensures in
     let kept : IsKeptBeside g.J.Task.meaning none_owed _ c.create.new.self = record { sound = did.sound; seat = did.seat; ins = did.ins; outs = did.outs; lanes = did.lanes } in
     let stays = created_stays (all_beside c.self.invariant.1 c.args.core there) (c.self.invariant.3 c.args.core there).nobody_out c.args.shares c.create.result did.creates kept in
-    rw c.core.view_is
-    (c.self.invariant.0, quiet_rests c.self.invariant.1 c.args.core there c.create.new.self _ stays, c.self.invariant.2, quiet_at_rest c.self.invariant.1 c.args.core there c.create.new.self _ stays c.self.invariant.3 (created_open _ c.create.new.self did.seat (c.self.invariant.3 c.args.core there).no_turn c.args.shares c.create.result did.creates))
+    rw c.core.view_is (
+      c.self.invariant.0,
+      quiet_rests c.self.invariant.1 c.args.core there c.create.new.self _ stays,
+      c.self.invariant.2,
+      quiet_at_rest c.self.invariant.1 c.args.core there c.create.new.self _ stays c.self.invariant.3
+          (created_open _ c.create.new.self did.seat (c.self.invariant.3 c.args.core there).no_turn c.args.shares c.create.result did.creates),
+    )
 
 pub returns : goal.returns
 returns g c =

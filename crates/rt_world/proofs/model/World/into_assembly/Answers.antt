@@ -78,7 +78,17 @@ pub of_burst-requires : goal.of_burst-requires
 of_burst-requires g c =
     let at = goal.at.of_burst-requires g c in
     let items_are = all_gathered g at.After-push_reserved-2 (all_yielded g at.In-None) in
-    ap length items_are ∙ (gathered_count (record { cores = c.self.inside.cores; cap = c.self.inside.cap; burst = c.self.inside.burst; room = c.self.inside.room; inside = c.self.inside.inside.items; outside = c.self.inside.outside; links = c.self.inside.links }) ∙ ap (λ count. count + 1) c.self.invariant.1.all_there.cores_are)
+    ap length items_are
+    ∙ (gathered_count (record {
+      cores = c.self.inside.cores;
+      cap = c.self.inside.cap;
+      burst = c.self.inside.burst;
+      room = c.self.inside.room;
+      inside = c.self.inside.inside.items;
+      outside = c.self.inside.outside;
+      links = c.self.inside.links;
+    })
+    ∙ ap (λ count. count + 1) c.self.invariant.1.all_there.cores_are)
 
 pub returns : goal.returns
 returns g c =

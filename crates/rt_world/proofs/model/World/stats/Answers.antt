@@ -9,7 +9,15 @@ pub returns : goal.returns
 returns g c =
     let its = c.recorded-recorded.ensures in
     let told = c.told_stats.ensures in
-    let few : length c.recorded-recorded.result.now.journal.notes < 2 ^ 64 = omega (arith, c.kept_count-kept.ensures.limits, ap (λ journal. length journal.notes) c.journal.ensures, ap (λ journal. journal.room) c.journal.ensures, its.room, ap (λ world. world.room) c.self.view_is, c.self.invariant.0.low_room) in
+    let few : length c.recorded-recorded.result.now.journal.notes < 2 ^ 64 = omega (
+      arith,
+      c.kept_count-kept.ensures.limits,
+      ap (λ journal. length journal.notes) c.journal.ensures,
+      ap (λ journal. journal.room) c.journal.ensures,
+      its.room,
+      ap (λ world. world.room) c.self.view_is,
+      c.self.invariant.0.low_room,
+    ) in
     record {
       missing = ((λ none. absurd (true≢false none)), (λ past. absurd (omega (arith, past, c.if-core-self.false, c.core.view_is, ap (λ world. world.cores) c.self.view_is))));
       core = told_of its.cores its.notes told.core;
