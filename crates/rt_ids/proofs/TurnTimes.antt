@@ -1,8 +1,8 @@
 -- The time of a turn, poll by poll: where each poll and each sum is cut at what counts, the time is the one of all polls.
-use Rattle.std.proofs.Common.{◌≡◌, ℕ, ◌+◌, ◌-◌, ◌^◌, ◌≤◌, Bool, true, false, ◌∷◌, refl, arith}
+use Rattle.std.proofs.Common.{◌≡◌, ℕ, ◌+◌, ◌-◌, ◌^◌, true, false, ◌∷◌, arith}
 use Rattle.std.specs.Prelude.{min}
 use Rattle.rt_ids.specs.declared.note.Note.{Note}
-use Rattle.rt_ids.specs.Bursts.{parts_turns, polls_in_turn, poll_count, time_in_turn, time_of_poll, time_summed}
+use Rattle.rt_ids.specs.Bursts.{parts_turns, polls_in_turn, poll_count, time_in_turn, time_of_poll}
 use Rattle.rt_ids.specs.Journal.{Journal}
 use Rattle.rt_ids.specs.Polls.{poll_settled}
 
