@@ -57,7 +57,7 @@ map_twice f g [] = refl
 map_twice f g (x ∷ xs) = ap (λ rest. f (g x) ∷ rest) (map_twice f g xs)
 
 -- what follows of each pair holds of the second list
-together_all : {A B : Type 0} (related : A → B → Type 0) (P : B → Type 0) → ((x : A) (y : B) → related x y → P y) → (xs : List A) (ys : List B) → Together related xs ys → All P ys
+pub together_all : {A B : Type 0} (related : A → B → Type 0) (P : B → Type 0) → ((x : A) (y : B) → related x y → P y) → (xs : List A) (ys : List B) → Together related xs ys → All P ys
 together_all related P follows [] [] both = All-nil P
 together_all related P follows [] (y ∷ ys) both = absurd both
 together_all related P follows (x ∷ xs) [] both = absurd both

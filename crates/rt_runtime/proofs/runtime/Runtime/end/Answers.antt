@@ -4,12 +4,27 @@ use Rattle.rt_ring_mesh.specs.Grid.{IsGrid}
 use Rattle.rt_runtime.specs.declared.passed.Passed.{Passed}
 use Rattle.rt_runtime.specs.State.{closing_at}
 use Rattle.rt_runtime.specs.WithSinks.{HasPassed}
-use Rattle.rt_runtime.proofs.AllPassed.{all_ended, all_run_on, ends_together, has_passed, part_counts}
+use Rattle.rt_runtime.specs.Watching.{watch_at}
+use Rattle.rt_runtime_team.specs.Works.{Together}
+use Rattle.rt_runtime_worker.specs.Together.{worker_at}
+use Rattle.rt_runtime_worker.specs.Workers.{KeepsOn}
+use Rattle.rt_watch.specs.Growth.{Grows}
+use Rattle.rt_runtime.proofs.AllPassed.{all_boards, all_ended, all_run_on, ends_together, has_passed, part_counts}
 use Rattle.rt_runtime.proofs.Finished.{finished_grid}
 use Rattle.rt_runtime.proofs.runtime.Runtime.end.Goals as goal
 
 kept : (g : goal.Over) (c : goal.In g) → Together KeepsOn c.self.inside.team c.compare_all.new.ended.items
 kept g c = subst (Together KeepsOn c.self.inside.team) (sym c.compare_all.ensures.ended) c.join.ensures
+
+-- the watchers are of the boards on which the workers published
+pub compare_all-requires : goal.compare_all-requires
+compare_all-requires g c = c.self.invariant.6 ∙ sym (all_boards c.self.inside.team c.join.result.items c.join.ensures)
+
+seen : (g : goal.Over) (c : goal.In g) → (core : ℕ) → core < c.self.inside.desk.cores →
+    Grows (watch_at core c.self.inside.watchers.items).notes (worker_at core (map (λ worker. worker.linked) c.compare_all.new.ended.items)).recorded.journal.notes
+seen g c core low =
+    subst (λ ended. Grows (watch_at core c.self.inside.watchers.items).notes (worker_at core (map (λ worker. worker.linked) ended)).recorded.journal.notes) (sym c.compare_all.ensures.ended)
+    (c.compare_all.ensures.grows core (omega (arith, low, all_ended g.J.Task.meaning _ c.self.invariant.0 c.join.result.items (all_run_on c.self.inside.team c.join.result.items c.join.ensures))))
 
 pub part_all-all-requires-clause-room_ends : goal.part_all-all-requires-clause-room_ends
 part_all-all-requires-clause-room_ends g c =
@@ -59,7 +74,7 @@ returns-clause-passed g c =
     let passed : Passed g.row.S.Denot = record { cores = c.self.inside.cores; cap = c.self.inside.cap; burst = c.burst-burst.result; actors = c.push_reserved-2.new.self } in
     subst (λ view. HasPassed g.J.Task.meaning g.S.Sink.has g.S.Sink.refused view passed) c.self.view_is
     (has_passed g.J.Task.meaning g.S.Sink.has g.S.Sink.refused _ c.self.invariant.0 c.compare_all.new.ended.items (all_run_on c.self.inside.team c.compare_all.new.ended.items (kept g c)) c.part_all-all.result.1.items c.part_all-all.ensures.parts.each
-    c.part_outside.result c.part_outside.ensures.notes c.part_outside.ensures.rest passed c.push_reserved.new.self.items c.self.invariant.1.cores_are c.self.invariant.1.cap_is c.burst-burst.ensures c.push_reserved-2.ensures.items ends c.reunite_all.ensures
+    c.part_outside.result c.part_outside.ensures.notes c.part_outside.ensures.rest (seen g c) passed c.push_reserved.new.self.items c.self.invariant.1.cores_are c.self.invariant.1.cap_is c.burst-burst.ensures c.push_reserved-2.ensures.items ends c.reunite_all.ensures
     c.ended_are_joined.ensures c.joining_is_sound.ensures c.joined_are_spelled.ensures closed)
 
 pub returns-clause-room : goal.returns-clause-room
