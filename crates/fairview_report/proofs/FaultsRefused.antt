@@ -1,0 +1,42 @@
+-- Faults that are not those of what was read are refused.
+use Rattle.std.proofs.Common.{◌≡◌, ℕ, [], ◌∷◌, refl, sym, ◌∙◌}
+use Rattle.std.specs.Prelude.{Ok, Err, Result}
+use Rattle.rt_journal_lines.specs.Fields.{number_in}
+use Rattle.rt_journal_read.specs.declared.draft.Part.TheVariants.{After}
+use Rattle.rt_journal_read.specs.declared.fault.JournalCause.{JournalCause}
+use Rattle.rt_journal_read.specs.declared.fault.JournalCause.TheVariants.{Header, Cores}
+use Rattle.rt_journal_read.specs.Drafts.{Drafted, form_of, burst_of, size_of}
+use Rattle.rt_journal_read.specs.JournalTexts.{Fault, journals_of}
+use Rattle.rt_journal_read.proofs.FaultyForms.{all_faulty}
+use Rattle.rt_sink.proofs.BadLemmas.{stale_refused}
+use Rattle.fairview_report.specs.BadFaults.{BadFaultsAreRefused, faultless, third_form}
+
+whole : Drafted
+whole = record { part = After; cores = 1; cap = 4; burst = 1; earlier = []; notes = [] }
+
+-- the text tells journals
+told : journals_of faultless ≡ Ok whole
+unfolding form_of burst_of size_of number_in
+told = refl
+
+no_fault : (fault : Fault) → journals_of faultless ≡ Err fault → ⊥
+no_fault fault is = let both : ◌≡◌ {A = Result Drafted Fault} (Ok whole) (Err fault) = sym told ∙ is in cc
+
+other : (line : ℕ) (cause : JournalCause) → journals_of third_form ≡ Err (line, cause) → ◌≡◌ {A = Result Drafted Fault} (Err (1, Header)) (Err (line, cause))
+other line cause is = sym all_faulty.third_form ∙ is
+
+other_line : journals_of third_form ≡ Err (2, Header) → ⊥
+other_line is = let both = other 2 Header is in cc
+
+other_cause : journals_of third_form ≡ Err (1, Cores) → ⊥
+other_cause is = let both = other 1 Cores is in cc
+
+pub refused : BadFaultsAreRefused
+refused = record {
+  written = λ is. elim is [ ];
+  no_fault = λ is. no_fault (1, Header) is.0;
+  other_line = λ is. other_line is.0;
+  other_cause = λ is. other_cause is.0;
+  unasked = λ is. let asked = is.1.1.1 in cc;
+  unread = λ is. stale_refused.stale is.1;
+}
