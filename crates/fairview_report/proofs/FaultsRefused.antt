@@ -37,6 +37,6 @@ refused = record {
   no_fault = λ is. no_fault (1, Header) is.0;
   other_line = λ is. other_line is.0;
   other_cause = λ is. other_cause is.0;
-  unasked = λ is. let asked = is.1.1.1 in cc;
+  unasked = λ is. let asked = is.3 in cc;
   unread = λ is. stale_refused.stale is.1;
 }

@@ -1,20 +1,21 @@
 -- What is told of other journals than those that were handed over is refused.
-use Rattle.std.proofs.Common.{◌≡◌, ℕ, ◌+◌, [], ◌∷◌, ◌++◌, List, length, refl, sym, ap, ◌∙◌, arith}
-use Rattle.std.specs.Prelude.{string_bytes}
-use Rattle.rt_view.specs.Rows.{first_poll}
+use Rattle.std.proofs.Common.{◌≡◌, ℕ, [], ◌∷◌, ◌++◌, List, refl, sym, ap, ◌∙◌, length, length-append, append-nil, arith}
+use Rattle.std.specs.Prelude.{codes, string_bytes}
+use Rattle.rt_view.specs.Rows.{first_poll, poll_row as poll_of}
+use Rattle.rt_view.specs.declared.ends.End.TheVariants as ends
 use Rattle.fairview_text.specs.Lists.{lists_below}
 use Rattle.fairview_report.specs.BadWalks.{BadWalksAreRefused}
-use Rattle.fairview_report.specs.PollTexts.{core_text, head_text, rows_now, rows_of}
+use Rattle.fairview_report.specs.PollTexts.{head_text, poll_row, rows_now, rows_of}
 
--- a page with one row
-one_row : List ℕ
-one_row = head_text ++ core_text 0 first_poll
+-- the row of the poll
+abbrev row : List ℕ
+row = (poll_row 0 (poll_of 1 0 0 1 1 30 ends.Yield) ++ codes "\n") ++ []
 
-row_now : (head_text ++ rows_of []) ++ rows_now 0 1 first_poll ≡ one_row
+row_now : (head_text ++ rows_of []) ++ rows_now 0 1 first_poll ≡ head_text ++ row
 unfolding lists_below
 row_now = refl
 
-row_before : (head_text ++ rows_of (first_poll ∷ [])) ++ rows_now 1 1 [] ≡ one_row
+row_before : (head_text ++ rows_of (first_poll ∷ [])) ++ rows_now 1 1 [] ≡ head_text ++ (row ++ [])
 unfolding lists_below
 row_before = refl
 
@@ -22,9 +23,11 @@ row_outside : (head_text ++ rows_of ([] ∷ [])) ++ rows_now 1 1 first_poll ≡ 
 unfolding lists_below
 row_outside = refl
 
--- the row is longer than nothing
-not_head : head_text ≡ one_row → ⊥
-not_head is = absurd (omega (arith, ap length is))
+-- a page with one more line is longer
+longer : (front line : List ℕ) → front ≡ front ++ ((line ++ codes "\n") ++ []) → ⊥
+longer front line is =
+    absurd
+    (omega (arith, ap length is, length-append front ((line ++ codes "\n") ++ []), length-append (line ++ codes "\n") [], length-append line (codes "\n")))
 
 not_nothing : (rest : List ℕ) → [] ≡ (head_text ++ rest) ++ rows_now 0 1 [] → ⊥
 not_nothing rest is = cc
@@ -38,7 +41,9 @@ refused = record {
   other_burst = λ is. absurd (omega (arith, is.same_burst));
   headless = λ rows empty has. not_nothing (rows_of []) (sym empty ∙ has.page);
   other_actor = λ rows one has. absurd (omega (arith, one, has.actor));
-  unwritten = λ rows head has. not_head (sym head ∙ (has.page ∙ row_now));
-  forgotten = λ rows head has. not_head (sym head ∙ (has.page ∙ row_before));
-  outside = λ rows longer has. absurd (omega (arith, longer, ap length (has.page ∙ row_outside)));
+  unwritten = λ rows head has. longer head_text (poll_row 0 (poll_of 1 0 0 1 1 30 ends.Yield)) (sym head ∙ (has.page ∙ row_now));
+  forgotten =
+      λ rows head has.
+      longer head_text (poll_row 0 (poll_of 1 0 0 1 1 30 ends.Yield)) (sym head ∙ (has.page ∙ (row_before ∙ ap (λ rest. head_text ++ rest) (append-nil row))));
+  outside = λ rows more has. absurd (omega (arith, more, ap length (has.page ∙ row_outside)));
 }
