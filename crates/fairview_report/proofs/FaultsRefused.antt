@@ -1,6 +1,6 @@
 -- Faults that are not those of what was read are refused.
 use Rattle.std.proofs.Common.{◌≡◌, ℕ, [], ◌∷◌, refl, sym, ◌∙◌}
-use Rattle.std.specs.Prelude.{Ok, Err, Result}
+use Rattle.std.specs.Prelude.{Option, None, Some, Ok, Err, Result}
 use Rattle.rt_journal_lines.specs.Fields.{number_in}
 use Rattle.rt_journal_read.specs.declared.draft.Part.TheVariants.{After}
 use Rattle.rt_journal_read.specs.declared.fault.JournalCause.{JournalCause}
@@ -11,7 +11,7 @@ use Rattle.rt_journal_read.proofs.FaultyForms.{all_faulty}
 use Rattle.rt_sink.proofs.BadLemmas.{stale_refused}
 use Rattle.fairview_report.specs.BadFaults.{BadFaultsAreRefused, faultless, third_form}
 
-whole : Drafted
+abbrev whole : Drafted
 whole = record { part = After; cores = 1; cap = 4; burst = 1; earlier = []; notes = [] }
 
 -- the text tells journals
@@ -37,6 +37,6 @@ refused = record {
   no_fault = λ is. no_fault (1, Header) is.0;
   other_line = λ is. other_line is.0;
   other_cause = λ is. other_cause is.0;
-  unasked = λ is. let asked = is.3 in cc;
+  unasked = λ is. let asked : ◌≡◌ {A = Option ℕ} None (Some 1) = is.3 in cc;
   unread = λ is. stale_refused.stale is.1;
 }

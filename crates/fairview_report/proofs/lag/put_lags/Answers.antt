@@ -7,5 +7,5 @@ use Rattle.fairview_report.proofs.lag.put_lags.Goals as goal
 pub returns : goal.returns
 returns c =
     on_ok_weaker c.put_pair_lines.result
-    (λ puts assembly knows. puts ∙ ap (λ pairs. string_bytes c.args.page.now ++ flat_map pair_line pairs) (c.in_ok-pairs_of.ensures assembly knows))
+    (λ puts assembly knows. puts ∙ ap (λ pairs. string_bytes c.args.page.now ++ flat_map pair_line pairs) (c.deref.ensures.value ∙ c.in_ok-pairs.ensures assembly knows))
     c.put_pair_lines.ensures
