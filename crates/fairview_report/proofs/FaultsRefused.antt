@@ -1,5 +1,5 @@
 -- Faults that are not those of what was read are refused.
-use Rattle.std.proofs.Common.{◌≡◌, ℕ, [], ◌∷◌, refl, sym, ◌∙◌}
+use Rattle.std.proofs.Common.{◌≡◌, ℕ, [], refl, sym, ap, ◌∙◌, arith}
 use Rattle.std.specs.Prelude.{Option, None, Some, Ok, Err, Result}
 use Rattle.rt_journal_lines.specs.Fields.{number_in}
 use Rattle.rt_journal_read.specs.declared.draft.Part.TheVariants.{After}
@@ -25,18 +25,27 @@ no_fault fault is = let both : ◌≡◌ {A = Result Drafted Fault} (Ok whole) (
 other : (line : ℕ) (cause : JournalCause) → journals_of third_form ≡ Err (line, cause) → ◌≡◌ {A = Result Drafted Fault} (Err (1, Header)) (Err (line, cause))
 other line cause is = sym all_faulty.third_form ∙ is
 
-other_line : journals_of third_form ≡ Err (2, Header) → ⊥
-other_line is = let both = other 2 Header is in cc
+-- the line and the cause of a fault
+abbrev line_of : Result Drafted Fault → ℕ
+line_of (Ok draft) = 0
+line_of (Err fault) = fault.0
 
-other_cause : journals_of third_form ≡ Err (1, Cores) → ⊥
-other_cause is = let both = other 1 Cores is in cc
+abbrev cause_of : Result Drafted Fault → JournalCause
+cause_of (Ok draft) = Header
+cause_of (Err fault) = fault.1
+
+other_line : ◌≡◌ {A = Result Drafted Fault} (Err (1, Header)) (Err (2, Header)) → ⊥
+other_line both = let line : 1 ≡ 2 = ap line_of both in absurd (omega (arith, line))
+
+other_cause : ◌≡◌ {A = Result Drafted Fault} (Err (1, Header)) (Err (1, Cores)) → ⊥
+other_cause both = let cause : Header ≡ Cores = ap cause_of both in cc
 
 pub refused : BadFaultsAreRefused
 refused = record {
   written = λ is. elim is [ ];
   no_fault = λ is. no_fault (1, Header) is.0;
-  other_line = λ is. other_line is.0;
-  other_cause = λ is. other_cause is.0;
+  other_line = λ is. other_line (other 2 Header is.0);
+  other_cause = λ is. other_cause (other 1 Cores is.0);
   unasked = λ is. let asked : ◌≡◌ {A = Option ℕ} None (Some 1) = is.3 in cc;
   unread = λ is. stale_refused.stale is.1;
 }

@@ -1,5 +1,5 @@
 -- Small cases in which a fault is not that of what was read.
-use Rattle.std.specs.Prelude.{ℕ, List, codes, Option, Some}
+use Rattle.std.specs.Prelude.{ℕ, List, codes, Some}
 use Rattle.rt_journal_read.specs.declared.fault.JournalCause.TheVariants.{Header, Cores}
 use Rattle.rt_sink.specs.BadFaults.{IsNever, IsNext}
 use Rattle.fairview_report.specs.Views.{IsFaultOf}
