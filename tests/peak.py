@@ -14,8 +14,8 @@ import sys
 import tempfile
 
 # The most bytes that a note of the longer text may take beside those of the shorter one. Journals that are kept take 48 and more.
-MOST = {"share": 0.5, "wait": 24, "csv": 24}
-ALL = ["why 4>0#1", "gantt", "lag --text", "lag", "trace"]
+MOST = {"share": 0.5, "lag --text": 0.5, "wait": 24, "csv": 24}
+ALL = ["why 4>0#1", "gantt", "lag", "trace"]
 
 
 def journal(notes):

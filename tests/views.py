@@ -1,7 +1,7 @@
 #!/usr/bin/env python3
-"""Computes what `fairview wait --plain`, `share --csv` and `csv` print of a journal text once more, for tests/fairview.
+"""Computes what `fairview wait --plain`, `share --csv`, `csv` and `lag --text` print of a journal text once more, for tests/fairview.
 
-  tests/views.py wait_plain|share_csv|csv FILE
+  tests/views.py wait_plain|share_csv|csv|lag_text FILE
 
 It reads the notes by itself, and shares nothing with the program.
 """
@@ -10,14 +10,15 @@ from collections import defaultdict
 
 
 def read(path):
-    """The number of cores, and the words of each note of each actor."""
+    """The words of the second line, and the words of each note of each actor."""
     lines = open(path).read().split("\n")
-    cores = int(lines[1].split()[1])
+    head = lines[1].split()
+    cores = int(head[1])
     journals = [[] for _ in range(cores + 1)]
     for line in lines[2 : lines.index("end")]:
         actor, *words = line.split()
         journals[int(actor)].append(words)
-    return cores, journals
+    return head, journals
 
 
 # The notes that settle a poll.
@@ -72,15 +73,15 @@ def rows_of_core(core, notes):
         yield ",".join(map(str, row))
 
 
-def share_csv(cores, journals):
+def share_csv(head, journals):
     yield "core,queue,shares,due,got,selected,most_waiting,finished,returned"
-    for core in range(cores):
+    for core in range(int(head[1])):
         yield from rows_of_core(core, journals[core])
 
 
-def csv(cores, journals):
+def csv(head, journals):
     yield "core,turn,queue,name,step,time,virtual_runtime,end"
-    for core in range(cores):
+    for core in range(int(head[1])):
         turn, steps = 0, defaultdict(int)
         for words in journals[core]:
             if words[0] == "pick":
@@ -106,8 +107,8 @@ def spans_of(notes):
     return ("wait", waits), ("run", runs)
 
 
-def wait_plain(cores, journals):
-    for core in range(cores):
+def wait_plain(head, journals):
+    for core in range(int(head[1])):
         for kind, spans in spans_of(journals[core]):
             for place, measure in (1, "turns"), (2, "ns"):
                 if spans:
@@ -126,4 +127,58 @@ def lines_of(whose, spans):
             yield f"{2 ** digits // 2 :>14} {2 ** digits - 1:>14} {here:>8} {'#' * (here * 40 // count)}"
 
 
-print("\n".join({"wait_plain": wait_plain, "share_csv": share_csv, "csv": csv}[sys.argv[1]](*read(sys.argv[2]))))
+def charges(notes, burst):
+    """Of each note of a core: the queue that it charges and how much, whether it ends a turn, and the queues that have work behind it."""
+    shares, queue_of, parked, inside = defaultdict(lambda: 1000), {}, {}, defaultdict(int)
+    for words in notes:
+        kind, charged, cost = words[0], None, 0
+        ends = kind == "turned" if burst > 1 else kind in ENDS
+        if ends:
+            charged = number(words[1]) if kind == "turned" else queue_of[words[1]]
+            cost = -(-min(max(int(words[2]), 1), 2**40 - 1) * 1000 // shares[charged])
+        if kind in ("queue", "shares"):
+            shares[number(words[1])] = int(words[2])
+        elif kind == "took":
+            queue_of[words[1]] = number(words[2])
+            inside[number(words[2])] += 1
+        elif kind in ("done", "returned"):
+            inside[queue_of[words[1]]] -= 1
+        elif kind == "park":
+            parked[words[1]] = queue_of[words[1]]
+        elif kind == "woken":
+            parked.pop(words[1], None)
+        elif kind in ("closed", "coreclosed") and words[-1] == "return":
+            parked = {name: queue for name, queue in parked.items() if kind == "closed" and queue != number(words[1])}
+        asleep = list(parked.values())
+        yield charged, cost, ends, {queue for queue in inside if inside[queue] > asleep.count(queue)}
+
+
+def lags_of_core(core, notes, burst):
+    """The greatest lag of each two queues of a core, by the numbers of the second and the first."""
+    turns, begun, found = 0, {}, {}
+    sums, most = defaultdict(int), defaultdict(int)
+    for words, (charged, cost, ends, working) in zip(notes, charges(notes, burst)):
+        turns += words[0] == "pick"
+        if ends:
+            sums[charged] += cost
+            most[charged] = max(most[charged], cost)
+        pairs = [(second, first) for second in sorted(working) for first in working if first < second]
+        begun = {pair: begun.get(pair, (sums[pair[1]], sums[pair[0]])) for pair in pairs}
+        for pair in pairs if ends else []:
+            ahead = sums[pair[1]] - begun[pair][0] - (sums[pair[0]] - begun[pair][1])
+            if pair not in found or abs(ahead) > abs(found[pair][0]):
+                found[pair] = ahead, most[pair[0]] + most[pair[1]], turns
+    for (second, first), (ahead, bound, turn) in sorted(found.items()):
+        leader, other = (first, second) if ahead >= 0 else (second, first)
+        yield f"core {core}, q{leader} ahead of q{other}: lead {abs(ahead)} of at most {bound}, at turn {turn}"
+
+
+def lag_text(head, journals):
+    burst = int(head[5]) if len(head) > 4 else 1
+    for core in range(int(head[1])):
+        yield from lags_of_core(core, journals[core], burst)
+
+
+KINDS = {"wait_plain": wait_plain, "share_csv": share_csv, "csv": csv, "lag_text": lag_text}
+for line in KINDS[sys.argv[1]](*read(sys.argv[2])):
+    print(line)

@@ -2,4 +2,5 @@ pub mod StretchSteps
 pub mod LagLaws
 pub mod ColumnSteps
 pub mod PanelSteps
+pub mod PairSteps
 pub mod LagsRefused

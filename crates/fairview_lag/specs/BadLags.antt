@@ -1,10 +1,12 @@
 -- Small cases that the definitions of lags refuse.
-use Rattle.std.specs.Prelude.{ℕ, Some, None, [], ◌∷◌}
+use Rattle.std.specs.Prelude.{◌≡◌, ℕ, Some, None, [], ◌∷◌, map}
 use Rattle.rt_ids.specs.declared.note.Note.TheVariants.{Took, Pick}
 use Rattle.rt_ids.specs.BadJournals.{submission}
 use Rattle.rt_ids.specs.Journal.{Journal}
 use Rattle.fairview_lag.specs.Lags.{IsGreatest}
 use Rattle.fairview_lag.specs.Laws.{IsWithinBound, IsStretch, BeginsHere}
+use Rattle.fairview_lag.specs.PairWalks.{KnowsLags, idle as never_together, names_below}
+use Rattle.fairview_lag.specs.declared.core_lags.CoreLags.{CoreLags}
 use Rattle.fairview_lag.specs.declared.stretch.Lag.{Lag}
 
 -- the first queue is ahead by 4, of at most 3
@@ -31,3 +33,7 @@ pub record BadLagsAreRefused : Type 0 where
   pub late : BeginsHere 1 2 (Pick 1 0 ∷ both_work) → ⊥
   pub lesser : IsGreatest (far ∷ []) (Some near) → ⊥
   pub silent : IsGreatest (near ∷ []) None → ⊥
+  -- a walk that counts too few queues, one that forgot its pairs, and one to which queues 1 and 2 never had work at once
+  pub fewer : (lags : CoreLags) → lags.count ≡ 2 → KnowsLags 1 lags both_work → ⊥
+  pub forgotten : (lags : CoreLags) → lags.pairs.items ≡ [] → KnowsLags 1 lags both_work → ⊥
+  pub all_idle : (lags : CoreLags) → lags.pairs.items ≡ map never_together (names_below 3) → KnowsLags 1 lags both_work → ⊥

@@ -3,6 +3,7 @@ pub mod Lags
 pub mod Laws
 pub mod BadLags
 pub mod Pairs
+pub mod PairWalks
 pub mod Lines
 pub mod Columns
 pub mod ColumnTexts

@@ -3,17 +3,18 @@
 
 pub mod column_texts;
 pub mod columns;
-pub mod greatest;
+pub mod core_lags;
 pub mod laws;
 pub mod line;
+pub mod pair_walk;
 pub mod pairs;
 pub mod panel;
 pub mod picture;
 pub mod stretch;
 pub mod text;
 
-pub use greatest::greatest_lag;
-pub use pairs::{PairLag, lags_of_run};
+pub use core_lags::{CoreLags, lags_of_run};
+pub use pairs::PairLag;
 pub use picture::put_lag;
 pub use stretch::Lag;
-pub use text::put_lag_text;
+pub use text::put_pair_lines;

@@ -4,7 +4,8 @@ ghost use Rattle.std.specs.Prelude.{◌≡◌, ◌≤◌, ◌++◌, OnOk, Option
 ghost use Rattle.fairview_svg.specs.Heads.{end_text};
 ghost use Rattle.fairview_lag.specs.Pictures as spec;
 
-use crate::pairs::{PairLag, lags_of_run};
+use crate::core_lags::lags_of_run;
+use crate::pairs::PairLag;
 use crate::panel::put_panel;
 use fairview_svg::style::style;
 use rt_ids::ActorNo;

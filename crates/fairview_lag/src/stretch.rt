@@ -74,7 +74,7 @@ fn begun_by(standing: &Standing, begun: Option<Begun>, first: QueueNo, second: Q
 }
 
 /// Where the stretch of two queues began, if both have work.
-fn begun_after(
+pub(crate) fn begun_after(
     standing: &Standing,
     begun: Option<Begun>,
     first: QueueNo,
@@ -86,6 +86,87 @@ fn begun_after(
         Some(begun_by(standing, begun, first, second))
     } else {
         None
+    }
+}
+
+/// What two queues gained since their stretch began.
+fn lag_since(standing: &Standing, begun: Begun, first: QueueNo, second: QueueNo) -> Lag
+    ensures { (burst : ℕ) → (journal : Notes ℕ) → KnowsStanding burst standing.now journal → begun ≡ spec.begun_of burst first second journal → result ≡ lags.lag burst first second journal }
+{
+    let one = standing.tally(first);
+    let other = standing.tally(second);
+    Lag {
+        turn: standing.turns(),
+        first: one.charged.saturating_sub(begun.first),
+        second: other.charged.saturating_sub(begun.second),
+        bound: one.greatest as u128 + other.greatest as u128,
+    }
+}
+
+/// The lag of two queues, if both have work.
+fn lag_now(
+    standing: &Standing,
+    begun: Option<Begun>,
+    first: QueueNo,
+    second: QueueNo,
+) -> Option<Lag>
+    ensures { (burst : ℕ) → (journal : Notes ℕ) → KnowsStanding burst standing.now journal → begun ≡ spec.begun burst first second journal → result ≡ lags.lag_of burst first second journal }
+{
+    match begun {
+        Some(begun) => Some(lag_since(standing, begun, first, second)),
+        None => None,
+    }
+}
+
+/// The lag of two queues behind a settled poll that ends its turn, if both have work.
+fn lag_polled(
+    standing: &Standing,
+    begun: Option<Begun>,
+    first: QueueNo,
+    second: QueueNo,
+) -> Option<Lag>
+    ensures { (burst : ℕ) → (journal : Notes ℕ) → KnowsStanding burst standing.now journal → begun ≡ spec.begun burst first second journal → result ≡ lags.lag_polled burst first second journal }
+{
+    if standing.has_bursts() {
+        None
+    } else {
+        lag_now(standing, begun, first, second)
+    }
+}
+
+/// The lag of two queues behind a turn that a note of its own ends, if both have work.
+fn lag_turned(
+    standing: &Standing,
+    begun: Option<Begun>,
+    first: QueueNo,
+    second: QueueNo,
+) -> Option<Lag>
+    ensures { (burst : ℕ) → (journal : Notes ℕ) → KnowsStanding burst standing.now journal → begun ≡ spec.begun burst first second journal → result ≡ lags.lag_turned burst first second journal }
+{
+    if standing.has_bursts() {
+        lag_now(standing, begun, first, second)
+    } else {
+        None
+    }
+}
+
+/// The lag of two queues behind the note that was read last, if it ends a turn and both have work.
+pub(crate) fn lag_told(
+    standing: &Standing,
+    begun: Option<Begun>,
+    first: QueueNo,
+    second: QueueNo,
+    note: &Note<u64>,
+) -> Option<Lag>
+    ensures { (burst : ℕ) → (before : Notes ℕ) → KnowsStanding burst standing.now (note.now ∷ before) → begun ≡ spec.begun burst first second (note.now ∷ before) → result ≡ lags.lag_told burst first second note.now before }
+{
+    match *note {
+        Note::Yield(_, _) => lag_polled(standing, begun, first, second),
+        Note::Park(_, _) => lag_polled(standing, begun, first, second),
+        Note::Stayed(_, _) => lag_polled(standing, begun, first, second),
+        Note::Done(_, _, _) => lag_polled(standing, begun, first, second),
+        Note::Turned(_, _) => lag_turned(standing, begun, first, second),
+        _ => None,
     }
 }
 
@@ -118,63 +199,10 @@ impl Stretch {
         Ok(())
     }
 
-    /// What the queues gained since their stretch began.
-    fn lag_since(&self, first: QueueNo, second: QueueNo, begun: Begun) -> Lag
-        ensures { (burst : ℕ) → (journal : Notes ℕ) → KnowsStanding burst self.now.standing journal → begun ≡ spec.begun_of burst first second journal → result ≡ lags.lag burst first second journal }
-    {
-        let one = self.standing.tally(first);
-        let other = self.standing.tally(second);
-        Lag {
-            turn: self.standing.turns(),
-            first: one.charged.saturating_sub(begun.first),
-            second: other.charged.saturating_sub(begun.second),
-            bound: one.greatest as u128 + other.greatest as u128,
-        }
-    }
-
-    /// The lag of the queues, if both have work.
-    fn lag_now(&self, first: QueueNo, second: QueueNo) -> Option<Lag>
-        ensures { (burst : ℕ) → (journal : Notes ℕ) → spec.KnowsStretch burst first second self.now journal → result ≡ lags.lag_of burst first second journal }
-    {
-        match self.begun {
-            Some(begun) => Some(self.lag_since(first, second, begun)),
-            None => None,
-        }
-    }
-
-    /// The lag of the queues behind a settled poll that ends its turn, if both have work.
-    fn lag_polled(&self, first: QueueNo, second: QueueNo) -> Option<Lag>
-        ensures { (burst : ℕ) → (journal : Notes ℕ) → spec.KnowsStretch burst first second self.now journal → result ≡ lags.lag_polled burst first second journal }
-    {
-        if self.standing.has_bursts() {
-            None
-        } else {
-            self.lag_now(first, second)
-        }
-    }
-
-    /// The lag of the queues behind a turn that a note of its own ends, if both have work.
-    fn lag_turned(&self, first: QueueNo, second: QueueNo) -> Option<Lag>
-        ensures { (burst : ℕ) → (journal : Notes ℕ) → spec.KnowsStretch burst first second self.now journal → result ≡ lags.lag_turned burst first second journal }
-    {
-        if self.standing.has_bursts() {
-            self.lag_now(first, second)
-        } else {
-            None
-        }
-    }
-
     /// The lag of the queues behind the note that was read last, if it ends a turn and both have work.
     pub fn lag(&self, first: QueueNo, second: QueueNo, note: &Note<u64>) -> Option<Lag>
         ensures { (burst : ℕ) → (before : Notes ℕ) → spec.KnowsStretch burst first second self.now (note.now ∷ before) → result ≡ lags.lag_told burst first second note.now before }
     {
-        match *note {
-            Note::Yield(_, _) => self.lag_polled(first, second),
-            Note::Park(_, _) => self.lag_polled(first, second),
-            Note::Stayed(_, _) => self.lag_polled(first, second),
-            Note::Done(_, _, _) => self.lag_polled(first, second),
-            Note::Turned(_, _) => self.lag_turned(first, second),
-            _ => None,
-        }
+        lag_told(&self.standing, self.begun, first, second, note)
     }
 }

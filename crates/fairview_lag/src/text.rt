@@ -1,29 +1,19 @@
-//! Puts the greatest lags of a run as lines of text.
+//! Puts the greatest lags of pairs as lines of text.
 
 ghost use Rattle.std.specs.Prelude.{◌≡◌, ◌++◌, OnOk, string_bytes, flat_map};
 ghost use Rattle.fairview_lag.specs.Lines as spec;
 
 use crate::line::PairText;
-use crate::pairs::{PairLag, lags_of_run};
-use rt_journal_notes::Assembly;
-use std::alloc::{AllocError, Global};
+use crate::pairs::PairLag;
+use std::alloc::AllocError;
 
-/// Puts a line for each core and two queues of it that ever had work at once: the greatest lead of either over the other, in virtual
-/// runtime, since both have work; the bound that is proved of it, which is the greatest charge so far of the one and of the other
-/// together; and the turn.
+/// Puts a line for each of these pairs: the greatest lead of either queue over the other, in virtual runtime, since both have work; the bound
+/// that is proved of it, which is the greatest charge so far of the one and of the other together; and the turn.
 ///
 /// # Errors
 ///
 /// `AllocError` for want of memory.
-pub fn put_lag_text(alloc: Global, assembly: &Assembly, page: &mut String) -> Result<(), AllocError>
-    ensures { OnOk result (string_bytes page.new ≡ string_bytes page.old ++ spec.lag_text assembly.now) }
-{
-    let pairs = lags_of_run(alloc, assembly)?;
-    put_lines(&pairs, page)
-}
-
-/// Puts a line for each of these pairs.
-fn put_lines(pairs: &[PairLag], page: &mut String) -> Result<(), AllocError>
+pub fn put_pair_lines(pairs: &[PairLag], page: &mut String) -> Result<(), AllocError>
     ensures { OnOk result (string_bytes page.new ≡ string_bytes page.old ++ flat_map spec.pair_line pairs.now) }
 {
     for pair in pairs {

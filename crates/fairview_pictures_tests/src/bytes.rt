@@ -2,7 +2,7 @@
 
 use crate::read::{journals, journals_of};
 use crate::texts::{JOURNAL, LANE, LINES, PANEL, TRACE, TURN_2, TURNED, TURNED_LINES};
-use fairview_lag::{put_lag, put_lag_text};
+use fairview_lag::{lags_of_run, put_lag, put_pair_lines};
 use fairview_svg::{Cut, put_gantt};
 use fairview_trace::put_trace;
 use std::alloc::Global;
@@ -35,8 +35,11 @@ fn is_told(alloc: Global, text: &str, lines: &str) -> bool {
     let Some(assembly) = journals_of(alloc, text) else {
         return false;
     };
+    let Ok(pairs) = lags_of_run(alloc, &assembly) else {
+        return false;
+    };
     let mut page = String::new(alloc);
-    put_lag_text(alloc, &assembly, &mut page).is_ok() && page.as_str() == lines
+    put_pair_lines(&pairs, &mut page).is_ok() && page.as_str() == lines
 }
 
 /// Whether this is the trace of the journal.

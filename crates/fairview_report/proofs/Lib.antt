@@ -5,3 +5,5 @@ pub mod WaitLemmas
 pub mod WalkLemmas
 pub mod PageLemmas
 pub mod RowLemmas
+pub mod FaultsRefused
+pub mod WalksRefused

@@ -7,3 +7,5 @@ pub mod Walks
 pub mod Told
 pub mod Views
 pub mod WaitTexts
+pub mod BadWalks
+pub mod BadFaults

@@ -1,6 +1,8 @@
 -- What is told of all cores of a run.
 use Rattle.std.specs.Prelude.{ℕ, List}
 use Rattle.rt_ids.specs.Assembly.{Assembly}
+use Rattle.fairview_lag.specs.PairWalks.{KnowsLags}
+use Rattle.fairview_lag.specs.declared.core_lags.CoreLags.{CoreLags}
 use Rattle.rt_view.specs.Waits.{AreSpans}
 use Rattle.rt_view.specs.Watches.{KnowsShares}
 use Rattle.rt_view.specs.declared.shares.CoreShares.{CoreShares}
@@ -14,3 +16,7 @@ AreShares cores burst each assembly = TellsAll (λ shares burst journal. KnowsSh
 -- the spans of all jobs
 abbrev pub AreWaits : ℕ → ℕ → List JobSpans → Assembly ℕ → Type 0
 AreWaits cores burst each assembly = TellsAll (λ spans burst journal. AreSpans spans journal) cores burst each assembly
+
+-- the lags of each two queues
+abbrev pub AreLags : ℕ → ℕ → List CoreLags → Assembly ℕ → Type 0
+AreLags cores burst each assembly = TellsAll (λ lags burst journal. KnowsLags burst lags journal) cores burst each assembly

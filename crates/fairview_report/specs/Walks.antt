@@ -1,5 +1,5 @@
 -- What is told of the journals of a text, without the journals.
-use Rattle.std.specs.Prelude.{◌≡◌, ℕ, List, [], ◌∷◌, ◌++◌}
+use Rattle.std.specs.Prelude.{◌≡◌, ℕ, List, [], ◌∷◌}
 use Rattle.rt_ids.specs.Assembly.{Assembly}
 use Rattle.rt_ids.specs.Journal.{Journal}
 use Rattle.rt_journal_read.specs.Handed.{Handed, assembly_handed}

@@ -2,6 +2,8 @@
 #![tactic(auto)]
 
 pub mod fault;
+pub mod lag;
+pub mod laws;
 pub mod name;
 pub mod page;
 mod pages;

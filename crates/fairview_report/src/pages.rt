@@ -1,18 +1,19 @@
 //! What is asked for of the text of journals, as one page.
 
-ghost use Rattle.std.specs.Prelude.{◌≡◌, ◌++◌, IfErr, IfOk, IfSome, OnOk, string_bytes};
+ghost use Rattle.std.specs.Prelude.{◌≡◌, true, false, IfErr, IfOk, IfSome, string_bytes};
 ghost use Rattle.fairview_report.specs.Views.{IsFaultOf, ShowsText};
 ghost use Rattle.fairview_report.specs.Views as spec;
 ghost use Rattle.fairview_report.specs.declared.view.View.TheVariants as views;
 
 use crate::fault::ViewFault;
+use crate::lag::put_lags;
 use crate::poll::PollRows;
 use crate::share::{Form, put_shares};
 use crate::story::put_story;
 use crate::view::View;
 use crate::wait::put_waits;
 use crate::walks::Walks;
-use fairview_lag::{put_lag, put_lag_text};
+use fairview_lag::{CoreLags, put_lag};
 use fairview_svg::{Cut, put_gantt};
 use fairview_trace::put_trace;
 use rt_ids::{CoreNo, JobId};
@@ -20,11 +21,11 @@ use rt_journal_notes::Assembly;
 use rt_journal_read::{pass_journal, read_journal};
 use rt_lines::Source;
 use rt_view::{CoreShares, JobWalk};
-use std::alloc::{AllocError, Global};
+use std::alloc::Global;
 
 /// What is asked for of the journals whose text the source tells.
 ///
-/// Waits, shares and polls are told note by note, and no note is kept. The others go over the journals more than once.
+/// Waits, shares, polls and the text of lags are told note by note, and no note is kept. The others go over the journals more than once.
 ///
 /// # Errors
 ///
@@ -129,17 +130,45 @@ fn gantt_page<R: Source>(alloc: Global, cut: Cut, source: &mut R) -> Result<Stri
     }
 }
 
-/// How far each two queues were apart.
+/// How far each two queues were apart, as text or as a picture.
 fn lag_page<R: Source>(alloc: Global, text: bool, source: &mut R) -> Result<String, ViewFault>
     ensures ok { IfOk result (λ page. IfSome (R.remaining source.old) (ShowsText (views.Lag text) (string_bytes page))) }
     ensures fault { IfErr result (IsFaultOf (views.Lag text) R.remaining R.tries R.reads R.interrupts R.fails source.old source.new) }
+{
+    if text {
+        lag_text_page(alloc, source)
+    } else {
+        lag_picture_page(alloc, source)
+    }
+}
+
+/// The lines of how far each two queues were apart.
+fn lag_text_page<R: Source>(alloc: Global, source: &mut R) -> Result<String, ViewFault>
+    ensures ok { IfOk result (λ page. IfSome (R.remaining source.old) (ShowsText (views.Lag true) (string_bytes page))) }
+    ensures fault { IfErr result (IsFaultOf (views.Lag true) R.remaining R.tries R.reads R.interrupts R.fails source.old source.new) }
+{
+    let walked = match pass_journal(Walks::<CoreLags>::new(alloc), source) {
+        Ok(walked) => walked,
+        Err(fault) => return Err(ViewFault::from(fault)),
+    };
+    let mut page = String::new(alloc);
+    match put_lags(alloc, &walked, &mut page) {
+        Ok(()) => Ok(page),
+        Err(_) => Err(ViewFault::Memory),
+    }
+}
+
+/// The picture of how far each two queues were apart.
+fn lag_picture_page<R: Source>(alloc: Global, source: &mut R) -> Result<String, ViewFault>
+    ensures ok { IfOk result (λ page. IfSome (R.remaining source.old) (ShowsText (views.Lag false) (string_bytes page))) }
+    ensures fault { IfErr result (IsFaultOf (views.Lag false) R.remaining R.tries R.reads R.interrupts R.fails source.old source.new) }
 {
     let assembly = match read_journal(alloc, source) {
         Ok(assembly) => assembly,
         Err(fault) => return Err(ViewFault::from(fault)),
     };
     let mut page = String::new(alloc);
-    match put_lags(alloc, text, &assembly, &mut page) {
+    match put_lag(alloc, &assembly, &mut page) {
         Ok(()) => Ok(page),
         Err(_) => Err(ViewFault::Memory),
     }
@@ -167,20 +196,4 @@ fn absent_of(core: Option<CoreNo>, cores: u8) -> Option<CoreNo>
 {
     let core = core?;
     if core.0 < cores { None } else { Some(core) }
-}
-
-/// Puts how far each two queues were apart, as text or as a picture.
-fn put_lags(
-    alloc: Global,
-    text: bool,
-    assembly: &Assembly,
-    page: &mut String,
-) -> Result<(), AllocError>
-    ensures { OnOk result (string_bytes page.new ≡ string_bytes page.old ++ spec.lag_shown text assembly.now) }
-{
-    if text {
-        put_lag_text(alloc, assembly, page)
-    } else {
-        put_lag(alloc, assembly, page)
-    }
 }

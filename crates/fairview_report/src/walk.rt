@@ -4,6 +4,7 @@ ghost use Rattle.std.specs.Prelude.{◌<◌, ◌∷◌, ℕ, [], length, OnOk};
 ghost use Rattle.rt_ids.specs.Journal.{Journal as Notes};
 ghost use Rattle.rt_journal_facts.specs.Accounts.{greatest_count};
 
+use fairview_lag::CoreLags;
 use rt_ids::Note;
 use rt_view::{CoreShares, JobSpans, JobWalk};
 use std::alloc::{AllocError, Global};
@@ -75,5 +76,28 @@ impl CoreWalk for JobWalk {
 
     fn into_told(self) -> JobSpans {
         self.into_spans()
+    }
+}
+
+/// The lags of each two queues of a core.
+impl CoreWalk for CoreLags {
+    type Told = CoreLags;
+
+    ghost use Rattle.fairview_lag.specs.PairWalks.{KnowsLags};
+
+    ghost knows = { λ lags burst journal. KnowsLags burst lags journal };
+
+    ghost tells = { λ lags burst journal. KnowsLags burst lags journal };
+
+    fn start(alloc: Global, burst: u8) -> CoreLags {
+        CoreLags::new(alloc, burst)
+    }
+
+    fn read(&mut self, note: &Note<u64>) -> Result<(), AllocError> {
+        self.add(note)
+    }
+
+    fn into_told(self) -> CoreLags {
+        self
     }
 }

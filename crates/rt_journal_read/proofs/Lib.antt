@@ -1,5 +1,6 @@
 pub mod DraftLemmas
 pub mod PassLemmas
+pub mod PassesRefused
 pub mod SoFar
 pub mod SizeWords
 pub mod ReadTexts

@@ -7,3 +7,4 @@ pub mod Passing
 pub mod JournalTexts
 pub mod Laws
 pub mod FaultyForms
+pub mod BadPasses

@@ -1,5 +1,6 @@
 //! A text and the journals that it tells are one.
 
+ghost use Rattle.rt_journal_read.specs.BadPasses.{BadPassesAreRefused};
 ghost use Rattle.rt_journal_read.specs.FaultyForms.{FaultyForms};
 ghost use Rattle.rt_journal_read.specs.Laws.{FirstLinesTell, OnlyTextsAreRead, TextIsReadBack};
 
@@ -21,4 +22,9 @@ pub fn first_lines_tell()
 /// A second line of the other form, or a turn's end where there is none, is faulty.
 pub fn faulty_forms()
     ensures { FaultyForms }
+{}
+
+/// Notes that are not those of a text are refused.
+pub fn bad_passes_are_refused()
+    ensures { BadPassesAreRefused }
 {}

@@ -1,4 +1,4 @@
-use Rattle.std.proofs.Common.{◌∷◌, ◌++◌, [], List, length, length-append, ap, sym, subst, arith}
+use Rattle.std.proofs.Common.{◌∷◌, ◌++◌, [], length, length-append, ap, sym, subst, arith}
 use Rattle.fairview_report.specs.Walks.{AreTold}
 use Rattle.fairview_report.proofs.WalkLemmas.{told_count, told_more}
 use Rattle.fairview_report.proofs.walks.WalksNoteTaker.finish.Goals as goal

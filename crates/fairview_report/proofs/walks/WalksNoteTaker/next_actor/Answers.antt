@@ -1,4 +1,4 @@
-use Rattle.std.proofs.Common.{◌∷◌, ◌++◌, [], List, sym, subst}
+use Rattle.std.proofs.Common.{◌∷◌, ◌++◌, [], sym, subst}
 use Rattle.fairview_report.specs.Walks.{AreTold}
 use Rattle.fairview_report.proofs.WalkLemmas.{told_more}
 use Rattle.fairview_report.proofs.walks.WalksNoteTaker.next_actor.Goals as goal
