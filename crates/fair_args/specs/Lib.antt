@@ -1,3 +1,5 @@
+pub mod Asks
+pub mod BadAnswers
 pub mod Commands
 pub mod Found
 pub mod Refusals

@@ -1,7 +1,7 @@
 -- The rows, by computation.
 use Rattle.std.proofs.Common.{refl}
 use Rattle.clap.proofs.OnLiterals.{clap_on_literals}
-use Rattle.fairexec_args.specs.Asks.{asks_of}
+use Rattle.fair_args.specs.Asks.{asks_of}
 use Rattle.fairexec_args.specs.CommandLine.{audit_app, our_app, run_app, threads_app, with_runs}
 use Rattle.fairexec_args.specs.Rows.{AreAsked, AreRefused}
 

@@ -3,7 +3,8 @@ use Rattle.std.specs.Prelude.{◌≡◌, [], ◌∷◌, true, false, List, Optio
 use Rattle.clap.specs.Words.{Text, fault_of, takes}
 use Rattle.clap.specs.Kinds.{Kinds}
 use Rattle.clap.specs.declared.error.kind.ErrorKind.TheVariants as kind
-use Rattle.fairexec_args.specs.Asks.{asks_of}
+use Rattle.fair_args.specs.Asks.{asks_of}
+use Rattle.fairexec_args.specs.Asks.{what_named}
 use Rattle.fairexec_args.specs.CommandLine.{our_app}
 use Rattle.fairexec_args.specs.declared.asked.What.{What}
 use Rattle.fairexec_args.specs.declared.asked.What.TheVariants.{Run, Threads, Audit}
@@ -14,7 +15,7 @@ fairexec words = codes "fairexec" ∷ words
 
 -- the words are taken, and ask for this
 abbrev pub IsAsked : List Text → What → Option Text → Type 0
-IsAsked words what file = (takes our_app words ≡ true) × (asks_of words ≡ Some (what, file))
+IsAsked words what file = (takes our_app words ≡ true) × (asks_of what_named our_app words ≡ Some (what, file))
 
 -- the words are not taken, and have one of these faults
 abbrev pub IsRefused : List Text → Kinds → Type 0

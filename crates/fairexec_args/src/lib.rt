@@ -5,4 +5,5 @@ mod asked;
 mod command;
 pub mod laws;
 
-pub use asked::{Asked, What, parse};
+pub use asked::What;
+pub use fair_args::parse;

@@ -3,3 +3,4 @@ pub mod ReportLaws
 pub mod ReportLemmas
 pub mod StatLemmas
 pub mod TextLemmas
+pub mod TextsRefused

@@ -52,7 +52,7 @@ verdict_some : (verdict : Verdict) → 1 ≤ length (verdict_text verdict)
 verdict_some verdict = let long = length-append (verdict_line verdict) (codes "\n") in omega arith
 
 -- nor the statistics of a core
-core_some : (core cores burst : ℕ) (journal : Journal ℕ) (text : List ℕ) → IsCoreText core cores burst journal text → 1 ≤ length text
+pub core_some : (core cores burst : ℕ) (journal : Journal ℕ) (text : List ℕ) → IsCoreText core cores burst journal text → 1 ≤ length text
 core_some core cores burst journal text one =
     let line = core_line core (core_stats one.drained journal) in
     let whole = ap length one.told in
@@ -68,7 +68,7 @@ stats_some core cores burst journals text (first, rest, below, one, whole) =
     let lengths = ap length whole in
     omega arith
 
-stats_of_some : (cores burst count : ℕ) (journals : ℕ → Journal ℕ) (text : List ℕ) → 1 ≤ count → IsTextBelow count cores burst journals text → 1 ≤ length text
+pub stats_of_some : (cores burst count : ℕ) (journals : ℕ → Journal ℕ) (text : List ℕ) → 1 ≤ count → IsTextBelow count cores burst journals text → 1 ≤ length text
 stats_of_some cores burst zero journals text some told = absurd (omega (arith, some))
 stats_of_some cores burst (suc core) journals text some told = stats_some core cores burst journals text told
 

@@ -5,3 +5,4 @@ pub mod StatTexts
 pub mod VerdictTexts
 pub mod Writing
 pub mod Reports
+pub mod BadTexts

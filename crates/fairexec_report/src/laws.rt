@@ -1,5 +1,6 @@
 //! Laws of what is told of a run.
 
+ghost use Rattle.fairexec_report.specs.BadTexts.{TextsAreRefused};
 ghost use Rattle.fairexec_report.specs.Reports.{PlainReportIsShort, ReportIsDetermined, WrongReportsAreRefused};
 
 /// The same journals, with the same wishes, are told by one text.
@@ -15,4 +16,9 @@ pub fn plain_report_is_short()
 /// No text is right with journals or statistics that nobody asked for, nor without the line of the verdict.
 pub fn wrong_reports_are_refused()
     ensures { WrongReportsAreRefused }
+{}
+
+/// No statistics are right without a core's line, with one too many, or of a core that is told as drained and isn't. An empty text isn't sound.
+pub fn wrong_texts_are_refused()
+    ensures { TextsAreRefused }
 {}

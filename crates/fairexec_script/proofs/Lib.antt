@@ -1,3 +1,4 @@
+pub mod DraftsRefused
 pub mod EventLimits
 pub mod LimitLemmas
 pub mod PollLemmas

@@ -6,5 +6,6 @@ pub mod TextLimits
 pub mod Drafts
 pub mod Limits
 pub mod Counts
+pub mod BadDrafts
 pub mod Scripts
 pub mod Whole

@@ -10,6 +10,7 @@ pub mod limits;
 pub mod line;
 pub mod polls;
 mod reader;
+pub mod refused;
 pub mod script;
 pub mod source;
 

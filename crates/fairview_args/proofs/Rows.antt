@@ -1,7 +1,7 @@
 -- The rows, by computation.
 use Rattle.std.proofs.Common.{refl}
 use Rattle.clap.proofs.OnLiterals.{clap_on_literals}
-use Rattle.fairview_args.specs.Asks.{asks_of}
+use Rattle.fair_args.specs.Asks.{asks_of}
 use Rattle.fairview_args.specs.CommandLine.{csv_app, gantt_app, lag_app, our_app, share_app, trace_app, wait_app, why_app, with_pictures, with_rows, with_tables}
 use Rattle.fairview_args.specs.Rows.{AreAsked, AreRefused}
 

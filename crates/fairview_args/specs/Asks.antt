@@ -1,11 +1,10 @@
 -- What the words of a command line ask for.
 use Rattle.std.specs.Prelude.{Bool, List, Option, if◌then◌else◌, codes, option_map}
 use Rattle.std.specs.Str.{bytes_eq}
-use Rattle.clap.specs.Words.{Row, Text, subcommand_of}
+use Rattle.clap.specs.Words.{Row, Text}
 use Rattle.clap.specs.Walk.{first_of}
+use Rattle.fair_args.specs.Asks.{Wishes}
 use Rattle.fair_args.specs.Found.{is_given}
-use Rattle.fairview_args.specs.CommandLine.{our_app}
-use Rattle.fairview_args.specs.declared.asked.Asked.{Asked}
 use Rattle.fairview_args.specs.declared.asked.What.{What}
 use Rattle.fairview_args.specs.declared.asked.What.TheVariants as what
 
@@ -24,7 +23,7 @@ abbrev pub gantt_named : List Row → Wish
 gantt_named rows = Gantt (first_of (codes "core") rows) (first_of (codes "from") rows) (first_of (codes "to") rows)
 
 -- what the subcommand of this name prints, with these matches
-abbrev pub what_named : Text → List Row → Wish
+abbrev pub what_named : Wishes Wish
 what_named name rows = if bytes_eq name (codes "wait") then Wait (is_given (codes "plain") rows)
     else (if bytes_eq name (codes "share") then Share (is_given (codes "plain") rows) (is_given (codes "csv") rows)
     else (if bytes_eq name (codes "why") then Why (first_of (codes "NAME") rows)
@@ -33,19 +32,7 @@ what_named name rows = if bytes_eq name (codes "wait") then Wait (is_given (code
     else (if bytes_eq name (codes "trace") then Trace
     else Csv)))))
 
--- what is to be printed, and the path of the file
-abbrev pub Asking : Type 0
-Asking = Wish × Option Text
-
--- what a subcommand with these matches asks for
-abbrev pub asks_of_subcommand : Text × List Row → Asking
-asks_of_subcommand found = (what_named found.0 found.1, first_of (codes "FILE") found.1)
-
--- what the words ask for, the first of which is the program's name
-unfoldable pub asks_of : List Text → Option Asking
-asks_of words = option_map asks_of_subcommand (subcommand_of our_app words)
-
--- the same, as `parse` answers it
+-- the same, as it is read
 abbrev pub what_told : What → Wish
 what_told (what.Wait plain) = Wait plain
 what_told (what.Share plain csv) = Share plain csv
@@ -54,6 +41,3 @@ what_told what.Csv = Csv
 what_told (what.Gantt core from to) = Gantt (option_map (λ word. word.now) core) (option_map (λ word. word.now) from) (option_map (λ word. word.now) to)
 what_told (what.Lag text) = Lag text
 what_told what.Trace = Trace
-
-abbrev pub asks_told : Asked → Asking
-asks_told asked = (what_told asked.what, option_map (λ path. path.now) asked.file)

@@ -3,7 +3,8 @@ use Rattle.std.specs.Prelude.{◌≡◌, [], ◌∷◌, true, false, List, Optio
 use Rattle.clap.specs.Words.{Text, fault_of, takes}
 use Rattle.clap.specs.Kinds.{Kinds}
 use Rattle.clap.specs.declared.error.kind.ErrorKind.TheVariants as kind
-use Rattle.fairview_args.specs.Asks.{Wish, Wait, Share, Why, Csv, Gantt, Lag, Trace, asks_of}
+use Rattle.fair_args.specs.Asks.{asks_of}
+use Rattle.fairview_args.specs.Asks.{Wish, Wait, Share, Why, Csv, Gantt, Lag, Trace, what_named}
 use Rattle.fairview_args.specs.CommandLine.{our_app}
 
 -- the words of a command line, behind the program's name
@@ -12,7 +13,7 @@ fairview words = codes "fairview" ∷ words
 
 -- the words are taken, and ask for this
 abbrev pub IsAsked : List Text → Wish → Option Text → Type 0
-IsAsked words wish file = (takes our_app words ≡ true) × (asks_of words ≡ Some (wish, file))
+IsAsked words wish file = (takes our_app words ≡ true) × (asks_of what_named our_app words ≡ Some (wish, file))
 
 -- the words are not taken, and have one of these faults
 abbrev pub IsRefused : List Text → Kinds → Type 0

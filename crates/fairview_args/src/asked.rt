@@ -1,18 +1,15 @@
 //! What a command line asks for.
 
-ghost use Rattle.std.specs.Prelude.{◌≡◌, [], true, Some, is_some, map, option_map, string_bytes, IfOk, IfErr};
-ghost use Rattle.clap.specs.Words.{fault_of, found_of, rows_of, subcommand_rows_of, takes};
-ghost use Rattle.fair_args.specs.Refusals.{IsReason};
-ghost use Rattle.fair_args.specs.declared.unasked.Unasked.TheVariants as unasked;
-ghost use Rattle.fairview_args.specs.Asks.{asks_of, asks_of_subcommand, asks_told, gantt_named, what_named, what_told};
-ghost use Rattle.fairview_args.specs.CommandLine.{our_app};
+ghost use Rattle.std.specs.Prelude.{◌≡◌};
+ghost use Rattle.clap.specs.Words.{found_of, rows_of};
+ghost use Rattle.fairview_args.specs.Asks.{gantt_named, what_named, what_told};
 
 use crate::command::{
     CORE, CSV, FROM, GANTT, LAG, NAME, PLAIN, SHARE, TEXT, TO, TRACE, WAIT, WHY, command,
 };
-use clap::ArgMatches;
-use fair_args::{FILE, Unasked, flag_is_given, matches_of, subcommand_of, word_of};
-use std::alloc::Global;
+use clap::{ArgMatches, Command};
+use fair_args::{Wanted, flag_is_given, word_of};
+use std::alloc::{AllocError, Global};
 
 /// What is to be printed of the journals of a file.
 #[derive(Clone, Copy)]
@@ -46,43 +43,25 @@ pub enum What<'a> {
     Trace,
 }
 
-/// What is to be done, and the path of the file. Without a file it is done with standard input.
-#[derive(Clone, Copy)]
-pub struct Asked<'a> {
-    pub what: What<'a>,
-    pub file: Option<&'a str>,
-}
+/// What the subcommands of the program want.
+impl<'a> Wanted<'a> for What<'a> {
+    ghost use Rattle.fairview_args.specs.Asks.{Wish, what_named, what_told};
+    ghost use Rattle.fairview_args.specs.CommandLine.{our_app};
 
-/// Reads what these words ask for, the first of which is the program's name. Help is printed as it was asked for; a mistake is told on
-/// standard error.
-pub fn parse<'a, R: Print + Eprint>(
-    rt: &R,
-    alloc: Global,
-    words: &'a [String],
-) -> Result<Asked<'a>, Unasked>
-    ensures asked { IfOk result (λ asked. asks_of (map string_bytes words.now) ≡ Some (asks_told asked)) }
-    ensures faultless { IfOk result (λ _. fault_of our_app (map string_bytes words.now) ≡ []) }
-    ensures taken { takes our_app (map string_bytes words.now) ≡ true → IfErr result (λ why. why ≡ unasked.Memory) }
-    ensures why { IfErr result (IsReason (fault_of our_app (map string_bytes words.now))) }
-{
-    let Ok(command) = command(alloc) else {
-        return Err(Unasked::Memory);
-    };
-    match matches_of(rt, command, words) {
-        Ok(matches) => Ok(asked_by(&matches)),
-        Err(why) => Err(why),
+    ghost Wish = { Wish };
+
+    ghost app = { our_app };
+
+    ghost wishes = { what_named };
+
+    ghost told = { what_told };
+
+    fn command(alloc: Global) -> Result<Command<'a>, AllocError> {
+        command(alloc)
     }
-}
 
-/// What a command line with these matches asks for.
-fn asked_by<'a>(matches: &ArgMatches<'a>) -> Asked<'a>
-    requires there { is_some (subcommand_rows_of matches.now) ≡ true }
-    ensures { Some (asks_told result) ≡ option_map asks_of_subcommand (subcommand_rows_of matches.now) }
-{
-    let (name, found) = subcommand_of(matches);
-    Asked {
-        what: what_of(name, found),
-        file: word_of(found, FILE),
+    fn wanted(name: &str, found: &ArgMatches<'a>) -> What<'a> {
+        what_of(name, found)
     }
 }
 
