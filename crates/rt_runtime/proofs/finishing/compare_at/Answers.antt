@@ -1,4 +1,3 @@
-
 use Rattle.rt_runtime.proofs.Watched.{same_board}
 use Rattle.rt_runtime.proofs.finishing.compare_at.Goals as goal
 
