@@ -1,6 +1,5 @@
 -- Wrong texts of statistics and of an audit are refused.
-use Rattle.std.proofs.Common.{◌≡◌, ◌≤◌, ℕ, ◌+◌, zero, List, [], Option, None, Some, true, length, ap, subst, sym, arith, codes}
-use Rattle.std.specs.Prelude.{IsTrue}
+use Rattle.std.proofs.Common.{◌≡◌, ◌≤◌, ℕ, ◌+◌, List, [], None, Some, true, length, ap, arith, codes}
 use Rattle.rt_ids.specs.Journal.{Journal}
 use Rattle.rt_journal_write.proofs.LineLemmas.{journal_some}
 use Rattle.fairexec_report.specs.BadTexts.{TextsAreRefused}
@@ -18,7 +17,7 @@ no_final count h = cc
 fresh : (core burst : ℕ) (text : List ℕ) (told : IsCoreText core 1 burst [] text) → told.drained ≡ true → ⊥
 fresh core burst text told is =
     let first : 0 ≤ 1 = omega arith in
-    no_final _ ((told.right.0 (subst IsTrue (sym is) tt)).delivered_all 0 first)
+    no_final _ ((told.right.0 is).delivered_all 0 first)
 
 pub texts_refused : TextsAreRefused
 texts_refused = record {

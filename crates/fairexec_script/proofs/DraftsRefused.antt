@@ -1,9 +1,25 @@
 -- Each draft with one thing wrong is refused.
-use Rattle.std.proofs.Common.{◌≡◌, ◌<◌, ◌≤◌, ℕ, List, [], ◌∷◌, arith}
+use Rattle.std.proofs.Common.{◌≡◌, ◌<◌, ◌≤◌, ℕ, List, [], ◌∷◌, All, arith}
+use Rattle.rt_ids.specs.declared.order.Order.TheVariants.{Job}
+use Rattle.rt_jobs.specs.Scripts.{Script}
+use Rattle.rt_jobs.specs.declared.poll.Poll.TheVariants.{Done}
+use Rattle.fairexec_script.specs.declared.event.ScriptEvent.{ScriptEvent}
+use Rattle.fairexec_script.specs.declared.event.ScriptEvent.TheVariants.{Send, Deliver, Turn}
 use Rattle.fairexec_script.specs.BadDrafts.{DraftsAreRefused}
+use Rattle.fairexec_script.specs.Limits.{IsEventOf}
 
 some_line : (queue : ℕ × ℕ) (queues : List (ℕ × ℕ)) → queue ∷ queues ≡ [] → ⊥
 some_line queue queues h = cc
+
+-- what is so of all events is so of the only one
+alone : (event : ScriptEvent) → All (IsEventOf 1) (event ∷ []) → IsEventOf 1 event
+alone event all = all 0 event (omega arith)
+
+line_alone : (queue : ℕ × ℕ) → All (λ (it : ℕ × ℕ). it.0 < 1) (queue ∷ []) → queue.0 < 1
+line_alone queue all = all 0 queue (omega arith)
+
+sent : (job : Script) → All (IsEventOf 1) (Send 1 0 (Job 0 job) ∷ []) → IsEventOf 1 (Send 1 0 (Job 0 job))
+sent job all = alone (Send 1 0 (Job 0 job)) all
 
 pub drafts_refused : DraftsAreRefused
 drafts_refused = record {
@@ -12,11 +28,11 @@ drafts_refused = record {
   many_cores = λ limits. let few : 17 ≤ 16 = limits.sized.few_cores in omega arith;
   no_burst = λ limits. let some : 1 ≤ 0 = limits.bursts.some_poll in omega arith;
   long_burst = λ limits. let few : 65 ≤ 64 = limits.bursts.few_polls in omega arith;
-  queue_of_none = λ limits. let there : 1 < 1 = limits.placed.0 in omega arith;
-  turn_of_none = λ limits. let there : 1 < 1 = limits.happen.0.core in omega arith;
-  from_none = λ limits. let there : 2 ≤ 1 = limits.happen.0.sender in omega arith;
-  no_polls = λ limits. let some : 1 ≤ 0 = limits.happen.0.some_polls in omega arith;
-  was_polled = λ limits. let none : 1 ≡ 0 = limits.happen.0.none_made in omega arith;
+  queue_of_none = λ limits. let there : 1 < 1 = line_alone (1, 500) limits.placed in omega arith;
+  turn_of_none = λ limits. let there : 1 < 1 = (alone (Turn 1) limits.happen).core in omega arith;
+  from_none = λ limits. let there : 2 ≤ 1 = (alone (Deliver 0 2) limits.happen).sender in omega arith;
+  no_polls = λ limits. let some : 1 ≤ 0 = (sent (record { polls = []; polled = 0 }) limits.happen).some_polls in omega arith;
+  was_polled = λ limits. let none : 1 ≡ 0 = (sent (record { polls = Done 5 1 ∷ []; polled = 1 }) limits.happen).none_made in omega arith;
   uncounted = λ counted. let same : 0 ≡ 1 = counted.each 0 in omega arith;
   counted_twice = λ counted. let same : 2 ≡ 1 = counted.each 0 in omega arith;
 }

@@ -1,5 +1,5 @@
 -- Drafts of a script that keep no limits, each for one thing.
-use Rattle.std.specs.Prelude.{ℕ, [], ◌∷◌, List, Option, None, Some}
+use Rattle.std.specs.Prelude.{ℕ, [], ◌∷◌, List, None, Some}
 use Rattle.rt_ids.specs.declared.order.Order.TheVariants.{Job}
 use Rattle.rt_jobs.specs.Scripts.{Script}
 use Rattle.rt_jobs.specs.declared.poll.Poll.TheVariants.{Done}
