@@ -7,11 +7,11 @@ use Rattle.rt_ids.specs.Work.{number_if}
 use Rattle.rt_taskqueue.specs.Queues.{queue_count}
 use Rattle.rt_core.specs.State.{CoreView, inside_count}
 use Rattle.rt_core.specs.Figures.{queue_stats}
-use Rattle.fairexec_c.specs.declared.code.Code.{Code}
-use Rattle.fairexec_c.specs.declared.code.Code.TheVariants as code
+use Rattle.rt_hosted_calls.specs.declared.code.Code.{Code}
+use Rattle.rt_hosted_calls.specs.declared.code.Code.TheVariants as code
 use Rattle.fairexec_c.specs.declared.figures.CoreFigures.{CoreFigures}
 use Rattle.fairexec_c.specs.declared.figures.QueueFigures.{QueueFigures}
-use Rattle.fairexec_c.specs.declared.job.HostJob.{HostJob}
+use Rattle.rt_hosted.specs.declared.job.HostJob.{HostJob}
 
 -- two halves of 64 bits, the low one first
 abbrev pub whole : ℕ → ℕ → ℕ

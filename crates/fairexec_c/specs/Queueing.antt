@@ -9,9 +9,9 @@ use Rattle.rt_taskqueue.specs.Queues.{queue_count, mode_of}
 use Rattle.rt_core.specs.State.{CoreView, delivered_of, inside_count}
 use Rattle.rt_core.specs.Deliveries.{Creates, Weighs, counted}
 use Rattle.rt_core.specs.Closing.{HasClosed, EndsParksIf}
-use Rattle.fairexec_c.specs.declared.code.Code.{Code}
-use Rattle.fairexec_c.specs.declared.code.Code.TheVariants as code
-use Rattle.fairexec_c.specs.declared.job.HostJob.{HostJob}
+use Rattle.rt_hosted_calls.specs.declared.code.Code.{Code}
+use Rattle.rt_hosted_calls.specs.declared.code.Code.TheVariants as code
+use Rattle.rt_hosted.specs.declared.job.HostJob.{HostJob}
 use Rattle.fairexec_c.specs.Hosting.{TakesOrders, RefusesOrder, next_name}
 
 -- a number that shares may have

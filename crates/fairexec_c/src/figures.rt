@@ -3,8 +3,8 @@
 ghost use Rattle.std.specs.Prelude.{◌≡◌, ℕ, ◌+◌, ◌*◌, ◌^◌, ◌<◌};
 ghost use Rattle.fairexec_c.specs.Figures.{TellsCore, TellsQueue, IsStatsOf, closed_number};
 
-use crate::code::Code;
 use crate::hosted::Hosted;
+use rt_hosted_calls::Code;
 use rt_ids::{Mode, QueueStats};
 
 /// The counts of a core, as `fx_core_stats` of the header has them.

@@ -12,18 +12,18 @@ ghost use Rattle.fairexec_c.specs.Queueing.{MakesQueue, Reweighs, ClosesLine, Cl
 ghost use Rattle.fairexec_c.specs.Running.{Nexts, SettlesStep, step_of};
 ghost use Rattle.fairexec_c.specs.Waking.{TellsNumber, WakesNumber};
 
-pub mod code;
 pub mod figures;
 pub mod handle;
 pub mod hosted;
-pub mod job;
 pub mod orders;
-pub mod word;
+pub mod seat;
+pub mod seats;
+pub mod sends;
 
-use crate::code::{Code, number};
 use crate::figures::{CoreFigures, QueueFigures};
 use crate::handle::{Handle, put, take};
 use crate::hosted::open_for;
+use rt_hosted_calls::{Code, number};
 use std::alloc::Global;
 
 /// The version of the interface, `FX_VERSION` of the header.

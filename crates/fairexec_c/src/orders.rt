@@ -5,10 +5,10 @@ ghost use Rattle.fairexec_c.specs.Hosting.{Submits};
 ghost use Rattle.fairexec_c.specs.Queueing.{MakesQueue, Reweighs, ClosesLine, ClosesAll, mode_of_number};
 ghost use Rattle.fairexec_c.specs.Waking.{TellsNumber, WakesNumber};
 
-use crate::code::Code;
 use crate::hosted::Hosted;
-use crate::job::HostJob;
 use rt_core::Delivered;
+use rt_hosted::HostJob;
+use rt_hosted_calls::Code;
 use rt_ids::{ActorNo, Answer, Mode, Order, QueueNo, Reason};
 use rt_shares::Shares;
 use rt_taskqueue::CreateError;
