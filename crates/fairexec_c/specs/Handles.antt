@@ -32,3 +32,8 @@ OnCore None None number does = number ≡ number_of code.Empty
 OnCore (Some old) (Some new) number does = Answers number (λ told. does old told new)
 OnCore None (Some new) number does = ⊥
 OnCore (Some old) None number does = ⊥
+
+-- the handle is empty, and is told so if it was before
+abbrev pub Frees : {V : Type 0} → Option V → ℕ → Option V → Type 0
+Frees None number new = (number ≡ number_of code.Empty) × (new ≡ None)
+Frees (Some old) number new = (number ≡ number_of code.Ok) × (new ≡ None)

@@ -1,6 +1,7 @@
 pub mod Bad
 pub mod Figures
 pub mod Handles
+pub mod Houses
 pub mod Opening
 pub mod Hosting
 pub mod Queueing

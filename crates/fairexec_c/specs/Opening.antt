@@ -22,8 +22,3 @@ OpensCore jobs other new = ⊥
 abbrev pub Opens : Option (CoreView HostJob) → ℕ → ℕ → Option (CoreView HostJob) → Type 0
 Opens None jobs number new = Answers number (λ told. OpensCore jobs told new)
 Opens (Some old) jobs number new = (number ≡ number_of code.Occupied) × (new ≡ Some old)
-
--- the handle is empty, and is told so if it was before
-abbrev pub Frees : Option (CoreView HostJob) → ℕ → Option (CoreView HostJob) → Type 0
-Frees None number new = (number ≡ number_of code.Empty) × (new ≡ None)
-Frees (Some old) number new = (number ≡ number_of code.Ok) × (new ≡ None)

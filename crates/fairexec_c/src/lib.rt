@@ -5,9 +5,9 @@
 
 ghost use Rattle.std.specs.Prelude.{◌≡◌, None};
 ghost use Rattle.fairexec_c.specs.Figures.{TellsCore, TellsQueue};
-ghost use Rattle.fairexec_c.specs.Handles.{OnCore};
+ghost use Rattle.fairexec_c.specs.Handles.{Frees, OnCore};
 ghost use Rattle.fairexec_c.specs.Hosting.{Submits};
-ghost use Rattle.fairexec_c.specs.Opening.{Opens, OpensCore, Frees};
+ghost use Rattle.fairexec_c.specs.Opening.{Opens, OpensCore};
 ghost use Rattle.fairexec_c.specs.Queueing.{MakesQueue, Reweighs, ClosesLine, ClosesAll, mode_of_number};
 ghost use Rattle.fairexec_c.specs.Running.{Nexts, SettlesStep, step_of};
 ghost use Rattle.fairexec_c.specs.Waking.{TellsNumber, WakesNumber};
@@ -15,6 +15,7 @@ ghost use Rattle.fairexec_c.specs.Waking.{TellsNumber, WakesNumber};
 pub mod figures;
 pub mod handle;
 pub mod hosted;
+pub mod houses;
 pub mod orders;
 pub mod seat;
 pub mod seats;

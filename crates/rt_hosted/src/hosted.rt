@@ -76,6 +76,13 @@ impl Hosted {
         })
     }
 
+    /// The number of the core.
+    pub fn number(&self) -> CoreNo
+        ensures { result ≡ self.now.recorded.core.core }
+    {
+        CoreNo(self.ends.number.0)
+    }
+
     /// Whether there is room for so many notes, beside the one that settles the job that is out.
     fn has_room(&self, count: u16) -> bool
         ensures { IsTrue result ↔ HasRoom count self.now.recorded }

@@ -1,4 +1,5 @@
 pub mod Codes
+pub mod Ending
 pub mod Houses
 pub mod Links
 pub mod Members
@@ -7,3 +8,4 @@ pub mod Orders
 pub mod Outcomes
 pub mod Submissions
 pub mod Turns
+pub mod Verdicts

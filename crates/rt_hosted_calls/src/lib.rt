@@ -8,8 +8,10 @@ pub mod member;
 pub mod names;
 pub mod orders;
 pub mod outcomes;
+pub mod stays;
 pub mod submissions;
 pub mod turns;
+pub mod verdicts;
 
 pub use code::{Code, number};
 pub use member::Member;
