@@ -1,12 +1,14 @@
 //! The calls on a house.
 
 ghost use Rattle.std.specs.Prelude.{◌≡◌, None};
-ghost use Rattle.fairexec_c.specs.Handles.{Answers, Frees};
+ghost use Rattle.rt_hosted_calls.specs.Verdicts.{AuditsTold, ReadsTold};
+ghost use Rattle.fairexec_c.specs.Handles.{Answers, Frees, OnCore};
 ghost use Rattle.fairexec_c.specs.Houses.{EndsIn, EndsInto, OpensHouse, TakesFrom, TakesInto};
 ghost use Rattle.rt_hosted_calls.specs.Members.{IsHouse};
 
 use crate::seat::{Seat, put, take};
 use rt_hosted_calls::house::{Config, House};
+use rt_hosted_calls::verdicts::VerdictTold;
 use rt_hosted_calls::{Code, Member, number};
 use std::alloc::Global;
 
@@ -109,6 +111,44 @@ fn end_into(alloc: Global, kept: &mut Member, seat: &mut Seat) -> Code
             code
         }
     }
+}
+
+/// Audits the journals of a house, once all are handed in.
+#[unsafe(no_mangle)]
+pub extern "C" fn fx_house_audit(
+    alloc: Global,
+    house: &mut Seat,
+    verdict: &mut VerdictTold,
+) -> u32
+    ensures house { OnCore house.old.value house.new.value result (λ old told new. AuditsTold old verdict.old told verdict.new new) }
+    ensures empty { house.old.value ≡ None → verdict.new ≡ verdict.old }
+{
+    let Some(mut member) = take(alloc, house) else {
+        return number(Code::Empty);
+    };
+    let code = member.audit(alloc, verdict);
+    put(house, member);
+    number(code)
+}
+
+/// Copies the text of the journals from this byte on, and tells how much was copied.
+#[unsafe(no_mangle)]
+pub extern "C" fn fx_house_text(
+    alloc: Global,
+    house: &mut Seat,
+    from: u64,
+    bytes: &mut [u8],
+    count: &mut u64,
+) -> u32
+    ensures house { OnCore house.old.value house.new.value result (λ old told new. ReadsTold old from bytes.old count.old told new bytes.new count.new) }
+    ensures empty { house.old.value ≡ None → (bytes.new ≡ bytes.old) × (count.new ≡ count.old) }
+{
+    let Some(mut member) = take(alloc, house) else {
+        return number(Code::Empty);
+    };
+    let code = member.read(alloc, from, bytes, count);
+    put(house, member);
+    number(code)
 }
 
 /// Frees a house, with what is left in it.

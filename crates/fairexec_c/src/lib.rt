@@ -8,7 +8,8 @@ ghost use Rattle.fairexec_c.specs.Figures.{TellsCore, TellsQueue};
 ghost use Rattle.fairexec_c.specs.Handles.{Frees, OnCore};
 ghost use Rattle.fairexec_c.specs.Hosting.{Submits};
 ghost use Rattle.fairexec_c.specs.Opening.{Opens, OpensCore};
-ghost use Rattle.fairexec_c.specs.Queueing.{MakesQueue, Reweighs, ClosesLine, ClosesAll, mode_of_number};
+ghost use Rattle.fairexec_c.specs.Queueing.{MakesQueue, Reweighs, ClosesLine, ClosesAll};
+ghost use Rattle.rt_hosted_calls.specs.Orders.{mode_of_number};
 ghost use Rattle.fairexec_c.specs.Running.{Nexts, SettlesStep, step_of};
 ghost use Rattle.fairexec_c.specs.Waking.{TellsNumber, WakesNumber};
 
@@ -21,9 +22,9 @@ pub mod seat;
 pub mod seats;
 pub mod sends;
 
-use crate::figures::{CoreFigures, QueueFigures};
 use crate::handle::{Handle, put, take};
 use crate::hosted::open_for;
+use rt_hosted_calls::figures::{CoreFigures, QueueFigures};
 use rt_hosted_calls::{Code, number};
 use std::alloc::Global;
 

@@ -1,18 +1,15 @@
 //! The calls on an actor of a house.
 
-ghost use Rattle.std.specs.Prelude.{◌≡◌, ℕ, None, Result};
-ghost use Rattle.rt_ids.specs.declared.order.Order.{Order};
-ghost use Rattle.rt_hosted_calls.specs.declared.code.Code.{Code};
+ghost use Rattle.std.specs.Prelude.{◌≡◌, None};
 ghost use Rattle.rt_hosted_calls.specs.Links.{ClosesTold, DeliversTold, IsTold, ShutsTold};
 ghost use Rattle.rt_hosted_calls.specs.Members as members;
-ghost use Rattle.rt_hosted_calls.specs.Orders.{IsCloseOrder, IsCoreOrder, IsCreateOrder, IsJobOrder, IsSharesOrder, IsWakeOrder, mode_of_number};
-ghost use Rattle.rt_hosted_calls.specs.Submissions.{CollectsTold, DetachesTold, RedeemsTold, SendsTold, ShowsTold};
+ghost use Rattle.rt_hosted_calls.specs.Orders.{mode_of_number};
+ghost use Rattle.rt_hosted_calls.specs.Submissions.{CollectsTold, DetachesTold, RedeemsTold, ShowsTold};
 ghost use Rattle.rt_hosted_calls.specs.Turns.{NextsTold, SettlesTold, step_of};
 ghost use Rattle.fairexec_c.specs.Handles.{OnCore};
 
 use crate::seat::{Seat, put, take};
 use rt_hosted_calls::names::Name;
-use rt_hosted_calls::orders::{close_order, core_order, create_order, job_order, shares_order, wake_order};
 use rt_hosted_calls::outcomes::OutcomeTold;
 use rt_hosted_calls::turns::TurnTold;
 use rt_hosted_calls::{Code, number};

@@ -1,5 +1,6 @@
 pub mod Codes
 pub mod Ending
+pub mod Figures
 pub mod Houses
 pub mod Links
 pub mod Members

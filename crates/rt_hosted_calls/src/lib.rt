@@ -2,6 +2,7 @@
 #![tactic(auto)]
 
 pub mod code;
+pub mod figures;
 pub mod house;
 pub mod links;
 pub mod member;
