@@ -4,11 +4,13 @@ ghost use Rattle.std.specs.Prelude.{◌≡◌, None};
 ghost use Rattle.rt_hosted_calls.specs.Links.{ClosesTold, DeliversTold, IsTold, ShutsTold};
 ghost use Rattle.rt_hosted_calls.specs.Members as members;
 ghost use Rattle.rt_hosted_calls.specs.Orders.{mode_of_number};
+ghost use Rattle.rt_hosted_calls.specs.Stats.{SeatTells, SeatTellsQueue};
 ghost use Rattle.rt_hosted_calls.specs.Submissions.{CollectsTold, DetachesTold, RedeemsTold, ShowsTold};
 ghost use Rattle.rt_hosted_calls.specs.Turns.{NextsTold, SettlesTold, step_of};
 ghost use Rattle.fairexec_c.specs.Handles.{OnCore};
 
 use crate::seat::{Seat, put, take};
+use rt_hosted_calls::figures::{CoreFigures, QueueFigures};
 use rt_hosted_calls::names::Name;
 use rt_hosted_calls::outcomes::OutcomeTold;
 use rt_hosted_calls::turns::TurnTold;
@@ -166,6 +168,41 @@ pub extern "C" fn fx_seat_shows(alloc: Global, seat: &mut Seat) -> u32
         return number(Code::Empty);
     };
     let code = member.shows();
+    put(seat, member);
+    number(code)
+}
+
+/// Tells the counts of a core.
+#[unsafe(no_mangle)]
+pub extern "C" fn fx_seat_stats(alloc: Global, seat: &mut Seat, stats: &mut CoreFigures) -> u32
+    ensures seat { OnCore seat.old.value seat.new.value result (λ old told new.
+        members.OnCore old (stats.new ≡ stats.old) told new (λ before code after. (after ≡ before) × SeatTells before stats.old code stats.new)) }
+    ensures empty { seat.old.value ≡ None → stats.new ≡ stats.old }
+{
+    let Some(mut member) = take(alloc, seat) else {
+        return number(Code::Empty);
+    };
+    let code = member.stats(stats);
+    put(seat, member);
+    number(code)
+}
+
+/// Tells the counts of a queue.
+#[unsafe(no_mangle)]
+pub extern "C" fn fx_seat_stats_of_queue(
+    alloc: Global,
+    seat: &mut Seat,
+    queue: u32,
+    stats: &mut QueueFigures,
+) -> u32
+    ensures seat { OnCore seat.old.value seat.new.value result (λ old told new.
+        members.OnCore old (stats.new ≡ stats.old) told new (λ before code after. (after ≡ before) × SeatTellsQueue before queue stats.old code stats.new)) }
+    ensures empty { seat.old.value ≡ None → stats.new ≡ stats.old }
+{
+    let Some(mut member) = take(alloc, seat) else {
+        return number(Code::Empty);
+    };
+    let code = member.stats_of_queue(queue, stats);
     put(seat, member);
     number(code)
 }

@@ -7,6 +7,7 @@ pub mod Members
 pub mod Names
 pub mod Orders
 pub mod Outcomes
+pub mod Stats
 pub mod Submissions
 pub mod Turns
 pub mod Verdicts

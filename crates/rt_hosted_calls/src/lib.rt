@@ -9,6 +9,7 @@ pub mod member;
 pub mod names;
 pub mod orders;
 pub mod outcomes;
+pub mod stats;
 pub mod stays;
 pub mod submissions;
 pub mod turns;
