@@ -5,7 +5,8 @@ ghost use Rattle.rt_hosted_calls.specs.Links.{ClosesTold, DeliversTold, IsTold, 
 ghost use Rattle.rt_hosted_calls.specs.Members as members;
 ghost use Rattle.rt_hosted_calls.specs.Orders.{mode_of_number};
 ghost use Rattle.rt_hosted_calls.specs.Stats.{SeatTells, SeatTellsQueue};
-ghost use Rattle.rt_hosted_calls.specs.Submissions.{CollectsTold, DetachesTold, RedeemsTold, ShowsTold};
+ghost use Rattle.rt_hosted_calls.specs.Submissions.{CollectsTold, ShowsTold};
+ghost use Rattle.rt_hosted_calls.specs.Tickets.{DetachesTold, RedeemsTold};
 ghost use Rattle.rt_hosted_calls.specs.Turns.{NextsTold, SettlesTold, step_of};
 ghost use Rattle.fairexec_c.specs.Handles.{OnCore};
 

@@ -6,7 +6,7 @@ use Rattle.rt_hosted_calls.specs.declared.code.Code.{Code}
 use Rattle.rt_hosted_calls.specs.declared.code.Code.TheVariants as code
 use Rattle.rt_hosted_calls.specs.declared.member.Member.{Member}
 use Rattle.rt_hosted_calls.specs.declared.member.Member.TheVariants as member
-use Rattle.rt_hosted_calls.specs.Houses.{KeptView}
+use Rattle.rt_hosted_calls.specs.Kept.{KeptView}
 use Rattle.rt_hosted_calls.specs.Links.{HasEnded}
 use Rattle.rt_hosted_calls.specs.Members.{IsActor}
 

@@ -1,6 +1,5 @@
 -- A house as the host keeps it.
 use Rattle.std.specs.Prelude.{◌≡◌, ℕ, ◌<◌, ◌≤◌, Option, Some, None, Result, Ok, Err, List, [], ◌∷◌, ◌++◌, length}
-use Rattle.rt_journal_notes.specs.Journals.{JournalView}
 use Rattle.rt_hosted.specs.Hosted.{HostedView}
 use Rattle.rt_hosted_house.specs.Houses.{AreGood, HouseView, IsOpened}
 use Rattle.rt_hosted_house.specs.Outside.{CallerView}
@@ -9,19 +8,7 @@ use Rattle.rt_hosted_calls.specs.declared.code.Code.TheVariants as code
 use Rattle.rt_hosted_calls.specs.declared.house.Config.{Config}
 use Rattle.rt_hosted_calls.specs.declared.member.Member.{Member}
 use Rattle.rt_hosted_calls.specs.declared.member.Member.TheVariants as member
-
--- its numbers, the cores and the outside actor that nobody took yet, and the journals that were handed in
-pub record KeptView : Type 0 where
-  pub cores : ℕ
-  pub cap : ℕ
-  pub burst : ℕ
-  pub left : List HostedView
-  pub outside : Option CallerView
-  pub journals : List (JournalView ℕ)
-
--- no more cores are left than there are
-abbrev pub IsWaiting : ℕ → List HostedView → Type 0
-IsWaiting cores left = length left ≤ cores
+use Rattle.rt_hosted_calls.specs.Kept.{KeptView}
 
 -- a house that was just opened, as it is kept
 abbrev pub kept_of : ℕ → ℕ → ℕ → HouseView → KeptView

@@ -4,6 +4,7 @@
 pub mod code;
 pub mod figures;
 pub mod house;
+mod keeping;
 pub mod links;
 pub mod member;
 pub mod names;
