@@ -62,8 +62,11 @@ fn lives_apart(rt: &impl Threads, alloc: Global) -> Result<bool, AllocError> {
         second,
         outside,
     } = house;
-    let ((first, outside, one), (second, two)) =
-        thread::join(rt, move || lead(first, outside), move || follow(second));
+    let ((first, outside, one), (second, two)) = thread::join(
+        rt,
+        move || lead(first, outside),
+        move || follow(second),
+    );
     Ok(one && two && is_sound(alloc, 1, first.core, second.core, outside)?)
 }
 

@@ -75,7 +75,7 @@ pub(crate) fn is_sound(
     burst: u8,
     first: Hosted,
     second: Hosted,
-    pub(crate) outside: Outside,
+    outside: Outside,
 ) -> Result<bool, AllocError> {
     let (Some(first), Some(second)) = (notes(first), notes(second)) else {
         return Ok(false);
