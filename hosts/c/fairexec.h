@@ -1,5 +1,5 @@
 /*
- * fairexec.h: cores with fair task queues, whose jobs the host runs.
+ * fairexec.h: cores with fair task queues, whose jobs the host runs. A core may stand alone, or in a house with others.
  *
  * A host is a program that brings its own threads and its own jobs. A job is a number of 64 bits, and the host knows what the number
  * stands for. The library keeps jobs in the queues of a core, and tells which of them to run next: that of the queue of least virtual
@@ -13,21 +13,27 @@
  *         fx_settle(&core, run(job) ? FX_STEP_DONE : FX_STEP_YIELD, nanoseconds);
  *     fx_free(&core);
  *
+ * A house has 1 to 16 cores with numbers from 0, and the outside actor, whose number is the count of the cores. Links without locks go from
+ * each of these actors to each core. The calls of a house begin with fx_house_ and fx_seat_, and stand at the end.
+ *
  * Each function but fx_version and fx_text answers an fx_code. Where more than one code could be answered, the one that its comment
- * names first is. A call that answers FX_IDLE or a code above it changes nothing but the count for FX_SPENT, and writes nothing to what its
- * pointers point to.
+ * names first is. A call that answers FX_IDLE or a code above it, except FX_PARKED, changes nothing but the count for FX_SPENT, and writes
+ * nothing to what its pointers point to.
  *
- * Threads: at most one call at a time runs on a core. A core may go to another thread between two calls. Between them stands a lock, the
- * start or the join of a thread, or a sequentially consistent atomic. Calls on different cores need no order. No call blocks,
- * calls the host back, or knows a clock. No call may be made from a signal handler.
+ * Threads: at most one call at a time runs on a handle. A handle may go to another thread between two calls. Between them stands a lock, the
+ * start or the join of a thread, or a sequentially consistent atomic. Calls on different handles need no order, those on the seats of one
+ * house neither. No call blocks, calls the host back, or knows a clock. No call may be made from a signal handler.
  *
- * Memory: fx_open and fx_create alone ask for memory, by malloc, and fx_free gives it back, by free. The library is for x86-64-v2.
+ * Memory: of the calls on one core fx_open and fx_create alone ask for memory, by malloc, and fx_free gives it back, by free. Of those on a
+ * house fx_house_open, fx_house_take, fx_house_audit and fx_house_text do, and fx_seat_deliver where an order makes a queue; fx_house_end,
+ * fx_house_free and fx_seat_free give it back. The library is for x86-64-v2.
  *
  * C99 and C++11. docs/EMBEDDING.md tells how to build and link, and what is promised.
  */
 #ifndef FAIREXEC_H
 #define FAIREXEC_H
 
+#include <stddef.h>
 #include <stdint.h>
 
 #ifdef __cplusplus
@@ -52,20 +58,31 @@ enum fx_code {
     FX_DONE = 3,        /* fx_settle: the job is done, and the library forgot it */
     FX_BACK = 4,        /* fx_next: the job goes back to the host, unrun or unfinished, since its queue or its core hands back */
     FX_IDLE = 5,        /* fx_next: no queue has work */
-    FX_SPENT = 6,       /* the core made 2^64 - 1 turns, or was handed 2^64 - 1 jobs, new shares and wakes: it takes no more of that */
+    FX_SPENT = 6,       /* the core made 2^64 - 1 turns, or was handed 2^64 - 1 jobs, new shares and wakes: it takes no more of that.
+                           Of a link: 2^63 - 1 orders were accepted */
     FX_BUSY = 7,        /* the host runs a job of this core, and settles it first */
     FX_NO_JOB = 8,      /* the host runs no job of this core */
-    FX_FULL = 9,        /* the core holds as many jobs as it has room for */
+    FX_FULL = 9,        /* the core holds as many jobs as it has room for. Of a link: as many submissions are outstanding as it has places */
     FX_NO_MEMORY = 10,  /* there is no memory */
     FX_BAD_SHARES = 11, /* shares are 1 to 10000 */
-    FX_EMPTY = 12,      /* the handle has no core */
+    FX_EMPTY = 12,      /* the handle has no core. Of a house: it has not what the call is for */
     FX_NO_QUEUE = 13,   /* the core has no queue of that number */
-    FX_CLOSED = 14,     /* the queue or the core is closed, or was closed before */
+    FX_CLOSED = 14,     /* the queue or the core is closed, or was closed before. Of a link: its gate is shut */
     FX_TOO_MANY = 15,   /* the core has 256 queues */
     FX_BAD_NUMBER = 16, /* jobs, a step, a mode or a size out of its range */
     FX_OCCUPIED = 17,   /* the handle has a core already */
     FX_PARKED = 18,     /* fx_settle: the job is parked, and runs again after fx_wake alone */
-    FX_ABSENT = 19      /* fx_wake: no job of that number is inside */
+    FX_ABSENT = 19,     /* fx_wake: no job of that number is inside. fx_house_take: all seats were taken */
+    FX_JOURNAL_FULL = 20, /* the journal has too few notes free for the call */
+    FX_UNKNOWN_CORE = 21, /* the house has no core of that number */
+    FX_NO_ACTOR = 22,     /* the house has no actor of that number, or the turn of another one has come */
+    FX_UNKNOWN = 23,      /* the submission is another actor's, or its number was never given */
+    FX_GONE = 24,         /* the submission was redeemed or detached before */
+    FX_PENDING = 25,      /* the outcome wasn't collected yet. Of a house: a journal wasn't handed in yet */
+    FX_OPEN = 26,         /* the core isn't closed */
+    FX_SHUT = 27,         /* the gate was shut before */
+    FX_NOT_DRAINED = 28,  /* the core isn't drained, or a job of it runs, or a turn of it is open */
+    FX_MIXED = 29         /* the journals can't be those of one house, and have no text */
 };
 
 /* What the run of a job came to. */
@@ -218,6 +235,236 @@ uint32_t fx_stats(fx_core *core, fx_core_stats *stats) FX_NOT_NULL;
  */
 uint32_t fx_stats_of_queue(fx_core *core, uint32_t queue, fx_queue_stats *stats) FX_NOT_NULL;
 
+/* --- A house --- */
+
+/*
+ * A house, and an actor of it. Each is a handle as fx_core is: fx_house house = FX_NO_HOUSE; fx_seat seat = FX_NO_SEAT;
+ * The house has the seats that nobody took yet, and later the journals. A seat is a core of the house, or the outside actor. Each seat goes
+ * to a thread of the host. A call on a seat finds what the actor at the other end of a link did sooner or later, and not at once.
+ */
+typedef struct fx_house {
+    void *at;
+} fx_house;
+
+typedef struct fx_seat {
+    void *at;
+} fx_seat;
+
+#define FX_NO_HOUSE FX_NO_CORE
+#define FX_NO_SEAT FX_NO_CORE
+
+/* What a house is opened with. */
+typedef struct fx_config {
+    uint32_t size;   /* in: sizeof(fx_config) */
+    uint32_t cores;  /* 1 to 16 */
+    uint32_t places; /* submissions that may be outstanding from one actor to one core, 1 to 1024 */
+    uint32_t burst;  /* runs that one turn of a queue may have, 1 to 64 */
+    uint32_t notes;  /* notes that the journal of each actor has room for, at most 2^24 */
+} fx_config;
+
+/* The name of a submission: `number` is 1 and up, given by the link. It is the name of a job, and the ticket for its outcome. */
+typedef struct fx_name {
+    uint64_t number;
+    uint32_t from; /* the actor that submitted */
+    uint32_t to;   /* the core that it went to */
+} fx_name;
+
+/* What fx_seat_next tells. */
+typedef struct fx_turn {
+    uint32_t size;   /* in: sizeof(fx_turn) */
+    uint32_t queue;  /* the queue of the job, after FX_START and FX_RESUME */
+    fx_name name;    /* the job's name */
+    uint64_t job;    /* the host's number of it, after FX_START and FX_RESUME */
+    uint32_t reason; /* why the job went back to its sender, an fx_reason, after FX_BACK */
+    uint32_t zero;
+} fx_turn;
+
+/* What became of a submission. */
+enum fx_kind {
+    FX_KIND_DONE = 0,  /* the job is done */
+    FX_KIND_BACK = 1,  /* the job comes back, unrun or unfinished */
+    FX_KIND_ANSWER = 2 /* the order that is no job was answered */
+};
+
+/* Why a job comes back. The first three: when it was delivered. The others: when it was picked. */
+enum fx_reason {
+    FX_REASON_NO_QUEUE = 0,       /* the core has no queue of that number */
+    FX_REASON_QUEUE_CLOSED = 1,   /* the queue is closed */
+    FX_REASON_CORE_CLOSING = 2,   /* the core is closed, by FX_MODE_RETURN */
+    FX_REASON_QUEUE_RETURNED = 3, /* the queue is closed, by FX_MODE_RETURN */
+    FX_REASON_CORE_RETURNED = 4   /* the core is closed, by FX_MODE_RETURN */
+};
+
+/* What an order that is no job was answered. */
+enum fx_answer {
+    FX_ANSWER_CREATED = 0,        /* the queue was made */
+    FX_ANSWER_TOO_MANY = 1,       /* the core has 256 queues */
+    FX_ANSWER_NO_MEMORY = 2,      /* there is no memory for the queue */
+    FX_ANSWER_CORE_CLOSING = 3,   /* the core is closed, and makes no queue */
+    FX_ANSWER_SHARES_SET = 4,     /* the queue has the shares from now on */
+    FX_ANSWER_NO_QUEUE = 5,       /* the core has no queue of that number */
+    FX_ANSWER_CLOSED = 6,         /* the queue or the core is closed, or more strictly than before */
+    FX_ANSWER_ALREADY_CLOSED = 7, /* it was closed before */
+    FX_ANSWER_WOKEN = 8,          /* the job is inside, and is woken */
+    FX_ANSWER_NO_JOB = 9          /* no such job is inside */
+};
+
+/* What fx_seat_redeem tells. A field that its kind doesn't name is 0. */
+typedef struct fx_outcome {
+    uint32_t size;   /* in: sizeof(fx_outcome) */
+    uint32_t kind;   /* an fx_kind */
+    uint32_t why;    /* FX_KIND_BACK: an fx_reason. FX_KIND_ANSWER: an fx_answer */
+    uint32_t queue;  /* FX_KIND_BACK: that of the job. FX_ANSWER_CREATED: that which was made */
+    uint64_t answer; /* FX_KIND_DONE: what was handed to fx_seat_settle */
+    uint64_t job;    /* FX_KIND_BACK: the host's number of the job */
+} fx_outcome;
+
+/* What an audit found: the journals are sound, or break a rule. The rules are 1 starts, 2 order, 3 closes, 4 outcomes and 5 picks. */
+typedef struct fx_verdict {
+    uint32_t size;  /* in: sizeof(fx_verdict) */
+    uint32_t sound; /* 1 if they are sound, else 0 */
+    uint32_t rule;  /* the first rule that is broken, 1 to 5, or 0 */
+    uint32_t actor; /* in the journal of this actor */
+    uint64_t line;  /* at this note of it, counted from 1, or 0 if no single note is at fault */
+} fx_verdict;
+
+/*
+ * Opens a house. Its cores have queue 0 alone, with 1000 shares. The handle has to be empty, and has the house from then on.
+ * FX_OCCUPIED; FX_BAD_NUMBER: a number of the config; FX_NO_MEMORY; FX_OK.
+ */
+uint32_t fx_house_open(fx_house *house, const fx_config *config) FX_NOT_NULL;
+
+/*
+ * Moves the next seat out of the house, into an empty handle, and writes the number of its actor: first that of the outside actor, which is
+ * the count of the cores, then the cores from the greatest number to 0.
+ * FX_EMPTY: house; FX_OCCUPIED: seat; FX_ABSENT; FX_NO_MEMORY; FX_OK.
+ */
+uint32_t fx_house_take(fx_house *house, fx_seat *seat, uint32_t *actor) FX_NOT_NULL;
+
+/*
+ * Ends a seat, and hands its journal to the house. The seat is empty from then on. All seats have to be taken, and they end in the order of
+ * their numbers: core 0 first, the outside actor last. The host hands in the seats of this house: nothing tests that, but an audit.
+ * FX_EMPTY: house; FX_EMPTY: seat; FX_NO_ACTOR: another number is next; FX_NOT_DRAINED: a core; FX_OK.
+ */
+uint32_t fx_house_end(fx_house *house, fx_seat *seat) FX_NOT_NULL;
+
+/*
+ * Audits the journals, once all are handed in.
+ * FX_EMPTY; FX_BAD_NUMBER: size; FX_PENDING; FX_NO_MEMORY; FX_OK.
+ */
+uint32_t fx_house_audit(fx_house *house, fx_verdict *verdict) FX_NOT_NULL;
+
+/*
+ * Writes the text of the journals to `bytes`, which has room for `room`, from the byte `from` on, and to `count` how many bytes were written:
+ * fewer than `room` at the end of the text. It is of form 2 if the burst is above 1, else of form 1. The house makes the text at the first call.
+ * FX_EMPTY; FX_PENDING; FX_MIXED; FX_NO_MEMORY; FX_OK.
+ */
+uint32_t fx_house_text(fx_house *house, uint64_t from, uint8_t *bytes, size_t room, uint64_t *count) FX_NOT_NULL;
+
+/*
+ * Frees a house, with the seats that nobody took and the journals that were handed in.
+ * FX_EMPTY; FX_OK.
+ */
+uint32_t fx_house_free(fx_house *house) FX_NOT_NULL;
+
+/*
+ * Frees a seat, and forgets its jobs, its journal and its tickets. The other actors find its links as they were left.
+ * FX_EMPTY; FX_OK.
+ */
+uint32_t fx_seat_free(fx_seat *seat) FX_NOT_NULL;
+
+/*
+ * Tells what to run now, in `turn`. After FX_START and FX_RESUME the host runs the job, and then calls fx_seat_settle. After FX_BACK a job
+ * went back to its sender: there is nothing to run. Behind FX_SPENT an open turn may have ended.
+ * FX_EMPTY: no core; FX_BAD_NUMBER: size; FX_BUSY; FX_JOURNAL_FULL: fewer than 4 notes are free; FX_IDLE, FX_SPENT, FX_BACK, FX_START or FX_RESUME.
+ */
+uint32_t fx_seat_next(fx_seat *seat, fx_turn *turn) FX_NOT_NULL;
+
+/*
+ * Settles the run of the job that fx_seat_next told, as fx_settle. A job that is done answers `answer` to who submitted it.
+ * FX_EMPTY: no core; FX_BAD_NUMBER: step; FX_NO_JOB; FX_DONE, FX_OK or FX_PARKED, as fx_settle.
+ */
+uint32_t fx_seat_settle(fx_seat *seat, uint32_t step, uint64_t answer, uint64_t spent) FX_NOT_NULL;
+
+/*
+ * Delivers the next order of this actor to the core, if one shows. The host may run a job of the core meanwhile.
+ * FX_EMPTY: no core; FX_NO_ACTOR; FX_JOURNAL_FULL: fewer than 2 notes are free; FX_IDLE: no order shows; FX_OK.
+ */
+uint32_t fx_seat_deliver(fx_seat *seat, uint32_t sender) FX_NOT_NULL;
+
+/*
+ * Collects all outcomes that the link to this core shows, and writes how many there were.
+ * FX_EMPTY; FX_UNKNOWN_CORE; FX_JOURNAL_FULL: fewer notes are free than a link has places; FX_OK.
+ */
+uint32_t fx_seat_collect(fx_seat *seat, uint32_t core, uint32_t *count) FX_NOT_NULL;
+
+/*
+ * Submits a job to a queue of a core, this one or another, and writes its name. The host may do so while it runs a job of its core.
+ * What the core makes of it the outcome tells: also that it has no such queue.
+ * FX_EMPTY; FX_NO_QUEUE: above 255; FX_UNKNOWN_CORE; FX_JOURNAL_FULL; FX_CLOSED; FX_FULL; FX_SPENT; FX_OK.
+ */
+uint32_t fx_seat_submit(fx_seat *seat, uint32_t to, uint32_t queue, uint64_t job, fx_name *name) FX_NOT_NULL;
+
+/*
+ * Submits an order to a core: make a queue with these shares; give a queue these shares; close a queue, or all of the core.
+ * Behind FX_EMPTY: FX_BAD_SHARES; FX_NO_QUEUE: above 255; FX_BAD_NUMBER: mode; then as fx_seat_submit from FX_UNKNOWN_CORE on.
+ */
+uint32_t fx_seat_create(fx_seat *seat, uint32_t to, uint32_t shares, fx_name *name) FX_NOT_NULL;
+uint32_t fx_seat_set_shares(fx_seat *seat, uint32_t to, uint32_t queue, uint32_t shares, fx_name *name) FX_NOT_NULL;
+uint32_t fx_seat_close_queue(fx_seat *seat, uint32_t to, uint32_t queue, uint32_t mode, fx_name *name) FX_NOT_NULL;
+uint32_t fx_seat_close_core(fx_seat *seat, uint32_t to, uint32_t mode, fx_name *name) FX_NOT_NULL;
+
+/*
+ * Submits an order that wakes a job, to the core that the job's name says. Any actor may wake any job.
+ * FX_EMPTY; FX_NO_ACTOR: job->from is above 255; then as fx_seat_submit from FX_UNKNOWN_CORE on.
+ */
+uint32_t fx_seat_wake(fx_seat *seat, const fx_name *job, fx_name *name) FX_NOT_NULL;
+
+/*
+ * Writes the outcome of a submission that was collected. It is gone from then on.
+ * FX_EMPTY; FX_BAD_NUMBER: size; FX_JOURNAL_FULL; FX_UNKNOWN; FX_GONE; FX_PENDING; FX_OK.
+ */
+uint32_t fx_seat_redeem(fx_seat *seat, const fx_name *name, fx_outcome *outcome) FX_NOT_NULL;
+
+/*
+ * Nobody will ask for the outcome of a submission. The host still learns by fx_house_text alone what became of its job.
+ * FX_EMPTY; FX_JOURNAL_FULL; FX_UNKNOWN; FX_GONE; FX_OK.
+ */
+uint32_t fx_seat_detach(fx_seat *seat, const fx_name *name) FX_NOT_NULL;
+
+/*
+ * Closes the core by itself, by an fx_mode. A core that finishes may be closed once more, with FX_MODE_RETURN.
+ * FX_EMPTY: no core; FX_BAD_NUMBER: mode; FX_JOURNAL_FULL; FX_CLOSED: so, or more strictly, before; FX_OK.
+ */
+uint32_t fx_seat_close(fx_seat *seat, uint32_t mode) FX_NOT_NULL;
+
+/*
+ * Shuts the gate of this actor, in a core that is closed: it can submit nothing more to this core. What it submitted is still delivered.
+ * FX_EMPTY: no core; FX_NO_ACTOR; FX_OPEN; FX_SHUT; FX_JOURNAL_FULL; FX_OK.
+ */
+uint32_t fx_seat_shut(fx_seat *seat, uint32_t sender) FX_NOT_NULL;
+
+/*
+ * Whether the core has come to its end: no job of it runs, no turn is open, each gate is shut, all behind it was delivered, no queue has work,
+ * and no job is parked.
+ * FX_EMPTY: no core; FX_NOT_DRAINED; FX_OK.
+ */
+uint32_t fx_seat_drained(fx_seat *seat) FX_NOT_NULL;
+
+/*
+ * Whether a link shows an order or an outcome that wasn't seen yet: one load for each link. A host that waits asks it before it sleeps.
+ * FX_EMPTY; FX_IDLE: no link shows anything; FX_OK.
+ */
+uint32_t fx_seat_shows(fx_seat *seat) FX_NOT_NULL;
+
+/*
+ * The counts of the core and of a queue, as fx_stats and fx_stats_of_queue, while it runs. `room` is the count of the actors times the places.
+ * With a burst above 1 `turns` and `picks` count turns, each of several runs, and a time is that of a turn.
+ * FX_EMPTY: no core; FX_BAD_NUMBER: size; FX_NO_QUEUE; FX_OK.
+ */
+uint32_t fx_seat_stats(fx_seat *seat, fx_core_stats *stats) FX_NOT_NULL;
+uint32_t fx_seat_stats_of_queue(fx_seat *seat, uint32_t queue, fx_queue_stats *stats) FX_NOT_NULL;
+
 /* A code in words. */
 static inline const char *fx_text(uint32_t code) {
     switch (code) {
@@ -241,6 +488,16 @@ static inline const char *fx_text(uint32_t code) {
     case FX_OCCUPIED: return "the handle has a core already";
     case FX_PARKED: return "the job is parked";
     case FX_ABSENT: return "no job of that number is inside";
+    case FX_JOURNAL_FULL: return "the journal has too few notes free";
+    case FX_UNKNOWN_CORE: return "the house has no core of that number";
+    case FX_NO_ACTOR: return "the house has no actor of that number";
+    case FX_UNKNOWN: return "no such submission";
+    case FX_GONE: return "redeemed or detached before";
+    case FX_PENDING: return "not there yet";
+    case FX_OPEN: return "the core isn't closed";
+    case FX_SHUT: return "the gate was shut before";
+    case FX_NOT_DRAINED: return "the core isn't drained";
+    case FX_MIXED: return "the journals can't be those of one house";
     default: return "no code of this library";
     }
 }
