@@ -94,7 +94,7 @@ static void work(job *it, uint32_t steps) {
 static uint32_t run_request(place *p, uint64_t number) {
     job *it = &jobs[number];
     if (it->asks) return FX_STEP_PARK; /* woken early: it still waits */
-    work(it, 4000);
+    work(it, 16000);
     if (it->runs++ > 0) return FX_STEP_DONE;
     uint32_t other = (p->number + 1) % CORES;
     uint64_t sum = number + CORES * REQUESTS;
@@ -111,7 +111,7 @@ static uint32_t run_request(place *p, uint64_t number) {
 static uint32_t run(place *p, uint64_t number) {
     switch (jobs[number].kind) {
     case REQUEST: return run_request(p, number);
-    case SUM: return work(&jobs[number], 2000), FX_STEP_DONE;
+    case SUM: return work(&jobs[number], 8000), FX_STEP_DONE;
     default: return work(&jobs[number], 12000), stops ? FX_STEP_DONE : FX_STEP_YIELD;
     }
 }
@@ -154,30 +154,38 @@ static void take_answers(place *p) {
     }
 }
 
-/* A core's thread: what comes in, a turn, what comes back, until the core is drained. */
+/* What comes in, a turn, and what comes back. Whether anything did. */
+static bool make_round(place *p) {
+    uint32_t count;
+    bool did = false;
+    for (uint32_t sender = 0; sender <= CORES; sender++) {
+        did |= fx_seat_shut(&p->seat, sender) == FX_OK; /* once the core is closed */
+        did |= fx_seat_deliver(&p->seat, sender) == FX_OK;
+    }
+    did |= turn(p);
+    for (uint32_t core = 0; core < CORES; core++) {
+        must(fx_seat_collect(&p->seat, core, &count), FX_OK, "collect");
+        did |= count > 0;
+    }
+    take_answers(p);
+    return did;
+}
+
+/* A core's thread: rounds until the core is drained. It sleeps only if nothing happened, and no link shows anything. */
 static void *serve(void *given) {
     place *p = given;
-    uint32_t count;
-    while (fx_seat_drained(&p->seat) != FX_OK) {
-        for (uint32_t sender = 0; sender <= CORES; sender++) {
-            fx_seat_shut(&p->seat, sender); /* does something once the core is closed */
-            fx_seat_deliver(&p->seat, sender);
-        }
-        bool ran = turn(p);
-        for (uint32_t core = 0; core < CORES; core++) must(fx_seat_collect(&p->seat, core, &count), FX_OK, "collect");
-        take_answers(p);
-        if (!ran && fx_seat_shows(&p->seat) == FX_IDLE && fx_seat_drained(&p->seat) != FX_OK) sleep_until_rung(p->number);
-    }
+    while (fx_seat_drained(&p->seat) != FX_OK)
+        if (!make_round(p) && fx_seat_shows(&p->seat) == FX_IDLE) sleep_until_rung(p->number);
     return NULL;
 }
 
 /* Waits for the outcome of a submission of the outside actor. */
-static fx_outcome wait_for(fx_outside *outside, fx_name *name) {
+static fx_outcome wait_for(fx_seat *outside, fx_name *name) {
     fx_outcome outcome = {.size = sizeof outcome};
     uint32_t code, count;
     for (;;) {
-        must(fx_outside_collect(outside, name->to, &count), FX_OK, "collect");
-        code = fx_outside_redeem(outside, name, &outcome);
+        must(fx_seat_collect(outside, name->to, &count), FX_OK, "collect");
+        code = fx_seat_redeem(outside, name, &outcome);
         if (code != FX_PENDING) break;
         sleep_until_rung(OUTSIDE);
     }
@@ -186,31 +194,31 @@ static fx_outcome wait_for(fx_outside *outside, fx_name *name) {
 }
 
 /* An order that is no job is carried out as it is delivered, and rings nobody: its sender looks. */
-static void order(fx_outside *outside, uint32_t core, uint32_t code, fx_name *name, uint32_t wanted) {
+static void order(fx_seat *outside, uint32_t core, uint32_t code, fx_name *name, uint32_t wanted) {
     fx_outcome outcome = {.size = sizeof outcome};
     uint32_t count;
     must(code, FX_OK, "order");
     ring(core);
-    while ((code = fx_outside_redeem(outside, name, &outcome)) == FX_PENDING) must(fx_outside_collect(outside, core, &count), FX_OK, "collect");
+    while ((code = fx_seat_redeem(outside, name, &outcome)) == FX_PENDING) must(fx_seat_collect(outside, core, &count), FX_OK, "collect");
     must(code, FX_OK, "redeem");
     must(outcome.why, wanted, "answer");
 }
 
-static void open_queues(fx_outside *outside, uint32_t core) {
+static void open_queues(fx_seat *outside, uint32_t core) {
     fx_name name;
-    order(outside, core, fx_outside_set_shares(outside, core, FOREGROUND, 900, &name), &name, FX_ANSWER_SHARES_SET);
-    order(outside, core, fx_outside_create(outside, core, 100, &name), &name, FX_ANSWER_CREATED);
+    order(outside, core, fx_seat_set_shares(outside, core, FOREGROUND, 900, &name), &name, FX_ANSWER_SHARES_SET);
+    order(outside, core, fx_seat_create(outside, core, 100, &name), &name, FX_ANSWER_CREATED);
     for (uint32_t each = 0; each < COMPACTIONS; each++) {
         uint64_t number = (uint64_t)CORES * REQUESTS * 2 + core * COMPACTIONS + each;
         jobs[number] = (job){.kind = COMPACT, .queue = BACKGROUND, .queued_at = now()};
-        must(fx_outside_submit(outside, core, BACKGROUND, number, &name), FX_OK, "submit");
-        must(fx_outside_detach(outside, &name), FX_OK, "detach");
+        must(fx_seat_submit(outside, core, BACKGROUND, number, &name), FX_OK, "submit");
+        must(fx_seat_detach(outside, &name), FX_OK, "detach");
     }
     ring(core);
 }
 
 /* Requests to both cores, a window of them at a time. How many are done with their number as the answer. */
-static uint32_t drive(fx_outside *outside) {
+static uint32_t drive(fx_seat *outside) {
     fx_name names[CORES * REQUESTS];
     uint32_t done = 0;
     for (uint32_t number = 0; number < CORES * REQUESTS + WINDOW; number++) {
@@ -220,7 +228,7 @@ static uint32_t drive(fx_outside *outside) {
         }
         if (number >= CORES * REQUESTS) continue;
         jobs[number] = (job){.kind = REQUEST, .queue = FOREGROUND, .queued_at = now()};
-        must(fx_outside_submit(outside, number % CORES, FOREGROUND, number, &names[number]), FX_OK, "submit");
+        must(fx_seat_submit(outside, number % CORES, FOREGROUND, number, &names[number]), FX_OK, "submit");
         ring(number % CORES);
     }
     return done;
@@ -243,27 +251,28 @@ static void tell(place *p) {
 
 int main(void) {
     fx_house house = FX_NO_HOUSE;
-    fx_outside outside = FX_NO_OUTSIDE;
+    fx_seat outside = FX_NO_SEAT;
     fx_config config = {.size = sizeof config, .cores = CORES, .places = PLACES, .burst = 1, .notes = NOTES};
     fx_verdict verdict = {.size = sizeof verdict};
     fx_name name;
+    uint32_t actor;
     pthread_t threads[CORES];
     if (fx_version() != FX_VERSION) return 1;
     must(fx_house_open(&house, &config), FX_OK, "open");
+    must(fx_house_take(&house, &outside, &actor), FX_OK, "take");
     for (uint32_t each = CORES; each-- > 0;) must(fx_house_take(&house, &places[each].seat, &places[each].number), FX_OK, "take");
-    must(fx_house_take_outside(&house, &outside), FX_OK, "take");
     for (uint32_t each = 0; each < CORES; each++)
         if (pthread_create(&threads[each], NULL, serve, &places[each]) != 0) return 1;
     for (uint32_t core = 0; core < CORES; core++) open_queues(&outside, core);
     uint32_t done = drive(&outside);
     stops = true;
-    for (uint32_t core = 0; core < CORES; core++) order(&outside, core, fx_outside_close_core(&outside, core, FX_MODE_FINISH, &name), &name, FX_ANSWER_CLOSED);
+    for (uint32_t core = 0; core < CORES; core++) order(&outside, core, fx_seat_close_core(&outside, core, FX_MODE_FINISH, &name), &name, FX_ANSWER_CLOSED);
     for (uint32_t core = 0; core < CORES; core++) pthread_join(threads[core], NULL);
     for (uint32_t core = 0; core < CORES; core++) {
         tell(&places[core]);
         must(fx_house_end(&house, &places[core].seat), FX_OK, "end");
     }
-    must(fx_house_end_outside(&house, &outside), FX_OK, "end");
+    must(fx_house_end(&house, &outside), FX_OK, "end");
     must(fx_house_audit(&house, &verdict), FX_OK, "audit");
     printf("%u of %u requests are done, and the journals are %s\n", done, CORES * REQUESTS, verdict.sound ? "sound" : "not sound");
     must(fx_house_free(&house), FX_OK, "free");

@@ -162,7 +162,7 @@ class Core(Actor):
         self.note(words)
         if effect:
             self.note(effect)
-        self.give(name, ("answer", answer, queue), words.replace(f" {text_of(name)}", ""))
+        self.give(name, (2, answer, queue, 0, 0), words.replace(f" {text_of(name)}", ""))
 
     def take_job(self, name, queue, job):
         reason = None
@@ -174,7 +174,7 @@ class Core(Actor):
             reason = CORE_CLOSING
         if reason is not None:
             self.note(f"back {text_of(name)} {REASONS[reason]}")
-            self.give(name, ("back", reason, job), f"returned {REASONS[reason]}")
+            self.give(name, (1, reason, queue, 0, job), f"returned {REASONS[reason]}")
             return
         self.note(f"took {text_of(name)} q{queue}")
         self.place(queue)
@@ -287,8 +287,8 @@ class Core(Actor):
             queue.back += 1
             self.inside -= 1
             self.note(f"returned {text_of(job.name)} {REASONS[reason]}")
-            self.give(job.name, ("back", reason, job.job), f"returned {REASONS[reason]}")
-            return "FX_BACK", [*job.name, reason]
+            self.give(job.name, (1, reason, number, 0, job.job), f"returned {REASONS[reason]}")
+            return "FX_BACK", [*job.name, 0, 0, reason]
         if self.house.burst > 1:
             self.open = [number, 1, 0]
         return self.go_out(number)
@@ -298,7 +298,7 @@ class Core(Actor):
         self.note(f"{'resume' if job.started else 'start'} {text_of(job.name)}")
         code = "FX_RESUME" if job.started else "FX_START"
         job.started = True
-        return code, [*job.name, queue, job.job]
+        return code, [*job.name, queue, job.job, 0]
 
     def charge(self, queue, time):
         counted = min(max(time, 1), MOST_TIME)
@@ -327,7 +327,7 @@ class Core(Actor):
             queue.done += 1
             self.inside -= 1
             self.note(f"done {name} {spent} = {answer}")
-            self.give(job.name, ("done", answer, 0), f"finished {answer}")
+            self.give(job.name, (0, 0, 0, answer, 0), f"finished {answer}")
             return "FX_DONE"
         if step == PARK and not job.woken and self.reason_back(job.queue) is None:
             queue.parked.append(job)
@@ -388,41 +388,54 @@ class Caller:
     """Makes the calls of the lines. Each answers the name of a code, and what is written."""
 
     def __init__(self):
-        self.house, self.left, self.taken, self.ended, self.lines = None, 0, False, set(), None
+        self.house, self.left, self.seats, self.ended, self.lines = None, [], set(), [], None
 
     def open(self, wrong_size, cores, places, burst, notes):
         if wrong_size or not (1 <= cores <= 16 and 1 <= places <= 1024 and 1 <= burst <= 64 and notes <= MOST_NOTES):
             raise Refused("FX_BAD_NUMBER")
         self.__init__()
-        self.house, self.left = House(cores, places, burst, notes), cores
+        self.house, self.left, self.seats = House(cores, places, burst, notes), [*range(cores, -1, -1)], set(range(cores + 1))
 
     def take(self):
-        self.left -= 1
-        return "FX_OK", [self.left]
-
-    def takeoutside(self):
-        if self.taken:
+        if not self.left:
             raise Refused("FX_ABSENT")
-        self.taken = True
+        return "FX_OK", [self.left.pop(0)]
 
     def end(self, actor):
+        self.seated(actor)
+        if self.left or actor != len(self.ended):
+            raise Refused("FX_NO_ACTOR")
         if actor < self.house.cores and not self.house.actors[actor].is_drained():
             raise Refused("FX_NOT_DRAINED")
-        self.ended.add(actor)
+        self.ended.append(actor)
+        self.seats.remove(actor)
 
-    def early(self):
-        raise Refused("FX_PENDING")
-
-    def audit(self):
+    def audit(self, wrong_size):
+        self.in_size(wrong_size)
         if len(self.ended) <= self.house.cores:
             raise Refused("FX_PENDING")
+        return "FX_OK", [1, 0]
+
+    def text(self):
         self.lines = iter(self.house.text())
-        return "FX_OK", [1]
+
+    def leave(self, actor):
+        self.seated(actor)
+        self.seats.remove(actor)
 
     def free(self):
         if self.lines and next(self.lines, None) is not None:
             raise ValueError("the text of the journals ends early")
         self.house = None
+
+    def seated(self, actor):
+        if actor not in self.seats:
+            raise Refused("FX_EMPTY")
+
+    def core(self, number):
+        if number == self.house.cores:
+            raise Refused("FX_EMPTY")
+        return self.house.actors[number]
 
     def actor(self, number):
         return self.house.actors[number]
@@ -465,23 +478,22 @@ class Caller:
             raise Refused("FX_BAD_SHARES")
 
     def next(self, core, wrong_size):
+        it = self.core(core)
         self.in_size(wrong_size)
-        return self.actor(core).next()
+        return it.next()
 
     def settle(self, core, step, answer, spent):
-        return self.actor(core).settle(step, answer, spent), []
+        return self.core(core).settle(step, answer, spent), []
 
     def deliver(self, core, sender):
-        return "FX_OK" if self.actor(core).deliver(sender) else "FX_IDLE", []
+        return "FX_OK" if self.core(core).deliver(sender) else "FX_IDLE", []
 
     def collect(self, actor, core):
         return "FX_OK", self.actor(actor).collect(core)
 
     def redeem(self, actor, sender, to, number, wrong_size):
         self.in_size(wrong_size)
-        kind, first, second = self.actor(actor).redeem((sender, to, number))
-        written = {"done": [0, 0, 0, first, 0], "back": [1, first, 0, 0, second], "answer": [2, first, second, 0, 0]}
-        return "FX_OK", written[kind]
+        return "FX_OK", self.actor(actor).redeem((sender, to, number))
 
     @staticmethod
     def in_size(wrong):
@@ -492,27 +504,27 @@ class Caller:
         return "FX_OK", self.actor(actor).detach((sender, to, number))
 
     def shut(self, core, sender):
-        self.actor(core).shut(sender)
+        self.core(core).shut(sender)
 
     def close(self, core, mode):
-        self.actor(core).close(mode)
+        self.core(core).close(mode)
 
     def shows(self, actor):
         return "FX_OK" if self.actor(actor).shows() else "FX_IDLE", []
 
     def drained(self, core):
-        return "FX_OK" if self.actor(core).is_drained() else "FX_NOT_DRAINED", []
+        return "FX_OK" if self.core(core).is_drained() else "FX_NOT_DRAINED", []
 
     def stats(self, core, wrong_size):
+        it = self.core(core)
         self.in_size(wrong_size)
-        it = self.actor(core)
         room = (self.house.cores + 1) * self.house.places
         closed = 0 if it.mode is None else 1 + it.mode
         return "FX_OK", [len(it.queues), room, it.inside, it.turns, it.floor % 2**64, it.floor >> 64, int(it.running is not None), closed]
 
     def statsofqueue(self, core, queue, wrong_size):
+        queues = self.core(core).queues
         self.in_size(wrong_size)
-        queues = self.actor(core).queues
         if queue >= len(queues):
             raise Refused("FX_NO_QUEUE")
         it = queues[queue]
@@ -554,6 +566,7 @@ def main():
 
 # Each of these has to come up.
 WANTED = set("""FX_OK FX_START FX_RESUME FX_DONE FX_BACK FX_IDLE FX_BUSY FX_NO_JOB FX_FULL FX_BAD_SHARES FX_NO_QUEUE FX_CLOSED FX_BAD_NUMBER FX_PARKED
-    FX_JOURNAL_FULL FX_UNKNOWN_CORE FX_NO_ACTOR FX_UNKNOWN FX_GONE FX_PENDING FX_OPEN FX_SHUT FX_NOT_DRAINED""".split())
+    FX_JOURNAL_FULL FX_UNKNOWN_CORE FX_NO_ACTOR FX_UNKNOWN FX_GONE FX_PENDING FX_OPEN FX_SHUT
+    FX_NOT_DRAINED FX_EMPTY FX_ABSENT""".split())
 
 sys.exit(main())

@@ -27,8 +27,8 @@ static uint32_t below(uint32_t limit) { return (uint32_t)((any() >> 32) % limit)
 static bool rarely(uint32_t times) { return below(times) == 0; }
 
 static fx_house house = FX_NO_HOUSE;
+/* That of the outside actor stands behind those of the cores. */
 static fx_seat seats[MOST + 1];
-static fx_outside outside = FX_NO_OUTSIDE;
 static fx_config config;
 /* Names that each actor was given and didn't ask for yet, and how many; few others. */
 static fx_name names[MOST + 1][KEPT];
@@ -43,9 +43,6 @@ static uint32_t about(uint32_t limit) {
 }
 
 #define PRINT(...) (printf(__VA_ARGS__), calls++)
-/* A call of an actor: of a core's seat, or of the outside actor. */
-#define BY(call, ...) (actor < config.cores ? fx_seat_##call(&seats[actor], __VA_ARGS__) : fx_outside_##call(&outside, __VA_ARGS__))
-#define BY_ALONE(call) (actor < config.cores ? fx_seat_##call(&seats[actor]) : fx_outside_##call(&outside))
 
 /* Fills what a refused call has to leave. */
 static void poison(void *at, size_t size) { memset(at, 0x5a, size); }
@@ -93,27 +90,27 @@ static void order(uint32_t actor, uint32_t kind) {
     poison(&name, sizeof name);
     switch (kind) {
     case 0:
-        code = BY(submit, to, queue, number, &name);
+        code = fx_seat_submit(&seats[actor], to, queue, number, &name);
         printf("job %" PRIu32 " %" PRIu32 " %" PRIu32 " %" PRIu64, actor, to, queue, number);
         break;
     case 1:
-        code = BY(create, to, shares, &name);
+        code = fx_seat_create(&seats[actor], to, shares, &name);
         printf("create %" PRIu32 " %" PRIu32 " %" PRIu32, actor, to, shares);
         break;
     case 2:
-        code = BY(set_shares, to, queue, shares, &name);
+        code = fx_seat_set_shares(&seats[actor], to, queue, shares, &name);
         printf("shares %" PRIu32 " %" PRIu32 " %" PRIu32 " %" PRIu32, actor, to, queue, shares);
         break;
     case 3:
-        code = BY(close_queue, to, queue, mode, &name);
+        code = fx_seat_close_queue(&seats[actor], to, queue, mode, &name);
         printf("closequeue %" PRIu32 " %" PRIu32 " %" PRIu32 " %" PRIu32, actor, to, queue, mode);
         break;
     case 4:
-        code = BY(close_core, to, mode, &name);
+        code = fx_seat_close_core(&seats[actor], to, mode, &name);
         printf("closecore %" PRIu32 " %" PRIu32 " %" PRIu32, actor, to, mode);
         break;
     default:
-        code = BY(wake, &job, &name);
+        code = fx_seat_wake(&seats[actor], &job, &name);
         printf("wake %" PRIu32 " %" PRIu32 " %" PRIu32 " %" PRIu64, actor, job.to, job.from, job.number);
         break;
     }
@@ -130,8 +127,7 @@ static uint32_t next(uint32_t core) {
     PRINT("next %" PRIu32 " %" PRIu32 " = %" PRIu32 "%s", core, turn.size != sizeof turn, code,
           wrote((char *)&turn + sizeof turn.size, sizeof turn - sizeof turn.size, starts || code == FX_BACK));
     if (starts || code == FX_BACK) printf(" %" PRIu32 " %" PRIu32 " %" PRIu64, turn.name.from, turn.name.to, turn.name.number);
-    if (starts) printf(" %" PRIu32 " %" PRIu64, turn.queue, turn.job);
-    if (code == FX_BACK) printf(" %" PRIu32, turn.reason);
+    if (starts || code == FX_BACK) printf(" %" PRIu32 " %" PRIu64 " %" PRIu32, turn.queue, turn.job, turn.reason);
     printf("\n");
     return code;
 }
@@ -146,7 +142,7 @@ static void settle(uint32_t core, uint32_t step) {
 static void deliver(uint32_t core, uint32_t sender) { PRINT("deliver %" PRIu32 " %" PRIu32 " = %" PRIu32 "\n", core, sender, fx_seat_deliver(&seats[core], sender)); }
 
 static void collect(uint32_t actor, uint32_t core) {
-    uint32_t count = 0x5a5a5a5a, code = BY(collect, core, &count);
+    uint32_t count = 0x5a5a5a5a, code = fx_seat_collect(&seats[actor], core, &count);
     PRINT("collect %" PRIu32 " %" PRIu32 " = %" PRIu32 "%s", actor, core, code, wrote(&count, sizeof count, code == FX_OK));
     if (code == FX_OK) printf(" %" PRIu32, count);
     printf("\n");
@@ -157,7 +153,7 @@ static void redeem(uint32_t actor) {
     fx_outcome outcome;
     poison(&outcome, sizeof outcome);
     outcome.size = rarely(100) ? 7 : sizeof outcome;
-    uint32_t code = BY(redeem, &name, &outcome);
+    uint32_t code = fx_seat_redeem(&seats[actor], &name, &outcome);
     PRINT("redeem %" PRIu32 " %" PRIu32 " %" PRIu32 " %" PRIu64 " %" PRIu32 " = %" PRIu32 "%s", actor, name.from, name.to, name.number, outcome.size != sizeof outcome, code,
           wrote((char *)&outcome + sizeof outcome.size, sizeof outcome - sizeof outcome.size, code == FX_OK));
     if (code == FX_OK || code == FX_GONE) forget(actor, &name);
@@ -167,7 +163,7 @@ static void redeem(uint32_t actor) {
 
 static void detach(uint32_t actor) {
     fx_name name = any_name(actor);
-    uint32_t code = BY(detach, &name);
+    uint32_t code = fx_seat_detach(&seats[actor], &name);
     PRINT("detach %" PRIu32 " %" PRIu32 " %" PRIu32 " %" PRIu64 " = %" PRIu32 "\n", actor, name.from, name.to, name.number, code);
     if (code == FX_OK || code == FX_GONE) forget(actor, &name);
 }
@@ -192,8 +188,8 @@ static void stats(uint32_t core) {
 }
 
 static void tell(uint32_t actor) {
-    PRINT("shows %" PRIu32 " = %" PRIu32 "\n", actor, BY_ALONE(shows));
-    if (actor < config.cores) PRINT("drained %" PRIu32 " = %" PRIu32 "\n", actor, fx_seat_drained(&seats[actor]));
+    PRINT("shows %" PRIu32 " = %" PRIu32 "\n", actor, fx_seat_shows(&seats[actor]));
+    PRINT("drained %" PRIu32 " = %" PRIu32 "\n", actor, fx_seat_drained(&seats[actor]));
 }
 
 static void shut(uint32_t core, uint32_t sender) { PRINT("shut %" PRIu32 " %" PRIu32 " = %" PRIu32 "\n", core, sender, fx_seat_shut(&seats[core], sender)); }
@@ -202,6 +198,7 @@ static void close_by_itself(uint32_t core, uint32_t mode) { PRINT("close %" PRIu
 
 static void any_call(void) {
     uint32_t actor = below(config.cores + 1), core = below(config.cores), kind = below(1000);
+    if (rarely(100)) core = config.cores; /* the outside actor has no core */
     if (kind < 300) runs[core] == !rarely(40) ? settle(core, rarely(50) ? 3 + below(9) : rarely(3) ? below(3) : FX_STEP_DONE) : (void)next(core);
     else if (kind < 500) deliver(core, about(config.cores + 1));
     else if (kind < 580) collect(actor, about(config.cores));
@@ -247,35 +244,45 @@ static void drain(void) {
 
 static void text(void) {
     static uint8_t bytes[1000];
-    uint32_t count = 0;
+    uint64_t count = 0, from = 0;
+    size_t room = 0;
     bool begins = true;
-    while (fx_house_text(&house, bytes, 1 + below(sizeof bytes), &count) == FX_OK && count > 0) {
-        for (uint32_t each = 0; each < count; each++) {
+    do {
+        room = 1 + below(sizeof bytes);
+        if (fx_house_text(&house, from, bytes, room, &count) != FX_OK) return;
+        for (uint64_t each = 0; each < count; each++) {
             if (begins) putchar('|');
             begins = bytes[each] == '\n';
             putchar(bytes[each]);
         }
-    }
+        from += count;
+    } while (count == room);
 }
 
 /* The journals come back one by one, and are judged. */
 static void end(void) {
     fx_verdict verdict;
     bool all_ended = true;
-    for (uint32_t core = 0; core < config.cores; core++) {
-        uint32_t code = fx_house_end(&house, &seats[core]);
+    for (uint32_t actor = 0; actor <= config.cores; actor++) {
+        uint32_t other = rarely(4) ? below(config.cores + 1) : actor;
+        if (other != actor) PRINT("end %" PRIu32 " = %" PRIu32 "\n", other, fx_house_end(&house, &seats[other]));
+        verdict.size = sizeof verdict;
+        PRINT("audit 0 = %" PRIu32 "\n", fx_house_audit(&house, &verdict));
+        uint32_t code = fx_house_end(&house, &seats[actor]);
         all_ended = all_ended && code == FX_OK;
-        PRINT("end %" PRIu32 " = %" PRIu32 "\n", core, code);
+        PRINT("end %" PRIu32 " = %" PRIu32 "\n", actor, code);
     }
-    verdict.size = sizeof verdict;
-    PRINT("early = %" PRIu32 "\n", fx_house_audit(&house, &verdict));
-    PRINT("end %" PRIu32 " = %" PRIu32 "\n", config.cores, fx_house_end_outside(&house, &outside));
+    poison(&verdict, sizeof verdict);
+    verdict.size = rarely(20) ? 7 : sizeof verdict;
     uint32_t code = fx_house_audit(&house, &verdict);
-    PRINT("audit = %" PRIu32, code);
-    if (code == FX_OK) printf(" %" PRIu32, verdict.sound);
+    PRINT("audit %" PRIu32 " = %" PRIu32, verdict.size != sizeof verdict, code);
+    if (code == FX_OK) printf(" %" PRIu32 " %" PRIu32, verdict.sound, verdict.rule);
     printf("\n");
-    if (all_ended) text();
-    for (uint32_t core = 0; core < config.cores; core++) fx_seat_free(&seats[core]);
+    if (all_ended) {
+        PRINT("text = %d\n", FX_OK);
+        text();
+    }
+    for (uint32_t actor = 0; actor <= config.cores; actor++) PRINT("leave %" PRIu32 " = %" PRIu32 "\n", actor, fx_seat_free(&seats[actor]));
     PRINT("free = %" PRIu32 "\n", fx_house_free(&house));
 }
 
@@ -292,14 +299,16 @@ static void open(void) {
 }
 
 static void take(void) {
-    uint32_t number = 0;
-    for (uint32_t left = config.cores; left > 0; left--) {
+    for (uint32_t left = config.cores + 1; left > 0; left--) {
         fx_seat taken = FX_NO_SEAT;
-        PRINT("take = %" PRIu32, fx_house_take(&house, &taken, &number));
-        printf(" %" PRIu32 "\n", number);
-        seats[number] = taken;
+        uint32_t actor = MOST;
+        PRINT("take = %" PRIu32, fx_house_take(&house, &taken, &actor));
+        printf(" %" PRIu32 "\n", actor);
+        seats[actor] = taken;
     }
-    PRINT("takeoutside = %" PRIu32 "\n", fx_house_take_outside(&house, &outside));
+    fx_seat taken = FX_NO_SEAT;
+    uint32_t actor = 0;
+    PRINT("take = %" PRIu32 "\n", fx_house_take(&house, &taken, &actor));
     memset(given, 0, sizeof given);
     memset(runs, 0, sizeof runs);
     closes = rarely(3);
