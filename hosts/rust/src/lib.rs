@@ -21,10 +21,14 @@
 //! - [`Tasks`]: a house whose jobs are futures.
 
 mod core;
+mod error;
 mod house;
 pub mod raw;
+mod stats;
 mod tasks;
 
-pub use crate::core::{Core, CoreStats, Error, Mode, Next, QueueStats, Settled, Step};
+pub use crate::core::{Core, Mode, Next, Settled, Step};
+pub use error::Error;
+pub use stats::{CoreStats, QueueStats};
 pub use house::{wall_clock, Clock, Cx, House, Job, Turn};
 pub use tasks::{again, Tasks};
