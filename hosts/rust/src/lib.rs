@@ -19,10 +19,12 @@
 //! - [`Core`]: a core whose jobs are numbers.
 //! - [`House`]: a core that keeps its jobs, which are of any type; [`Job`] is a closure.
 //! - [`Tasks`]: a house whose jobs are futures.
+//! - [`linked`]: cores on threads of their own, with links between them, and an outside actor.
 
 mod core;
 mod error;
 mod house;
+pub mod linked;
 pub mod raw;
 mod stats;
 mod tasks;
