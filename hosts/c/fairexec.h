@@ -396,7 +396,7 @@ uint32_t fx_seat_deliver(fx_seat *seat, uint32_t sender) FX_NOT_NULL;
  * Collects all outcomes that the link to this core shows, and writes how many there were.
  * FX_EMPTY; FX_UNKNOWN_CORE; FX_JOURNAL_FULL: fewer notes are free than a link has places; FX_OK.
  */
-uint32_t fx_seat_collect(fx_seat *seat, uint32_t core, uint32_t *count) FX_NOT_NULL;
+uint32_t fx_seat_collect(fx_seat *seat, uint32_t core, uint64_t *count) FX_NOT_NULL;
 
 /*
  * Submits a job to a queue of a core, this one or another, and writes its name. The host may do so while it runs a job of its core.

@@ -1,0 +1,9 @@
+pub mod Codes
+pub mod Houses
+pub mod Links
+pub mod Members
+pub mod Names
+pub mod Orders
+pub mod Outcomes
+pub mod Submissions
+pub mod Turns

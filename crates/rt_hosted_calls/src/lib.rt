@@ -1,0 +1,15 @@
+//! What the calls on a house come to for a host in another language: numbers in, codes and structs of C out.
+#![tactic(auto)]
+
+pub mod code;
+pub mod house;
+pub mod links;
+pub mod member;
+pub mod names;
+pub mod orders;
+pub mod outcomes;
+pub mod submissions;
+pub mod turns;
+
+pub use code::{Code, number};
+pub use member::Member;
