@@ -156,10 +156,11 @@ static void take_answers(place *p) {
 
 /* What comes in, a turn, and what comes back. Whether anything did. */
 static bool make_round(place *p) {
-    uint32_t count;
+    uint64_t count;
     bool did = false;
     for (uint32_t sender = 0; sender <= CORES; sender++) {
-        did |= fx_seat_shut(&p->seat, sender) == FX_OK; /* once the core is closed */
+        /* Once the core is closed. Its own gate stays open for wakes while a job waits. */
+        if (sender != p->number || p->asking_count == 0) did |= fx_seat_shut(&p->seat, sender) == FX_OK;
         did |= fx_seat_deliver(&p->seat, sender) == FX_OK;
     }
     did |= turn(p);
@@ -182,7 +183,8 @@ static void *serve(void *given) {
 /* Waits for the outcome of a submission of the outside actor. */
 static fx_outcome wait_for(fx_seat *outside, fx_name *name) {
     fx_outcome outcome = {.size = sizeof outcome};
-    uint32_t code, count;
+    uint32_t code;
+    uint64_t count;
     for (;;) {
         must(fx_seat_collect(outside, name->to, &count), FX_OK, "collect");
         code = fx_seat_redeem(outside, name, &outcome);
@@ -196,7 +198,7 @@ static fx_outcome wait_for(fx_seat *outside, fx_name *name) {
 /* An order that is no job is carried out as it is delivered, and rings nobody: its sender looks. */
 static void order(fx_seat *outside, uint32_t core, uint32_t code, fx_name *name, uint32_t wanted) {
     fx_outcome outcome = {.size = sizeof outcome};
-    uint32_t count;
+    uint64_t count;
     must(code, FX_OK, "order");
     ring(core);
     while ((code = fx_seat_redeem(outside, name, &outcome)) == FX_PENDING) must(fx_seat_collect(outside, core, &count), FX_OK, "collect");

@@ -142,9 +142,10 @@ static void settle(uint32_t core, uint32_t step) {
 static void deliver(uint32_t core, uint32_t sender) { PRINT("deliver %" PRIu32 " %" PRIu32 " = %" PRIu32 "\n", core, sender, fx_seat_deliver(&seats[core], sender)); }
 
 static void collect(uint32_t actor, uint32_t core) {
-    uint32_t count = 0x5a5a5a5a, code = fx_seat_collect(&seats[actor], core, &count);
+    uint64_t count = 0x5a5a5a5a5a5a5a5a;
+    uint32_t code = fx_seat_collect(&seats[actor], core, &count);
     PRINT("collect %" PRIu32 " %" PRIu32 " = %" PRIu32 "%s", actor, core, code, wrote(&count, sizeof count, code == FX_OK));
-    if (code == FX_OK) printf(" %" PRIu32, count);
+    if (code == FX_OK) printf(" %" PRIu64, count);
     printf("\n");
 }
 

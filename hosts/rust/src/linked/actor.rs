@@ -63,7 +63,7 @@ impl<J> Actor<J> {
     }
 
     /// Collects what the links show. How many outcomes there were.
-    pub(super) fn collect(&mut self) -> Result<u32, Error> {
+    pub(super) fn collect(&mut self) -> Result<u64, Error> {
         let mut all = 0;
         for core in 0..self.lanes.cores() {
             let count = self.seat.collect(core)?;
@@ -98,6 +98,11 @@ impl<J> Actor<J> {
             }
             Err(error) => Err(error),
         }
+    }
+
+    /// Whether one more task may go to this core: on the link to the own core a place stays free for wakes.
+    pub(super) fn may_submit_task(&self, to: u32) -> bool {
+        to != self.number || self.loose[to as usize].len() + 1 < self.lanes.places() as usize
     }
 
     pub(super) fn sleep(&mut self, is_awake: impl FnOnce() -> bool) {
@@ -168,7 +173,7 @@ macro_rules! submissions {
         /// # Errors
         ///
         /// `JournalFull`.
-        pub fn collect(&mut self) -> Result<u32, Error> {
+        pub fn collect(&mut self) -> Result<u64, Error> {
             self.$actor.collect()
         }
 

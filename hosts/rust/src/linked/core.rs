@@ -147,15 +147,28 @@ impl<J> Core<J> {
         })
     }
 
-    /// Delivers one order of each actor. If the core is closed, it shuts all gates first. Whether anything happened.
+    /// Delivers one order of each actor. If the core is closed, it shuts the gates first: its own last, once no job is inside, since its jobs
+    /// may still have to be woken. Whether anything happened.
     ///
     /// # Errors
     ///
     /// `JournalFull`.
     pub fn deliver(&mut self) -> Result<bool, Error> {
+        let (own, cores) = (self.number(), self.actor.lanes.cores());
         let mut did = false;
-        for sender in 0..=self.actor.lanes.cores() {
-            did |= self.actor.seat.shut(sender).is_ok();
+        // The outside actor's gate is tried first: of an open core it tells that, and no other is tried.
+        for sender in (0..=cores).rev() {
+            if sender == own && self.stats().held > 0 {
+                continue;
+            }
+            match self.actor.seat.shut(sender) {
+                Ok(()) => did = true,
+                Err(Error::Open) => break,
+                Err(Error::Shut) => {}
+                Err(error) => return Err(error),
+            }
+        }
+        for sender in 0..=cores {
             did |= self.actor.seat.deliver(sender)?;
         }
         Ok(did)

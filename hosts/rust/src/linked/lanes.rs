@@ -25,6 +25,7 @@ struct Bell {
 /// The lanes of a house, one from each actor to each core, and a bell for each actor. A lane is locked for a move of one job.
 pub(super) struct Lanes<J> {
     cores: u32,
+    places: u32,
     lanes: Vec<Mutex<Lane<J>>>,
     bells: Vec<Bell>,
 }
@@ -36,6 +37,7 @@ impl<J> Lanes<J> {
         let lane = || Mutex::new(Lane { places: (0..room).map(|_| None).collect(), vacant: (0..room).rev().collect() });
         Lanes {
             cores,
+            places,
             lanes: (0..cores * (cores + 1)).map(|_| lane()).collect(),
             bells: (0..=cores).map(|_| Bell::default()).collect(),
         }
@@ -43,6 +45,11 @@ impl<J> Lanes<J> {
 
     pub(super) fn cores(&self) -> u32 {
         self.cores
+    }
+
+    /// How many submissions of a link may be outstanding.
+    pub(super) fn places(&self) -> u32 {
+        self.places
     }
 
     fn lane(&self, from: u32, to: u32) -> MutexGuard<'_, Lane<J>> {

@@ -106,7 +106,7 @@ impl Seat {
         }
     }
 
-    pub(super) fn collect(&mut self, core: u32) -> Result<u32, Error> {
+    pub(super) fn collect(&mut self, core: u32) -> Result<u64, Error> {
         let mut count = 0;
         // SAFETY: as above.
         refused(self.call(|it| unsafe { raw::fx_seat_collect(it, core, &mut count) }))?;

@@ -143,7 +143,8 @@ impl Task {
 }
 
 /// Starts a task on a core of the house, this one or another. It is called by a task, and tells at once what the new one comes to. The order
-/// goes out behind the run; a link that is full takes it later.
+/// goes out behind the run; a link that is full takes it later. A task holds its place of the link until it ends: tasks that wait for more tasks
+/// than there are places wait for ever.
 ///
 /// # Panics
 ///
@@ -170,13 +171,15 @@ pub async fn yield_now() {
 /// What a core has of its tasks between two rounds.
 struct Tasks {
     woken: Arc<Woken>,
-    spawned: VecDeque<Request>,
+    // What was spawned and isn't submitted yet, by its core, with its queue.
+    spawned: Vec<VecDeque<(u32, Task)>>,
 }
 
 impl Tasks {
     fn of(core: &Core<Task>) -> Tasks {
         let woken = Woken { list: Mutex::default(), core: core.number(), lanes: Arc::downgrade(&core.actor.lanes) };
-        Tasks { woken: Arc::new(woken), spawned: VecDeque::new() }
+        let spawned = (0..core.actor.lanes.cores()).map(|_| VecDeque::new()).collect();
+        Tasks { woken: Arc::new(woken), spawned }
     }
 
     /// Sends a wake for each task whose waker was called. Those for which the link has no place wait.
@@ -205,17 +208,20 @@ impl Tasks {
     /// Submits what was spawned. A task that is refused for good is dropped, which its `Join` tells.
     fn submit_spawned(&mut self, core: &mut Core<Task>) -> Result<bool, Error> {
         let mut did = false;
-        while let Some((to, queue, task)) = self.spawned.pop_front() {
-            match core.submit(to, queue, task) {
-                Ok(ticket) => core.detach(ticket)?,
-                Err((Error::Full, task)) => {
-                    self.spawned.push_front((to, queue, task));
-                    return Ok(did);
+        for (to, spawned) in (0..).zip(&mut self.spawned) {
+            while core.actor.may_submit_task(to) {
+                let Some((queue, task)) = spawned.pop_front() else { break };
+                match core.submit(to, queue, task) {
+                    Ok(ticket) => core.detach(ticket)?,
+                    Err((Error::Full, task)) => {
+                        spawned.push_front((queue, task));
+                        break;
+                    }
+                    Err((Error::JournalFull, _)) => return Err(Error::JournalFull),
+                    Err(_) => {}
                 }
-                Err((Error::JournalFull, _)) => return Err(Error::JournalFull),
-                Err(_) => {}
+                did = true;
             }
-            did = true;
         }
         Ok(did)
     }
@@ -223,7 +229,12 @@ impl Tasks {
     fn poll(&mut self, task: &mut Task, cx: &Cx<'_, Task>) -> Step {
         SPAWNED.set(Some(VecDeque::new()));
         let step = task.poll(cx.name(), &self.woken);
-        self.spawned.extend(SPAWNED.take().into_iter().flatten());
+        for (to, queue, task) in SPAWNED.take().into_iter().flatten() {
+            // There is no other core: the task is dropped.
+            if let Some(spawned) = self.spawned.get_mut(to as usize) {
+                spawned.push_back((queue, task));
+            }
+        }
         step
     }
 }
@@ -233,8 +244,11 @@ impl Core<Task> {
     ///
     /// # Errors
     ///
-    /// `JournalFull`, `Spent`.
+    /// `BadNumber` if links have a single place, since tasks and their wakes share that from a core to itself; `JournalFull`, `Spent`.
     pub fn run_tasks(&mut self) -> Result<(), Error> {
+        if self.actor.lanes.places() < 2 {
+            return Err(Error::BadNumber);
+        }
         let mut tasks = Tasks::of(self);
         while !self.is_drained() {
             let mut did = tasks.send_wakes(self)?;
