@@ -15,7 +15,7 @@ use Rattle.rt_core.specs.Closing.{HasClosed, ClosesQueue, EndsParksIf}
 use Rattle.rt_core.specs.Deliveries.{Delivers, Enters, Creates, Weighs, counted}
 use Rattle.rt_core.specs.declared.delivery.Delivered.{Delivered}
 use Rattle.rt_core.specs.declared.delivery.Delivered.TheVariants.{Took, Back, Answered}
-use Rattle.fairexec_c.specs.declared.job.HostJob.{HostJob}
+use Rattle.rt_hosted.specs.declared.job.HostJob.{HostJob}
 use Rattle.fairexec_c.specs.Hosting.{IsHosted}
 use Rattle.fairexec_c.proofs.Kept.{KeepsHost, kept, keeps_same, keeps_then, keeps_ends, keeps_wakes}
 

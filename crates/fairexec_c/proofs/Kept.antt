@@ -4,7 +4,7 @@ use Rattle.rt_ids.specs.declared.names.JobId.{JobId}
 use Rattle.rt_core.specs.State.{CoreView, JobOut}
 use Rattle.rt_core.specs.Closing.{EndsParksIf}
 use Rattle.rt_core.specs.Waking.{KeepsOutWake, KeepsLineWake, EndsPark, WakesJob, Wakes}
-use Rattle.fairexec_c.specs.declared.job.HostJob.{HostJob}
+use Rattle.rt_hosted.specs.declared.job.HostJob.{HostJob}
 use Rattle.fairexec_c.specs.Hosting.{IsRunOf}
 
 pub record KeepsHost (old new : CoreView HostJob) : Type 0 where

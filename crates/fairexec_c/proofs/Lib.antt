@@ -1,4 +1,4 @@
-mod Asked
 pub mod HandedIn
 pub mod Kept
+pub mod SeatValues
 pub mod Values

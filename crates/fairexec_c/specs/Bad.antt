@@ -1,15 +1,10 @@
 -- Answers that no call may give, each refused by the definition that judges it.
-use Rattle.std.specs.Prelude.{◌≡◌, ℕ, Some, None, [], ◌∷◌, Err}
-use Rattle.rt_ids.specs.declared.names.JobId.{JobId}
-use Rattle.rt_ids.specs.declared.names.TicketError.TheVariants.{Pending}
-use Rattle.rt_jobs.specs.declared.job.Step.TheVariants.{Done, Yield}
-use Rattle.rt_jobs.specs.Calls.Call.{Redeem}
+use Rattle.std.specs.Prelude.{◌≡◌, ℕ, Some, None}
 use Rattle.rt_core.specs.State.{CoreView}
-use Rattle.fairexec_c.specs.declared.code.Code.{Code}
-use Rattle.fairexec_c.specs.declared.code.Code.TheVariants as code
-use Rattle.fairexec_c.specs.declared.job.HostJob.{HostJob}
+use Rattle.rt_hosted_calls.specs.declared.code.Code.{Code}
+use Rattle.rt_hosted_calls.specs.declared.code.Code.TheVariants as code
+use Rattle.rt_hosted.specs.declared.job.HostJob.{HostJob}
 use Rattle.fairexec_c.specs.Handles.{OnCore}
-use Rattle.fairexec_c.specs.Jobs.{AsksOnce}
 use Rattle.fairexec_c.specs.Opening.{Opens, OpensCore}
 use Rattle.fairexec_c.specs.Running.{SettlesStep, step_of}
 use Rattle.fairexec_c.specs.Waking.{WakesNumber}
@@ -33,14 +28,6 @@ opening_is_empty told = told
 -- a run comes to a step that isn't one
 pub no_step_is_ok : (old new : CoreView HostJob) → SettlesStep old (step_of 3) 10 code.Ok new → ⊥
 no_step_is_ok old new told = told
-
--- a job is done that hears that its run isn't
-pub done_unheard : (name : JobId) → AsksOnce (Redeem name (Err Pending) ∷ []) (Done 0) → ⊥
-done_unheard name told = cc told
-
--- a job doesn't ask
-pub unasked : AsksOnce [] Yield → ⊥
-unasked told = told
 
 -- a wake is told as a park
 pub wake_is_parked : (old new : CoreView HostJob) → WakesNumber old 1 code.Parked new → ⊥

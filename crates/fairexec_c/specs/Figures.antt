@@ -1,27 +1,16 @@
 -- What a core tells of itself in numbers.
-use Rattle.std.specs.Prelude.{◌≡◌, ℕ, ◌+◌, ◌*◌, ◌^◌, ◌<◌, ◌≤◌, Option, Some, None, is_some}
-use Rattle.rt_ids.specs.declared.order.Mode.{Mode}
-use Rattle.rt_ids.specs.declared.order.Mode.TheVariants.{Finish, Return}
+use Rattle.std.specs.Prelude.{◌≡◌, ℕ, ◌<◌, ◌≤◌, Option, Some, None, is_some}
 use Rattle.rt_ids.specs.declared.stats.QueueStats.{QueueStats}
 use Rattle.rt_ids.specs.Work.{number_if}
 use Rattle.rt_taskqueue.specs.Queues.{queue_count}
 use Rattle.rt_core.specs.State.{CoreView, inside_count}
 use Rattle.rt_core.specs.Figures.{queue_stats}
-use Rattle.fairexec_c.specs.declared.code.Code.{Code}
-use Rattle.fairexec_c.specs.declared.code.Code.TheVariants as code
-use Rattle.fairexec_c.specs.declared.figures.CoreFigures.{CoreFigures}
-use Rattle.fairexec_c.specs.declared.figures.QueueFigures.{QueueFigures}
-use Rattle.fairexec_c.specs.declared.job.HostJob.{HostJob}
-
--- two halves of 64 bits, the low one first
-abbrev pub whole : ℕ → ℕ → ℕ
-whole low high = low + high * 2 ^ 64
-
--- 0 for an open core, else 1 and the number of its mode
-abbrev pub closed_number : Option Mode → ℕ
-closed_number None = 0
-closed_number (Some Finish) = 1
-closed_number (Some Return) = 2
+use Rattle.rt_hosted_calls.specs.declared.code.Code.{Code}
+use Rattle.rt_hosted_calls.specs.declared.code.Code.TheVariants as code
+use Rattle.rt_hosted_calls.specs.declared.figures.CoreFigures.{CoreFigures}
+use Rattle.rt_hosted_calls.specs.declared.figures.QueueFigures.{QueueFigures}
+use Rattle.rt_hosted_calls.specs.Figures.{AreFiguresOf, closed_number, whole}
+use Rattle.rt_hosted.specs.declared.job.HostJob.{HostJob}
 
 -- these are the numbers of the core
 pub record AreCoreFigures (view : CoreView HostJob) (figures : CoreFigures) : Type 0 where
@@ -33,17 +22,6 @@ pub record AreCoreFigures (view : CoreView HostJob) (figures : CoreFigures) : Ty
   pub floor : whole figures.floor_low figures.floor_high ≡ view.floor
   pub running : figures.running ≡ number_if (is_some view.out)
   pub closed : figures.closed ≡ closed_number view.mode
-
--- these are the numbers of the queue
-pub record AreQueueFigures (view : CoreView HostJob) (queue : ℕ) (figures : QueueFigures) : Type 0 where
-  pub size : figures.size ≡ 72
-  pub shares : figures.shares ≡ (queue_stats queue view).shares
-  pub picks : figures.picks ≡ (queue_stats queue view).selected
-  pub waiting : figures.waiting ≡ (queue_stats queue view).waiting
-  pub done : figures.done ≡ (queue_stats queue view).finished
-  pub back : figures.back ≡ (queue_stats queue view).returned
-  pub time : whole figures.time_low figures.time_high ≡ (queue_stats queue view).runtime
-  pub standing : whole figures.virtual_low figures.virtual_high ≡ (queue_stats queue view).virtual_runtime
 
 -- the counts of a queue, if there is one of this number
 abbrev pub IsStatsOf : CoreView HostJob → ℕ → Option QueueStats → Type 0
@@ -58,7 +36,7 @@ TellsCore view before other after = ⊥
 
 -- so are those of a queue
 abbrev pub TellsQueue : CoreView HostJob → ℕ → QueueFigures → Code → QueueFigures → Type 0
-TellsQueue view queue before code.Ok after = (before.size ≡ 72) × (queue < queue_count view.queues) × AreQueueFigures view queue after
+TellsQueue view queue before code.Ok after = (before.size ≡ 72) × (queue < queue_count view.queues) × AreFiguresOf (queue_stats queue view) after
 TellsQueue view queue before code.BadNumber after = (before.size ≡ 72 → ⊥) × (after ≡ before)
 TellsQueue view queue before code.NoQueue after = (before.size ≡ 72) × (queue_count view.queues ≤ queue) × (after ≡ before)
 TellsQueue view queue before other after = ⊥

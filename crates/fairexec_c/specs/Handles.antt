@@ -7,10 +7,10 @@ use Rattle.std.specs.Box.Ownership.{box_owns}
 use Rattle.std.specs.declared.alloc.Global.{Global}
 use Rattle.std.specs.contracts.impls.GlobalAllocator.TheImpl.{ghosts}
 use Rattle.rt_core.specs.State.{CoreView}
-use Rattle.fairexec_c.specs.declared.code.Code.{Code}
-use Rattle.fairexec_c.specs.declared.code.Code.TheVariants as code
-use Rattle.fairexec_c.specs.declared.job.HostJob.{HostJob}
-use Rattle.fairexec_c.specs.Codes.{number_of}
+use Rattle.rt_hosted_calls.specs.declared.code.Code.{Code}
+use Rattle.rt_hosted_calls.specs.declared.code.Code.TheVariants as code
+use Rattle.rt_hosted.specs.declared.job.HostJob.{HostJob}
+use Rattle.rt_hosted_calls.specs.Codes.{number_of}
 
 -- nothing at null, else a box of this value
 abbrev pub held : (R : RattleType) → Global → Ptr → Option R.Denot → Fml
@@ -26,9 +26,14 @@ inside part (Some whole) = Some (part whole)
 abbrev pub Answers : ℕ → (Code → Type 0) → Type 0
 Answers number holds = (told : Code) × (number ≡ number_of told) × holds told
 
--- a call on the core of a handle; an empty handle is told so, and stays empty
-abbrev pub OnCore : Option (CoreView HostJob) → Option (CoreView HostJob) → ℕ → (CoreView HostJob → Code → CoreView HostJob → Type 0) → Type 0
+-- a call on what a handle holds; an empty handle is told so, and stays empty
+abbrev pub OnCore : {V : Type 0} → Option V → Option V → ℕ → (V → Code → V → Type 0) → Type 0
 OnCore None None number does = number ≡ number_of code.Empty
 OnCore (Some old) (Some new) number does = Answers number (λ told. does old told new)
 OnCore None (Some new) number does = ⊥
 OnCore (Some old) None number does = ⊥
+
+-- the handle is empty, and is told so if it was before
+abbrev pub Frees : {V : Type 0} → Option V → ℕ → Option V → Type 0
+Frees None number new = (number ≡ number_of code.Empty) × (new ≡ None)
+Frees (Some old) number new = (number ≡ number_of code.Ok) × (new ≡ None)

@@ -9,9 +9,9 @@ use Rattle.rt_core.specs.declared.delivery.Delivered.{Delivered}
 use Rattle.rt_core.specs.State.{CoreView, JobOut, delivered_of, inside_count}
 use Rattle.rt_core.specs.Deliveries.{Delivers, Enters, CountsAlone}
 use Rattle.rt_core.specs.Closing.{refusal}
-use Rattle.fairexec_c.specs.declared.code.Code.{Code}
-use Rattle.fairexec_c.specs.declared.code.Code.TheVariants as code
-use Rattle.fairexec_c.specs.declared.job.HostJob.{HostJob}
+use Rattle.rt_hosted_calls.specs.declared.code.Code.{Code}
+use Rattle.rt_hosted_calls.specs.declared.code.Code.TheVariants as code
+use Rattle.rt_hosted.specs.declared.job.HostJob.{HostJob}
 
 -- the job that the host runs is the one that is out, and it isn't done
 abbrev pub IsRunOf : Option (JobOut HostJob) → Option HostJob → Type 0

@@ -1,11 +1,10 @@
 pub mod Bad
-pub mod Codes
 pub mod Figures
 pub mod Handles
+pub mod Houses
 pub mod Opening
 pub mod Hosting
-pub mod Jobs
 pub mod Queueing
 pub mod Running
+pub mod Seats
 pub mod Waking
-pub mod Words

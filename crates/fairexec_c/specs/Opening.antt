@@ -1,10 +1,10 @@
 -- How a handle gets its core, and how it loses it.
 use Rattle.std.specs.Prelude.{◌≡◌, ◌⊎◌, ℕ, ◌+◌, ◌*◌, ◌/◌, ◌<◌, ◌≤◌, Option, Some, None}
 use Rattle.rt_core.specs.State.{CoreView, opened}
-use Rattle.fairexec_c.specs.declared.code.Code.{Code}
-use Rattle.fairexec_c.specs.declared.code.Code.TheVariants as code
-use Rattle.fairexec_c.specs.declared.job.HostJob.{HostJob}
-use Rattle.fairexec_c.specs.Codes.{number_of}
+use Rattle.rt_hosted_calls.specs.declared.code.Code.{Code}
+use Rattle.rt_hosted_calls.specs.declared.code.Code.TheVariants as code
+use Rattle.rt_hosted.specs.declared.job.HostJob.{HostJob}
+use Rattle.rt_hosted_calls.specs.Codes.{number_of}
 use Rattle.fairexec_c.specs.Handles.{Answers}
 
 -- half of the jobs, rounded up: the capacity of each of the two links for which a core keeps room
@@ -22,8 +22,3 @@ OpensCore jobs other new = ⊥
 abbrev pub Opens : Option (CoreView HostJob) → ℕ → ℕ → Option (CoreView HostJob) → Type 0
 Opens None jobs number new = Answers number (λ told. OpensCore jobs told new)
 Opens (Some old) jobs number new = (number ≡ number_of code.Occupied) × (new ≡ Some old)
-
--- the handle is empty, and is told so if it was before
-abbrev pub Frees : Option (CoreView HostJob) → ℕ → Option (CoreView HostJob) → Type 0
-Frees None number new = (number ≡ number_of code.Empty) × (new ≡ None)
-Frees (Some old) number new = (number ≡ number_of code.Ok) × (new ≡ None)

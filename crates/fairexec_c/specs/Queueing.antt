@@ -1,7 +1,6 @@
 -- What the calls on queues and their closing do: the core before, what is handed in, the code, and the core after.
 use Rattle.std.specs.Prelude.{◌≡◌, ◌⊎◌, ◌==◌, if◌then◌else◌, ℕ, ◌-◌, ◌^◌, ◌<◌, ◌≤◌, true, false, Option, Some, None}
 use Rattle.rt_ids.specs.declared.order.Mode.{Mode}
-use Rattle.rt_ids.specs.declared.order.Mode.TheVariants.{Finish, Return}
 use Rattle.rt_ids.specs.Limits.{most_queues}
 use Rattle.rt_ids.specs.Closing.{closes}
 use Rattle.rt_ids.specs.Parks.{is_return}
@@ -9,15 +8,11 @@ use Rattle.rt_taskqueue.specs.Queues.{queue_count, mode_of}
 use Rattle.rt_core.specs.State.{CoreView, delivered_of, inside_count}
 use Rattle.rt_core.specs.Deliveries.{Creates, Weighs, counted}
 use Rattle.rt_core.specs.Closing.{HasClosed, EndsParksIf}
-use Rattle.fairexec_c.specs.declared.code.Code.{Code}
-use Rattle.fairexec_c.specs.declared.code.Code.TheVariants as code
-use Rattle.fairexec_c.specs.declared.job.HostJob.{HostJob}
+use Rattle.rt_hosted_calls.specs.declared.code.Code.{Code}
+use Rattle.rt_hosted_calls.specs.declared.code.Code.TheVariants as code
+use Rattle.rt_hosted.specs.declared.job.HostJob.{HostJob}
+use Rattle.rt_hosted_calls.specs.Orders.{AreShares}
 use Rattle.fairexec_c.specs.Hosting.{TakesOrders, RefusesOrder, next_name}
-
--- a number that shares may have
-pub record AreShares (shares : ℕ) : Type 0 where
-  pub some : 1 ≤ shares
-  pub few : shares ≤ 10000
 
 -- a queue is made under the next number, which is told; a refusal is the first of these, and then nothing is told, and nothing changes
 abbrev pub MakesQueue : CoreView HostJob → ℕ → ℕ → Code → ℕ → CoreView HostJob → Type 0
@@ -40,10 +35,6 @@ Reweighs old queue shares code.Spent new =
 Reweighs old queue shares code.NoQueue new =
     AreShares shares × TakesOrders old × (queue < most_queues → queue_count old.queues ≤ queue) × RefusesOrder old queue new
 Reweighs old queue shares other new = ⊥
-
--- the mode of a number, if it is one
-abbrev pub mode_of_number : ℕ → Option Mode
-mode_of_number number = if number == 0 then Some Finish else if number == 1 then Some Return else None
 
 -- a queue is closed, unless it was so before; if it hands back, the parks of its jobs end
 abbrev pub ClosesLine : CoreView HostJob → ℕ → Option Mode → Code → CoreView HostJob → Type 0

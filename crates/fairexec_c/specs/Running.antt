@@ -15,10 +15,10 @@ use Rattle.rt_core.specs.State.{CoreView}
 use Rattle.rt_core.specs.Answers.{IsTaskOut}
 use Rattle.rt_core.specs.Turns.{Picks}
 use Rattle.rt_core.specs.Settling.{SettlesOut}
-use Rattle.fairexec_c.specs.declared.code.Code.{Code}
-use Rattle.fairexec_c.specs.declared.code.Code.TheVariants as code
-use Rattle.fairexec_c.specs.declared.job.HostJob.{HostJob}
-use Rattle.fairexec_c.specs.Jobs.{host_meaning}
+use Rattle.rt_hosted_calls.specs.declared.code.Code.{Code}
+use Rattle.rt_hosted_calls.specs.declared.code.Code.TheVariants as code
+use Rattle.rt_hosted.specs.declared.job.HostJob.{HostJob}
+use Rattle.rt_hosted.specs.Jobs.{host_meaning}
 
 -- the code of a pick
 abbrev pub code_of_turn : Result (Turn HostJob) PickError → Code

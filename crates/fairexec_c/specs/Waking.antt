@@ -4,9 +4,9 @@ use Rattle.rt_ids.specs.Commands.{job_at}
 use Rattle.rt_core.specs.State.{CoreView, delivered_of, inside_count}
 use Rattle.rt_core.specs.Deliveries.{counted}
 use Rattle.rt_core.specs.Waking.{Wakes}
-use Rattle.fairexec_c.specs.declared.code.Code.{Code}
-use Rattle.fairexec_c.specs.declared.code.Code.TheVariants as code
-use Rattle.fairexec_c.specs.declared.job.HostJob.{HostJob}
+use Rattle.rt_hosted_calls.specs.declared.code.Code.{Code}
+use Rattle.rt_hosted_calls.specs.declared.code.Code.TheVariants as code
+use Rattle.rt_hosted.specs.declared.job.HostJob.{HostJob}
 use Rattle.fairexec_c.specs.Hosting.{TakesOrders, next_name}
 
 -- a job's number is told as it enters; else what stood there stays

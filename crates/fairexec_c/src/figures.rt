@@ -1,50 +1,11 @@
-//! What a core tells of itself in numbers, as structs that C reads.
+//! What a core tells of itself in numbers.
 
-ghost use Rattle.std.specs.Prelude.{◌≡◌, ℕ, ◌+◌, ◌*◌, ◌^◌, ◌<◌};
-ghost use Rattle.fairexec_c.specs.Figures.{TellsCore, TellsQueue, IsStatsOf, closed_number};
+ghost use Rattle.fairexec_c.specs.Figures.{TellsCore, TellsQueue, IsStatsOf};
 
-use crate::code::Code;
 use crate::hosted::Hosted;
-use rt_ids::{Mode, QueueStats};
-
-/// The counts of a core, as `fx_core_stats` of the header has them.
-#[repr(C)]
-#[derive(Clone, Copy)]
-pub struct CoreFigures {
-    /// The caller tells how many bytes the struct has.
-    pub size: u32,
-    pub queues: u32,
-    pub room: u64,
-    pub held: u64,
-    pub turns: u64,
-    pub floor_low: u64,
-    pub floor_high: u64,
-    pub running: u32,
-    pub closed: u32,
-}
-
-/// The counts of a queue, as `fx_queue_stats` of the header has them. Times are nanoseconds.
-#[repr(C)]
-#[derive(Clone, Copy)]
-pub struct QueueFigures {
-    /// The caller tells how many bytes the struct has.
-    pub size: u32,
-    pub shares: u32,
-    pub picks: u64,
-    pub waiting: u64,
-    pub done: u64,
-    pub back: u64,
-    pub time_low: u64,
-    pub time_high: u64,
-    pub virtual_low: u64,
-    pub virtual_high: u64,
-}
-
-/// The bytes of `fx_core_stats`.
-const CORE_SIZE: u32 = 56;
-
-/// The bytes of `fx_queue_stats`.
-const QUEUE_SIZE: u32 = 72;
+use rt_hosted_calls::Code;
+use rt_hosted_calls::figures::{CORE_SIZE, CoreFigures, QUEUE_SIZE, QueueFigures, low_and_high, number_of_mode, queue_figures};
+use rt_ids::QueueStats;
 
 impl Hosted {
     /// Tells the counts of the core.
@@ -80,20 +41,7 @@ impl Hosted {
         let Some(of_queue) = self.stats_of(queue) else {
             return Code::NoQueue;
         };
-        let (time_low, time_high) = low_and_high(of_queue.runtime);
-        let (virtual_low, virtual_high) = low_and_high(of_queue.virtual_runtime);
-        *figures = QueueFigures {
-            size: QUEUE_SIZE,
-            shares: of_queue.shares.get(),
-            picks: of_queue.selected,
-            waiting: of_queue.waiting,
-            done: of_queue.finished,
-            back: of_queue.returned,
-            time_low,
-            time_high,
-            virtual_low,
-            virtual_high,
-        };
+        *figures = queue_figures(&of_queue);
         Code::Ok
     }
 
@@ -108,24 +56,5 @@ impl Hosted {
         } else {
             None
         }
-    }
-}
-
-/// The low and the high 64 bits of a number.
-fn low_and_high(number: u128) -> (u64, u64)
-    ensures { result.0 + result.1 * 2 ^ 64 ≡ number }
-{
-    let half: u128 = 1 << 64;
-    ((number % half) as u64, (number / half) as u64)
-}
-
-/// 0 for an open core, else 1 and the number of its mode.
-fn number_of_mode(mode: Option<Mode>) -> u32
-    ensures { result ≡ closed_number mode }
-{
-    match mode {
-        None => 0,
-        Some(Mode::Finish) => 1,
-        Some(Mode::Return) => 2,
     }
 }

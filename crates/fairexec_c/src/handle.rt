@@ -2,7 +2,7 @@
 
 ghost use Rattle.std.specs.Prelude.{◌≡◌, Option, Some, None};
 ghost use Rattle.fairexec_c.specs.Handles.{inside};
-ghost use Rattle.fairexec_c.specs.declared.job.HostJob.{HostJob};
+ghost use Rattle.rt_hosted.specs.declared.job.HostJob.{HostJob};
 ghost use Rattle.rt_core.specs.State.{CoreView};
 
 use crate::hosted::Hosted;
@@ -23,7 +23,7 @@ impl Model for Handle {
     ghost use Rattle.std.specs.Prelude.{Option};
     ghost use Rattle.rt_core.specs.State.{CoreView};
     ghost use Rattle.fairexec_c.specs.Handles.{held};
-    ghost use Rattle.fairexec_c.specs.declared.job.HostJob.{HostJob};
+    ghost use Rattle.rt_hosted.specs.declared.job.HostJob.{HostJob};
     ghost use Rattle.fairexec_c.specs.contracts.hosted.Hosted.{the_row};
 
     ghost also_owns = { λ handle. held the_row handle.alloc handle.at handle.value };

@@ -5,15 +5,15 @@ ghost use Rattle.rt_core.specs.State.{delivered_of, inside_count, opened};
 ghost use Rattle.rt_ids.specs.Work.{number_if};
 ghost use Rattle.rt_jobs.specs.Ready.{HasReadyJob};
 ghost use Rattle.fairexec_c.specs.Hosting.{HandsIn};
-ghost use Rattle.fairexec_c.specs.Jobs.{host_meaning};
+ghost use Rattle.rt_hosted.specs.Jobs.{host_meaning};
 ghost use Rattle.fairexec_c.specs.Opening.{OpensCore, half_room};
-ghost use Rattle.fairexec_c.specs.declared.code.Code.TheVariants as code;
+ghost use Rattle.rt_hosted_calls.specs.declared.code.Code.TheVariants as code;
 ghost use Rattle.fairexec_c.specs.Running.{Nexts, SettlesStep, step_of};
 
-use crate::code::Code;
-use crate::job::HostJob;
-use crate::word::poll_told;
 use rt_core::{Core, Delivered, PickError, Settled, Turn};
+use rt_hosted::HostJob;
+use rt_hosted::word::poll_told;
+use rt_hosted_calls::Code;
 use rt_ids::{ActorNo, CoreNo, Envelope, JobId, Order};
 use rt_jobs::Step;
 use std::alloc::{AllocError, Global};
@@ -33,7 +33,7 @@ pub struct Hosted {
 
 impl Model for Hosted {
     ghost use Rattle.rt_core.specs.State.{CoreView};
-    ghost use Rattle.fairexec_c.specs.declared.job.HostJob.{HostJob};
+    ghost use Rattle.rt_hosted.specs.declared.job.HostJob.{HostJob};
     ghost use Rattle.fairexec_c.specs.Hosting.{IsHosted};
 
     ghost Value = { CoreView HostJob };

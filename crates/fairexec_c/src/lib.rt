@@ -5,25 +5,27 @@
 
 ghost use Rattle.std.specs.Prelude.{◌≡◌, None};
 ghost use Rattle.fairexec_c.specs.Figures.{TellsCore, TellsQueue};
-ghost use Rattle.fairexec_c.specs.Handles.{OnCore};
+ghost use Rattle.fairexec_c.specs.Handles.{Frees, OnCore};
 ghost use Rattle.fairexec_c.specs.Hosting.{Submits};
-ghost use Rattle.fairexec_c.specs.Opening.{Opens, OpensCore, Frees};
-ghost use Rattle.fairexec_c.specs.Queueing.{MakesQueue, Reweighs, ClosesLine, ClosesAll, mode_of_number};
+ghost use Rattle.fairexec_c.specs.Opening.{Opens, OpensCore};
+ghost use Rattle.fairexec_c.specs.Queueing.{MakesQueue, Reweighs, ClosesLine, ClosesAll};
+ghost use Rattle.rt_hosted_calls.specs.Orders.{mode_of_number};
 ghost use Rattle.fairexec_c.specs.Running.{Nexts, SettlesStep, step_of};
 ghost use Rattle.fairexec_c.specs.Waking.{TellsNumber, WakesNumber};
 
-pub mod code;
 pub mod figures;
 pub mod handle;
 pub mod hosted;
-pub mod job;
+pub mod houses;
 pub mod orders;
-pub mod word;
+pub mod seat;
+pub mod seats;
+pub mod sends;
 
-use crate::code::{Code, number};
-use crate::figures::{CoreFigures, QueueFigures};
 use crate::handle::{Handle, put, take};
 use crate::hosted::open_for;
+use rt_hosted_calls::figures::{CoreFigures, QueueFigures};
+use rt_hosted_calls::{Code, number};
 use std::alloc::Global;
 
 /// The version of the interface, `FX_VERSION` of the header.

@@ -1,15 +1,16 @@
 //! What the host asks of its core: jobs that enter and are woken, queues, shares, and closing.
 
-ghost use Rattle.std.specs.Prelude.{◌≡◌};
 ghost use Rattle.fairexec_c.specs.Hosting.{Submits};
-ghost use Rattle.fairexec_c.specs.Queueing.{MakesQueue, Reweighs, ClosesLine, ClosesAll, mode_of_number};
+ghost use Rattle.fairexec_c.specs.Queueing.{MakesQueue, Reweighs, ClosesLine, ClosesAll};
+ghost use Rattle.rt_hosted_calls.specs.Orders.{mode_of_number};
 ghost use Rattle.fairexec_c.specs.Waking.{TellsNumber, WakesNumber};
 
-use crate::code::Code;
 use crate::hosted::Hosted;
-use crate::job::HostJob;
 use rt_core::Delivered;
-use rt_ids::{ActorNo, Answer, Mode, Order, QueueNo, Reason};
+use rt_hosted::HostJob;
+use rt_hosted_calls::Code;
+use rt_hosted_calls::orders::mode_numbered;
+use rt_ids::{ActorNo, Answer, Order, QueueNo, Reason};
 use rt_shares::Shares;
 use rt_taskqueue::CreateError;
 
@@ -143,16 +144,5 @@ impl Hosted {
         };
         let (closed, _notes) = self.core.close(mode);
         if closed { Code::Ok } else { Code::CoreClosed }
-    }
-}
-
-/// The mode of this number.
-fn mode_numbered(number: u32) -> Option<Mode>
-    ensures { result ≡ mode_of_number number }
-{
-    match number {
-        0 => Some(Mode::Finish),
-        1 => Some(Mode::Return),
-        _ => None,
     }
 }

@@ -1,5 +1,6 @@
 mod Asked
 pub mod Begun
+pub mod Crosses
 pub mod Kept
 pub mod OnIns
 pub mod OnOuts

@@ -13,6 +13,10 @@ use Rattle.rt_hosted.specs.Turns.{SettlesStep}
 pub done_unheard : (name : JobId) → AsksOnce (Redeem name (Err Pending) ∷ []) (Done 0) → ⊥
 done_unheard name told = cc told
 
+-- a job doesn't ask
+pub unasked : AsksOnce [] Yield → ⊥
+unasked told = told
+
 -- a settled run is told that the journal is full
 pub settling_is_full : (old new : HostedView) → SettlesStep old Yield 10 (Err refusal.JournalFull) new → ⊥
 settling_is_full old new told = told

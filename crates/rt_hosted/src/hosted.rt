@@ -1,6 +1,6 @@
 //! A core whose jobs the host runs, over its actor's ends of the links.
 
-ghost use Rattle.std.specs.Prelude.{◌≡◌, ◌≢◌, ◌^◌, ◌<◌, ◌↔◌, IfErr, IfOk, IsTrue, length};
+ghost use Rattle.std.specs.Prelude.{◌≡◌, ◌≢◌, ◌+◌, ◌*◌, ◌^◌, ◌<◌, ◌↔◌, IfErr, IfOk, IsSome, IsTrue, length};
 ghost use Rattle.arrayvec.specs.ArrayVec.{array_vec_len};
 ghost use Rattle.rt_ids.specs.Closing.{IsDrained};
 ghost use Rattle.rt_journal.specs.Stats.{TellsCore, TellsQueues};
@@ -74,6 +74,13 @@ impl Hosted {
             ends,
             run: None,
         })
+    }
+
+    /// The number of the core.
+    pub fn number(&self) -> CoreNo
+        ensures { result ≡ self.now.recorded.core.core }
+    {
+        CoreNo(self.ends.number.0)
     }
 
     /// Whether there is room for so many notes, beside the one that settles the job that is out.
@@ -282,6 +289,27 @@ impl Hosted {
         ensures queues { length self.now.recorded.journal.notes < 2 ^ 64 → TellsQueues self.now.recorded.core.bursts.burst self.now.recorded.journal.notes (array_vec_len result.1) result.1.items }
     {
         told_stats(&self.recorded)
+    }
+
+    /// Whether the host runs a job of this core.
+    pub fn is_running(&self) -> bool
+        ensures { IsTrue result ↔ IsSome self.now.recorded.core.out }
+    {
+        self.run.is_some()
+    }
+
+    /// How the core is closed, if it is.
+    pub fn mode(&self) -> Option<Mode>
+        ensures { result ≡ self.now.recorded.core.mode }
+    {
+        self.recorded.core().mode()
+    }
+
+    /// For how many jobs there is room.
+    pub fn room(&self) -> u64
+        ensures { result ≡ (self.now.recorded.core.cores + 1) * self.now.recorded.cap }
+    {
+        (u64::from(self.cores) + 1) * u64::from(self.recorded.cap())
     }
 
     /// The notes of this core.

@@ -8,7 +8,7 @@ mod lent;
 mod outs;
 pub mod told;
 mod turns;
-mod word;
+pub mod word;
 
 pub use answers::{Picked, Refusal};
 pub use hosted::Hosted;

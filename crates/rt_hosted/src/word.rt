@@ -4,6 +4,7 @@ ghost use Rattle.std.specs.Prelude.{◌≡◌, false, None};
 ghost use Rattle.rt_hosted.specs.Words.{word_notes};
 ghost use Rattle.rt_jobs.specs.Posts.{NotesSubmit, NotesRedeem, NotesDetach};
 ghost use Rattle.rt_jobs.specs.Ready.{HasReadyJob};
+ghost use Rattle.rt_jobs.specs.Steps.{IfUndone};
 ghost use Rattle.rt_journal.specs.Turns.{IsPolled};
 ghost use Rattle.rt_hosted.specs.Jobs.{host_meaning};
 
@@ -65,6 +66,7 @@ pub fn poll_told(job: HostJob, step: Step<u64>) -> Ran<HostJob>
     ensures step { result.step ≡ step }
     ensures told { result.told ≡ None }
     ensures polled { IsPolled host_meaning result }
+    ensures same { IfUndone result.step (job.handle ≡ result.job.handle) }
 {
     let mut word = Word { step, asked: None };
     Ran::poll(job, &mut word)

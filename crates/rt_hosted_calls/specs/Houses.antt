@@ -1,6 +1,5 @@
 -- A house as the host keeps it.
 use Rattle.std.specs.Prelude.{◌≡◌, ℕ, ◌<◌, ◌≤◌, Option, Some, None, Result, Ok, Err, List, [], ◌∷◌, ◌++◌, length}
-use Rattle.rt_journal_notes.specs.Journals.{JournalView}
 use Rattle.rt_hosted.specs.Hosted.{HostedView}
 use Rattle.rt_hosted_house.specs.Houses.{AreGood, HouseView, IsOpened}
 use Rattle.rt_hosted_house.specs.Outside.{CallerView}
@@ -9,21 +8,7 @@ use Rattle.rt_hosted_calls.specs.declared.code.Code.TheVariants as code
 use Rattle.rt_hosted_calls.specs.declared.house.Config.{Config}
 use Rattle.rt_hosted_calls.specs.declared.member.Member.{Member}
 use Rattle.rt_hosted_calls.specs.declared.member.Member.TheVariants as member
-
--- its numbers, the cores and the outside actor that nobody took yet, and the journals that were handed in
-pub record KeptView : Type 0 where
-  pub cores : ℕ
-  pub cap : ℕ
-  pub burst : ℕ
-  pub left : List HostedView
-  pub outside : Option CallerView
-  pub journals : List (JournalView ℕ)
-
--- a journal is missing, and there is room for it
-pub record IsWaiting (cores : ℕ) (left : List HostedView) (journals : List (JournalView ℕ)) (capacity : ℕ) : Type 0 where
-  pub few : length left ≤ cores
-  pub missing : length journals ≤ cores
-  pub room : cores < capacity
+use Rattle.rt_hosted_calls.specs.Kept.{KeptView}
 
 -- a house that was just opened, as it is kept
 abbrev pub kept_of : ℕ → ℕ → ℕ → HouseView → KeptView
@@ -47,11 +32,52 @@ OpensKept config (Err code.BadNumber) = IsFit config → ⊥
 OpensKept config (Err code.NoMemory) = IsFit config
 OpensKept config (Err other) = ⊥
 
--- the next seat goes out, with its number: the outside actor's, then that of the last core
-abbrev pub TakesOut : KeptView → Option (Member × ℕ) → KeptView → Type 0
-TakesOut old None new = (old.outside ≡ None) × (old.left ≡ []) × (new ≡ old)
-TakesOut old (Some (member.Outside view, number)) new = (old.outside ≡ Some view) × (number ≡ old.cores) × (new ≡ record old { outside = None })
-TakesOut old (Some (member.Core view, number)) new =
-    (old.outside ≡ None) × (old.left ≡ new.left ++ view ∷ []) × (number ≡ length new.left) × (new ≡ record old { left = new.left })
-TakesOut old (Some (member.House view, number)) new = ⊥
-TakesOut old (Some (member.Ended view, number)) new = ⊥
+-- the core that it is, if it is one
+abbrev pub core_in : Member → Option HostedView
+core_in (member.House view) = None
+core_in (member.Core view) = Some view
+core_in (member.Outside view) = None
+core_in (member.Ended view) = None
+
+-- the outside actor that it is, if it is one
+abbrev pub outside_in : Member → Option CallerView
+outside_in (member.House view) = None
+outside_in (member.Core view) = None
+outside_in (member.Outside view) = Some view
+outside_in (member.Ended view) = None
+
+-- the last core goes out, with its number
+abbrev pub TakesCore : KeptView → Member → ℕ → KeptView → Type 0
+TakesCore old (member.Core view) number new = (old.left ≡ new.left ++ view ∷ []) × (number ≡ length new.left) × (new ≡ record old { left = new.left })
+TakesCore old (member.House view) number new = ⊥
+TakesCore old (member.Outside view) number new = ⊥
+TakesCore old (member.Ended view) number new = ⊥
+
+-- none goes out: none is left, or there is no memory
+abbrev pub TakesNoCore : KeptView → Code → KeptView → Type 0
+TakesNoCore old code.Absent new = (old.left ≡ []) × (new ≡ old)
+TakesNoCore old code.NoMemory new = new ≡ old
+TakesNoCore old other new = ⊥
+
+-- the next seat goes out, with its number: that of the outside actor, then the last core
+abbrev pub TakesOut : KeptView → Member → ℕ → KeptView → Type 0
+TakesOut old (member.Outside view) number new = (old.outside ≡ Some view) × (number ≡ old.cores) × (new ≡ record old { outside = None })
+TakesOut old (member.Core view) number new = (old.outside ≡ None) × TakesCore old (member.Core view) number new
+TakesOut old (member.House view) number new = ⊥
+TakesOut old (member.Ended view) number new = ⊥
+
+-- none goes out: all are taken, or there is no memory
+abbrev pub TakesNone : KeptView → Code → KeptView → Type 0
+TakesNone old code.Absent new = (old.outside ≡ None) × (old.left ≡ []) × (new ≡ old)
+TakesNone old code.NoMemory new = new ≡ old
+TakesNone old other new = ⊥
+
+-- the next seat goes out of a house
+abbrev pub TakesSeat : Member → Member → ℕ → Member → Type 0
+TakesSeat (member.House old) seat number (member.House new) = TakesOut old seat number new
+TakesSeat old seat number new = ⊥
+
+-- none goes out of it, or it is no house
+abbrev pub TakesNoSeat : Member → Code → Member → Type 0
+TakesNoSeat (member.House old) told (member.House new) = TakesNone old told new
+TakesNoSeat old told new = (told ≡ code.Empty) × (new ≡ old)

@@ -1,9 +1,15 @@
 pub mod Codes
+pub mod Ending
+pub mod Figures
 pub mod Houses
+pub mod Kept
 pub mod Links
 pub mod Members
 pub mod Names
 pub mod Orders
 pub mod Outcomes
+pub mod Stats
 pub mod Submissions
+pub mod Tickets
 pub mod Turns
+pub mod Verdicts

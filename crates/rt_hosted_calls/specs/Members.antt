@@ -13,6 +13,13 @@ IsActor (member.Core view) = Unit {0}
 IsActor (member.Outside view) = Unit {0}
 IsActor (member.Ended view) = ⊥
 
+-- it is a house that waits for journals
+abbrev pub IsHouse : Member → Type 0
+IsHouse (member.House view) = Unit {0}
+IsHouse (member.Core view) = ⊥
+IsHouse (member.Outside view) = ⊥
+IsHouse (member.Ended view) = ⊥
+
 -- a call for a core alone; any other member is told that it has none, and stays, and so does what the call writes to
 abbrev pub OnCore : Member → Type 0 → Code → Member → (HostedView → Code → HostedView → Type 0) → Type 0
 OnCore (member.Core old) same told (member.Core new) does = does old told new

@@ -2,14 +2,19 @@
 #![tactic(auto)]
 
 pub mod code;
+pub mod figures;
 pub mod house;
+mod keeping;
 pub mod links;
 pub mod member;
 pub mod names;
 pub mod orders;
 pub mod outcomes;
+pub mod stats;
+pub mod stays;
 pub mod submissions;
 pub mod turns;
+pub mod verdicts;
 
 pub use code::{Code, number};
 pub use member::Member;

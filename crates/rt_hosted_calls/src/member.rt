@@ -7,10 +7,11 @@ ghost use Rattle.rt_hosted_calls.specs.Orders.{mode_of_number};
 ghost use Rattle.rt_hosted_calls.specs.Turns.{NextsTold, SettlesTold, step_of};
 
 use crate::code::Code;
-use crate::house::{Ended, House};
+use crate::house::House;
 use crate::links::{close, deliver, drained, shut};
 use crate::turns::{TurnTold, next, settle};
 use rt_hosted::Hosted;
+use rt_hosted_audit::Ended;
 use rt_hosted_house::Outside;
 
 /// The house, an actor of it, or what it left behind.

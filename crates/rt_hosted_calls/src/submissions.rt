@@ -1,7 +1,8 @@
 //! What an actor does with its submissions.
 
 ghost use Rattle.std.specs.Prelude.{◌≡◌};
-ghost use Rattle.rt_hosted_calls.specs.Submissions.{CollectsOn, CollectsTold, DetachesOn, DetachesTold, PostsOn, RedeemsOn, RedeemsTold, SendsTold, ShowsTold, code_of_count, code_of_sent, count_told, name_after};
+ghost use Rattle.rt_hosted_calls.specs.Submissions.{CollectsOn, CollectsTold, PostsOn, SendsTold, ShowsTold, code_of_count, code_of_sent, count_told, name_after};
+ghost use Rattle.rt_hosted_calls.specs.Tickets.{DetachesOn, DetachesTold, RedeemsOn, RedeemsTold};
 
 use crate::code::{Code, code_of};
 use crate::links::tell_shut;

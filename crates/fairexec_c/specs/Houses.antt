@@ -1,0 +1,48 @@
+-- What the calls on a house do.
+use Rattle.std.specs.Prelude.{◌≡◌, ◌≢◌, ◌⊎◌, ℕ, Option, Some, None, Result, Ok, Err}
+use Rattle.rt_hosted_calls.specs.declared.code.Code.{Code}
+use Rattle.rt_hosted_calls.specs.declared.code.Code.TheVariants as code
+use Rattle.rt_hosted_calls.specs.declared.house.Config.{Config}
+use Rattle.rt_hosted_calls.specs.declared.member.Member.{Member}
+use Rattle.rt_hosted_calls.specs.declared.member.Member.TheVariants as member
+use Rattle.rt_hosted_calls.specs.Ending.{EndsNoSeat, EndsSeat}
+use Rattle.rt_hosted_calls.specs.Houses.{IsFit, OpensKept, TakesNoSeat, TakesSeat}
+use Rattle.rt_hosted_calls.specs.Members.{IsHouse}
+
+-- an empty handle gets a house, or stays empty
+abbrev pub OpensOn : Config → Code → Option Member → Type 0
+OpensOn config code.Ok (Some (member.House kept)) = OpensKept config (Ok kept)
+OpensOn config code.BadNumber new = OpensKept config (Err code.BadNumber) × (new ≡ None)
+OpensOn config code.NoMemory new = IsFit config × (new ≡ None)
+OpensOn config other new = ⊥
+
+-- one that isn't empty stays as it is
+abbrev pub OpensHouse : Option Member → Config → Code → Option Member → Type 0
+OpensHouse None config told new = OpensOn config told new
+OpensHouse (Some old) config told new = (told ≡ code.Occupied) × (new ≡ Some old)
+
+-- the next seat of a house goes into an empty handle, or nothing changes
+abbrev pub TakesInto : Member → Option Member → ℕ → Code → Member → Option Member → ℕ → Type 0
+TakesInto old None before code.Ok new (Some seat) after = TakesSeat old seat after new
+TakesInto old None before told new seat after = TakesNoSeat old told new × (told ≢ code.Ok) × (seat ≡ None) × (after ≡ before)
+TakesInto old (Some other) before told new seat after = (told ≡ code.Occupied) × (new ≡ old) × (seat ≡ Some other) × (after ≡ before)
+
+-- the same of a handle that may have no house
+abbrev pub TakesFrom : Option Member → Option Member → ℕ → Code → Option Member → Option Member → ℕ → Type 0
+TakesFrom None seat before told new seat_new after = (told ≡ code.Empty) × (new ≡ None) × (seat_new ≡ seat) × (after ≡ before)
+TakesFrom (Some old) seat before told None seat_new after = ⊥
+TakesFrom (Some old) seat before told (Some new) seat_new after =
+    ((IsHouse old → ⊥) × (told ≡ code.Empty) × (new ≡ old) × (seat_new ≡ seat) × (after ≡ before))
+    ⊎ (IsHouse old × TakesInto old seat before told new seat_new after)
+
+-- the seat of a handle ends in a house, or nothing changes
+abbrev pub EndsInto : Member → Option Member → Code → Member → Option Member → Type 0
+EndsInto old None told new seat = (told ≡ code.Empty) × (new ≡ old) × (seat ≡ None)
+EndsInto old (Some ends) code.Ok new None = EndsSeat old ends new
+EndsInto old (Some ends) told new seat = EndsNoSeat old ends told × (new ≡ old) × (seat ≡ Some ends)
+
+-- the same of a handle that may have no house
+abbrev pub EndsIn : Option Member → Option Member → Code → Option Member → Option Member → Type 0
+EndsIn None seat told new seat_new = (told ≡ code.Empty) × (new ≡ None) × (seat_new ≡ seat)
+EndsIn (Some old) seat told None seat_new = ⊥
+EndsIn (Some old) seat told (Some new) seat_new = EndsInto old seat told new seat_new

@@ -1,0 +1,181 @@
+//! The calls on a house.
+
+ghost use Rattle.std.specs.Prelude.{◌≡◌, None};
+ghost use Rattle.rt_hosted_calls.specs.Verdicts.{AuditsTold, ReadsTold};
+ghost use Rattle.fairexec_c.specs.Handles.{Answers, Frees, OnCore};
+ghost use Rattle.fairexec_c.specs.Houses.{EndsIn, EndsInto, OpensHouse, TakesFrom, TakesInto};
+ghost use Rattle.rt_hosted_calls.specs.Members.{IsHouse};
+
+use crate::seat::{Seat, put, take};
+use rt_hosted_calls::house::{Config, House};
+use rt_hosted_calls::verdicts::VerdictTold;
+use rt_hosted_calls::{Code, Member, number};
+use std::alloc::Global;
+
+/// Opens a house.
+#[unsafe(no_mangle)]
+pub extern "C" fn fx_house_open(alloc: Global, house: &mut Seat, config: &Config) -> u32
+    ensures { Answers result (λ told. OpensHouse house.old.value config.now told house.new.value) }
+{
+    match take(alloc, house) {
+        Some(member) => {
+            put(house, member);
+            number(Code::Occupied)
+        }
+        None => number(open(alloc, house, config)),
+    }
+}
+
+/// Opens a house for an empty handle.
+fn open(alloc: Global, house: &mut Seat, config: &Config) -> Code
+    requires { house.old.value ≡ None }
+    ensures { OpensHouse house.old.value config.now result house.new.value }
+{
+    match House::open(alloc, config) {
+        Ok(kept) => match Box::new(alloc, Member::House(kept)) {
+            Ok(member) => {
+                put(house, member);
+                Code::Ok
+            }
+            Err(_) => Code::NoMemory,
+        },
+        Err(code) => code,
+    }
+}
+
+/// Moves the next seat out of the house, into an empty handle, and tells the number of its actor.
+#[unsafe(no_mangle)]
+pub extern "C" fn fx_house_take(
+    alloc: Global,
+    house: &mut Seat,
+    seat: &mut Seat,
+    actor: &mut u32,
+) -> u32
+    ensures { Answers result (λ told. TakesFrom house.old.value seat.old.value actor.old told house.new.value seat.new.value actor.new) }
+{
+    let Some(mut kept) = take(alloc, house) else {
+        return number(Code::Empty);
+    };
+    let code = if kept.is_house() {
+        take_into(alloc, &mut kept, seat, actor)
+    } else {
+        Code::Empty
+    };
+    put(house, kept);
+    number(code)
+}
+
+/// Moves the next seat of a house into a handle that has to be empty.
+fn take_into(alloc: Global, kept: &mut Member, seat: &mut Seat, actor: &mut u32) -> Code
+    requires { IsHouse kept.old }
+    ensures { TakesInto kept.old seat.old.value actor.old result kept.new seat.new.value actor.new }
+{
+    if let Some(other) = take(alloc, seat) {
+        put(seat, other);
+        return Code::Occupied;
+    }
+    match kept.take_seat(alloc) {
+        Ok((member, number)) => {
+            put(seat, member);
+            *actor = number;
+            Code::Ok
+        }
+        Err(code) => code,
+    }
+}
+
+/// Ends a seat, and hands its journal to the house.
+#[unsafe(no_mangle)]
+pub extern "C" fn fx_house_end(alloc: Global, house: &mut Seat, seat: &mut Seat) -> u32
+    ensures { Answers result (λ told. EndsIn house.old.value seat.old.value told house.new.value seat.new.value) }
+{
+    let Some(mut kept) = take(alloc, house) else {
+        return number(Code::Empty);
+    };
+    let code = end_into(alloc, &mut kept, seat);
+    put(house, kept);
+    number(code)
+}
+
+/// Ends the seat of a handle in a house.
+fn end_into(alloc: Global, kept: &mut Member, seat: &mut Seat) -> Code
+    ensures { EndsInto kept.old seat.old.value result kept.new seat.new.value }
+{
+    let Some(member) = take(alloc, seat) else {
+        return Code::Empty;
+    };
+    match kept.end_seat(alloc, member) {
+        Ok(()) => Code::Ok,
+        Err((code, member)) => {
+            put(seat, member);
+            code
+        }
+    }
+}
+
+/// Audits the journals of a house, once all are handed in.
+#[unsafe(no_mangle)]
+pub extern "C" fn fx_house_audit(
+    alloc: Global,
+    house: &mut Seat,
+    verdict: &mut VerdictTold,
+) -> u32
+    ensures house { OnCore house.old.value house.new.value result (λ old told new. AuditsTold old verdict.old told verdict.new new) }
+    ensures empty { house.old.value ≡ None → verdict.new ≡ verdict.old }
+{
+    let Some(mut member) = take(alloc, house) else {
+        return number(Code::Empty);
+    };
+    let code = member.audit(alloc, verdict);
+    put(house, member);
+    number(code)
+}
+
+/// Copies the text of the journals from this byte on, and tells how much was copied.
+#[unsafe(no_mangle)]
+pub extern "C" fn fx_house_text(
+    alloc: Global,
+    house: &mut Seat,
+    from: u64,
+    bytes: &mut [u8],
+    count: &mut u64,
+) -> u32
+    ensures house { OnCore house.old.value house.new.value result (λ old told new. ReadsTold old from bytes.old count.old told new bytes.new count.new) }
+    ensures empty { house.old.value ≡ None → (bytes.new ≡ bytes.old) × (count.new ≡ count.old) }
+{
+    let Some(mut member) = take(alloc, house) else {
+        return number(Code::Empty);
+    };
+    let code = member.read(alloc, from, bytes, count);
+    put(house, member);
+    number(code)
+}
+
+/// Frees a house, with what is left in it.
+#[unsafe(no_mangle)]
+pub extern "C" fn fx_house_free(alloc: Global, house: &mut Seat) -> u32
+    ensures { Frees house.old.value result house.new.value }
+{
+    free(alloc, house)
+}
+
+/// Frees a seat.
+#[unsafe(no_mangle)]
+pub extern "C" fn fx_seat_free(alloc: Global, seat: &mut Seat) -> u32
+    ensures { Frees seat.old.value result seat.new.value }
+{
+    free(alloc, seat)
+}
+
+/// Frees what a handle holds.
+fn free(alloc: Global, seat: &mut Seat) -> u32
+    ensures { Frees seat.old.value result seat.new.value }
+{
+    match take(alloc, seat) {
+        Some(member) => {
+            drop(member);
+            number(Code::Ok)
+        }
+        None => number(Code::Empty),
+    }
+}

@@ -1,0 +1,209 @@
+//! The calls on an actor of a house.
+
+ghost use Rattle.std.specs.Prelude.{◌≡◌, None};
+ghost use Rattle.rt_hosted_calls.specs.Links.{ClosesTold, DeliversTold, IsTold, ShutsTold};
+ghost use Rattle.rt_hosted_calls.specs.Members as members;
+ghost use Rattle.rt_hosted_calls.specs.Orders.{mode_of_number};
+ghost use Rattle.rt_hosted_calls.specs.Stats.{SeatTells, SeatTellsQueue};
+ghost use Rattle.rt_hosted_calls.specs.Submissions.{CollectsTold, ShowsTold};
+ghost use Rattle.rt_hosted_calls.specs.Tickets.{DetachesTold, RedeemsTold};
+ghost use Rattle.rt_hosted_calls.specs.Turns.{NextsTold, SettlesTold, step_of};
+ghost use Rattle.fairexec_c.specs.Handles.{OnCore};
+
+use crate::seat::{Seat, put, take};
+use rt_hosted_calls::figures::{CoreFigures, QueueFigures};
+use rt_hosted_calls::names::Name;
+use rt_hosted_calls::outcomes::OutcomeTold;
+use rt_hosted_calls::turns::TurnTold;
+use rt_hosted_calls::{Code, number};
+use std::alloc::Global;
+
+/// Tells which job to run now.
+#[unsafe(no_mangle)]
+pub extern "C" fn fx_seat_next(alloc: Global, seat: &mut Seat, turn: &mut TurnTold) -> u32
+    ensures seat { OnCore seat.old.value seat.new.value result (λ old told new.
+        members.OnCore old (turn.new ≡ turn.old) told new (λ before code after. NextsTold before turn.old code turn.new after)) }
+    ensures empty { seat.old.value ≡ None → turn.new ≡ turn.old }
+{
+    let Some(mut member) = take(alloc, seat) else {
+        return number(Code::Empty);
+    };
+    let code = member.next(turn);
+    put(seat, member);
+    number(code)
+}
+
+/// Settles the run of the job that `fx_seat_next` told. It took `spent` nanoseconds.
+#[unsafe(no_mangle)]
+pub extern "C" fn fx_seat_settle(
+    alloc: Global,
+    seat: &mut Seat,
+    step: u32,
+    answer: u64,
+    spent: u64,
+) -> u32
+    ensures { OnCore seat.old.value seat.new.value result (λ old told new.
+        members.OnCore old (Unit {0}) told new (λ before code after. SettlesTold before (step_of step answer) spent code after)) }
+{
+    let Some(mut member) = take(alloc, seat) else {
+        return number(Code::Empty);
+    };
+    let code = member.settle(step, answer, spent);
+    put(seat, member);
+    number(code)
+}
+
+/// Delivers the next order of this actor to the core, if one shows.
+#[unsafe(no_mangle)]
+pub extern "C" fn fx_seat_deliver(alloc: Global, seat: &mut Seat, sender: u32) -> u32
+    ensures { OnCore seat.old.value seat.new.value result (λ old told new.
+        members.OnCore old (Unit {0}) told new (λ before code after. DeliversTold sender before code after)) }
+{
+    let Some(mut member) = take(alloc, seat) else {
+        return number(Code::Empty);
+    };
+    let code = member.deliver(sender);
+    put(seat, member);
+    number(code)
+}
+
+/// Closes the core by itself.
+#[unsafe(no_mangle)]
+pub extern "C" fn fx_seat_close(alloc: Global, seat: &mut Seat, mode: u32) -> u32
+    ensures { OnCore seat.old.value seat.new.value result (λ old told new.
+        members.OnCore old (Unit {0}) told new (λ before code after. ClosesTold (mode_of_number mode) before code after)) }
+{
+    let Some(mut member) = take(alloc, seat) else {
+        return number(Code::Empty);
+    };
+    let code = member.close(mode);
+    put(seat, member);
+    number(code)
+}
+
+/// Shuts the gate of this actor in the core.
+#[unsafe(no_mangle)]
+pub extern "C" fn fx_seat_shut(alloc: Global, seat: &mut Seat, sender: u32) -> u32
+    ensures { OnCore seat.old.value seat.new.value result (λ old told new.
+        members.OnCore old (Unit {0}) told new (λ before code after. ShutsTold sender before code after)) }
+{
+    let Some(mut member) = take(alloc, seat) else {
+        return number(Code::Empty);
+    };
+    let code = member.shut(sender);
+    put(seat, member);
+    number(code)
+}
+
+/// Whether the core has come to its end.
+#[unsafe(no_mangle)]
+pub extern "C" fn fx_seat_drained(alloc: Global, seat: &mut Seat) -> u32
+    ensures { OnCore seat.old.value seat.new.value result (λ old told new.
+        members.OnCore old (Unit {0}) told new (λ before code after. (after ≡ before) × IsTold before code)) }
+{
+    let Some(mut member) = take(alloc, seat) else {
+        return number(Code::Empty);
+    };
+    let code = member.drained();
+    put(seat, member);
+    number(code)
+}
+
+/// Collects all outcomes that the link to this core shows.
+#[unsafe(no_mangle)]
+pub extern "C" fn fx_seat_collect(
+    alloc: Global,
+    seat: &mut Seat,
+    core: u32,
+    count: &mut u64,
+) -> u32
+    ensures seat { OnCore seat.old.value seat.new.value result (λ old told new. CollectsTold old core count.old told count.new new) }
+    ensures empty { seat.old.value ≡ None → count.new ≡ count.old }
+{
+    let Some(mut member) = take(alloc, seat) else {
+        return number(Code::Empty);
+    };
+    let code = member.collect(core, count);
+    put(seat, member);
+    number(code)
+}
+
+/// Tells the outcome of a submission that was collected.
+#[unsafe(no_mangle)]
+pub extern "C" fn fx_seat_redeem(
+    alloc: Global,
+    seat: &mut Seat,
+    name: &Name,
+    outcome: &mut OutcomeTold,
+) -> u32
+    ensures seat { OnCore seat.old.value seat.new.value result (λ old told new. RedeemsTold old name.now outcome.old told outcome.new new) }
+    ensures empty { seat.old.value ≡ None → outcome.new ≡ outcome.old }
+{
+    let Some(mut member) = take(alloc, seat) else {
+        return number(Code::Empty);
+    };
+    let code = member.redeem(name, outcome);
+    put(seat, member);
+    number(code)
+}
+
+/// Nobody will ask for the outcome of a submission.
+#[unsafe(no_mangle)]
+pub extern "C" fn fx_seat_detach(alloc: Global, seat: &mut Seat, name: &Name) -> u32
+    ensures { OnCore seat.old.value seat.new.value result (λ old told new. DetachesTold old name.now told new) }
+{
+    let Some(mut member) = take(alloc, seat) else {
+        return number(Code::Empty);
+    };
+    let code = member.detach(name);
+    put(seat, member);
+    number(code)
+}
+
+/// Whether a link shows an order or an outcome that wasn't seen yet.
+#[unsafe(no_mangle)]
+pub extern "C" fn fx_seat_shows(alloc: Global, seat: &mut Seat) -> u32
+    ensures { OnCore seat.old.value seat.new.value result (λ old told new. ShowsTold old told new) }
+{
+    let Some(mut member) = take(alloc, seat) else {
+        return number(Code::Empty);
+    };
+    let code = member.shows();
+    put(seat, member);
+    number(code)
+}
+
+/// Tells the counts of a core.
+#[unsafe(no_mangle)]
+pub extern "C" fn fx_seat_stats(alloc: Global, seat: &mut Seat, stats: &mut CoreFigures) -> u32
+    ensures seat { OnCore seat.old.value seat.new.value result (λ old told new.
+        members.OnCore old (stats.new ≡ stats.old) told new (λ before code after. (after ≡ before) × SeatTells before stats.old code stats.new)) }
+    ensures empty { seat.old.value ≡ None → stats.new ≡ stats.old }
+{
+    let Some(mut member) = take(alloc, seat) else {
+        return number(Code::Empty);
+    };
+    let code = member.stats(stats);
+    put(seat, member);
+    number(code)
+}
+
+/// Tells the counts of a queue.
+#[unsafe(no_mangle)]
+pub extern "C" fn fx_seat_stats_of_queue(
+    alloc: Global,
+    seat: &mut Seat,
+    queue: u32,
+    stats: &mut QueueFigures,
+) -> u32
+    ensures seat { OnCore seat.old.value seat.new.value result (λ old told new.
+        members.OnCore old (stats.new ≡ stats.old) told new (λ before code after. (after ≡ before) × SeatTellsQueue before queue stats.old code stats.new)) }
+    ensures empty { seat.old.value ≡ None → stats.new ≡ stats.old }
+{
+    let Some(mut member) = take(alloc, seat) else {
+        return number(Code::Empty);
+    };
+    let code = member.stats_of_queue(queue, stats);
+    put(seat, member);
+    number(code)
+}

@@ -1,0 +1,6 @@
+//! The journals that a house left behind: their audit, and their text in parts.
+#![tactic(auto)]
+
+pub mod ended;
+
+pub use ended::{Ended, TextError};

@@ -1,0 +1,18 @@
+-- What a house keeps.
+use Rattle.std.specs.Prelude.{ℕ, ◌≤◌, Option, List, length}
+use Rattle.rt_journal_notes.specs.Journals.{JournalView}
+use Rattle.rt_hosted.specs.Hosted.{HostedView}
+use Rattle.rt_hosted_house.specs.Outside.{CallerView}
+
+-- its numbers, the cores and the outside actor that nobody took yet, and the journals that were handed in
+pub record KeptView : Type 0 where
+  pub cores : ℕ
+  pub cap : ℕ
+  pub burst : ℕ
+  pub left : List HostedView
+  pub outside : Option CallerView
+  pub journals : List (JournalView ℕ)
+
+-- no more cores are left than there are
+abbrev pub IsWaiting : ℕ → List HostedView → Type 0
+IsWaiting cores left = length left ≤ cores

@@ -1,0 +1,103 @@
+//! A house ends: its journals are handed in, are sound, and have a text.
+
+use crate::room::{Room, no_name, open};
+use rt_hosted_calls::orders::job_order;
+use rt_hosted_calls::verdicts::VerdictTold;
+use rt_hosted_calls::{Code, Member};
+use std::alloc::Global;
+use std::test::Fail;
+
+/// A verdict that nothing was told of.
+fn no_verdict() -> VerdictTold {
+    VerdictTold {
+        size: 24,
+        sound: 99,
+        rule: 99,
+        actor: 99,
+        line: 99,
+    }
+}
+
+/// Whether a job of the outside actor comes back from a core that closes, and the core comes to its end.
+fn drains(room: &mut Room) -> bool {
+    let mut name = no_name();
+    let sent = room.outside.send(0, job_order(0, 7), &mut name) == Code::Ok;
+    let closed = room.core.close(1) == Code::Ok && room.core.close(0) == Code::CoreClosed;
+    let shut = room.core.shut(0) == Code::Ok && room.core.shut(1) == Code::Ok;
+    let early = room.core.drained() == Code::NotDrained;
+    let delivered = room.core.deliver(1) == Code::Ok && room.core.deliver(1) == Code::Idle;
+    let (redeemed, outcome) = room.answer(&name);
+    let back = redeemed == Code::Ok && outcome.kind == 1 && outcome.job == 7;
+    sent && closed && shut && early && delivered && back && room.core.drained() == Code::Ok
+}
+
+/// Whether a seat ends in the house.
+fn ends(alloc: Global, house: &mut Member, seat: Box<Member>) -> bool {
+    house.end_seat(alloc, seat).is_ok()
+}
+
+/// Whether the text of the journals has this beginning, and comes to its end.
+fn tells(alloc: Global, house: &mut Member) -> bool {
+    let mut bytes = [0u8; 16];
+    let mut count = 0;
+    let first = house.read(alloc, 0, &mut bytes, &mut count) == Code::Ok && count == 16;
+    let begins = &bytes == b"journal 1\ncores ";
+    let last = house.read(alloc, 1_000_000, &mut bytes, &mut count) == Code::Ok && count == 0;
+    first && begins && last
+}
+
+/// Whether a house that has drained ends with sound journals.
+fn is_sound(alloc: Global, room: Room) -> bool {
+    let Room {
+        house,
+        core,
+        outside,
+    } = room;
+    let mut house = house;
+    let mut verdict = no_verdict();
+    let missing = house.audit(alloc, &mut verdict) == Code::Pending;
+    let core_ends = ends(alloc, &mut house, core);
+    let outside_ends = ends(alloc, &mut house, outside);
+    let judged = house.audit(alloc, &mut verdict) == Code::Ok;
+    missing && core_ends && outside_ends && judged && verdict.sound == 1 && tells(alloc, &mut house)
+}
+
+#[test]
+fn a_house_ends(rt: HostRuntime) -> Result<(), Fail> {
+    let Some(mut room) = open(rt.alloc(), 1) else {
+        assert!(rt; false, "no house");
+        return Ok(());
+    };
+    let drained = drains(&mut room);
+    assert!(rt; drained && is_sound(rt.alloc(), room));
+    Ok(())
+}
+
+/// Whether seats that may not end come back.
+fn come_back(alloc: Global, room: Room) -> bool {
+    let Room {
+        house,
+        core,
+        outside,
+    } = room;
+    let mut house = house;
+    let early = match house.end_seat(alloc, outside) {
+        Ok(()) => false,
+        Err((code, _outside)) => code == Code::NoActor,
+    };
+    let open = match house.end_seat(alloc, core) {
+        Ok(()) => false,
+        Err((code, _core)) => code == Code::NotDrained,
+    };
+    early && open
+}
+
+#[test]
+fn a_seat_ends_in_its_order(rt: HostRuntime) -> Result<(), Fail> {
+    let Some(room) = open(rt.alloc(), 1) else {
+        assert!(rt; false, "no house");
+        return Ok(());
+    };
+    assert!(rt; come_back(rt.alloc(), room));
+    Ok(())
+}

@@ -1,0 +1,11 @@
+//! Tests of the calls on a house by numbers: each succeeds, and each is refused.
+#![tactic(auto)]
+
+#[cfg(test)]
+mod ends;
+#[cfg(test)]
+mod refusals;
+#[cfg(test)]
+mod room;
+#[cfg(test)]
+mod runs;

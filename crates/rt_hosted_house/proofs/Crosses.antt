@@ -1,0 +1,10 @@
+-- The outside actor may go to another thread.
+use denote.Param.Send.{IsSend, sendable}
+use Rattle.std.proofs.Crossing.{crosses}
+use Rattle.rt_desk.proofs.trie.Trie.TheLaws.TheKnot as trie
+use Rattle.rt_journal_notes.proofs.running.RunningJournal.TheSendSync as journal
+use Rattle.rt_ring_mesh.proofs.ends.Ends.TheSendSync as ends
+use Rattle.rt_hosted_house.specs.contracts.outside.Outside.{the_row}
+
+pub outside_send : IsSend the_row
+outside_send = search (journal.the_send, ends.the_send, trie.crosses, crosses, sendable) depth 60 fits 20000
