@@ -1,6 +1,6 @@
 /*
  * A caller that picks its calls on houses and their numbers at random: house_random CALLS SEED. Often a call is one that is refused. It
- * prints each call with its numbers, what it was answered, and what it wrote; house.py makes the same calls, and compares. Most houses have
+ * prints each call with its numbers, what it was answered, and what it wrote; house_calls.py makes the same calls, and compares. Most houses have
  * two cores. Some have a journal that runs full. A house that is drained is ended, and its verdict and the text of its journals are printed.
  * A call that is refused and writes something all the same is printed as `wrote`, which no model answers.
  */
