@@ -211,8 +211,8 @@ public:
         return FX_OK;
     }
 
-    // A thread that sleeps by its own means, as by epoll, lets `calls` be called where there is something to do. It asks may_sleep, sleeps if
-    // that says so, and then calls is_awake.
+    // A thread that sleeps by its own means, as by epoll, lets `calls` be called where there is something to do: it says so before the threads
+    // of the house start. It asks may_sleep, sleeps if that says so, and then calls is_awake.
     void on_ring(std::function<void()> calls) { shared->on_ring(own, std::move(calls)); }
     bool may_sleep() {
         shared->set_asleep(own, true);

@@ -306,6 +306,24 @@ fn a_closed_core_wakes_its_tasks() -> Result<(), Error> {
 }
 
 #[test]
+fn what_a_task_spawned_runs_behind_its_end() -> Result<(), Error> {
+    let count = Arc::new(AtomicUsize::new(0));
+    let (house, cores, mut outside) = House::open(&config(1, 2))?;
+    let threads = serve(cores);
+    let counts = Arc::clone(&count);
+    let (_, join) = outside.spawn(0, 0, async move {
+        for _ in 0..100 {
+            let counts = Arc::clone(&counts);
+            drop(spawn(0, 0, async move { counts.fetch_add(1, Ordering::SeqCst) }));
+        }
+    })?;
+    outside.close_all(Mode::Finish)?;
+    assert!(end(house, threads, outside)?);
+    assert_eq!((join.take(), count.load(Ordering::SeqCst)), (Some(Ok(())), 100));
+    Ok(())
+}
+
+#[test]
 fn tasks_want_two_places() -> Result<(), Error> {
     let (_house, mut core, _outside) = single::<Task>(1)?;
     assert_eq!(core.run_tasks(), Err(Error::BadNumber));

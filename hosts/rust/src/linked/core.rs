@@ -154,11 +154,16 @@ impl<J> Core<J> {
     ///
     /// `JournalFull`.
     pub fn deliver(&mut self) -> Result<bool, Error> {
+        self.deliver_with(false)
+    }
+
+    /// The same, and its own gate stays open if more is to go through it.
+    pub(super) fn deliver_with(&mut self, needs_own_gate: bool) -> Result<bool, Error> {
         let (own, cores) = (self.number(), self.actor.lanes.cores());
         let mut did = false;
         // The outside actor's gate is tried first: of an open core it tells that, and no other is tried.
         for sender in (0..=cores).rev() {
-            if sender == own && self.stats().held > 0 {
+            if sender == own && (needs_own_gate || self.stats().held > 0) {
                 continue;
             }
             match self.actor.seat.shut(sender) {
@@ -183,7 +188,14 @@ impl<J> Core<J> {
     where
         R: FnOnce(&mut J, &mut Cx<'_, J>) -> Step,
     {
-        let mut did = self.deliver()?;
+        self.round_with(false, run)
+    }
+
+    pub(super) fn round_with<R>(&mut self, needs_own_gate: bool, run: R) -> Result<bool, Error>
+    where
+        R: FnOnce(&mut J, &mut Cx<'_, J>) -> Step,
+    {
+        let mut did = self.deliver_with(needs_own_gate)?;
         did |= self.run_turn(run)? != Turn::Idle;
         did |= self.actor.collect()? > 0;
         Ok(did)

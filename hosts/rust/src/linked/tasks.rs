@@ -250,9 +250,11 @@ impl Core<Task> {
             return Err(Error::BadNumber);
         }
         let mut tasks = Tasks::of(self);
-        while !self.is_drained() {
+        let own = self.number() as usize;
+        while !self.is_drained() || tasks.spawned.iter().any(|it| !it.is_empty()) {
             let mut did = tasks.send_wakes(self)?;
-            did |= self.round(|task, cx| tasks.poll(task, cx))?;
+            let needs_own_gate = !tasks.spawned[own].is_empty();
+            did |= self.round_with(needs_own_gate, |task, cx| tasks.poll(task, cx))?;
             did |= tasks.submit_spawned(self)?;
             if !did {
                 let woken = Arc::clone(&tasks.woken);
