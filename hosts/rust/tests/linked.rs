@@ -1,6 +1,6 @@
 //! A house of cores: who has the jobs, what comes back, and what two threads do with it.
 
-use fairexec::linked::{spawn, yield_now, Answer, Cancelled, Config, Core, Cx, House, Name, Outcome, Outside, Reason, Step, Task, Ticket, Turn};
+use fairexec::linked::{spawn, yield_now, Answer, Cancelled, Config, Core, Cx, House, Job, Name, Opened, Outcome, Outside, Reason, Step, Task, Ticket, Turn};
 use fairexec::{Error, Mode};
 use std::panic::{catch_unwind, AssertUnwindSafe};
 use std::sync::atomic::{AtomicUsize, Ordering};
@@ -33,7 +33,7 @@ fn sent<T, J>(told: Result<T, (Error, J)>) -> Result<T, Error> {
 
 /// A house of one core.
 fn single<J>(places: u32) -> Result<(House<J>, Core<J>, Outside<J>), Error> {
-    let (house, mut cores, outside) = House::open(&config(1, places))?;
+    let (house, mut cores, outside): Opened<J> = House::open(&config(1, places))?;
     Ok((house, cores.remove(0), outside))
 }
 
@@ -234,6 +234,33 @@ fn jobs_of_two_cores_ask_each_other() -> Result<(), Error> {
     for (number, ticket) in (1..).zip(&tickets) {
         assert!(matches!(outside.wait_for(ticket)?, Outcome::Done(odd) if odd == number >> u64::trailing_zeros(number)));
     }
+    outside.close_all(Mode::Finish)?;
+    assert!(end(house, threads, outside)?);
+    Ok(())
+}
+
+#[test]
+fn closures_wake_each_other() -> Result<(), Error> {
+    let (house, cores, mut outside) = House::open(&config(2, 8))?;
+    let threads: Vec<_> = cores.into_iter().map(|mut core| std::thread::spawn(move || core.run_jobs().map(|()| core))).collect();
+    let runs = Arc::new(AtomicUsize::new(0));
+    let counts = Arc::clone(&runs);
+    let waits = sent(outside.submit(0, 0, Job::new(move |_| if counts.fetch_add(1, Ordering::SeqCst) == 0 { Step::Park } else { Step::Done(7) })))?;
+    let name = waits.name();
+    // A wake may come before the job: it is answered so, and sent again.
+    let mut asked = None;
+    let wakes = Job::new(move |cx| {
+        match asked.as_ref().map(|ticket| cx.redeem(ticket)) {
+            Some(Ok(Outcome::Answered(Answer::Woken))) => return Step::Done(0),
+            Some(Err(_)) => {}
+            Some(Ok(_)) | None => asked = cx.wake(name).ok(),
+        }
+        Step::Yield
+    });
+    let wakes = sent(outside.submit(1, 0, wakes))?;
+    assert_eq!(outside.wait_for(&wakes).map(|_| ()), Ok(()));
+    assert!(matches!(outside.wait_for(&waits)?, Outcome::Done(7)));
+    assert_eq!(runs.load(Ordering::SeqCst), 2);
     outside.close_all(Mode::Finish)?;
     assert!(end(house, threads, outside)?);
     Ok(())

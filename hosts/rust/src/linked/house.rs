@@ -47,11 +47,14 @@ pub struct House<J> {
     jobs: PhantomData<J>,
 }
 
-/// What comes back of a house that didn't end.
+/// A house, its cores by their numbers, and its outside actor.
+pub type Opened<J> = (House<J>, Vec<Core<J>>, Outside<J>);
+
+/// What a house comes to at its end, or what comes back if it can't end.
 pub type Ended<J> = Result<Journals, (Error, House<J>, Vec<Core<J>>, Outside<J>)>;
 
 impl<J> House<J> {
-    /// Opens a house: its cores by their numbers, and the outside actor. Each goes to a thread, and its jobs, too, if they are `Send`.
+    /// Opens a house. Each core and the outside actor may go to a thread, if the jobs are `Send`.
     ///
     /// # Errors
     ///
@@ -60,7 +63,7 @@ impl<J> House<J> {
     /// # Panics
     ///
     /// If the library that was linked has another version than these declarations.
-    pub fn open(config: &Config) -> Result<(House<J>, Vec<Core<J>>, Outside<J>), Error> {
+    pub fn open(config: &Config) -> Result<Opened<J>, Error> {
         // SAFETY: it takes nothing.
         let version = unsafe { raw::fx_version() };
         assert_eq!(version, raw::FX_VERSION, "libfairexec.a has another version");
