@@ -36,24 +36,22 @@ static uint32_t below(actor *a, uint32_t limit) {
     return (uint32_t)((a->state >> 32) % limit);
 }
 
-/* Keeps the name of what was accepted. A link that is full or shut is passed over. */
-static void keep(actor *a, uint32_t code, const fx_name *name, uint64_t job) {
+/* Keeps the name of what was accepted. A link that is full or shut is passed over. Whether it isn't full. */
+static bool keep(actor *a, uint32_t code, const fx_name *name, uint64_t job) {
     if (code == FX_OK) a->asks[a->asked_count++] = (asked){*name, job};
     else a->wrong += code != FX_FULL && code != FX_CLOSED;
     a->jobs += code == FX_OK && job != 0;
+    return code != FX_FULL;
 }
 
-static void submit(actor *a) {
+static bool submit(actor *a) {
     fx_name name;
     uint32_t to = below(a, CORES), queue = below(a, 3);
     uint64_t job = ++a->next_job * (CORES + 1) + a->number;
-    if (below(a, 20) > 0) {
-        keep(a, fx_seat_submit(&a->seat, to, queue, job, &name), &name, job);
-    } else if (below(a, 2) > 0) {
-        keep(a, fx_seat_create(&a->seat, to, 1 + below(a, 1000), &name), &name, 0);
-    } else {
-        keep(a, fx_seat_set_shares(&a->seat, to, queue, 1 + below(a, 1000), &name), &name, 0);
-    }
+    if (a->asked_count == MOST_OUTSTANDING) return false;
+    if (below(a, 20) > 0) return keep(a, fx_seat_submit(&a->seat, to, queue, job, &name), &name, job);
+    if (below(a, 2) > 0) return keep(a, fx_seat_create(&a->seat, to, 1 + below(a, 1000), &name), &name, 0);
+    return keep(a, fx_seat_set_shares(&a->seat, to, queue, 1 + below(a, 1000), &name), &name, 0);
 }
 
 /* What a submission came to: once, and as it was submitted. Whether it was there. */
@@ -95,7 +93,7 @@ static void turn(actor *a, bool may_park) {
     uint32_t code = fx_seat_next(&a->seat, &it);
     if (code == FX_IDLE || code == FX_BACK) return;
     a->wrong += code != FX_START && code != FX_RESUME;
-    if (below(a, 4) == 0 && a->asked_count < MOST_OUTSTANDING) submit(a);
+    if (below(a, 4) == 0) submit(a);
     uint32_t kind = below(a, 10), step = kind < 6 ? FX_STEP_DONE : kind < 8 || !may_park ? FX_STEP_YIELD : FX_STEP_PARK;
     code = fx_seat_settle(&a->seat, step, 3 * it.job, below(a, 5000));
     if (code == FX_PARKED) a->parked[a->parked_count++] = it.name;
@@ -121,7 +119,7 @@ static void *serve(void *given) {
     actor *a = given;
     for (uint64_t each = 0; each < a->rounds; each++) {
         make_round(a, true);
-        if (a->asked_count < MOST_OUTSTANDING) submit(a);
+        submit(a);
     }
     a->wrong += fx_seat_close(&a->seat, a->number % 2 == 0 ? FX_MODE_FINISH : FX_MODE_RETURN) != FX_OK;
     while (fx_seat_drained(&a->seat) != FX_OK) {
@@ -134,8 +132,8 @@ static void *serve(void *given) {
 
 static void *drive(void *given) {
     actor *a = given;
-    for (uint64_t each = 0; each < a->rounds; each++) {
-        if (a->asked_count < MOST_OUTSTANDING) submit(a);
+    for (uint64_t each = 0; each < a->rounds / 4;) {
+        each += submit(a);
         collect(a);
         if (fx_seat_shows(&a->seat) == FX_IDLE) sched_yield();
     }
