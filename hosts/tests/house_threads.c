@@ -50,8 +50,8 @@ static bool submit(actor *a) {
     uint64_t job = ++a->next_job * (CORES + 1) + a->number;
     if (a->asked_count == MOST_OUTSTANDING) return false;
     if (below(a, 20) > 0) return keep(a, fx_seat_submit(&a->seat, to, queue, job, &name), &name, job);
-    if (below(a, 2) > 0) return keep(a, fx_seat_create(&a->seat, to, 1 + below(a, 1000), &name), &name, 0);
-    return keep(a, fx_seat_set_shares(&a->seat, to, queue, 1 + below(a, 1000), &name), &name, 0);
+    if (below(a, 2) > 0) return keep(a, fx_seat_create(&a->seat, to, 200 + below(a, 800), &name), &name, 0);
+    return keep(a, fx_seat_set_shares(&a->seat, to, queue, 200 + below(a, 800), &name), &name, 0);
 }
 
 /* What a submission came to: once, and as it was submitted. Whether it was there. */
