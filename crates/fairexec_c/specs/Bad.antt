@@ -4,7 +4,10 @@ use Rattle.rt_core.specs.State.{CoreView}
 use Rattle.rt_hosted_calls.specs.declared.code.Code.{Code}
 use Rattle.rt_hosted_calls.specs.declared.code.Code.TheVariants as code
 use Rattle.rt_hosted.specs.declared.job.HostJob.{HostJob}
+use Rattle.rt_hosted_calls.specs.declared.house.Config.{Config}
+use Rattle.rt_hosted_calls.specs.declared.member.Member.{Member}
 use Rattle.fairexec_c.specs.Handles.{OnCore}
+use Rattle.fairexec_c.specs.Houses.{EndsInto, OpensOn, TakesFrom}
 use Rattle.fairexec_c.specs.Opening.{Opens, OpensCore}
 use Rattle.fairexec_c.specs.Running.{SettlesStep, step_of}
 use Rattle.fairexec_c.specs.Waking.{WakesNumber}
@@ -32,3 +35,15 @@ no_step_is_ok old new told = told
 -- a wake is told as a park
 pub wake_is_parked : (old new : CoreView HostJob) → WakesNumber old 1 code.Parked new → ⊥
 wake_is_parked old new told = told
+
+-- a seat goes out of an empty handle
+pub empty_handle_gives_a_seat : (seat : Member) → TakesFrom None None 0 code.Ok None (Some seat) 1 → ⊥
+empty_handle_gives_a_seat seat told = cc told.0
+
+-- an empty handle ends in a house
+pub empty_handle_ends : (house new : Member) → EndsInto house None code.Ok new None → ⊥
+empty_handle_ends house new told = cc told.0
+
+-- a house is opened, and the handle stays empty
+pub opened_is_empty : (config : Config) → OpensOn config code.Ok None → ⊥
+opened_is_empty config told = told

@@ -4,7 +4,9 @@ ghost use Rattle.fairexec_c.specs.Figures.{TellsCore, TellsQueue, IsStatsOf};
 
 use crate::hosted::Hosted;
 use rt_hosted_calls::Code;
-use rt_hosted_calls::figures::{CORE_SIZE, CoreFigures, QUEUE_SIZE, QueueFigures, low_and_high, number_of_mode, queue_figures};
+use rt_hosted_calls::figures::{
+    CORE_SIZE, CoreFigures, QUEUE_SIZE, QueueFigures, low_and_high, number_of_mode, queue_figures,
+};
 use rt_ids::QueueStats;
 
 impl Hosted {

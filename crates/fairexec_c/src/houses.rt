@@ -115,11 +115,7 @@ fn end_into(alloc: Global, kept: &mut Member, seat: &mut Seat) -> Code
 
 /// Audits the journals of a house, once all are handed in.
 #[unsafe(no_mangle)]
-pub extern "C" fn fx_house_audit(
-    alloc: Global,
-    house: &mut Seat,
-    verdict: &mut VerdictTold,
-) -> u32
+pub extern "C" fn fx_house_audit(alloc: Global, house: &mut Seat, verdict: &mut VerdictTold) -> u32
     ensures house { OnCore house.old.value house.new.value result (λ old told new. AuditsTold old verdict.old told verdict.new new) }
     ensures empty { house.old.value ≡ None → verdict.new ≡ verdict.old }
 {

@@ -111,12 +111,7 @@ pub extern "C" fn fx_seat_drained(alloc: Global, seat: &mut Seat) -> u32
 
 /// Collects all outcomes that the link to this core shows.
 #[unsafe(no_mangle)]
-pub extern "C" fn fx_seat_collect(
-    alloc: Global,
-    seat: &mut Seat,
-    core: u32,
-    count: &mut u64,
-) -> u32
+pub extern "C" fn fx_seat_collect(alloc: Global, seat: &mut Seat, core: u32, count: &mut u64) -> u32
     ensures seat { OnCore seat.old.value seat.new.value result (λ old told new. CollectsTold old core count.old told count.new new) }
     ensures empty { seat.old.value ≡ None → count.new ≡ count.old }
 {

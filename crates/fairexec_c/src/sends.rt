@@ -8,7 +8,9 @@ ghost use Rattle.fairexec_c.specs.Seats.{Submits};
 
 use crate::seat::{Seat, put, take};
 use rt_hosted_calls::names::Name;
-use rt_hosted_calls::orders::{close_order, core_order, create_order, job_order, shares_order, wake_order};
+use rt_hosted_calls::orders::{
+    close_order, core_order, create_order, job_order, shares_order, wake_order,
+};
 use rt_hosted_calls::{Code, number};
 use rt_ids::Order;
 use std::alloc::Global;

@@ -1,9 +1,46 @@
 -- What stands behind a handle of a house may go to another thread.
 use denote.Param.Send.{IsSend, sendable}
+use denote.Struct.Field.{u64-field}
 use Rattle.std.proofs.Crossing.{crosses}
-use Rattle.rt_hosted.proofs.Crosses.{hosted_send}
-use Rattle.rt_hosted_house.proofs.Crosses.{outside_send}
-use Rattle.rt_hosted_calls.specs.contracts.member.Member.{the_row}
+use Rattle.std.specs.contracts.alloc.Global.{the_row as global}
+use Rattle.std.specs.contracts.impls.GlobalAllocator.TheImpl.{ghosts as its_alloc}
+use Rattle.std.below.core.specs.contracts.clone.Clone+copy.TheImpl.{ghosts as copied}
+use Rattle.rt_timeline.proofs.tree.Tree.TheLaws.TheKnot as tree
+use Rattle.rt_desk.proofs.trie.Trie.TheLaws.TheKnot as trie
+use Rattle.rt_desk.specs.contracts.lane.Lane.{the_row as lane}
+use Rattle.rt_journal_notes.proofs.running.RunningJournal.TheSendSync as journal
+use Rattle.rt_ring_mesh.proofs.ends.Ends.TheSendSync as ends
+use Rattle.rt_core.specs.contracts.one_core.Core.{the_row as core}
+use Rattle.rt_journal_desk.specs.contracts.desk.RecordedDesk.{the_row as desk}
+use Rattle.rt_journal.specs.contracts.recorded.Recorded.{the_row as recorded}
+use Rattle.rt_hosted.specs.contracts.job.HostJob.{the_row as job}
+use Rattle.rt_hosted.specs.contracts.job.HostJobTask.TheImpl.{ghosts as task}
+use Rattle.rt_hosted.specs.contracts.hosted.Hosted.{the_row as hosted}
+use Rattle.rt_hosted_house.specs.contracts.outside.Outside.{the_row as outside}
+use Rattle.rt_hosted_calls.specs.contracts.member.Member.{the_row as member}
 
-pub member_send : IsSend the_row
+job_send : IsSend job
+job_send = search (crosses, sendable)
+
+core_send : IsSend (core job global u64-field.row task its_alloc (copied global))
+core_send = search (job_send, crosses, tree.crosses, sendable) depth 60 fits 20000
+
+lane_send : IsSend (lane job u64-field.row task)
+lane_send = search (job_send, crosses, trie.crosses, sendable) depth 60 fits 20000
+
+desk_send : IsSend (desk job task)
+desk_send = search (lane_send, journal.the_send, crosses, sendable) depth 60 fits 20000
+
+recorded_send : IsSend (recorded job global task its_alloc (copied global))
+recorded_send = search (core_send, desk_send, crosses, sendable) depth 60 fits 20000
+
+-- a core
+pub hosted_send : IsSend hosted
+hosted_send = search (recorded_send, ends.the_send, job_send, crosses, sendable) depth 60 fits 20000
+
+-- the outside actor
+pub outside_send : IsSend outside
+outside_send = search (desk_send, ends.the_send, job_send, crosses, sendable) depth 60 fits 20000
+
+pub member_send : IsSend member
 member_send = search (hosted_send, outside_send, crosses, sendable) depth 60 fits 20000

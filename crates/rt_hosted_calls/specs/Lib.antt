@@ -1,3 +1,4 @@
+pub mod Bad
 pub mod Codes
 pub mod Ending
 pub mod Figures

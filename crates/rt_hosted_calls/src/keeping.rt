@@ -132,7 +132,8 @@ impl House {
         if self.journals.reserve(1).is_err() {
             return Err((Code::NoMemory, seat));
         }
-        self.journals.push_reserved(journal_of(Box::into_inner(seat)));
+        self.journals
+            .push_reserved(journal_of(Box::into_inner(seat)));
         Ok(())
     }
 
@@ -145,12 +146,7 @@ impl House {
             return None;
         }
         let journals = std::mem::replace(&mut self.journals, Vec::new(alloc));
-        Some(Assembly::of_burst(
-            self.cores,
-            self.cap,
-            self.burst,
-            journals,
-        ))
+        Some(Assembly::of_burst(self.cores, self.cap, self.burst, journals))
     }
 }
 

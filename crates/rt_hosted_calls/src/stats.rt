@@ -5,7 +5,9 @@ ghost use Rattle.rt_hosted_calls.specs.Members.{OnCore};
 ghost use Rattle.rt_hosted_calls.specs.Stats.{IsSeatStatsOf, SeatTells, SeatTellsQueue, running_number};
 
 use crate::code::Code;
-use crate::figures::{CORE_SIZE, CoreFigures, QUEUE_SIZE, QueueFigures, low_and_high, number_of_mode, queue_figures};
+use crate::figures::{
+    CORE_SIZE, CoreFigures, QUEUE_SIZE, QueueFigures, low_and_high, number_of_mode, queue_figures,
+};
 use crate::member::Member;
 use rt_hosted::Hosted;
 use rt_ids::QueueStats;

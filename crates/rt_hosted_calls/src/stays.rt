@@ -42,11 +42,7 @@ impl Member {
     ///
     /// The seat comes back, and the house stays as it is: `Empty` if this is no house or that no seat, `NoActor` if another's journal is the
     /// next, `NotDrained` of a core, else `NoMemory`.
-    pub fn end_seat(
-        &mut self,
-        alloc: Global,
-        seat: Box<Member>,
-    ) -> Result<(), (Code, Box<Member>)>
+    pub fn end_seat(&mut self, alloc: Global, seat: Box<Member>) -> Result<(), (Code, Box<Member>)>
         ensures ok { IfOk result (λ _. EndsSeat self.old seat.value self.new) }
         ensures err { IfErr result (λ back. (back.1.value ≡ seat.value) × (self.new ≡ self.old) × EndsNoSeat self.old seat.value back.0) }
     {

@@ -1,19 +1,34 @@
 //! Calls with numbers that there aren't, out of order, and on a member that they aren't for.
 
 use crate::room::{Room, config, no_name, no_outcome, no_turn, open};
+use rt_hosted_calls::Code;
 use rt_hosted_calls::house::{Config, House};
 use rt_hosted_calls::orders::{close_order, core_order, create_order, job_order, shares_order};
-use rt_hosted_calls::Code;
 use std::test::Fail;
 
 #[test]
 fn a_bad_config_opens_no_house(rt: HostRuntime) {
     for wrong in [
-        Config { size: 16, ..config(1) },
-        Config { cores: 17, ..config(1) },
-        Config { cores: 256, ..config(1) },
-        Config { places: 65536, ..config(1) },
-        Config { burst: 0, ..config(1) },
+        Config {
+            size: 16,
+            ..config(1)
+        },
+        Config {
+            cores: 17,
+            ..config(1)
+        },
+        Config {
+            cores: 256,
+            ..config(1)
+        },
+        Config {
+            places: 65536,
+            ..config(1)
+        },
+        Config {
+            burst: 0,
+            ..config(1)
+        },
     ] {
         let refused = matches!(House::open(rt.alloc(), &wrong), Err(Code::BadNumber));
         assert!(rt; refused);

@@ -3,7 +3,9 @@
 use crate::room::{Room, no_name, no_turn, open};
 use rt_hosted_calls::Code;
 use rt_hosted_calls::names::Name;
-use rt_hosted_calls::orders::{close_order, core_order, create_order, job_order, shares_order, wake_order};
+use rt_hosted_calls::orders::{
+    close_order, core_order, create_order, job_order, shares_order, wake_order,
+};
 use rt_ids::Order;
 use std::test::Fail;
 
@@ -120,7 +122,8 @@ fn comes_back(room: &mut Room) -> bool {
     let Some(other) = hand_in(room, job_order(0, 9)) else {
         return false;
     };
-    let let_go = room.outside.detach(&other) == Code::Ok && room.outside.detach(&other) == Code::Gone;
+    let let_go = room.outside.detach(&other) == Code::Ok
+        && room.outside.detach(&other) == Code::Gone;
     shows && back && outcome.job == 8 && outcome.queue == 5 && let_go
 }
 

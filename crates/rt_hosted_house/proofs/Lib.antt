@@ -1,2 +1,1 @@
-pub mod Crosses
 mod Opened
