@@ -11,8 +11,7 @@ use std::sync::Arc;
 #[derive(PartialEq, Eq, Debug)]
 pub struct Ticket {
     name: Name,
-    // The place of the job, if it is one.
-    place: Option<usize>,
+    is_job: bool,
 }
 
 impl Ticket {
@@ -46,7 +45,7 @@ impl<J> Actor<J> {
         match self.seat.submit(to, queue, place) {
             Ok(name) => {
                 self.lanes.ring(to);
-                Ok(Ticket { name, place: Some(place) })
+                Ok(Ticket { name, is_job: true })
             }
             Err(error) => {
                 let job = self.lanes.vacate(self.number, to, place).expect("a job that wasn't accepted stands where it was put");
@@ -59,7 +58,7 @@ impl<J> Actor<J> {
     pub(super) fn order(&mut self, order: impl FnOnce(&mut Seat) -> Result<Name, Error>) -> Result<Ticket, Error> {
         let name = order(&mut self.seat)?;
         self.lanes.ring(name.to);
-        Ok(Ticket { name, place: None })
+        Ok(Ticket { name, is_job: false })
     }
 
     /// Collects what the links show. How many outcomes there were.
@@ -87,7 +86,7 @@ impl<J> Actor<J> {
     }
 
     pub(super) fn detach(&mut self, ticket: Ticket) -> Result<(), Error> {
-        if ticket.place.is_none() {
+        if !ticket.is_job {
             return self.seat.detach(ticket.name);
         }
         match self.redeem(&ticket) {
