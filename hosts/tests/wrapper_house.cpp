@@ -163,6 +163,58 @@ static void coroutines() {
     is("it runs to its end", house.cores[0].run() == FX_OK && first == 5, 1);
     is("none is taken behind the gate", house.outside.submit(0, 0, counts_to(5, never)).code, FX_CLOSED);
 }
+
+static linked::task odd_part(uint32_t core, unsigned long number) {
+    if (number % 2 == 1) co_return number;
+    auto told = co_await linked::ask(1 - core, 0, odd_part(1 - core, number / 2));
+    co_await fairexec::again;
+    co_return told.kind == FX_KIND_DONE ? told.answer : 0;
+}
+
+static linked::task asks_nobody() {
+    try {
+        co_await linked::ask(9, 0, odd_part(0, 1));
+    } catch (const fairexec::error &error) {
+        co_return error.code();
+    }
+    co_return 0;
+}
+
+static linked::task throws() {
+    co_await fairexec::again;
+    throw std::runtime_error("from a coroutine");
+}
+
+static void coroutines_that_ask() {
+    linked::house<linked::task> house({2, 8});
+    std::vector<std::thread> threads;
+    unsigned long right = 0;
+    for (auto &core : house.cores) threads.emplace_back([&core] { core.run(); });
+    for (unsigned long number = 1; number <= 40; number++) {
+        auto sent = house.outside.submit(number % 2, 0, odd_part(number % 2, number));
+        unsigned long odd = number;
+        while (odd % 2 == 0) odd /= 2;
+        right += house.outside.wait_for(*sent.ticket).answer == odd;
+    }
+    is("coroutines of two cores ask each other", right, 40);
+    auto nobody = house.outside.submit(0, 0, asks_nobody());
+    is("a core that isn't there is told as an exception", house.outside.wait_for(*nobody.ticket).answer, FX_UNKNOWN_CORE);
+    auto nowhere = house.outside.submit(0, 7, odd_part(0, 1));
+    is("a coroutine that comes back is destroyed", house.outside.wait_for(*nowhere.ticket).why, FX_REASON_NO_QUEUE);
+    house.outside.close_all(mode::finish);
+    for (auto &each : threads) each.join();
+    is("their journals are sound", house.end() == FX_OK && house.audit().sound, 1);
+    linked::house<linked::task> other({1, 2});
+    bool thrown = false, did = false;
+    auto sent = other.outside.submit(0, 0, throws());
+    other.cores[0].deliver(did);
+    try {
+        for (int each = 0; each < 2; each++) other.cores[0].round();
+    } catch (const std::runtime_error &) {
+        thrown = true;
+    }
+    is("an exception of one leaves the turn", thrown && other.outside.wait_for(*sent.ticket).kind == FX_KIND_DONE, 1);
+}
 #endif
 
 int main() {
@@ -172,6 +224,7 @@ int main() {
     two_cores();
 #if defined(__cpp_impl_coroutine)
     coroutines();
+    coroutines_that_ask();
 #endif
     std::printf("%u passed, %u failed\n", passed, failed);
     return failed != 0;
