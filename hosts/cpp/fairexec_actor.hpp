@@ -6,6 +6,7 @@
 #include <atomic>
 #include <condition_variable>
 #include <functional>
+#include <list>
 #include <memory>
 #include <mutex>
 
@@ -117,8 +118,30 @@ public:
 
 // What each actor does. The calls answer the codes of fairexec.h.
 template <class Job> class actor {
+    // A job of the own core that parks until the outcome of a submission has come, and what that was.
+    struct waiting {
+        ticket of;
+        fx_name job;
+        bool is_woken;
+        std::optional<std::pair<fx_code, std::optional<outcome<Job>>>> told;
+    };
     // Jobs for whose outcome nobody asks. They are redeemed once they are collected, since a job that comes back has a place.
     std::vector<ticket> loose;
+    std::list<waiting> waits;
+
+    // Wakes the jobs whose outcomes have come. A wake that the link doesn't take waits for the next time.
+    void wake_waiting(bool are_new) {
+        for (auto &each : waits) {
+            if (!each.told && are_new) {
+                auto told = redeem(each.of);
+                if (told.first != FX_PENDING && told.first != FX_JOURNAL_FULL) each.told.emplace(std::move(told));
+            }
+            if (!each.told || each.is_woken) continue;
+            auto sent = wake(each.job);
+            each.is_woken = sent.code == FX_OK;
+            if (sent.ticket) detach(*sent.ticket);
+        }
+    }
 
 protected:
     fx_seat seat = FX_NO_SEAT;
@@ -137,7 +160,7 @@ public:
         if (code == FX_NO_MEMORY) throw std::bad_alloc();
         if (code != FX_OK) throw error(code);
     }
-    actor(actor &&other) noexcept : loose(std::move(other.loose)), own(other.own), shared(std::move(other.shared)) { std::swap(seat, other.seat); }
+    actor(actor &&other) noexcept : loose(std::move(other.loose)), waits(std::move(other.waits)), own(other.own), shared(std::move(other.shared)) { std::swap(seat, other.seat); }
     actor(const actor &) = delete;
     actor &operator=(actor &&) = delete;
     ~actor() { fx_seat_free(&seat); }
@@ -190,7 +213,20 @@ public:
             if (code == FX_PENDING || code == FX_JOURNAL_FULL) each++;
             else loose[each] = loose.back(), loose.pop_back();
         }
+        wake_waiting(count > 0);
         return FX_OK;
+    }
+    // The outcome of a submission wakes this job of the own core, and is kept for it.
+    void wake_with(const ticket &of, const fx_name &job) { waits.push_back(waiting{of, job, false, std::nullopt}); }
+    // What was kept, once it has come, as `redeem` tells it.
+    std::optional<std::pair<fx_code, std::optional<outcome<Job>>>> kept(const ticket &of) {
+        for (auto each = waits.begin(); each != waits.end(); ++each) {
+            if (each->of.name.to != of.name.to || each->of.name.number != of.name.number || !each->told) continue;
+            std::optional<std::pair<fx_code, std::optional<outcome<Job>>>> told(std::move(each->told));
+            waits.erase(each);
+            return told;
+        }
+        return std::nullopt;
     }
     // The outcome of a submission that was collected: FX_OK and the outcome, or why there is none.
     std::pair<fx_code, std::optional<outcome<Job>>> redeem(const ticket &of) {

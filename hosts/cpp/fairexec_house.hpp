@@ -263,9 +263,8 @@ public:
 
 #if defined(__cpp_impl_coroutine)
 // A coroutine as a job of a house: `co_return 42;` is its answer, `co_await again;` and `co_await park;` end a run, and
-// `co_await ask(core, queue, task)` submits another one and goes on with its outcome. Until that has come it asks for it in each of its runs, and holds
-// a place of the link: coroutines that wait for more others than a link has places wait for ever. An
-// exception of a coroutine leaves run_turn; a submission that is refused for good throws `error` in the coroutine.
+// `co_await ask(core, queue, task)` submits another one and goes on with its outcome. Until that has come it is parked, and the other holds a place of
+// the link: coroutines that wait for more others than a link has places wait for ever. An exception of a coroutine leaves run_turn; a submission that is refused for good throws `error` in the coroutine.
 class task {
 public:
     struct promise_type;
@@ -339,14 +338,15 @@ struct task::promise_type {
             }
             sends.reset();
             refused = sent.code;
-            if (sent.ticket) waits = sent.ticket;
+            waits = sent.ticket;
+            if (waits) here->wake_with(*waits, here.name);
         }
         if (!waits) return true;
-        auto [code, has] = here->redeem(*waits);
-        if (code == FX_PENDING) return false;
+        auto kept = here->kept(*waits);
+        if (!kept) return false;
         waits.reset();
-        refused = code;
-        if (has) told.emplace(std::move(*has));
+        refused = kept->first;
+        if (kept->second) told.emplace(std::move(*kept->second));
         return true;
     }
 };
@@ -360,7 +360,7 @@ inline result task::operator()(cx<task> &here) {
         if (at.done()) return done(of.answer);
         if (!of.sends) return of.parks ? step::park : step::yield;
     }
-    return step::yield;
+    return of.waits ? step::park : step::yield;
 }
 #endif
 

@@ -15,7 +15,7 @@
 #include <stdlib.h>
 #include <time.h>
 
-enum { CORES = 2, OUTSIDE = CORES, PLACES = 64, NOTES = 1 << 18, FOREGROUND = 0, BACKGROUND = 1, REQUESTS = 1000, WINDOW = 96, COMPACTIONS = 4 };
+enum { CORES = 2, OUTSIDE = CORES, PLACES = 64, NOTES = 1 << 20, FOREGROUND = 0, BACKGROUND = 1, REQUESTS = 1000, WINDOW = 96, COMPACTIONS = 4 };
 
 typedef enum { REQUEST, SUM, COMPACT } kind;
 
@@ -112,7 +112,7 @@ static uint32_t run(place *p, uint64_t number) {
     switch (jobs[number].kind) {
     case REQUEST: return run_request(p, number);
     case SUM: return work(&jobs[number], 8000), FX_STEP_DONE;
-    default: return work(&jobs[number], 12000), stops ? FX_STEP_DONE : FX_STEP_YIELD;
+    default: return work(&jobs[number], 24000), stops ? FX_STEP_DONE : FX_STEP_YIELD;
     }
 }
 

@@ -124,7 +124,10 @@ struct halving {
             return step::yield;
         }
         auto [code, told] = here->redeem(*asked);
-        return code == FX_OK ? linked::done(told->answer) : step::yield;
+        if (code == FX_OK) return linked::done(told->answer);
+        // Each run takes notes of the journal, and the other thread may be set aside.
+        std::this_thread::sleep_for(std::chrono::microseconds(50));
+        return step::yield;
     }
 };
 

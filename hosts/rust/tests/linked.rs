@@ -219,7 +219,11 @@ fn halve(job: &mut Halving, cx: &mut Cx<'_, Halving>) -> Step {
     match cx.redeem(ticket) {
         Ok(Outcome::Done(answer)) => Step::Done(answer),
         Ok(_) => Step::Done(0),
-        Err(_) => Step::Yield,
+        Err(_) => {
+            // Each run takes notes of the journal, and the other thread may be set aside.
+            std::thread::sleep(std::time::Duration::from_micros(50));
+            Step::Yield
+        }
     }
 }
 
@@ -255,6 +259,7 @@ fn closures_wake_each_other() -> Result<(), Error> {
             Some(Err(_)) => {}
             Some(Ok(_)) | None => asked = cx.wake(name).ok(),
         }
+        std::thread::sleep(std::time::Duration::from_micros(50));
         Step::Yield
     });
     let wakes = sent(outside.submit(1, 0, wakes))?;
