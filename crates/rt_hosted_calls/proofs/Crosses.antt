@@ -9,6 +9,7 @@ use Rattle.rt_timeline.proofs.tree.Tree.TheLaws.TheKnot as tree
 use Rattle.rt_desk.proofs.trie.Trie.TheLaws.TheKnot as trie
 use Rattle.rt_desk.specs.contracts.lane.Lane.{the_row as lane}
 use Rattle.rt_journal_notes.proofs.running.RunningJournal.TheSendSync as journal
+use Rattle.rt_journal_notes.proofs.journal.Journal.TheSendSync as notes
 use Rattle.rt_ring_mesh.proofs.ends.Ends.TheSendSync as ends
 use Rattle.rt_core.specs.contracts.one_core.Core.{the_row as core}
 use Rattle.rt_journal_desk.specs.contracts.desk.RecordedDesk.{the_row as desk}
@@ -17,6 +18,8 @@ use Rattle.rt_hosted.specs.contracts.job.HostJob.{the_row as job}
 use Rattle.rt_hosted.specs.contracts.job.HostJobTask.TheImpl.{ghosts as task}
 use Rattle.rt_hosted.specs.contracts.hosted.Hosted.{the_row as hosted}
 use Rattle.rt_hosted_house.specs.contracts.outside.Outside.{the_row as outside}
+use Rattle.rt_hosted_audit.specs.contracts.ended.Ended.{the_row as ended}
+use Rattle.rt_hosted_calls.specs.contracts.house.House.{the_row as house}
 use Rattle.rt_hosted_calls.specs.contracts.member.Member.{the_row as member}
 
 job_send : IsSend job
@@ -42,5 +45,12 @@ hosted_send = search (recorded_send, ends.the_send, job_send, crosses, sendable)
 pub outside_send : IsSend outside
 outside_send = search (desk_send, ends.the_send, job_send, crosses, sendable) depth 60 fits 20000
 
+-- the house, and what it left behind
+house_send : IsSend house
+house_send = search (hosted_send, outside_send, notes.the_send, crosses, sendable) depth 60 fits 20000
+
+ended_send : IsSend ended
+ended_send = search (notes.the_send, crosses, sendable) depth 60 fits 20000
+
 pub member_send : IsSend member
-member_send = search (hosted_send, outside_send, crosses, sendable) depth 60 fits 20000
+member_send = search (hosted_send, outside_send, house_send, ended_send, crosses, sendable) depth 60 fits 20000

@@ -1,1 +1,3 @@
+pub mod Becoming
+pub mod Counted
 pub mod Crosses

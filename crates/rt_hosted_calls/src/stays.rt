@@ -1,6 +1,7 @@
 //! How seats leave a house and come back to it.
 
-ghost use Rattle.std.specs.Prelude.{◌≡◌, ◌↔◌, IfErr, IfOk, IsTrue};
+ghost use Rattle.std.specs.Prelude.{◌≡◌, ◌↔◌, None, IfErr, IfOk, IfSome, IsTrue};
+ghost use Rattle.rt_hosted_calls.specs.declared.member.Member.TheVariants.{Ended as ItsEnded};
 ghost use Rattle.rt_hosted_calls.specs.Ending.{EndsNoSeat, EndsSeat};
 ghost use Rattle.rt_hosted_calls.specs.Houses.{TakesNoSeat, TakesSeat};
 ghost use Rattle.rt_hosted_calls.specs.Members.{IsHouse};
@@ -8,6 +9,7 @@ ghost use Rattle.rt_hosted_calls.specs.Members.{IsHouse};
 use crate::code::Code;
 use crate::member::Member;
 use rt_hosted_audit::Ended;
+use rt_journal_notes::Assembly;
 use std::alloc::Global;
 
 impl Member {
@@ -49,12 +51,28 @@ impl Member {
         match self {
             Member::House(house) => {
                 house.take_in(seat)?;
-                if let Some(assembly) = house.whole(alloc) {
-                    *self = Member::Ended(Ended::of(assembly));
-                }
+                let whole = house.whole(alloc);
+                self.become_ended(whole);
                 Ok(())
             }
             _ => Err((Code::Empty, seat)),
         }
+    }
+
+    /// Becomes these journals, if there are any.
+    fn become_ended(&mut self, whole: Option<Assembly>)
+        ensures ended { IfSome whole (λ assembly. self.new ≡ ItsEnded assembly) }
+        ensures same { whole ≡ None → self.new ≡ self.old }
+    {
+        if let Some(assembly) = whole {
+            self.put(Ended::of(assembly));
+        }
+    }
+
+    /// Becomes these journals.
+    fn put(&mut self, ended: Ended)
+        ensures { self.new ≡ ItsEnded ended }
+    {
+        *self = Member::Ended(ended);
     }
 }

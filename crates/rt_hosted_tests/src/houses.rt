@@ -15,14 +15,14 @@ const ROOM: u32 = 4096;
 
 /// Two cores and the outside actor.
 #[derive(Drop)]
-pub(crate) struct House {
-    pub(crate) first: Host,
-    pub(crate) second: Host,
-    pub(crate) outside: Outside,
+struct House {
+    first: Host,
+    second: Host,
+    outside: Outside,
 }
 
 /// Opens a house of two cores whose turns have so many polls.
-pub(crate) fn open(alloc: Global, burst: u8) -> Option<House> {
+fn open(alloc: Global, burst: u8) -> Option<House> {
     let Ok(house) = open_house(alloc, 2, CAP, burst, ROOM) else {
         return None;
     };
@@ -38,7 +38,7 @@ pub(crate) fn open(alloc: Global, burst: u8) -> Option<House> {
 }
 
 /// Submits a job to this core.
-pub(crate) fn send(outside: &mut Outside, core: u8, job: u64) -> Option<Ticket> {
+fn send(outside: &mut Outside, core: u8, job: u64) -> Option<Ticket> {
     match outside.submit(CoreNo(core), Order::Job(QueueNo(0), job)) {
         Ok(ticket) => Some(ticket),
         Err(_) => None,
@@ -46,7 +46,7 @@ pub(crate) fn send(outside: &mut Outside, core: u8, job: u64) -> Option<Ticket> 
 }
 
 /// The answer of a job that is done, if its outcome shows by now.
-pub(crate) fn answer(outside: &mut Outside, core: u8, ticket: Ticket) -> Option<u64> {
+fn answer(outside: &mut Outside, core: u8, ticket: Ticket) -> Option<u64> {
     let _count = outside.collect(CoreNo(core));
     match outside.redeem(ticket) {
         Ok(Outcome::Finished(answer)) => Some(answer),
@@ -55,7 +55,7 @@ pub(crate) fn answer(outside: &mut Outside, core: u8, ticket: Ticket) -> Option<
 }
 
 /// Submits an order that closes this core.
-pub(crate) fn close(outside: &mut Outside, core: u8) -> bool {
+fn close(outside: &mut Outside, core: u8) -> bool {
     outside
         .submit(CoreNo(core), Order::CloseCore(Mode::Finish))
         .is_ok()
@@ -70,7 +70,7 @@ fn notes(core: Hosted) -> Option<Journal<u64>> {
 }
 
 /// Whether the journals of a house that has ended are sound.
-pub(crate) fn is_sound(
+fn is_sound(
     alloc: Global,
     burst: u8,
     first: Hosted,
