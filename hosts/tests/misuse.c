@@ -3,23 +3,8 @@
  * fairexec.h names, and a refused one changes nothing, by the counts of the core and of all its queues, and by what its pointers point to.
  * The last line is 'N passed, M failed', and the status is 0 if nothing failed.
  */
-#include "fairexec.h"
-#include <stdbool.h>
-#include <stdio.h>
+#include "checks.h"
 #include <string.h>
-
-static unsigned passed, failed;
-
-static void is(const char *what, uint32_t code, uint32_t wanted) {
-    if (code == wanted) {
-        passed++;
-        return;
-    }
-    failed++;
-    printf("FAILED: %s: %u (%s), and not %u (%s)\n", what, (unsigned)code, fx_text(code), (unsigned)wanted, fx_text(wanted));
-}
-
-#define IS(call, wanted) is(#call, call, wanted)
 
 /* All that a core tells of itself. */
 typedef struct {

@@ -1,75 +1,9 @@
 //! A core whose jobs are numbers.
 
+use crate::error::{refused, Error};
 use crate::raw;
-use std::fmt;
+use crate::stats::{CoreStats, QueueStats};
 use std::thread::JoinHandle;
-
-/// Why a call was refused. Nothing changed.
-#[derive(Clone, Copy, PartialEq, Eq, Debug)]
-pub enum Error {
-    /// The core made 2^64 - 1 turns, or was handed 2^64 - 1 jobs, new shares and wakes: it takes no more of that.
-    Spent,
-    /// A job of this core runs.
-    Busy,
-    /// No job of this core runs.
-    NoJob,
-    /// The core holds as many jobs as it has room for.
-    Full,
-    /// There is no memory.
-    NoMemory,
-    /// Shares are 1 to 10000.
-    BadShares,
-    /// The core has no queue of that number.
-    NoQueue,
-    /// The queue or the core is closed, or was closed before.
-    Closed,
-    /// The core has 256 queues.
-    TooMany,
-    /// Room is for 1 to 131070 jobs.
-    BadNumber,
-    /// No job of that number is inside.
-    Absent,
-}
-
-impl Error {
-    fn of(code: u32) -> Error {
-        match code {
-            raw::FX_SPENT => Error::Spent,
-            raw::FX_BUSY => Error::Busy,
-            raw::FX_NO_JOB => Error::NoJob,
-            raw::FX_FULL => Error::Full,
-            raw::FX_NO_MEMORY => Error::NoMemory,
-            raw::FX_BAD_SHARES => Error::BadShares,
-            raw::FX_NO_QUEUE => Error::NoQueue,
-            raw::FX_CLOSED => Error::Closed,
-            raw::FX_TOO_MANY => Error::TooMany,
-            raw::FX_BAD_NUMBER => Error::BadNumber,
-            raw::FX_ABSENT => Error::Absent,
-            // Whoever has a `Core` has an open one, so FX_EMPTY and FX_OCCUPIED don't come here.
-            _ => unreachable!("the library answered code {code}"),
-        }
-    }
-}
-
-impl fmt::Display for Error {
-    fn fmt(&self, f: &mut fmt::Formatter<'_>) -> fmt::Result {
-        f.write_str(match self {
-            Error::Spent => "the core did as much as it may",
-            Error::Busy => "a job of this core runs",
-            Error::NoJob => "no job of this core runs",
-            Error::Full => "the core is full",
-            Error::NoMemory => "there is no memory",
-            Error::BadShares => "shares are 1 to 10000",
-            Error::NoQueue => "the core has no queue of that number",
-            Error::Closed => "the queue or the core is closed",
-            Error::TooMany => "the core has 256 queues",
-            Error::BadNumber => "a number is out of its range",
-            Error::Absent => "no job of that number is inside",
-        })
-    }
-}
-
-impl std::error::Error for Error {}
 
 /// What the run of a job came to.
 #[derive(Clone, Copy, PartialEq, Eq, Debug)]
@@ -104,7 +38,7 @@ pub enum Mode {
 }
 
 impl Mode {
-    fn number(self) -> u32 {
+    pub(crate) fn number(self) -> u32 {
         match self {
             Mode::Finish => raw::FX_MODE_FINISH,
             Mode::Return => raw::FX_MODE_RETURN,
@@ -123,48 +57,6 @@ pub enum Next {
     Back(u64),
     /// No queue has work.
     Idle,
-}
-
-/// The counts of a core.
-#[derive(Clone, Copy, PartialEq, Eq, Debug)]
-pub struct CoreStats {
-    /// Queues, 1 to 256.
-    pub queues: u32,
-    /// How many jobs the core has room for.
-    pub room: u64,
-    /// Jobs inside, parked ones and one that runs counted too.
-    pub held: u64,
-    /// Turns, those that handed a job back counted too.
-    pub turns: u64,
-    /// The greatest virtual runtime at which a queue was picked.
-    pub floor: u128,
-    /// Whether a job runs.
-    pub is_running: bool,
-    /// How the core was closed, if it was.
-    pub closed: Option<Mode>,
-}
-
-/// The counts of a queue. Times are nanoseconds.
-#[derive(Clone, Copy, PartialEq, Eq, Debug)]
-pub struct QueueStats {
-    /// 1 to 10000.
-    pub shares: u32,
-    /// Turns of this queue, those that handed a job back counted too.
-    pub picks: u64,
-    /// Jobs inside that don't run, parked ones counted too.
-    pub waiting: u64,
-    /// Jobs that are done.
-    pub done: u64,
-    /// Jobs that a turn handed back.
-    pub back: u64,
-    /// The sum of the times of its runs, each as it counts.
-    pub time: u128,
-    /// Its virtual runtime.
-    pub virtual_runtime: u128,
-}
-
-fn wide(low: u64, high: u64) -> u128 {
-    u128::from(low) | u128::from(high) << 64
 }
 
 /// A core with fair task queues, whose jobs are numbers. hosts/c/fairexec.h tells what each call does.
@@ -345,26 +237,11 @@ impl Core {
 
     /// The counts of the core.
     pub fn stats(&mut self) -> CoreStats {
-        let mut stats = raw::fx_core_stats {
-            size: size_of::<raw::fx_core_stats>() as u32,
-            ..raw::fx_core_stats::default()
-        };
+        let mut stats = CoreStats::asked();
         // SAFETY: as above.
         let code = unsafe { raw::fx_stats(&mut self.handle, &mut stats) };
         assert_eq!(code, raw::FX_OK);
-        CoreStats {
-            queues: stats.queues,
-            room: stats.room,
-            held: stats.held,
-            turns: stats.turns,
-            floor: wide(stats.floor_low, stats.floor_high),
-            is_running: stats.running == 1,
-            closed: match stats.closed {
-                0 => None,
-                1 => Some(Mode::Finish),
-                _ => Some(Mode::Return),
-            },
-        }
+        CoreStats::of(&stats)
     }
 
     /// The counts of a queue.
@@ -373,21 +250,10 @@ impl Core {
     ///
     /// `NoQueue`.
     pub fn stats_of(&mut self, queue: u32) -> Result<QueueStats, Error> {
-        let mut stats = raw::fx_queue_stats {
-            size: size_of::<raw::fx_queue_stats>() as u32,
-            ..raw::fx_queue_stats::default()
-        };
+        let mut stats = QueueStats::asked();
         // SAFETY: as above.
         refused(unsafe { raw::fx_stats_of_queue(&mut self.handle, queue, &mut stats) })?;
-        Ok(QueueStats {
-            shares: stats.shares,
-            picks: stats.picks,
-            waiting: stats.waiting,
-            done: stats.done,
-            back: stats.back,
-            time: wide(stats.time_low, stats.time_high),
-            virtual_runtime: wide(stats.virtual_low, stats.virtual_high),
-        })
+        Ok(QueueStats::of(&stats))
     }
 }
 
@@ -395,12 +261,5 @@ impl Drop for Core {
     fn drop(&mut self) {
         // SAFETY: as above, and nobody uses the handle any more.
         unsafe { raw::fx_free(&mut self.handle) };
-    }
-}
-
-fn refused(code: u32) -> Result<(), Error> {
-    match code {
-        raw::FX_OK => Ok(()),
-        code => Err(Error::of(code)),
     }
 }

@@ -1,6 +1,8 @@
 //! A core that keeps what its jobs are.
 
-use crate::core::{start_with, Core, CoreStats, Error, Mode, Next, QueueStats, Settled, Step};
+use crate::core::{start_with, Core, Mode, Next, Settled, Step};
+use crate::error::Error;
+use crate::stats::{CoreStats, QueueStats};
 use std::panic::{catch_unwind, AssertUnwindSafe};
 use std::sync::OnceLock;
 use std::thread::JoinHandle;

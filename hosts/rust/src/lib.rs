@@ -19,12 +19,18 @@
 //! - [`Core`]: a core whose jobs are numbers.
 //! - [`House`]: a core that keeps its jobs, which are of any type; [`Job`] is a closure.
 //! - [`Tasks`]: a house whose jobs are futures.
+//! - [`linked`]: cores on threads of their own, with links between them, and an outside actor.
 
 mod core;
+mod error;
 mod house;
+pub mod linked;
 pub mod raw;
+mod stats;
 mod tasks;
 
-pub use crate::core::{Core, CoreStats, Error, Mode, Next, QueueStats, Settled, Step};
+pub use crate::core::{Core, Mode, Next, Settled, Step};
+pub use error::Error;
+pub use stats::{CoreStats, QueueStats};
 pub use house::{wall_clock, Clock, Cx, House, Job, Turn};
 pub use tasks::{again, Tasks};

@@ -1,7 +1,9 @@
 //! Futures on a core. A task that waits is no job, and its waker, which may be called on any thread, makes it one again.
 
-use crate::core::{CoreStats, Error, Mode, QueueStats, Step};
+use crate::core::{Mode, Step};
+use crate::error::Error;
 use crate::house::{House, Turn};
+use crate::stats::{CoreStats, QueueStats};
 use std::future::Future;
 use std::pin::Pin;
 use std::sync::atomic::{AtomicBool, Ordering};

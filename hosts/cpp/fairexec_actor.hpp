@@ -1,0 +1,266 @@
+// fairexec_actor.hpp: what the actors of a house do, for fairexec_house.hpp: they submit jobs, collect, and ask for outcomes.
+#ifndef FAIREXEC_ACTOR_HPP
+#define FAIREXEC_ACTOR_HPP
+
+#include "fairexec.hpp"
+#include <atomic>
+#include <condition_variable>
+#include <functional>
+#include <list>
+#include <memory>
+#include <mutex>
+
+namespace fairexec::linked {
+
+// What the run of a job came to: a step, and the answer of a job that is done.
+struct result {
+    step came_to;
+    uint64_t answer;
+    result(step came_to, uint64_t answer = 0) : came_to(came_to), answer(answer) {}
+};
+
+inline result done(uint64_t answer) { return {step::done, answer}; }
+
+// The right to ask for the outcome of a submission. `name` names the job, too: by it a job is woken.
+struct ticket {
+    fx_name name;
+    bool is_job;
+};
+
+// What became of a submission: as fx_outcome, with the job that comes back.
+template <class Job> struct outcome {
+    fx_kind kind;
+    uint32_t why, queue;
+    uint64_t answer;
+    std::optional<Job> back;
+};
+
+// What a submission came to: a ticket if the code is FX_OK, else the job, if it was one.
+template <class Job> struct submitted {
+    fx_code code;
+    std::optional<fairexec::linked::ticket> ticket;
+    std::optional<Job> refused;
+};
+
+// Where the jobs stand, from each actor to each core, and the bells of the actors.
+template <class Job> class lanes {
+    struct lane {
+        std::mutex lock;
+        std::vector<std::optional<Job>> places;
+        std::vector<uint32_t> vacant;
+    };
+    struct bell {
+        std::atomic<bool> sleeps{false};
+        std::mutex lock;
+        std::condition_variable rings;
+        bool rung = false;
+        std::function<void()> calls;
+    };
+    uint32_t core_count;
+    std::unique_ptr<lane[]> all;
+    std::unique_ptr<bell[]> bells;
+
+    lane &at(uint32_t from, uint32_t to) { return all[from * core_count + to]; }
+
+public:
+    // One place more than the link has, so that the link judges.
+    lanes(uint32_t cores, uint32_t places) : core_count(cores), all(new lane[(cores + 1) * cores]), bells(new bell[cores + 1]) {
+        for (uint32_t each = 0; each < (cores + 1) * cores; each++) {
+            all[each].places.resize(places + 1);
+            all[each].vacant.reserve(places + 1);
+            for (uint32_t place = places + 1; place > 0; place--) all[each].vacant.push_back(place - 1);
+        }
+    }
+    uint32_t cores() const noexcept { return core_count; }
+
+    std::optional<uint32_t> put(uint32_t from, uint32_t to, Job &job) {
+        lane &it = at(from, to);
+        std::lock_guard<std::mutex> guard(it.lock);
+        if (it.vacant.empty()) return std::nullopt;
+        uint32_t place = it.vacant.back();
+        it.vacant.pop_back();
+        it.places[place].emplace(std::move(job));
+        return place;
+    }
+    // The job leaves its place, which it keeps if it comes back.
+    std::optional<Job> take(uint32_t from, uint32_t to, uint64_t place, bool for_good) noexcept {
+        lane &it = at(from, to);
+        std::lock_guard<std::mutex> guard(it.lock);
+        std::optional<Job> job = std::move(it.places[place]);
+        it.places[place].reset();
+        if (for_good) it.vacant.push_back(static_cast<uint32_t>(place));
+        return job;
+    }
+    void restore(uint32_t from, uint32_t to, uint64_t place, std::optional<Job> &&job) noexcept {
+        lane &it = at(from, to);
+        std::lock_guard<std::mutex> guard(it.lock);
+        if (job) it.places[place].emplace(std::move(*job));
+    }
+
+    void on_ring(uint32_t actor, std::function<void()> calls) { bells[actor].calls = std::move(calls); }
+    void ring(uint32_t actor) {
+        bell &it = bells[actor];
+        if (!it.sleeps.load()) return;
+        if (it.calls) return it.calls();
+        std::lock_guard<std::mutex> guard(it.lock);
+        it.rung = true;
+        it.rings.notify_one();
+    }
+    void set_asleep(uint32_t actor, bool sleeps) { bells[actor].sleeps.store(sleeps); }
+    // No clause says that a link shows at once what the other end did, so a sleeper looks again after 10 ms.
+    void wait(uint32_t actor) {
+        bell &it = bells[actor];
+        std::unique_lock<std::mutex> guard(it.lock);
+        it.rings.wait_for(guard, std::chrono::milliseconds(10), [&] { return it.rung; });
+        it.rung = false;
+    }
+};
+
+// What each actor does. The calls answer the codes of fairexec.h.
+template <class Job> class actor {
+    // A job of the own core that parks until the outcome of a submission has come, and what that was.
+    struct waiting {
+        ticket of;
+        fx_name job;
+        bool is_woken;
+        std::optional<std::pair<fx_code, std::optional<outcome<Job>>>> told;
+    };
+    // Jobs for whose outcome nobody asks. They are redeemed once they are collected, since a job that comes back has a place.
+    std::vector<ticket> loose;
+    std::list<waiting> waits;
+
+    // Wakes the jobs whose outcomes have come. A wake that the link doesn't take waits for the next time.
+    void wake_waiting(bool are_new) {
+        for (auto &each : waits) {
+            if (!each.told && are_new) {
+                auto told = redeem(each.of);
+                if (told.first != FX_PENDING && told.first != FX_JOURNAL_FULL) each.told.emplace(std::move(told));
+            }
+            if (!each.told || each.is_woken) continue;
+            auto sent = wake(each.job);
+            each.is_woken = sent.code == FX_OK;
+            if (sent.ticket) detach(*sent.ticket);
+        }
+    }
+
+protected:
+    fx_seat seat = FX_NO_SEAT;
+    uint32_t own = 0;
+    std::shared_ptr<lanes<Job>> shared;
+
+    submitted<Job> ordered(uint32_t code, const fx_name &name) {
+        if (code != FX_OK) return {static_cast<fx_code>(code), std::nullopt, std::nullopt};
+        shared->ring(name.to);
+        return {FX_OK, ticket{name, false}, std::nullopt};
+    }
+
+public:
+    actor(fx_house &house, std::shared_ptr<lanes<Job>> shared) : shared(std::move(shared)) {
+        uint32_t code = fx_house_take(&house, &seat, &own);
+        if (code == FX_NO_MEMORY) throw std::bad_alloc();
+        if (code != FX_OK) throw error(code);
+    }
+    actor(actor &&other) noexcept : loose(std::move(other.loose)), waits(std::move(other.waits)), own(other.own), shared(std::move(other.shared)) { std::swap(seat, other.seat); }
+    actor(const actor &) = delete;
+    actor &operator=(actor &&) = delete;
+    ~actor() { fx_seat_free(&seat); }
+
+    uint32_t number() const noexcept { return own; }
+
+    [[nodiscard]] submitted<Job> submit(uint32_t to, uint32_t queue, Job job) {
+        if (to >= shared->cores()) return {FX_UNKNOWN_CORE, std::nullopt, std::move(job)};
+        std::optional<uint32_t> place = shared->put(own, to, job);
+        if (!place) return {FX_FULL, std::nullopt, std::move(job)};
+        fx_name name;
+        uint32_t code = fx_seat_submit(&seat, to, queue, *place, &name);
+        if (code != FX_OK) return {static_cast<fx_code>(code), std::nullopt, shared->take(own, to, *place, true)};
+        shared->ring(to);
+        return {FX_OK, ticket{name, true}, std::nullopt};
+    }
+    // Orders that are no jobs: each is answered with an fx_answer.
+    submitted<Job> create(uint32_t to, uint32_t shares) {
+        fx_name name{};
+        return ordered(fx_seat_create(&seat, to, shares, &name), name);
+    }
+    submitted<Job> set_shares(uint32_t to, uint32_t queue, uint32_t shares) {
+        fx_name name{};
+        return ordered(fx_seat_set_shares(&seat, to, queue, shares, &name), name);
+    }
+    submitted<Job> close_queue(uint32_t to, uint32_t queue, mode mode) {
+        fx_name name{};
+        return ordered(fx_seat_close_queue(&seat, to, queue, static_cast<uint32_t>(mode), &name), name);
+    }
+    submitted<Job> close_core(uint32_t to, mode mode) {
+        fx_name name{};
+        return ordered(fx_seat_close_core(&seat, to, static_cast<uint32_t>(mode), &name), name);
+    }
+    submitted<Job> wake(const fx_name &job) {
+        fx_name name{};
+        return ordered(fx_seat_wake(&seat, &job, &name), name);
+    }
+
+    // Collects what all links show, and writes how many outcomes there were.
+    fx_code collect(uint64_t &count) {
+        count = 0;
+        for (uint32_t core = 0; core < shared->cores(); core++) {
+            uint64_t some = 0;
+            uint32_t code = fx_seat_collect(&seat, core, &some);
+            if (code != FX_OK) return static_cast<fx_code>(code);
+            count += some;
+        }
+        for (std::size_t each = 0; count > 0 && each < loose.size();) {
+            fx_code code = redeem(loose[each]).first;
+            if (code == FX_PENDING || code == FX_JOURNAL_FULL) each++;
+            else loose[each] = loose.back(), loose.pop_back();
+        }
+        wake_waiting(count > 0);
+        return FX_OK;
+    }
+    // The outcome of a submission wakes this job of the own core, and is kept for it.
+    void wake_with(const ticket &of, const fx_name &job) { waits.push_back(waiting{of, job, false, std::nullopt}); }
+    // What was kept, once it has come, as `redeem` tells it.
+    std::optional<std::pair<fx_code, std::optional<outcome<Job>>>> kept(const ticket &of) {
+        for (auto each = waits.begin(); each != waits.end(); ++each) {
+            if (each->of.name.to != of.name.to || each->of.name.number != of.name.number || !each->told) continue;
+            std::optional<std::pair<fx_code, std::optional<outcome<Job>>>> told(std::move(each->told));
+            waits.erase(each);
+            return told;
+        }
+        return std::nullopt;
+    }
+    // The outcome of a submission that was collected: FX_OK and the outcome, or why there is none.
+    std::pair<fx_code, std::optional<outcome<Job>>> redeem(const ticket &of) {
+        fx_outcome told{};
+        told.size = sizeof told;
+        uint32_t code = fx_seat_redeem(&seat, &of.name, &told);
+        if (code != FX_OK) return {static_cast<fx_code>(code), std::nullopt};
+        outcome<Job> is{static_cast<fx_kind>(told.kind), told.why, told.queue, told.answer, std::nullopt};
+        if (told.kind == FX_KIND_BACK) is.back.emplace(std::move(*shared->take(of.name.from, of.name.to, told.job, true)));
+        return {FX_OK, std::move(is)};
+    }
+    // Nobody will ask for the outcome. A job that comes back is destroyed.
+    fx_code detach(const ticket &of) {
+        if (!of.is_job) return static_cast<fx_code>(fx_seat_detach(&seat, &of.name));
+        fx_code code = redeem(of).first;
+        if (code != FX_PENDING) return code;
+        loose.push_back(of);
+        return FX_OK;
+    }
+
+    // A thread that sleeps by its own means, as by epoll, lets `calls` be called where there is something to do: it says so before the threads
+    // of the house start. It asks may_sleep, sleeps if that says so, and then calls is_awake.
+    void on_ring(std::function<void()> calls) { shared->on_ring(own, std::move(calls)); }
+    bool may_sleep() {
+        shared->set_asleep(own, true);
+        return fx_seat_shows(&seat) == FX_IDLE;
+    }
+    void is_awake() { shared->set_asleep(own, false); }
+    void sleep() {
+        if (may_sleep()) shared->wait(own);
+        is_awake();
+    }
+};
+
+} // namespace fairexec::linked
+
+#endif

@@ -1,0 +1,369 @@
+// fairexec_house.hpp: the house of fairexec.h for C++17, header only: cores on threads of their own, with links between them.
+//
+//     fairexec::linked::house<fairexec::linked::job> house({2});
+//     std::thread first([&] { house.cores[0].run(); }), second([&] { house.cores[1].run(); });
+//     auto ticket = house.outside.submit(1, 0, [](fairexec::linked::cx<fairexec::linked::job> &) { return fairexec::linked::done(42); });
+//     ... house.outside.wait_for(*ticket.ticket).answer ...
+//
+// With C++20 a job may be a coroutine, `task`. A house keeps what its jobs are: a job moves to the core that it is submitted to, and is destroyed there when it is done. A core is used by
+// one thread at a time, and goes to another as fairexec.h says. The lanes of the jobs are locked for the move of one job.
+#ifndef FAIREXEC_HOUSE_HPP
+#define FAIREXEC_HOUSE_HPP
+
+#include "fairexec_actor.hpp"
+#include <string>
+
+namespace fairexec::linked {
+
+// What a house is opened with: see fx_config.
+struct config {
+    uint32_t cores = 1, places = 64, burst = 1, notes = 1u << 20;
+};
+
+// What a job may do while it runs.
+template <class Job> class cx {
+    actor<Job> &of;
+
+public:
+    const fx_name name;
+    const uint32_t queue;
+    cx(actor<Job> &of, const fx_turn &turn) : of(of), name(turn.name), queue(turn.queue) {}
+    actor<Job> *operator->() noexcept { return &of; }
+};
+
+// A core. An exception of a job leaves run_turn: the job is then done with answer 0, and destroyed.
+template <class Job, class Clock = std::chrono::steady_clock> class core : public actor<Job> {
+    static_assert(std::is_nothrow_move_constructible_v<Job>, "a job moves in and out without an exception");
+    static_assert(noexcept(Clock::now()), "a clock tells the time without an exception");
+
+    // Settles the run that it saw begin, also if an exception ends it.
+    struct running {
+        core &of;
+        const fx_turn &turn;
+        fx_code &told;
+        std::optional<Job> job = of.shared->take(turn.name.from, turn.name.to, turn.job, false);
+        result came_to = step::done;
+        typename Clock::time_point began = Clock::now();
+
+        ~running() {
+            auto spent = std::chrono::duration_cast<std::chrono::nanoseconds>(Clock::now() - began).count();
+            const fx_name &name = turn.name;
+            // The job is in its place, or gone, before the library gives it on.
+            if (came_to.came_to == step::done) {
+                job.reset();
+                of.shared->take(name.from, name.to, turn.job, true);
+            } else {
+                of.shared->restore(name.from, name.to, turn.job, std::move(job));
+            }
+            told = static_cast<fx_code>(fx_seat_settle(&of.seat, static_cast<uint32_t>(came_to.came_to), came_to.answer, spent < 0 ? 0 : static_cast<uint64_t>(spent)));
+            if (told == FX_DONE && name.from != of.own) of.shared->ring(name.from);
+        }
+    };
+
+public:
+    using actor<Job>::actor;
+
+    // Runs the next job once, by `run`, which is called with the job and a cx: FX_OK, FX_PARKED, FX_DONE, FX_BACK, FX_IDLE, FX_JOURNAL_FULL or
+    // FX_SPENT.
+    template <class Run> fx_code run_turn(Run &&run) {
+        fx_turn turn{};
+        turn.size = sizeof turn;
+        fx_code code = static_cast<fx_code>(fx_seat_next(&this->seat, &turn));
+        if (code == FX_BACK) this->shared->ring(turn.name.from);
+        if (code != FX_START && code != FX_RESUME) return code;
+        {
+            running now{*this, turn, code};
+            cx<Job> here(*this, turn);
+            now.came_to = run(*now.job, here);
+        }
+        return code;
+    }
+
+    // Delivers an order of each actor. If the core is closed it shuts the gates: its own once no job is inside, since jobs may have to be woken.
+    fx_code deliver(bool &did) {
+        for (uint32_t sender = this->shared->cores() + 1; sender-- > 0;) {
+            if (sender == this->own && stats().held > 0) continue;
+            uint32_t code = fx_seat_shut(&this->seat, sender);
+            did = did || code == FX_OK;
+            if (code == FX_OPEN) break;
+            if (code == FX_JOURNAL_FULL) return FX_JOURNAL_FULL;
+        }
+        for (uint32_t sender = 0; sender <= this->shared->cores(); sender++) {
+            uint32_t code = fx_seat_deliver(&this->seat, sender);
+            if (code == FX_JOURNAL_FULL) return FX_JOURNAL_FULL;
+            did = did || code == FX_OK;
+        }
+        return FX_OK;
+    }
+
+    // One round: it delivers, runs a job and collects: FX_OK if anything happened, else FX_IDLE, or FX_JOURNAL_FULL or FX_SPENT.
+    template <class Run> fx_code round(Run &&run) {
+        bool did = false;
+        uint64_t count = 0;
+        fx_code code = deliver(did);
+        if (code != FX_OK) return code;
+        code = run_turn(run);
+        if (code == FX_JOURNAL_FULL || code == FX_SPENT) return code;
+        did = did || code != FX_IDLE;
+        code = this->collect(count);
+        if (code != FX_OK) return code;
+        return did || count > 0 ? FX_OK : FX_IDLE;
+    }
+
+    // Rounds until the core is drained: FX_OK, or FX_JOURNAL_FULL or FX_SPENT.
+    template <class Run> fx_code run(Run &&by) {
+        while (!is_drained()) {
+            fx_code code = round(by);
+            if (code == FX_IDLE) this->sleep();
+            else if (code != FX_OK) return code;
+        }
+        return FX_OK;
+    }
+    // The same for jobs that are callables, with a cx or without.
+    static result call(Job &job, cx<Job> &here) {
+        if constexpr (std::is_invocable_v<Job &, cx<Job> &>) return job(here);
+        else return job();
+    }
+    fx_code round() { return round(call); }
+    fx_code run() { return run(call); }
+
+    fx_code close(mode mode) noexcept { return static_cast<fx_code>(fx_seat_close(&this->seat, static_cast<uint32_t>(mode))); }
+    bool is_drained() noexcept { return fx_seat_drained(&this->seat) == FX_OK; }
+    fx_core_stats stats() noexcept {
+        fx_core_stats stats{};
+        stats.size = sizeof stats;
+        fx_seat_stats(&this->seat, &stats);
+        return stats;
+    }
+    fx_queue_stats stats_of(uint32_t queue) {
+        fx_queue_stats stats{};
+        stats.size = sizeof stats;
+        uint32_t code = fx_seat_stats_of_queue(&this->seat, queue, &stats);
+        if (code != FX_OK) throw error(code);
+        return stats;
+    }
+    fx_code end(fx_house &house) noexcept { return static_cast<fx_code>(fx_house_end(&house, &this->seat)); }
+};
+
+// The outside actor: the part of the host that belongs to no core.
+template <class Job> class outside : public actor<Job> {
+public:
+    using actor<Job>::actor;
+
+    // Waits for the outcome of a submission. It throws `error` if there will be none.
+    outcome<Job> wait_for(const ticket &of) {
+        for (;;) {
+            uint64_t count = 0;
+            fx_code code = this->collect(count);
+            if (code != FX_OK) throw error(code);
+            auto [told, is] = this->redeem(of);
+            if (told == FX_OK) return std::move(*is);
+            if (told != FX_PENDING) throw error(told);
+            this->sleep();
+        }
+    }
+    // Orders each core to close, and waits for none.
+    void close_all(mode mode) {
+        for (uint32_t core = 0; core < this->shared->cores(); core++) {
+            auto told = this->close_core(core, mode);
+            if (told.code != FX_OK && told.code != FX_CLOSED) throw error(told.code);
+            if (told.ticket) this->detach(*told.ticket);
+        }
+    }
+    fx_code end(fx_house &house) noexcept { return static_cast<fx_code>(fx_house_end(&house, &this->seat)); }
+};
+
+// A house with all its actors. Each core is used by the thread that it was given to, and the outside actor by one thread.
+template <class Job, class Clock = std::chrono::steady_clock> class house {
+    struct owned {
+        fx_house at = FX_NO_HOUSE;
+        ~owned() { fx_house_free(&at); }
+    } handle;
+    std::shared_ptr<lanes<Job>> shared;
+
+    std::shared_ptr<lanes<Job>> opened(const config &with) {
+        if (fx_version() != FX_VERSION) throw std::runtime_error("libfairexec.a has another version than fairexec.h");
+        fx_config asked{};
+        asked.size = sizeof asked;
+        asked.cores = with.cores;
+        asked.places = with.places;
+        asked.burst = with.burst;
+        asked.notes = with.notes;
+        uint32_t code = fx_house_open(&handle.at, &asked);
+        if (code == FX_NO_MEMORY) throw std::bad_alloc();
+        if (code != FX_OK) throw error(code);
+        return std::make_shared<lanes<Job>>(with.cores, with.places);
+    }
+
+public:
+    linked::outside<Job> outside;
+    std::vector<core<Job, Clock>> cores;
+
+    explicit house(const config &with) : shared(opened(with)), outside(handle.at, shared) {
+        // The outside actor comes first, and then the cores from the greatest number on.
+        std::vector<core<Job, Clock>> taken;
+        for (uint32_t left = with.cores; left > 0; left--) taken.emplace_back(handle.at, shared);
+        cores.reserve(taken.size());
+        for (std::size_t left = taken.size(); left > 0; left--) cores.push_back(std::move(taken[left - 1]));
+    }
+    house(const house &) = delete;
+    house &operator=(const house &) = delete;
+
+    // Ends all actors: FX_OK, or FX_NOT_DRAINED. No thread uses them any more.
+    fx_code end() noexcept {
+        for (auto &each : cores)
+            if (!each.is_drained()) return FX_NOT_DRAINED;
+        for (auto &each : cores) each.end(handle.at);
+        return outside.end(handle.at);
+    }
+    // After the end: the verdict over the journals of all actors, and their text.
+    fx_verdict audit() {
+        fx_verdict verdict{};
+        verdict.size = sizeof verdict;
+        uint32_t code = fx_house_audit(&handle.at, &verdict);
+        if (code == FX_NO_MEMORY) throw std::bad_alloc();
+        if (code != FX_OK) throw error(code);
+        return verdict;
+    }
+    std::string text() {
+        std::string all;
+        std::vector<uint8_t> part(1 << 16);
+        uint64_t count = 0;
+        do {
+            uint32_t code = fx_house_text(&handle.at, all.size(), part.data(), part.size(), &count);
+            if (code == FX_NO_MEMORY) throw std::bad_alloc();
+            if (code != FX_OK) throw error(code);
+            all.append(part.begin(), part.begin() + static_cast<std::ptrdiff_t>(count));
+        } while (count == part.size());
+        return all;
+    }
+};
+
+// Any callable that answers a result or a step, with a cx or without, also one that can only be moved.
+class job {
+    struct base {
+        virtual ~base() = default;
+        virtual result run(cx<job> &here) = 0;
+    };
+    template <class Call> struct holding final : base {
+        Call call;
+        explicit holding(Call &&given) : call(std::move(given)) {}
+        result run(cx<job> &here) override {
+            if constexpr (std::is_invocable_v<Call &, cx<job> &>) return call(here);
+            else return call();
+        }
+    };
+    std::unique_ptr<base> held;
+
+public:
+    template <class Call, class = std::enable_if_t<!std::is_same_v<std::decay_t<Call>, job>>>
+    job(Call call) : held(std::make_unique<holding<Call>>(std::move(call))) {}
+    result operator()(cx<job> &here) { return held->run(here); }
+};
+
+#if defined(__cpp_impl_coroutine)
+// A coroutine as a job of a house: `co_return 42;` is its answer, `co_await again;` and `co_await park;` end a run, and
+// `co_await ask(core, queue, task)` submits another one and goes on with its outcome. Until that has come it is parked, and the other holds a place of
+// the link: coroutines that wait for more others than a link has places wait for ever. An exception of a coroutine leaves run_turn; a submission that is refused for good throws `error` in the coroutine.
+class task {
+public:
+    struct promise_type;
+    struct asking;
+
+    task(task &&other) noexcept : at(std::exchange(other.at, nullptr)) {}
+    task &operator=(task &&) = delete;
+    ~task() {
+        if (at) at.destroy();
+    }
+    result operator()(cx<task> &here);
+
+private:
+    std::coroutine_handle<promise_type> at;
+    explicit task(std::coroutine_handle<promise_type> at) : at(at) {}
+};
+
+struct task::asking {
+    uint32_t to, queue;
+    task job;
+};
+
+inline task::asking ask(uint32_t to, uint32_t queue, task job) { return {to, queue, std::move(job)}; }
+
+struct task::promise_type {
+    std::exception_ptr thrown;
+    bool parks = false;
+    uint64_t answer = 0;
+    // What it asks another core, from the submission to the outcome.
+    std::optional<asking> sends;
+    std::optional<ticket> waits;
+    std::optional<outcome<task>> told;
+    fx_code refused = FX_OK;
+
+    struct awaits {
+        promise_type &of;
+        bool await_ready() noexcept { return false; }
+        void await_suspend(std::coroutine_handle<>) noexcept {}
+        outcome<task> await_resume() {
+            if (of.refused != FX_OK) throw error(std::exchange(of.refused, FX_OK));
+            outcome<task> told = std::move(*of.told);
+            of.told.reset();
+            return told;
+        }
+    };
+
+    task get_return_object() { return task(std::coroutine_handle<promise_type>::from_promise(*this)); }
+    std::suspend_always initial_suspend() noexcept { return {}; }
+    std::suspend_always final_suspend() noexcept { return {}; }
+    std::suspend_always await_transform(again_type) noexcept { return {}; }
+    std::suspend_always await_transform(park_type) noexcept {
+        parks = true;
+        return {};
+    }
+    awaits await_transform(asking what) {
+        sends.emplace(std::move(what));
+        return {*this};
+    }
+    void return_value(uint64_t with) noexcept { answer = with; }
+    void unhandled_exception() noexcept { thrown = std::current_exception(); }
+
+    // Whether the coroutine may go on: what it asks for has come, or is refused.
+    bool may_go_on(cx<task> &here) {
+        if (sends) {
+            auto sent = here->submit(sends->to, sends->queue, std::move(sends->job));
+            if (sent.code == FX_FULL) {
+                asking again{sends->to, sends->queue, std::move(*sent.refused)};
+                sends.reset();
+                sends.emplace(std::move(again));
+                return false;
+            }
+            sends.reset();
+            refused = sent.code;
+            waits = sent.ticket;
+            if (waits) here->wake_with(*waits, here.name);
+        }
+        if (!waits) return true;
+        auto kept = here->kept(*waits);
+        if (!kept) return false;
+        waits.reset();
+        refused = kept->first;
+        if (kept->second) told.emplace(std::move(*kept->second));
+        return true;
+    }
+};
+
+inline result task::operator()(cx<task> &here) {
+    promise_type &of = at.promise();
+    while (of.may_go_on(here)) {
+        of.parks = false;
+        at.resume();
+        if (of.thrown) std::rethrow_exception(std::exchange(of.thrown, nullptr));
+        if (at.done()) return done(of.answer);
+        if (!of.sends) return of.parks ? step::park : step::yield;
+    }
+    return of.waits ? step::park : step::yield;
+}
+#endif
+
+} // namespace fairexec::linked
+
+#endif

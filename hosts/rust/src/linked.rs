@@ -1,0 +1,36 @@
+//! A house: cores on threads of their own, with links between them, and an outside actor.
+//!
+//! ```
+//! use fairexec::linked::{Config, House, Job, Outcome, Step};
+//!
+//! let (house, cores, mut outside) = House::open(&Config { cores: 2, ..Config::default() })?;
+//! let threads: Vec<_> = cores
+//!     .into_iter()
+//!     .map(|mut core| std::thread::spawn(move || core.run_jobs().map(|()| core)))
+//!     .collect();
+//! let ticket = outside.submit(1, 0, Job::new(|_| Step::Done(42))).map_err(|(error, _)| error)?;
+//! assert!(matches!(outside.wait_for(&ticket)?, Outcome::Done(42)));
+//! outside.close_all(fairexec::Mode::Finish)?;
+//! let cores = threads.into_iter().map(|it| it.join().expect("a core ends")).collect::<Result<_, _>>()?;
+//! assert!(house.end(cores, outside).map_err(|(error, ..)| error)?.audit()?.is_sound);
+//! # Ok::<(), fairexec::Error>(())
+//! ```
+//!
+//! - [`House`] opens the cores and the outside actor, and takes them back at the end: [`Journals`] has the notes of all, and their audit.
+//! - [`Core`] runs jobs of any type, by [`Core::run_turn`], [`Core::round`] or [`Core::run`]. [`Job`] is a closure. [`Outside`] only submits.
+//! - A job may submit to any core by its [`Cx`]. A submission has a [`Ticket`], by which its [`Outcome`] is asked for.
+//! - [`Task`] is a job that is a future: [`spawn`] starts one on any core.
+
+mod actor;
+mod core;
+mod house;
+mod lanes;
+mod names;
+mod seat;
+mod tasks;
+
+pub use actor::{Outside, Ticket};
+pub use core::{Core, Cx, Job, Turn};
+pub use house::{Config, Ended, House, Journals, Opened, Verdict};
+pub use names::{Answer, Name, Outcome, Reason, Step};
+pub use tasks::{spawn, yield_now, Cancelled, Join, Task};

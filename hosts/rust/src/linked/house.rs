@@ -1,0 +1,157 @@
+//! How a house opens, and how it ends.
+
+use super::actor::{Actor, Outside};
+use super::core::Core;
+use super::lanes::Lanes;
+use super::seat::Seat;
+use crate::error::{refused, Error};
+use crate::raw;
+use std::marker::PhantomData;
+use std::sync::Arc;
+
+/// What a house is opened with.
+#[derive(Clone, Copy, PartialEq, Eq, Debug)]
+pub struct Config {
+    /// 1 to 16.
+    pub cores: u32,
+    /// Submissions that may be outstanding from one actor to one core, 1 to 1024.
+    pub places: u32,
+    /// Runs that one turn of a queue may have, 1 to 64.
+    pub burst: u32,
+    /// Notes that the journal of each actor has room for, at most 2^24.
+    pub notes: u32,
+}
+
+impl Default for Config {
+    fn default() -> Config {
+        Config { cores: 1, places: 64, burst: 1, notes: 1 << 20 }
+    }
+}
+
+/// The handle of a house. It is freed as it is dropped.
+struct Handle(raw::fx_house);
+
+impl Drop for Handle {
+    fn drop(&mut self) {
+        // SAFETY: nobody uses the handle any more.
+        unsafe { raw::fx_house_free(&mut self.0) };
+    }
+}
+
+/// A house whose actors were taken. It takes them back at its end.
+///
+/// It stays on its thread, since the library asks for more than `Send` does.
+pub struct House<J> {
+    handle: Handle,
+    lanes: Arc<Lanes<J>>,
+    jobs: PhantomData<J>,
+}
+
+/// A house, its cores by their numbers, and its outside actor.
+pub type Opened<J> = (House<J>, Vec<Core<J>>, Outside<J>);
+
+/// What a house comes to at its end, or what comes back if it can't end.
+pub type Ended<J> = Result<Journals, (Error, House<J>, Vec<Core<J>>, Outside<J>)>;
+
+impl<J> House<J> {
+    /// Opens a house. Each core and the outside actor may go to a thread, if the jobs are `Send`.
+    ///
+    /// # Errors
+    ///
+    /// `BadNumber`, `NoMemory`.
+    ///
+    /// # Panics
+    ///
+    /// If the library that was linked has another version than these declarations.
+    pub fn open(config: &Config) -> Result<Opened<J>, Error> {
+        // SAFETY: it takes nothing.
+        let version = unsafe { raw::fx_version() };
+        assert_eq!(version, raw::FX_VERSION, "libfairexec.a has another version");
+        let Config { cores, places, burst, notes } = *config;
+        let asked = raw::fx_config { size: size_of::<raw::fx_config>() as u32, cores, places, burst, notes };
+        let mut handle = Handle(raw::fx_house { at: std::ptr::null_mut() });
+        // SAFETY: the handle is empty, and both pointers are to local values.
+        refused(unsafe { raw::fx_house_open(&mut handle.0, &asked) })?;
+        let lanes = Arc::new(Lanes::new(cores, places));
+        let mut actors = (0..=cores)
+            .map(|_| Seat::take(&mut handle.0).map(|(number, seat)| Actor::new(number, seat, Arc::clone(&lanes))))
+            .collect::<Result<Vec<_>, _>>()?;
+        // The outside actor comes first, and then the cores from the greatest number on.
+        actors.reverse();
+        let outside = Outside { actor: actors.pop().expect("each house has an outside actor") };
+        let cores = actors.into_iter().map(Core::new).collect();
+        Ok((House { handle, lanes, jobs: PhantomData }, cores, outside))
+    }
+
+    /// Ends the house: all cores are drained, and come back in any order.
+    ///
+    /// # Errors
+    ///
+    /// `NoActor` if they aren't the cores of this house, each once, or the actor is another house's; `NotDrained`. Nothing changes.
+    pub fn end(mut self, mut cores: Vec<Core<J>>, mut outside: Outside<J>) -> Ended<J> {
+        cores.sort_by_key(Core::number);
+        let actors = || cores.iter().map(|core| &core.actor).chain([&outside.actor]);
+        if actors().count() as u32 != self.lanes.cores() + 1 || !actors().all(|actor| Arc::ptr_eq(&actor.lanes, &self.lanes)) {
+            return Err((Error::NoActor, self, cores, outside));
+        }
+        if !cores.iter_mut().all(Core::is_drained) {
+            return Err((Error::NotDrained, self, cores, outside));
+        }
+        let seats = cores.iter_mut().map(|core| &mut core.actor.seat).chain([&mut outside.actor.seat]);
+        for seat in seats {
+            seat.end(&mut self.handle.0).expect("a drained core of this house ends");
+        }
+        Ok(Journals { handle: self.handle })
+    }
+}
+
+/// What an audit found.
+#[derive(Clone, Copy, PartialEq, Eq, Debug)]
+pub struct Verdict {
+    /// Whether the journals are sound.
+    pub is_sound: bool,
+    /// The first rule that is broken, 1 to 5, if one is.
+    pub rule: u32,
+    /// In the journal of this actor.
+    pub actor: u32,
+    /// At this note of it, from 1, or 0 if no single note is at fault.
+    pub line: u64,
+}
+
+/// The journals of a house that has ended.
+pub struct Journals {
+    handle: Handle,
+}
+
+impl Journals {
+    /// Audits them.
+    ///
+    /// # Errors
+    ///
+    /// `NoMemory`.
+    pub fn audit(&mut self) -> Result<Verdict, Error> {
+        let mut verdict = raw::fx_verdict { size: size_of::<raw::fx_verdict>() as u32, ..raw::fx_verdict::default() };
+        // SAFETY: the handle is of this house alone, and the verdict is a local value.
+        refused(unsafe { raw::fx_house_audit(&mut self.handle.0, &mut verdict) })?;
+        Ok(Verdict { is_sound: verdict.sound == 1, rule: verdict.rule, actor: verdict.actor, line: verdict.line })
+    }
+
+    /// Their text.
+    ///
+    /// # Errors
+    ///
+    /// `NoMemory`.
+    pub fn text(&mut self) -> Result<String, Error> {
+        let mut text = Vec::new();
+        let mut part = vec![0; 1 << 16];
+        loop {
+            let mut count = 0;
+            // SAFETY: as above; the part has room for as many bytes as it is told to have.
+            refused(unsafe { raw::fx_house_text(&mut self.handle.0, text.len() as u64, part.as_mut_ptr(), part.len(), &mut count) })?;
+            text.extend_from_slice(&part[..count as usize]);
+            if (count as usize) < part.len() {
+                return Ok(String::from_utf8(text).expect("a journal is ASCII"));
+            }
+        }
+    }
+}

@@ -1,0 +1,206 @@
+//! A seat of a house: the calls of the library, without the jobs.
+
+use super::names::{Name, Step};
+use crate::core::Mode;
+use crate::error::{refused, Error};
+use crate::raw;
+use crate::stats::{CoreStats, QueueStats};
+use std::sync::atomic::{AtomicBool, Ordering};
+
+/// What comes next, with the host's number of a job.
+pub(super) enum Next {
+    Run(Name, u32, usize),
+    Back(Name),
+    Idle,
+}
+
+/// What became of the job of a settled run.
+#[derive(PartialEq, Eq)]
+pub(super) enum Settled {
+    Queued,
+    Parked,
+    Done,
+}
+
+/// What became of a submission, with the host's number of a job.
+pub(super) enum Told {
+    Done(u64),
+    Back(u32, usize),
+    Answered(u32, u32),
+}
+
+/// A seat that was taken. It is freed as it is dropped.
+pub(super) struct Seat {
+    handle: raw::fx_seat,
+    // The library asks that a lock, the start or the join of a thread, or a sequentially consistent atomic stands between two calls on
+    // different threads. A channel may hand a value over by less. So each call begins and ends with such an atomic of its seat.
+    order: AtomicBool,
+}
+
+// SAFETY: the handle is of this seat alone, `&mut self` keeps a second call away, and `order` stands between calls on different threads.
+unsafe impl Send for Seat {}
+
+// In each call below the handle is that of an open seat and of this `Seat` alone, and every pointer is to a local value that outlives the call.
+impl Seat {
+    /// The next seat of a house, with its number.
+    pub(super) fn take(house: &mut raw::fx_house) -> Result<(u32, Seat), Error> {
+        let mut seat = Seat { handle: raw::fx_seat { at: std::ptr::null_mut() }, order: AtomicBool::new(false) };
+        let mut actor = 0;
+        // SAFETY: the house is open, and the seat is empty.
+        refused(seat.call(|it| unsafe { raw::fx_house_take(house, it, &mut actor) }))?;
+        Ok((actor, seat))
+    }
+
+    /// Hands the journal of this seat to its house.
+    pub(super) fn end(&mut self, house: &mut raw::fx_house) -> Result<(), Error> {
+        // SAFETY: the house is open, and the seat is of it.
+        refused(self.call(|it| unsafe { raw::fx_house_end(house, it) }))
+    }
+
+    fn call(&mut self, call: impl FnOnce(&mut raw::fx_seat) -> u32) -> u32 {
+        self.order.load(Ordering::SeqCst);
+        let code = call(&mut self.handle);
+        self.order.store(true, Ordering::SeqCst);
+        code
+    }
+
+    /// A call that tells the name of a submission.
+    fn named(&mut self, call: impl FnOnce(&mut raw::fx_seat, &mut raw::fx_name) -> u32) -> Result<Name, Error> {
+        let mut name = raw::fx_name::default();
+        refused(self.call(|it| call(it, &mut name)))?;
+        Ok(Name::of(&name))
+    }
+
+    pub(super) fn next(&mut self) -> Result<Next, Error> {
+        let mut turn = raw::fx_turn { size: size_of::<raw::fx_turn>() as u32, ..raw::fx_turn::default() };
+        // SAFETY: as above.
+        match self.call(|it| unsafe { raw::fx_seat_next(it, &mut turn) }) {
+            raw::FX_START | raw::FX_RESUME => Ok(Next::Run(Name::of(&turn.name), turn.queue, turn.job as usize)),
+            raw::FX_BACK => Ok(Next::Back(Name::of(&turn.name))),
+            raw::FX_IDLE => Ok(Next::Idle),
+            code => Err(Error::of(code)),
+        }
+    }
+
+    pub(super) fn settle(&mut self, step: Step, spent: u64) -> Result<Settled, Error> {
+        let (step, answer) = match step {
+            Step::Yield => (raw::FX_STEP_YIELD, 0),
+            Step::Park => (raw::FX_STEP_PARK, 0),
+            Step::Done(answer) => (raw::FX_STEP_DONE, answer),
+        };
+        // SAFETY: as above.
+        match self.call(|it| unsafe { raw::fx_seat_settle(it, step, answer, spent) }) {
+            raw::FX_OK => Ok(Settled::Queued),
+            raw::FX_PARKED => Ok(Settled::Parked),
+            raw::FX_DONE => Ok(Settled::Done),
+            code => Err(Error::of(code)),
+        }
+    }
+
+    /// Whether there was an order.
+    pub(super) fn deliver(&mut self, sender: u32) -> Result<bool, Error> {
+        // SAFETY: as above.
+        match self.call(|it| unsafe { raw::fx_seat_deliver(it, sender) }) {
+            raw::FX_IDLE => Ok(false),
+            code => refused(code).map(|()| true),
+        }
+    }
+
+    pub(super) fn collect(&mut self, core: u32) -> Result<u64, Error> {
+        let mut count = 0;
+        // SAFETY: as above.
+        refused(self.call(|it| unsafe { raw::fx_seat_collect(it, core, &mut count) }))?;
+        Ok(count)
+    }
+
+    pub(super) fn submit(&mut self, to: u32, queue: u32, job: usize) -> Result<Name, Error> {
+        // SAFETY: as above.
+        self.named(|it, name| unsafe { raw::fx_seat_submit(it, to, queue, job as u64, name) })
+    }
+
+    pub(super) fn create(&mut self, to: u32, shares: u32) -> Result<Name, Error> {
+        // SAFETY: as above.
+        self.named(|it, name| unsafe { raw::fx_seat_create(it, to, shares, name) })
+    }
+
+    pub(super) fn set_shares(&mut self, to: u32, queue: u32, shares: u32) -> Result<Name, Error> {
+        // SAFETY: as above.
+        self.named(|it, name| unsafe { raw::fx_seat_set_shares(it, to, queue, shares, name) })
+    }
+
+    pub(super) fn close_queue(&mut self, to: u32, queue: u32, mode: Mode) -> Result<Name, Error> {
+        // SAFETY: as above.
+        self.named(|it, name| unsafe { raw::fx_seat_close_queue(it, to, queue, mode.number(), name) })
+    }
+
+    pub(super) fn close_core(&mut self, to: u32, mode: Mode) -> Result<Name, Error> {
+        // SAFETY: as above.
+        self.named(|it, name| unsafe { raw::fx_seat_close_core(it, to, mode.number(), name) })
+    }
+
+    pub(super) fn wake(&mut self, job: Name) -> Result<Name, Error> {
+        let job = job.raw();
+        // SAFETY: as above.
+        self.named(|it, name| unsafe { raw::fx_seat_wake(it, &job, name) })
+    }
+
+    pub(super) fn redeem(&mut self, name: Name) -> Result<Told, Error> {
+        let name = name.raw();
+        let mut outcome = raw::fx_outcome { size: size_of::<raw::fx_outcome>() as u32, ..raw::fx_outcome::default() };
+        // SAFETY: as above.
+        refused(self.call(|it| unsafe { raw::fx_seat_redeem(it, &name, &mut outcome) }))?;
+        Ok(match outcome.kind {
+            raw::FX_KIND_DONE => Told::Done(outcome.answer),
+            raw::FX_KIND_BACK => Told::Back(outcome.why, outcome.job as usize),
+            _ => Told::Answered(outcome.why, outcome.queue),
+        })
+    }
+
+    pub(super) fn detach(&mut self, name: Name) -> Result<(), Error> {
+        let name = name.raw();
+        // SAFETY: as above.
+        refused(self.call(|it| unsafe { raw::fx_seat_detach(it, &name) }))
+    }
+
+    pub(super) fn close(&mut self, mode: Mode) -> Result<(), Error> {
+        // SAFETY: as above.
+        refused(self.call(|it| unsafe { raw::fx_seat_close(it, mode.number()) }))
+    }
+
+    pub(super) fn shut(&mut self, sender: u32) -> Result<(), Error> {
+        // SAFETY: as above.
+        refused(self.call(|it| unsafe { raw::fx_seat_shut(it, sender) }))
+    }
+
+    pub(super) fn is_drained(&mut self) -> bool {
+        // SAFETY: as above.
+        self.call(|it| unsafe { raw::fx_seat_drained(it) }) == raw::FX_OK
+    }
+
+    pub(super) fn shows(&mut self) -> bool {
+        // SAFETY: as above.
+        self.call(|it| unsafe { raw::fx_seat_shows(it) }) == raw::FX_OK
+    }
+
+    pub(super) fn stats(&mut self) -> CoreStats {
+        let mut stats = CoreStats::asked();
+        // SAFETY: as above.
+        let code = self.call(|it| unsafe { raw::fx_seat_stats(it, &mut stats) });
+        assert_eq!(code, raw::FX_OK);
+        CoreStats::of(&stats)
+    }
+
+    pub(super) fn stats_of(&mut self, queue: u32) -> Result<QueueStats, Error> {
+        let mut stats = QueueStats::asked();
+        // SAFETY: as above.
+        refused(self.call(|it| unsafe { raw::fx_seat_stats_of_queue(it, queue, &mut stats) }))?;
+        Ok(QueueStats::of(&stats))
+    }
+}
+
+impl Drop for Seat {
+    fn drop(&mut self) {
+        // SAFETY: as above, and nobody uses the handle any more. A seat that ended is empty, which the call tells.
+        self.call(|it| unsafe { raw::fx_seat_free(it) });
+    }
+}

@@ -1,0 +1,135 @@
+"""What the header of the library for hosts declares, and what its crates, its archive and raw.rs do: names, parameters, structs and codes.
+
+A declaration is {"functions": {name: [(type, parameter)]}, "structs": {name: [(type, field)]}, "codes": {name: number}}, in C's types.
+"""
+import re
+import subprocess
+
+def of_c(text):
+    text = re.sub(r"/\*.*?\*/", " ", text, flags=re.DOTALL)
+
+    def declared(part):
+        return [(re.sub(r"\s+", " ", kind).strip(), name) for kind, name in re.findall(r"^\s*(.*?[\s*])(\w+)\s*$", part, re.MULTILINE | re.DOTALL)]
+
+    functions = {}
+    for answer, name, given in re.findall(r"^(\w+) (fx_\w+)\(([^()]*)\)(?: FX_NOT_NULL)?;", text, re.MULTILINE):
+        functions[name] = [(answer, "")] + [it for part in given.split(",") if part.strip() != "void" for it in declared(part)]
+    structs = {}
+    for name, body in re.findall(r"typedef struct (\w+) \{(.*?)\} \1;", text, re.DOTALL):
+        structs[name] = [it for part in body.split(";") for it in declared(part)]
+    return {"functions": functions, "structs": structs, "codes": {name: int(number) for name, number in re.findall(r"\b(FX_\w+) = (\d+)", text)}}
+
+
+RUST = {
+    "u32": "uint32_t",
+    "u64": "uint64_t",
+    "usize": "size_t",
+    "Name": "fx_name",
+    "*mut c_void": "void *",
+    "&Name": "const fx_name *",
+    "&Config": "const fx_config *",
+    "&mut Handle": "fx_core *",
+}
+# What stands behind `&mut` or `*mut`, and in C before the `*`.
+POINTED = {"u8": "uint8_t", "u32": "uint32_t", "u64": "uint64_t", "Name": "fx_name"}
+STRUCTS = {
+    "Handle": "fx_core",
+    "CoreFigures": "fx_core_stats",
+    "QueueFigures": "fx_queue_stats",
+    "Config": "fx_config",
+    "Name": "fx_name",
+    "TurnTold": "fx_turn",
+    "OutcomeTold": "fx_outcome",
+    "VerdictTold": "fx_verdict",
+}
+CODES = {"QueueClosed": "FX_CLOSED", "CoreClosed": "FX_CLOSED"}
+
+
+def in_c(kind, name):
+    kind = re.sub(r"\s+", " ", kind).strip()
+    # One struct of the crate stands behind both handles of a house.
+    if kind == "&mut Seat":
+        return "fx_house *" if name == "house" else "fx_seat *"
+    pointed = re.match(r"(?:&mut|\*mut) (\w+)$", kind)
+    if kind in RUST or not pointed:
+        return RUST.get(kind) or re.sub(r"^\*const (fx_\w+)$", r"const \1 *", kind)
+    of = pointed[1]
+    return f"{POINTED.get(of) or STRUCTS.get(of, of)} *"
+
+
+def of_rust(text):
+    """What Rust or Rattle declares. A ghost field has no bytes, and neither has a Global."""
+    text = re.sub(r"//.*", "", text)
+    # A slice crosses as its first byte and its length.
+    text = re.sub(r"bytes: &mut \[u8\]", "bytes: &mut u8, room: usize", text)
+
+    def declared(part):
+        found = re.findall(r"(?:^|,|\n)\s*(?:pub(?:\(crate\))? )?(ghost )?(\w+): ([^,{}]+?)(?=,|\s*$)", re.sub(r"ghost (\w+): \{[^{}]*\}", "", part))
+        return [(in_c(kind, name), name) for ghost, name, kind in found if not ghost and kind.strip() != "Global"]
+
+    functions = {}
+    for name, given, answer in re.findall(r"(?:pub|extern \"C\") fn (fx_\w+)\(([^()]*)\)\s*->\s*(\w+)", text):
+        functions[name] = [(in_c(answer, ""), "")] + declared(given)
+    structs = {}
+    for name, body in re.findall(r"#\[repr\(C\)\]\s*(?:#\[[^\]]*\]\s*)*pub struct (\w+)(?:<[^>]*>)? \{(.*?)\n\}", text, re.DOTALL):
+        for of in ["fx_house", "fx_seat"] if name == "Seat" else [STRUCTS.get(name, name)]:
+            structs[of] = [(re.sub(r"^uint8_t \*$", "void *", kind), field) for kind, field in declared(body)]
+    codes = {name: int(number.replace("_", "")) for name, number in re.findall(r"const (FX_\w+): u32 = ([\d_]+);", text)}
+    for names, number in re.findall(r"^\s*((?:Code|Answer|Reason)::\w+(?:\(_\))?(?: \| Code::\w+)*) => (\d+),", text, re.MULTILINE):
+        for kind, name in re.findall(r"(Code|Answer|Reason)::(\w+)", names):
+            of = {"Code": "FX", "Answer": "FX_ANSWER", "Reason": "FX_REASON"}[kind]
+            codes[(kind == "Code" and CODES.get(name)) or of + re.sub(r"([A-Z])", r"_\1", name).upper()] = int(number)
+    return {"functions": functions, "structs": structs, "codes": codes}
+
+
+def symbols_of(archive, flag="--defined-only"):
+    said = subprocess.run(["nm", "-g", flag, archive], capture_output=True, text=True)
+    return {line.split()[-1] for line in said.stdout.split("\n") if len(line.split()) == (3 if flag == "--defined-only" else 2)}
+
+
+# By these the library asks for memory. The toolchain has them in C.
+BY_C = {"rattle_alloc", "rattle_realloc", "rattle_dealloc"}
+
+
+def differs(header, source, raw, symbols):
+    """What of the header isn't so elsewhere, as lines."""
+    found = []
+    for name in sorted({*header["functions"], *source["functions"]}):
+        if header["functions"].get(name) != source["functions"].get(name):
+            found.append(f"{name}: the header has {header['functions'].get(name)}, and the crate {source['functions'].get(name)}")
+    for name in sorted({*header["structs"], *source["structs"]}):
+        if header["structs"].get(name) != source["structs"].get(name):
+            found.append(f"{name}: the header has {header['structs'].get(name)}, and the crate {source['structs'].get(name)}")
+    for part in ("functions", "structs", "codes"):
+        for name in sorted({*header[part], *raw[part]}):
+            if header[part].get(name) != raw[part].get(name):
+                found.append(f"{name}: the header has {header[part].get(name)}, and raw.rs {raw[part].get(name)}")
+    answered = as_crate(header)["codes"]
+    for name in sorted({*answered, *source["codes"]}):
+        if answered.get(name) != source["codes"].get(name):
+            found.append(f"{name}: the header has {answered.get(name)}, and the crate {source['codes'].get(name)}")
+    exported = symbols - BY_C
+    for name in sorted(exported ^ set(header["functions"])):
+        found.append(f"{name} stands in {'the archive' if name in exported else 'the header'} alone")
+    return found
+
+
+# The crate takes and tells these by their numbers, without a list of them.
+NOT_IN_CRATE = r"FX_(STEP|MODE|KIND)_"
+
+
+def as_crate(header):
+    return {**header, "codes": {name: number for name, number in header["codes"].items() if not re.match(NOT_IN_CRATE, name)}}
+
+
+def wrong_headers(header):
+    for part in ("functions", "structs"):
+        for name, parts in header[part].items():
+            yield f"a header without {name}", {**header, part: {it: of for it, of in header[part].items() if it != name}}
+            for place, (kind, parameter) in enumerate(parts):
+                other = "uint64_t" if kind == "uint32_t" else "uint32_t"
+                for wrong in ([(other, parameter)], [(kind, parameter + "_")], []):
+                    yield f"{name} with another {parameter or 'answer'}", {**header, part: {**header[part], name: [*parts[:place], *wrong, *parts[place + 1 :]]}}
+        yield "a header with more", {**header, part: {**header[part], "fx_more": []}}
+    for name, number in header["codes"].items():
+        yield f"another {name}", {**header, "codes": {**header["codes"], name: number + 1}}

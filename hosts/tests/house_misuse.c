@@ -1,0 +1,290 @@
+/*
+ * Calls on a house out of order, twice, on empty handles, on a house that has ended, on a core whose job runs, on the outside actor, and with
+ * numbers at their limits: each answers the code that fairexec.h names, and a refused one changes nothing, by all counts of the core, by what
+ * the links show, and by what its pointers point to.
+ * The last line is 'N passed, M failed', and the status is 0 if nothing failed.
+ */
+#include "house_checks.h"
+
+static void empty_house(fx_house *house) {
+    fx_seat seat = FX_NO_SEAT;
+    fx_verdict verdict = {7, 7, 7, 7, 7};
+    uint8_t byte = POISON;
+    uint32_t actor = POISON;
+    uint64_t count = POISON;
+    IS(fx_house_take(house, &seat, &actor), FX_EMPTY);
+    IS(fx_house_end(house, &seat), FX_EMPTY);
+    IS(fx_house_audit(house, &verdict), FX_EMPTY);
+    IS(fx_house_text(house, 0, &byte, 1, &count), FX_EMPTY);
+    IS(fx_house_free(house), FX_EMPTY);
+    is("an empty house writes nothing", actor == POISON && byte == POISON && count == POISON && verdict.sound == 7 && seat.at == NULL, 1);
+}
+
+static void opening(void) {
+    static const uint32_t bad[][4] = {{0, 1, 1, 9}, {17, 1, 1, 9}, {UINT32_MAX, 1, 1, 9}, {257, 1, 1, 9}, {1, 0, 1, 9}, {1, 1025, 1, 9}, {1, 65537, 1, 9},
+                                      {1, 1, 0, 9}, {1, 1, 65, 9}, {1, 1, 257, 9}, {1, 1, 1, (1u << 24) + 1}, {1, 1, 1, UINT32_MAX}};
+    fx_house house = FX_NO_HOUSE;
+    fx_seat seats[17], more = FX_NO_SEAT;
+    fx_config config = config_of(1, 1, 1, 9);
+    uint32_t actor = POISON;
+    memset(seats, 0, sizeof seats);
+    empty_house(&house);
+    empty(&more);
+    config.size--;
+    IS(fx_house_open(&house, &config), FX_BAD_NUMBER);
+    for (size_t each = 0; each < sizeof bad / sizeof *bad; each++) {
+        config = config_of(bad[each][0], bad[each][1], bad[each][2], bad[each][3]);
+        IS(fx_house_open(&house, &config), FX_BAD_NUMBER);
+    }
+    empty_house(&house);
+    config = config_of(16, 1024, 64, 0);
+    IS(fx_house_open(&house, &config), FX_OK);
+    IS(fx_house_open(&house, &config), FX_OCCUPIED);
+    config.cores = 0;
+    IS(fx_house_open(&house, &config), FX_OCCUPIED);
+    IS(fx_house_take(&house, &seats[16], &actor), FX_OK);
+    is("the outside actor comes first", actor, 16);
+    actor = POISON;
+    IS(fx_house_take(&house, &seats[16], &actor), FX_OCCUPIED);
+    is("a seat that is occupied tells no number", actor, POISON);
+    IS(fx_house_take(&house, &seats[15], &actor), FX_OK);
+    is("then the last core", actor, 15);
+    IS(fx_house_end(&house, &seats[15]), FX_NO_ACTOR);
+    IS(fx_house_end(&house, &more), FX_EMPTY);
+    for (uint32_t left = 15; left > 0; left--) IS(fx_house_take(&house, &seats[left - 1], &actor), FX_OK);
+    is("core 0 comes last", actor, 0);
+    actor = POISON;
+    IS(fx_house_take(&house, &more, &actor), FX_ABSENT);
+    is("no more seats tell no number", actor == POISON && more.at == NULL, 1);
+    for (int each = 0; each < 17; each++) IS(fx_seat_free(&seats[each]), FX_OK);
+    empty(&seats[3]);
+    IS(fx_house_free(&house), FX_OK);
+    empty_house(&house);
+    /* A house may be freed before its seats are taken, and before those that were. */
+    config = config_of(2, 2, 1, 9);
+    IS(fx_house_open(&house, &config), FX_OK);
+    IS(fx_house_take(&house, &seats[2], &actor), FX_OK);
+    IS(fx_house_free(&house), FX_OK);
+    IS(fx_seat_shows(&seats[2]), FX_IDLE);
+    IS(fx_seat_free(&seats[2]), FX_OK);
+}
+
+/* Numbers of cores, queues, shares, modes, actors and sizes that there aren't. */
+static void numbers(void) {
+    all of = opened(2, 1, 100);
+    fx_seat *core = &of.seats[0], *outside = &of.seats[OUTSIDE];
+    no_core(outside);
+    for (int each = 0; each < 3; each++) {
+        fx_seat *seat = &of.seats[each];
+        fx_name job = {1, 256, 0};
+        REFUSES(&of, fx_seat_submit(seat, 2, 0, 1, &out.name), FX_UNKNOWN_CORE);
+        REFUSES(&of, fx_seat_submit(seat, UINT32_MAX, 0, 1, &out.name), FX_UNKNOWN_CORE);
+        REFUSES(&of, fx_seat_submit(seat, 256, 0, 1, &out.name), FX_UNKNOWN_CORE);
+        REFUSES(&of, fx_seat_submit(seat, 2, 256, 1, &out.name), FX_NO_QUEUE);
+        REFUSES(&of, fx_seat_submit(seat, 0, UINT32_MAX, 1, &out.name), FX_NO_QUEUE);
+        REFUSES(&of, fx_seat_create(seat, 2, 0, &out.name), FX_BAD_SHARES);
+        REFUSES(&of, fx_seat_create(seat, 0, 10001, &out.name), FX_BAD_SHARES);
+        REFUSES(&of, fx_seat_create(seat, 0, 65536 + 100, &out.name), FX_BAD_SHARES);
+        REFUSES(&of, fx_seat_create(seat, 2, 10000, &out.name), FX_UNKNOWN_CORE);
+        REFUSES(&of, fx_seat_set_shares(seat, 0, 256, 0, &out.name), FX_BAD_SHARES);
+        REFUSES(&of, fx_seat_set_shares(seat, 2, 256, 1, &out.name), FX_NO_QUEUE);
+        REFUSES(&of, fx_seat_set_shares(seat, 2, 255, 1, &out.name), FX_UNKNOWN_CORE);
+        REFUSES(&of, fx_seat_close_queue(seat, 2, 255, 1, &out.name), FX_UNKNOWN_CORE);
+        REFUSES(&of, fx_seat_close_core(seat, 2, 2, &out.name), FX_BAD_NUMBER);
+        REFUSES(&of, fx_seat_close_core(seat, 2, 1, &out.name), FX_UNKNOWN_CORE);
+        REFUSES(&of, fx_seat_wake(seat, &job, &out.name), FX_NO_ACTOR);
+        REFUSES(&of, fx_seat_collect(seat, 2, &out.count), FX_UNKNOWN_CORE);
+        REFUSES(&of, fx_seat_collect(seat, UINT32_MAX, &out.count), FX_UNKNOWN_CORE);
+        is_poisoned();
+    }
+    REFUSES(&of, fx_seat_deliver(core, 3), FX_NO_ACTOR);
+    REFUSES(&of, fx_seat_deliver(core, UINT32_MAX), FX_NO_ACTOR);
+    REFUSES(&of, fx_seat_deliver(core, 2), FX_IDLE);
+    REFUSES(&of, fx_seat_shut(core, 3), FX_NO_ACTOR);
+    REFUSES(&of, fx_seat_shut(core, 256), FX_NO_ACTOR);
+    REFUSES(&of, fx_seat_shut(core, 2), FX_OPEN);
+    REFUSES(&of, fx_seat_close(core, 2), FX_BAD_NUMBER);
+    REFUSES(&of, fx_seat_settle(core, 3, 0, 0), FX_BAD_NUMBER);
+    REFUSES(&of, fx_seat_stats_of_queue(core, 1, &out.queue), FX_NO_QUEUE);
+    REFUSES(&of, fx_seat_stats_of_queue(core, UINT32_MAX, &out.queue), FX_NO_QUEUE);
+    is_poisoned();
+    out.core.size--, out.queue.size++, out.turn.size = 0, out.outcome.size = UINT32_MAX;
+    REFUSES(&of, fx_seat_stats(core, &out.core), FX_BAD_NUMBER);
+    REFUSES(&of, fx_seat_stats_of_queue(core, 300, &out.queue), FX_BAD_NUMBER);
+    REFUSES(&of, fx_seat_next(core, &out.turn), FX_BAD_NUMBER);
+    REFUSES(&of, fx_seat_redeem(core, &first_of_outside, &out.outcome), FX_BAD_NUMBER);
+    freed(&of);
+}
+
+/* A submission from its sending to its outcome, and each call too early or too late. */
+static void submissions(void) {
+    all of = opened(2, 1, 100);
+    fx_seat *core = &of.seats[0], *outside = &of.seats[OUTSIDE];
+    fx_name first, second;
+    poison();
+    REFUSES(&of, fx_seat_redeem(outside, &first_of_outside, &out.outcome), FX_UNKNOWN);
+    IS(fx_seat_submit(outside, 0, 0, UINT64_MAX, &first), FX_OK);
+    is("its name", first.number == 1 && first.from == 2 && first.to == 0, 1);
+    IS(fx_seat_submit(outside, 0, 255, 7, &second), FX_OK);
+    REFUSES(&of, fx_seat_submit(outside, 0, 0, 7, &out.name), FX_FULL);
+    REFUSES(&of, fx_seat_create(outside, 0, 5, &out.name), FX_FULL);
+    REFUSES(&of, fx_seat_redeem(outside, &first, &out.outcome), FX_PENDING);
+    REFUSES(&of, fx_seat_redeem(core, &first, &out.outcome), FX_UNKNOWN);
+    REFUSES(&of, fx_seat_detach(core, &first), FX_UNKNOWN);
+    for (int each = 0; each < 4; each++) {
+        fx_name other = first;
+        if (each == 0) other.number = 0;
+        if (each == 1) other.number = 3;
+        if (each == 2) other.number = UINT64_MAX;
+        if (each == 3) other.to = 2;
+        REFUSES(&of, fx_seat_redeem(outside, &other, &out.outcome), FX_UNKNOWN);
+        REFUSES(&of, fx_seat_detach(outside, &other), FX_UNKNOWN);
+    }
+    REFUSES(&of, fx_seat_next(core, &out.turn), FX_IDLE);
+    REFUSES(&of, fx_seat_settle(core, FX_STEP_DONE, 1, 1), FX_NO_JOB);
+    is_poisoned();
+    IS(fx_seat_deliver(core, OUTSIDE), FX_OK);
+    IS(fx_seat_deliver(core, OUTSIDE), FX_OK);
+    IS(fx_seat_next(core, &out.turn), FX_START);
+    is("any number is a job", out.turn.job == UINT64_MAX && out.turn.name.number == 1 && out.turn.name.from == 2 && out.turn.queue == 0, 1);
+    poison();
+    REFUSES(&of, fx_seat_next(core, &out.turn), FX_BUSY);
+    REFUSES(&of, fx_seat_settle(core, 3, 1, 1), FX_BAD_NUMBER);
+    REFUSES(&of, fx_seat_settle(core, UINT32_MAX, 1, 1), FX_BAD_NUMBER);
+    IS(fx_house_end(&of.house, core), FX_NOT_DRAINED);
+    is_poisoned();
+    /* A job that runs may submit, collect and redeem. */
+    IS(fx_seat_submit(core, 1, 0, 9, &out.name), FX_OK);
+    IS(fx_seat_collect(core, 1, &out.count), FX_OK);
+    REFUSES(&of, fx_seat_redeem(core, &out.name, &out.outcome), FX_PENDING);
+    IS(fx_seat_settle(core, FX_STEP_DONE, 5, UINT64_MAX), FX_DONE);
+    REFUSES(&of, fx_seat_settle(core, FX_STEP_DONE, 5, 1), FX_NO_JOB);
+    poison();
+    IS(fx_seat_stats_of_queue(core, 0, &out.queue), FX_OK);
+    is("no time counts more than 2^40 - 1", out.queue.time_low == ((uint64_t)1 << 40) - 1, 1);
+    IS(fx_seat_collect(outside, 0, &out.count), FX_OK);
+    is("two outcomes", (uint32_t)out.count, 2);
+    IS(fx_seat_redeem(outside, &second, &out.outcome), FX_OK);
+    is("a job for no queue comes back", out.outcome.kind == FX_KIND_BACK && out.outcome.why == FX_REASON_NO_QUEUE && out.outcome.job == 7 && out.outcome.queue == 255, 1);
+    IS(fx_seat_redeem(outside, &first, &out.outcome), FX_OK);
+    is("the other has its answer", out.outcome.kind == FX_KIND_DONE && out.outcome.answer == 5, 1);
+    poison();
+    REFUSES(&of, fx_seat_redeem(outside, &first, &out.outcome), FX_GONE);
+    REFUSES(&of, fx_seat_detach(outside, &first), FX_GONE);
+    is_poisoned();
+    IS(fx_seat_submit(outside, 0, 0, 7, &first), FX_OK);
+    IS(fx_seat_detach(outside, &first), FX_OK);
+    REFUSES(&of, fx_seat_detach(outside, &first), FX_GONE);
+    REFUSES(&of, fx_seat_redeem(outside, &first, &out.outcome), FX_GONE);
+    freed(&of);
+}
+
+/* Journals with too few notes free. */
+static void full_journals(void) {
+    all of = opened(2, 1, 4);
+    fx_seat *core = &of.seats[0], *outside = &of.seats[OUTSIDE];
+    fx_name name;
+    poison();
+    for (int each = 0; each < 2; each++) IS(fx_seat_submit(outside, 0, 0, 7, &name), FX_OK);
+    IS(fx_seat_deliver(core, OUTSIDE), FX_OK);
+    REFUSES(&of, fx_seat_next(core, &out.turn), FX_JOURNAL_FULL);
+    IS(fx_seat_deliver(core, OUTSIDE), FX_OK);
+    IS(fx_seat_collect(core, 1, &out.count), FX_OK);
+    IS(fx_seat_create(core, 0, 5, &name), FX_OK);
+    REFUSES(&of, fx_seat_deliver(core, 0), FX_JOURNAL_FULL);
+    poison();
+    REFUSES(&of, fx_seat_collect(core, 1, &out.count), FX_JOURNAL_FULL);
+    IS(fx_seat_submit(core, 1, 0, 7, &name), FX_OK);
+    REFUSES(&of, fx_seat_submit(core, 1, 0, 7, &out.name), FX_JOURNAL_FULL);
+    REFUSES(&of, fx_seat_submit(core, 2, 0, 7, &out.name), FX_UNKNOWN_CORE);
+    REFUSES(&of, fx_seat_redeem(core, &name, &out.outcome), FX_JOURNAL_FULL);
+    REFUSES(&of, fx_seat_detach(core, &name), FX_JOURNAL_FULL);
+    REFUSES(&of, fx_seat_close(core, FX_MODE_FINISH), FX_JOURNAL_FULL);
+    is_poisoned();
+    freed(&of);
+}
+
+static void drain(all *of) {
+    for (int each = 0; each < 2; each++) {
+        IS(fx_seat_close(&of->seats[each], FX_MODE_RETURN), FX_OK);
+        REFUSES(of, fx_seat_close(&of->seats[each], FX_MODE_RETURN), FX_CLOSED);
+        REFUSES(of, fx_seat_close(&of->seats[each], FX_MODE_FINISH), FX_CLOSED);
+        for (uint32_t sender = 0; sender < 3; sender++) {
+            REFUSES(of, fx_seat_drained(&of->seats[each]), FX_NOT_DRAINED);
+            IS(fx_seat_shut(&of->seats[each], sender), FX_OK);
+            REFUSES(of, fx_seat_shut(&of->seats[each], sender), FX_SHUT);
+        }
+        IS(fx_seat_drained(&of->seats[each]), FX_OK);
+    }
+}
+
+/* The end of a house, and what comes too early, in another order, or behind it. */
+static void ending(void) {
+    all of = opened(2, 2, 100);
+    fx_verdict verdict = {sizeof verdict, 7, 7, 7, 7};
+    fx_name name;
+    uint8_t bytes[64];
+    uint64_t count = 7;
+    uint32_t actor;
+    IS(fx_house_end(&of.house, &of.seats[0]), FX_NOT_DRAINED);
+    drain(&of);
+    REFUSES(&of, fx_seat_submit(&of.seats[OUTSIDE], 0, 0, 7, &name), FX_CLOSED);
+    IS(fx_house_end(&of.house, &of.seats[1]), FX_NO_ACTOR);
+    IS(fx_house_end(&of.house, &of.seats[OUTSIDE]), FX_NO_ACTOR);
+    for (int each = 0; each < 3; each++) {
+        IS(fx_house_audit(&of.house, &verdict), FX_PENDING);
+        IS(fx_house_text(&of.house, 0, bytes, sizeof bytes, &count), FX_PENDING);
+        IS(fx_house_end(&of.house, &of.seats[each]), FX_OK);
+        IS(fx_house_end(&of.house, &of.seats[each]), FX_EMPTY);
+        empty(&of.seats[each]);
+    }
+    IS(fx_house_take(&of.house, &of.seats[0], &actor), FX_ABSENT);
+    verdict.size++;
+    IS(fx_house_audit(&of.house, &verdict), FX_BAD_NUMBER);
+    is("until then nothing is written", verdict.sound == 7 && count == 7, 1);
+    verdict.size--;
+    IS(fx_house_audit(&of.house, &verdict), FX_OK);
+    is("the journals are sound", verdict.sound == 1 && verdict.rule == 0, 1);
+    IS(fx_house_text(&of.house, 0, bytes, sizeof bytes, &count), FX_OK);
+    is("their text begins", count == sizeof bytes && memcmp(bytes, "journal 2\ncores 2 cap 2 burst 2\n0 coreclosed return\n0 shut 0 0\n", 63) == 0, 1);
+    IS(fx_house_text(&of.house, 10, bytes, 5, &count), FX_OK);
+    is("from any byte on", count == 5 && memcmp(bytes, "cores", 5) == 0, 1);
+    IS(fx_house_text(&of.house, 10, bytes, 0, &count), FX_OK);
+    is("into no room", (uint32_t)count, 0);
+    IS(fx_house_text(&of.house, UINT64_MAX, bytes, sizeof bytes, &count), FX_OK);
+    is("and behind its end", (uint32_t)count, 0);
+    IS(fx_house_free(&of.house), FX_OK);
+    empty_house(&of.house);
+}
+
+/* A seat may be moved. What it was moved from is no seat any more. */
+static void moving(void) {
+    all of = opened(2, 1, 100);
+    fx_seat moved;
+    fx_name name;
+    IS(fx_seat_submit(&of.seats[OUTSIDE], 0, 0, 5, &name), FX_OK);
+    memcpy(&moved, &of.seats[0], sizeof moved);
+    memset(&of.seats[0], 0, sizeof moved);
+    empty(&of.seats[0]);
+    IS(fx_seat_deliver(&moved, OUTSIDE), FX_OK);
+    poison();
+    IS(fx_seat_next(&moved, &out.turn), FX_START);
+    is("the job moved with the core", (uint32_t)out.turn.job, 5);
+    IS(fx_seat_free(&moved), FX_OK);
+    /* The other actors find their links as they were left. */
+    IS(fx_seat_collect(&of.seats[OUTSIDE], 0, &out.count), FX_OK);
+    IS(fx_seat_redeem(&of.seats[OUTSIDE], &name, &out.outcome), FX_PENDING);
+    freed(&of);
+}
+
+int main(void) {
+    opening();
+    numbers();
+    submissions();
+    full_journals();
+    ending();
+    moving();
+    for (uint32_t code = FX_OK; code <= FX_MIXED; code++) is("each code has a text of its own", strcmp(fx_text(code), fx_text(FX_MIXED + 1)) != 0, 1);
+    printf("%u passed, %u failed\n", passed, failed);
+    return failed != 0;
+}

@@ -1,0 +1,330 @@
+/*
+ * A caller that picks its calls on houses and their numbers at random: house_random CALLS SEED. Often a call is one that is refused. It
+ * prints each call with its numbers, what it was answered, and what it wrote; house_calls.py makes the same calls, and compares. Most houses have
+ * two cores. Some have a journal that runs full. A house that is drained is ended, and its verdict and the text of its journals are printed.
+ * A call that is refused and writes something all the same is printed as `wrote`, which no model answers.
+ */
+#include "fairexec.h"
+#include <inttypes.h>
+#include <stdbool.h>
+#include <stdio.h>
+#include <stdlib.h>
+#include <string.h>
+
+enum { MOST = 3, KEPT = 64 };
+
+static uint64_t state, calls, all;
+
+static uint64_t any(void) {
+    state ^= state << 13;
+    state ^= state >> 7;
+    state ^= state << 17;
+    return state;
+}
+
+static uint32_t below(uint32_t limit) { return (uint32_t)((any() >> 32) % limit); }
+
+static bool rarely(uint32_t times) { return below(times) == 0; }
+
+static fx_house house = FX_NO_HOUSE;
+/* That of the outside actor stands behind those of the cores. */
+static fx_seat seats[MOST + 1];
+static fx_config config;
+/* Names that each actor was given and didn't ask for yet, and how many; few others. */
+static fx_name names[MOST + 1][KEPT];
+static uint32_t given[MOST + 1];
+/* Whether a job of a core runs, and whether somebody closes cores of this house early. */
+static bool runs[MOST + 1], closes;
+
+/* A number that is mostly in its range. */
+static uint32_t about(uint32_t limit) {
+    static const uint32_t far[] = {16, 17, 255, 256, 257, 65536, UINT32_MAX};
+    return rarely(60) ? far[below(7)] : below(limit + (uint32_t)rarely(12));
+}
+
+#define PRINT(...) (printf(__VA_ARGS__), calls++)
+
+/* Fills what a refused call has to leave. */
+static void poison(void *at, size_t size) { memset(at, 0x5a, size); }
+
+static const char *wrote(const void *at, size_t size, bool may) {
+    const unsigned char *bytes = at;
+    for (size_t each = 0; !may && each < size; each++)
+        if (bytes[each] != 0x5a) return " wrote";
+    return "";
+}
+
+static void submitted(uint32_t actor, uint32_t code, const fx_name *name) {
+    PRINT(" = %" PRIu32 "%s", code, wrote(name, sizeof *name, code == FX_OK));
+    if (code == FX_OK) {
+        printf(" %" PRIu64 " %s", name->number, name->from == actor ? "" : "wrong");
+        names[actor][given[actor] == KEPT ? below(KEPT) : given[actor]++] = *name;
+    }
+    printf("\n");
+}
+
+static fx_name any_name(uint32_t actor) {
+    fx_name name;
+    uint32_t of = rarely(20) ? below(config.cores + 1) : actor;
+    memset(&name, 0, sizeof name);
+    if (given[of] > 0 && !rarely(20)) name = names[of][below(given[of])];
+    if (rarely(40)) name.number = rarely(2) ? 0 : any() >> below(64);
+    if (rarely(60)) name.to = about(config.cores);
+    if (rarely(60)) name.from = about(config.cores + 1);
+    return name;
+}
+
+/* The outcome of a name was told. Some names stay, and are asked for again. */
+static void forget(uint32_t actor, const fx_name *name) {
+    for (uint32_t each = 0; each < given[actor]; each++) {
+        fx_name *of = &names[actor][each];
+        if (of->number == name->number && of->to == name->to && !rarely(12)) *of = names[actor][--given[actor]];
+    }
+}
+
+static void order(uint32_t actor, uint32_t kind) {
+    fx_name name, job = any_name(rarely(2) ? actor : below(config.cores + 1));
+    uint32_t to = about(config.cores), queue = rarely(4) ? about(6) : below(2), mode = about(2), code;
+    uint32_t shares = rarely(30) ? 10001 * below(2) : 1 + below(rarely(3) ? 10000 : 5);
+    uint64_t number = any();
+    poison(&name, sizeof name);
+    switch (kind) {
+    case 0:
+        code = fx_seat_submit(&seats[actor], to, queue, number, &name);
+        printf("job %" PRIu32 " %" PRIu32 " %" PRIu32 " %" PRIu64, actor, to, queue, number);
+        break;
+    case 1:
+        code = fx_seat_create(&seats[actor], to, shares, &name);
+        printf("create %" PRIu32 " %" PRIu32 " %" PRIu32, actor, to, shares);
+        break;
+    case 2:
+        code = fx_seat_set_shares(&seats[actor], to, queue, shares, &name);
+        printf("shares %" PRIu32 " %" PRIu32 " %" PRIu32 " %" PRIu32, actor, to, queue, shares);
+        break;
+    case 3:
+        code = fx_seat_close_queue(&seats[actor], to, queue, mode, &name);
+        printf("closequeue %" PRIu32 " %" PRIu32 " %" PRIu32 " %" PRIu32, actor, to, queue, mode);
+        break;
+    case 4:
+        code = fx_seat_close_core(&seats[actor], to, mode, &name);
+        printf("closecore %" PRIu32 " %" PRIu32 " %" PRIu32, actor, to, mode);
+        break;
+    default:
+        code = fx_seat_wake(&seats[actor], &job, &name);
+        printf("wake %" PRIu32 " %" PRIu32 " %" PRIu32 " %" PRIu64, actor, job.to, job.from, job.number);
+        break;
+    }
+    submitted(actor, code, &name);
+}
+
+static uint32_t next(uint32_t core) {
+    fx_turn turn;
+    poison(&turn, sizeof turn);
+    turn.size = rarely(200) ? 7 : sizeof turn;
+    uint32_t code = fx_seat_next(&seats[core], &turn);
+    bool starts = code == FX_START || code == FX_RESUME;
+    if (starts) runs[core] = true;
+    PRINT("next %" PRIu32 " %" PRIu32 " = %" PRIu32 "%s", core, turn.size != sizeof turn, code,
+          wrote((char *)&turn + sizeof turn.size, sizeof turn - sizeof turn.size, starts || code == FX_BACK));
+    if (starts || code == FX_BACK) printf(" %" PRIu32 " %" PRIu32 " %" PRIu64, turn.name.from, turn.name.to, turn.name.number);
+    if (starts || code == FX_BACK) printf(" %" PRIu32 " %" PRIu64 " %" PRIu32, turn.queue, turn.job, turn.reason);
+    printf("\n");
+    return code;
+}
+
+static void settle(uint32_t core, uint32_t step) {
+    uint64_t answer = any(), spent = rarely(20) ? any() >> below(64) : below(3000);
+    uint32_t code = fx_seat_settle(&seats[core], step, answer, spent);
+    PRINT("settle %" PRIu32 " %" PRIu32 " %" PRIu64 " %" PRIu64 " = %" PRIu32 "\n", core, step, answer, spent, code);
+    if (code == FX_OK || code == FX_DONE || code == FX_PARKED) runs[core] = false;
+}
+
+static void deliver(uint32_t core, uint32_t sender) { PRINT("deliver %" PRIu32 " %" PRIu32 " = %" PRIu32 "\n", core, sender, fx_seat_deliver(&seats[core], sender)); }
+
+static void collect(uint32_t actor, uint32_t core) {
+    uint64_t count = 0x5a5a5a5a5a5a5a5a;
+    uint32_t code = fx_seat_collect(&seats[actor], core, &count);
+    PRINT("collect %" PRIu32 " %" PRIu32 " = %" PRIu32 "%s", actor, core, code, wrote(&count, sizeof count, code == FX_OK));
+    if (code == FX_OK) printf(" %" PRIu64, count);
+    printf("\n");
+}
+
+static void redeem(uint32_t actor) {
+    fx_name name = any_name(actor);
+    fx_outcome outcome;
+    poison(&outcome, sizeof outcome);
+    outcome.size = rarely(100) ? 7 : sizeof outcome;
+    uint32_t code = fx_seat_redeem(&seats[actor], &name, &outcome);
+    PRINT("redeem %" PRIu32 " %" PRIu32 " %" PRIu32 " %" PRIu64 " %" PRIu32 " = %" PRIu32 "%s", actor, name.from, name.to, name.number, outcome.size != sizeof outcome, code,
+          wrote((char *)&outcome + sizeof outcome.size, sizeof outcome - sizeof outcome.size, code == FX_OK));
+    if (code == FX_OK || code == FX_GONE) forget(actor, &name);
+    if (code == FX_OK) printf(" %" PRIu32 " %" PRIu32 " %" PRIu32 " %" PRIu64 " %" PRIu64, outcome.kind, outcome.why, outcome.queue, outcome.answer, outcome.job);
+    printf("\n");
+}
+
+static void detach(uint32_t actor) {
+    fx_name name = any_name(actor);
+    uint32_t code = fx_seat_detach(&seats[actor], &name);
+    PRINT("detach %" PRIu32 " %" PRIu32 " %" PRIu32 " %" PRIu64 " = %" PRIu32 "\n", actor, name.from, name.to, name.number, code);
+    if (code == FX_OK || code == FX_GONE) forget(actor, &name);
+}
+
+static void stats(uint32_t core) {
+    fx_core_stats of;
+    uint32_t queue = rarely(5) ? about(6) : below(2);
+    fx_queue_stats q;
+    poison(&of, sizeof of);
+    poison(&q, sizeof q);
+    of.size = rarely(50) ? 7 : sizeof of;
+    q.size = rarely(50) ? 7 : sizeof q;
+    uint32_t code = fx_seat_stats(&seats[core], &of);
+    PRINT("stats %" PRIu32 " %" PRIu32 " = %" PRIu32 "%s", core, of.size != sizeof of, code, wrote((char *)&of + sizeof of.size, sizeof of - sizeof of.size, code == FX_OK));
+    if (code == FX_OK)
+        printf(" %" PRIu32 " %" PRIu64 " %" PRIu64 " %" PRIu64 " %" PRIu64 " %" PRIu64 " %" PRIu32 " %" PRIu32, of.queues, of.room, of.held, of.turns, of.floor_low, of.floor_high, of.running, of.closed);
+    code = fx_seat_stats_of_queue(&seats[core], queue, &q);
+    PRINT("\nstatsofqueue %" PRIu32 " %" PRIu32 " %" PRIu32 " = %" PRIu32 "%s", core, queue, q.size != sizeof q, code, wrote((char *)&q + sizeof q.size, sizeof q - sizeof q.size, code == FX_OK));
+    if (code == FX_OK)
+        printf(" %" PRIu32 " %" PRIu64 " %" PRIu64 " %" PRIu64 " %" PRIu64 " %" PRIu64 " %" PRIu64 " %" PRIu64 " %" PRIu64, q.shares, q.picks, q.waiting, q.done, q.back, q.time_low, q.time_high, q.virtual_low, q.virtual_high);
+    printf("\n");
+}
+
+static void tell(uint32_t actor) {
+    PRINT("shows %" PRIu32 " = %" PRIu32 "\n", actor, fx_seat_shows(&seats[actor]));
+    PRINT("drained %" PRIu32 " = %" PRIu32 "\n", actor, fx_seat_drained(&seats[actor]));
+}
+
+static void shut(uint32_t core, uint32_t sender) { PRINT("shut %" PRIu32 " %" PRIu32 " = %" PRIu32 "\n", core, sender, fx_seat_shut(&seats[core], sender)); }
+
+static void close_by_itself(uint32_t core, uint32_t mode) { PRINT("close %" PRIu32 " %" PRIu32 " = %" PRIu32 "\n", core, mode, fx_seat_close(&seats[core], mode)); }
+
+static void any_call(void) {
+    uint32_t actor = below(config.cores + 1), core = below(config.cores), kind = below(1000);
+    if (rarely(100)) core = config.cores; /* the outside actor has no core */
+    if (kind < 300) runs[core] == !rarely(40) ? settle(core, rarely(50) ? 3 + below(9) : rarely(3) ? below(3) : FX_STEP_DONE) : (void)next(core);
+    else if (kind < 500) deliver(core, about(config.cores + 1));
+    else if (kind < 580) collect(actor, about(config.cores));
+    else if (kind < 700) order(actor, 0);
+    else if (kind < 760) order(actor, 5);
+    else if (kind < 940) redeem(actor);
+    else if (kind < 955) detach(actor);
+    else if (kind < 970) stats(core);
+    else if (kind < 980) tell(actor);
+    else if (kind < 990) order(actor, 1 + below(2));
+    else if (kind < 995) shut(core, about(config.cores + 1));
+    else if (closes && rarely(10)) order(actor, 3 + (uint32_t)rarely(3));
+    else if (closes && rarely(20)) close_by_itself(core, about(2));
+}
+
+/* Closes all cores, and makes their rounds until they are drained or their journals are full. */
+static void drain(void) {
+    for (uint32_t core = 0; core < config.cores; core++) close_by_itself(core, below(2));
+    for (uint32_t round = 0; round < 60; round++) {
+        for (uint32_t core = 0; core < config.cores; core++) {
+            for (uint32_t sender = 0; sender <= config.cores; sender++) {
+                shut(core, sender);
+                deliver(core, sender);
+                if (rarely(3)) order(sender, 5);
+            }
+            uint32_t code = next(core);
+            for (uint32_t each = 0; each < 8 && code != FX_IDLE && code != FX_JOURNAL_FULL; each++) {
+                settle(core, FX_STEP_DONE);
+                code = next(core);
+            }
+            settle(core, FX_STEP_DONE);
+            if (code == FX_JOURNAL_FULL && round > 4) return;
+        }
+        for (uint32_t actor = 0; actor <= config.cores; actor++)
+            for (uint32_t core = 0; core < config.cores; core++) collect(actor, core);
+        bool ended = round > 20;
+        for (uint32_t core = 0; core < config.cores; core++) ended = fx_seat_drained(&seats[core]) == FX_OK && ended;
+        if (ended) return;
+        if (round == 30)
+            for (uint32_t core = 0; core < config.cores; core++) close_by_itself(core, FX_MODE_RETURN);
+    }
+}
+
+static void text(void) {
+    static uint8_t bytes[1000];
+    uint64_t count = 0, from = 0;
+    size_t room = 0;
+    bool begins = true;
+    do {
+        room = 1 + below(sizeof bytes);
+        if (fx_house_text(&house, from, bytes, room, &count) != FX_OK) return;
+        for (uint64_t each = 0; each < count; each++) {
+            if (begins) putchar('|');
+            begins = bytes[each] == '\n';
+            putchar(bytes[each]);
+        }
+        from += count;
+    } while (count == room);
+}
+
+/* The journals come back one by one, and are judged. */
+static void end(void) {
+    fx_verdict verdict;
+    bool all_ended = true;
+    for (uint32_t actor = 0; actor <= config.cores; actor++) {
+        uint32_t other = rarely(4) ? below(config.cores + 1) : actor;
+        if (other != actor) PRINT("end %" PRIu32 " = %" PRIu32 "\n", other, fx_house_end(&house, &seats[other]));
+        verdict.size = sizeof verdict;
+        PRINT("audit 0 = %" PRIu32 "\n", fx_house_audit(&house, &verdict));
+        uint32_t code = fx_house_end(&house, &seats[actor]);
+        all_ended = all_ended && code == FX_OK;
+        PRINT("end %" PRIu32 " = %" PRIu32 "\n", actor, code);
+    }
+    poison(&verdict, sizeof verdict);
+    verdict.size = rarely(20) ? 7 : sizeof verdict;
+    uint32_t code = fx_house_audit(&house, &verdict);
+    PRINT("audit %" PRIu32 " = %" PRIu32, verdict.size != sizeof verdict, code);
+    if (code == FX_OK) printf(" %" PRIu32 " %" PRIu32, verdict.sound, verdict.rule);
+    printf("\n");
+    if (all_ended) {
+        PRINT("text = %d\n", FX_OK);
+        text();
+    }
+    for (uint32_t actor = 0; actor <= config.cores; actor++) PRINT("leave %" PRIu32 " = %" PRIu32 "\n", actor, fx_seat_free(&seats[actor]));
+    PRINT("free = %" PRIu32 "\n", fx_house_free(&house));
+}
+
+static void open(void) {
+    memset(&config, 0, sizeof config);
+    config.size = rarely(20) ? 7 : sizeof config;
+    config.cores = rarely(10) ? about(4) : 2;
+    if (config.cores > MOST) config.cores = 17;
+    config.places = rarely(20) ? 1025 * below(2) : 1 + below(rarely(3) ? 40 : 6);
+    config.burst = rarely(20) ? 65 * below(2) : 1 + below(rarely(2) ? 8 : 1);
+    config.notes = rarely(40) ? (1u << 24) + 1 : rarely(3) ? below(400) : 200000;
+    uint32_t code = fx_house_open(&house, &config);
+    PRINT("open %" PRIu32 " %" PRIu32 " %" PRIu32 " %" PRIu32 " %" PRIu32 " = %" PRIu32 "\n", config.size != sizeof config, config.cores, config.places, config.burst, config.notes, code);
+}
+
+static void take(void) {
+    for (uint32_t left = config.cores + 1; left > 0; left--) {
+        fx_seat taken = FX_NO_SEAT;
+        uint32_t actor = MOST;
+        PRINT("take = %" PRIu32, fx_house_take(&house, &taken, &actor));
+        printf(" %" PRIu32 "\n", actor);
+        seats[actor] = taken;
+    }
+    fx_seat taken = FX_NO_SEAT;
+    uint32_t actor = 0;
+    PRINT("take = %" PRIu32 "\n", fx_house_take(&house, &taken, &actor));
+    memset(given, 0, sizeof given);
+    memset(runs, 0, sizeof runs);
+    closes = rarely(3);
+}
+
+int main(int count, char **words) {
+    all = count > 1 ? strtoull(words[1], NULL, 10) : 1000000;
+    state = count > 2 ? strtoull(words[2], NULL, 10) : 88172645463325252u;
+    while (calls < all) {
+        open();
+        if (house.at == NULL) continue;
+        take();
+        for (uint64_t until = calls + (config.notes < 400 ? 8 * config.notes : rarely(10) ? 20000 : 2500); calls < until && calls < all;) any_call();
+        drain();
+        end();
+    }
+    return 0;
+}

@@ -1,0 +1,234 @@
+// What fairexec_house.hpp adds to the calls: who owns a job, what comes back, and what two threads do with it.
+// The last line is 'N passed, M failed', and the status is 0 if nothing failed.
+#include "fairexec_house.hpp"
+#include <cstdio>
+#include <thread>
+
+namespace linked = fairexec::linked;
+using fairexec::mode;
+using fairexec::step;
+
+static unsigned passed, failed;
+
+static void is(const char *what, unsigned long found, unsigned long wanted) {
+    if (found == wanted) {
+        passed++;
+        return;
+    }
+    failed++;
+    std::printf("FAILED: %s: %lu, and not %lu\n", what, found, wanted);
+}
+
+// Counts how many are alive.
+struct counted {
+    static long alive;
+    unsigned long value;
+    explicit counted(unsigned long value) : value(value) { alive++; }
+    counted(counted &&other) noexcept : value(other.value) { alive++; }
+    counted &operator=(counted &&) = delete;
+    ~counted() { alive--; }
+};
+long counted::alive = 0;
+
+static linked::result twice(counted &job, linked::cx<counted> &) { return linked::done(2 * job.value); }
+
+static fx_code opens(const linked::config &with) {
+    try {
+        linked::house<counted> house(with);
+    } catch (const fairexec::error &error) {
+        return error.code();
+    }
+    return FX_OK;
+}
+
+static void one_core() {
+    is("no core", opens({0}), FX_BAD_NUMBER);
+    is("too many places", opens({1, 1025}), FX_BAD_NUMBER);
+    is("two cores", opens({2}), FX_OK);
+    linked::house<counted> house({1, 4});
+    auto &core = house.cores[0];
+    auto &outside = house.outside;
+    uint64_t count = 0;
+    bool did = false;
+    auto sent = outside.submit(0, 0, counted(21));
+    is("a job is taken", sent.code, FX_OK);
+    is("its outcome isn't there", outside.redeem(*sent.ticket).first, FX_PENDING);
+    is("the core hasn't seen it", core.run_turn(twice), FX_IDLE);
+    is("it is delivered", core.deliver(did) == FX_OK && did, 1);
+    is("it runs", core.run_turn(twice), FX_DONE);
+    is("and is destroyed", counted::alive, 0);
+    is("its outcome is collected", outside.collect(count) == FX_OK && count == 1, 1);
+    is("and told", outside.redeem(*sent.ticket).second->answer, 42);
+    is("once", outside.redeem(*sent.ticket).first, FX_GONE);
+    auto nowhere = outside.submit(1, 0, counted(5));
+    is("a core that isn't there", nowhere.code == FX_UNKNOWN_CORE && nowhere.refused && nowhere.refused->value == 5, 1);
+    is("a house that isn't drained", house.end(), FX_NOT_DRAINED);
+    is("it closes", core.close(mode::finish), FX_OK);
+    is("it drains", core.run(twice), FX_OK);
+    is("it ends", house.end(), FX_OK);
+    is("its journals are sound", house.audit().sound, 1);
+    std::string text = house.text();
+    is("they begin", text.rfind("journal 1\ncores 1 cap 4\n0 took 1>0#1 q0\n", 0), 0);
+    is("and end", text.substr(text.size() - 4) == "end\n", 1);
+}
+
+static void what_comes_back() {
+    {
+        linked::house<counted> house({1, 4});
+        auto &core = house.cores[0];
+        auto &outside = house.outside;
+        std::vector<linked::ticket> tickets;
+        uint64_t count = 0;
+        bool did = false;
+        for (unsigned long value = 1; value <= 4; value++) tickets.push_back(*outside.submit(0, value == 3 ? 7 : 0, counted(value)).ticket);
+        auto full = outside.submit(0, 0, counted(5));
+        is("a link that is full", full.code == FX_FULL && full.refused && full.refused->value == 5, 1);
+        full.refused.reset();
+        for (int each = 0; each < 4; each++) core.deliver(did);
+        is("the first job yields", core.run_turn([](counted &job, auto &) { return job.value += 10, step::yield; }), FX_OK);
+        is("the last is detached", outside.detach(tickets[3]), FX_OK);
+        is("the core hands back", core.close(mode::give_back), FX_OK);
+        while (core.run_turn(twice) == FX_BACK) {}
+        is("all four are alive", counted::alive, 4);
+        is("they are collected", outside.collect(count) == FX_OK && count == 4, 1);
+        is("the detached one is destroyed", counted::alive, 3);
+        auto first = outside.redeem(tickets[0]).second, third = outside.redeem(tickets[2]).second;
+        is("the first comes back as it was", first->kind == FX_KIND_BACK && first->why == FX_REASON_CORE_RETURNED && first->back->value == 11, 1);
+        is("so does one for a queue that isn't there", third->why == FX_REASON_NO_QUEUE && third->back->value == 3, 1);
+    }
+    is("what a house has ends with it", counted::alive, 0);
+}
+
+static void exceptions() {
+    linked::house<linked::job> house({1, 4});
+    bool did = false, thrown = false;
+    auto sent = house.outside.submit(0, 0, []() -> step { throw std::runtime_error("mine"); });
+    house.cores[0].deliver(did);
+    try {
+        house.cores[0].round();
+    } catch (const std::runtime_error &) {
+        thrown = true;
+    }
+    is("an exception leaves the turn", thrown, 1);
+    is("and its job is done", house.outside.wait_for(*sent.ticket).kind, FX_KIND_DONE);
+}
+
+// A job that asks the other core for half of its number, until the number is odd.
+struct halving {
+    unsigned long number;
+    std::optional<linked::ticket> asked;
+    linked::result operator()(linked::cx<linked::job> &here) {
+        if (number % 2 == 1) return linked::done(number);
+        if (!asked) {
+            asked = here->submit(1 - here->number(), 0, halving{number / 2, std::nullopt}).ticket;
+            return step::yield;
+        }
+        auto [code, told] = here->redeem(*asked);
+        if (code == FX_OK) return linked::done(told->answer);
+        // Each run takes notes of the journal, and the other thread may be set aside.
+        std::this_thread::sleep_for(std::chrono::microseconds(50));
+        return step::yield;
+    }
+};
+
+static void two_cores() {
+    linked::house<linked::job> house({2, 32});
+    std::vector<std::thread> threads;
+    std::vector<linked::ticket> tickets;
+    unsigned long right = 0;
+    for (auto &core : house.cores) threads.emplace_back([&core] { core.run(); });
+    for (unsigned long number = 1; number <= 20; number++) tickets.push_back(*house.outside.submit(number % 2, 0, halving{number, std::nullopt}).ticket);
+    for (unsigned long number = 1; number <= 20; number++) {
+        unsigned long odd = number;
+        while (odd % 2 == 0) odd /= 2;
+        right += house.outside.wait_for(tickets[number - 1]).answer == odd;
+    }
+    is("each core asks the other", right, 20);
+    auto queue = house.outside.create(1, 300);
+    is("a queue is made", house.outside.wait_for(*queue.ticket).queue, 1);
+    is("shares out of their range", house.outside.create(1, 0).code, FX_BAD_SHARES);
+    house.outside.close_all(mode::finish);
+    for (auto &each : threads) each.join();
+    is("the house ends", house.end(), FX_OK);
+    is("and was sound", house.audit().sound, 1);
+}
+
+#if defined(__cpp_impl_coroutine)
+static fairexec::task counts_to(unsigned long most, unsigned long &count) {
+    for (; count < most; count++) co_await fairexec::again;
+}
+
+static void coroutines() {
+    linked::house<fairexec::task> house({1, 4});
+    unsigned long first = 0, never = 0;
+    is("a coroutine is taken", house.outside.submit(0, 0, counts_to(5, first)).code, FX_OK);
+    house.outside.close_all(mode::finish);
+    is("it runs to its end", house.cores[0].run() == FX_OK && first == 5, 1);
+    is("none is taken behind the gate", house.outside.submit(0, 0, counts_to(5, never)).code, FX_CLOSED);
+}
+
+static linked::task odd_part(uint32_t core, unsigned long number) {
+    if (number % 2 == 1) co_return number;
+    auto told = co_await linked::ask(1 - core, 0, odd_part(1 - core, number / 2));
+    co_await fairexec::again;
+    co_return told.kind == FX_KIND_DONE ? told.answer : 0;
+}
+
+static linked::task asks_nobody() {
+    try {
+        co_await linked::ask(9, 0, odd_part(0, 1));
+    } catch (const fairexec::error &error) {
+        co_return error.code();
+    }
+    co_return 0;
+}
+
+static linked::task throws() {
+    co_await fairexec::again;
+    throw std::runtime_error("from a coroutine");
+}
+
+static void coroutines_that_ask() {
+    linked::house<linked::task> house({2, 8});
+    std::vector<std::thread> threads;
+    unsigned long right = 0;
+    for (auto &core : house.cores) threads.emplace_back([&core] { core.run(); });
+    for (unsigned long number = 1; number <= 40; number++) {
+        auto sent = house.outside.submit(number % 2, 0, odd_part(number % 2, number));
+        unsigned long odd = number;
+        while (odd % 2 == 0) odd /= 2;
+        right += house.outside.wait_for(*sent.ticket).answer == odd;
+    }
+    is("coroutines of two cores ask each other", right, 40);
+    auto nobody = house.outside.submit(0, 0, asks_nobody());
+    is("a core that isn't there is told as an exception", house.outside.wait_for(*nobody.ticket).answer, FX_UNKNOWN_CORE);
+    auto nowhere = house.outside.submit(0, 7, odd_part(0, 1));
+    is("a coroutine that comes back is destroyed", house.outside.wait_for(*nowhere.ticket).why, FX_REASON_NO_QUEUE);
+    house.outside.close_all(mode::finish);
+    for (auto &each : threads) each.join();
+    is("their journals are sound", house.end() == FX_OK && house.audit().sound, 1);
+    linked::house<linked::task> other({1, 2});
+    bool thrown = false, did = false;
+    auto sent = other.outside.submit(0, 0, throws());
+    other.cores[0].deliver(did);
+    try {
+        for (int each = 0; each < 2; each++) other.cores[0].round();
+    } catch (const std::runtime_error &) {
+        thrown = true;
+    }
+    is("an exception of one leaves the turn", thrown && other.outside.wait_for(*sent.ticket).kind == FX_KIND_DONE, 1);
+}
+#endif
+
+int main() {
+    one_core();
+    what_comes_back();
+    exceptions();
+    two_cores();
+#if defined(__cpp_impl_coroutine)
+    coroutines();
+    coroutines_that_ask();
+#endif
+    std::printf("%u passed, %u failed\n", passed, failed);
+    return failed != 0;
+}
