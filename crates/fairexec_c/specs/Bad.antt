@@ -37,7 +37,7 @@ pub wake_is_parked : (old new : CoreView HostJob) → WakesNumber old 1 code.Par
 wake_is_parked old new told = told
 
 -- a seat goes out of an empty handle
-pub empty_handle_gives_a_seat : (seat : Member) → TakesFrom None None 0 code.Ok None (Some seat) 1 → ⊥
+pub empty_handle_gives_a_seat : (seat : Member) → TakesFrom None None 0 0 None (Some seat) 1 → ⊥
 empty_handle_gives_a_seat seat told = cc told.0
 
 -- an empty handle ends in a house

@@ -2,8 +2,8 @@
 
 ghost use Rattle.std.specs.Prelude.{◌≡◌, None};
 ghost use Rattle.rt_hosted_calls.specs.Verdicts.{AuditsTold, ReadsTold};
-ghost use Rattle.fairexec_c.specs.Handles.{Answers, Frees, OnCore};
-ghost use Rattle.fairexec_c.specs.Houses.{EndsIn, EndsInto, OpensHouse, TakesFrom, TakesInto};
+ghost use Rattle.fairexec_c.specs.Handles.{Frees, OnCore};
+ghost use Rattle.fairexec_c.specs.Houses.{EndsIn, EndsInto, OpensHouse, OpensOn, TakesFrom, TakesInto};
 ghost use Rattle.rt_hosted_calls.specs.Members.{IsHouse};
 
 use crate::seat::{Seat, put, take};
@@ -15,7 +15,7 @@ use std::alloc::Global;
 /// Opens a house.
 #[unsafe(no_mangle)]
 pub extern "C" fn fx_house_open(alloc: Global, house: &mut Seat, config: &Config) -> u32
-    ensures { Answers result (λ told. OpensHouse house.old.value config.now told house.new.value) }
+    ensures { OpensHouse house.old.value config.now result house.new.value }
 {
     match take(alloc, house) {
         Some(member) => {
@@ -29,7 +29,7 @@ pub extern "C" fn fx_house_open(alloc: Global, house: &mut Seat, config: &Config
 /// Opens a house for an empty handle.
 fn open(alloc: Global, house: &mut Seat, config: &Config) -> Code
     requires { house.old.value ≡ None }
-    ensures { OpensHouse house.old.value config.now result house.new.value }
+    ensures { OpensOn config.now result house.new.value }
 {
     match House::open(alloc, config) {
         Ok(kept) => match Box::new(alloc, Member::House(kept)) {
@@ -51,7 +51,7 @@ pub extern "C" fn fx_house_take(
     seat: &mut Seat,
     actor: &mut u32,
 ) -> u32
-    ensures { Answers result (λ told. TakesFrom house.old.value seat.old.value actor.old told house.new.value seat.new.value actor.new) }
+    ensures { TakesFrom house.old.value seat.old.value actor.old result house.new.value seat.new.value actor.new }
 {
     let Some(mut kept) = take(alloc, house) else {
         return number(Code::Empty);
@@ -87,7 +87,7 @@ fn take_into(alloc: Global, kept: &mut Member, seat: &mut Seat, actor: &mut u32)
 /// Ends a seat, and hands its journal to the house.
 #[unsafe(no_mangle)]
 pub extern "C" fn fx_house_end(alloc: Global, house: &mut Seat, seat: &mut Seat) -> u32
-    ensures { Answers result (λ told. EndsIn house.old.value seat.old.value told house.new.value seat.new.value) }
+    ensures { EndsIn house.old.value seat.old.value result house.new.value seat.new.value }
 {
     let Some(mut kept) = take(alloc, house) else {
         return number(Code::Empty);
