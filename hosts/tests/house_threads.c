@@ -44,11 +44,18 @@ static bool keep(actor *a, uint32_t code, const fx_name *name, uint64_t job) {
     return code != FX_FULL;
 }
 
+/* On the link of a core to itself a place stays free for wakes: its own jobs, if all of them are parked, would hold all the others. */
+static bool may_submit(const actor *a, uint32_t to) {
+    uint32_t own = 0;
+    for (uint32_t each = 0; each < a->asked_count; each++) own += a->asks[each].name.to == a->number;
+    return a->asked_count < MOST_OUTSTANDING && (to != a->number || own + 1 < PLACES);
+}
+
 static bool submit(actor *a) {
     fx_name name;
     uint32_t to = below(a, CORES), queue = below(a, 3);
     uint64_t job = ++a->next_job * (CORES + 1) + a->number;
-    if (a->asked_count == MOST_OUTSTANDING) return false;
+    if (!may_submit(a, to)) return false;
     if (below(a, 20) > 0) return keep(a, fx_seat_submit(&a->seat, to, queue, job, &name), &name, job);
     if (below(a, 2) > 0) return keep(a, fx_seat_create(&a->seat, to, 200 + below(a, 800), &name), &name, 0);
     return keep(a, fx_seat_set_shares(&a->seat, to, queue, 200 + below(a, 800), &name), &name, 0);
