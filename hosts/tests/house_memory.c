@@ -6,17 +6,17 @@
  */
 #include "wraps.h"
 
-enum { CORES = 2, OUTSIDE = CORES, MOST_CALLS = 1000, ROUNDS = 5000 };
+enum { CORES = 2, OUTSIDE = CORES, MOST_CALLS = 10000000, ROUNDS = 5000 };
 
 static fx_house house = FX_NO_HOUSE;
 static fx_seat seats[CORES + 1];
 static unsigned long refused;
 
-/* Makes a call with memory for ever more calls, until it isn't refused for want of it. */
+/* Makes a call with memory for ever more calls, at first one more each time, until it isn't refused for want of it. */
 #define WITH_LITTLE(call, wanted) \
     do { \
         uint32_t code_ = FX_NO_MEMORY; \
-        for (unsigned long calls_ = 0; calls_ < MOST_CALLS; calls_++) { \
+        for (unsigned long calls_ = 0; calls_ < MOST_CALLS; calls_ += 1 + calls_ / 20) { \
             long before_ = used; \
             left = calls_; \
             code_ = call; \

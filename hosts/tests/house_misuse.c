@@ -222,6 +222,7 @@ static void drain(all *of) {
 static void ending(void) {
     all of = opened(2, 2, 100);
     fx_verdict verdict = {sizeof verdict, 7, 7, 7, 7};
+    fx_seat more = FX_NO_SEAT;
     fx_name name;
     uint8_t bytes[64];
     uint64_t count = 7;
@@ -232,13 +233,15 @@ static void ending(void) {
     IS(fx_house_end(&of.house, &of.seats[1]), FX_NO_ACTOR);
     IS(fx_house_end(&of.house, &of.seats[OUTSIDE]), FX_NO_ACTOR);
     for (int each = 0; each < 3; each++) {
+        IS(fx_house_take(&of.house, &more, &actor), FX_ABSENT);
         IS(fx_house_audit(&of.house, &verdict), FX_PENDING);
         IS(fx_house_text(&of.house, 0, bytes, sizeof bytes, &count), FX_PENDING);
         IS(fx_house_end(&of.house, &of.seats[each]), FX_OK);
         IS(fx_house_end(&of.house, &of.seats[each]), FX_EMPTY);
         empty(&of.seats[each]);
     }
-    IS(fx_house_take(&of.house, &of.seats[0], &actor), FX_ABSENT);
+    /* A house that has ended has no seats, and journals alone. */
+    IS(fx_house_take(&of.house, &more, &actor), FX_EMPTY);
     verdict.size++;
     IS(fx_house_audit(&of.house, &verdict), FX_BAD_NUMBER);
     is("until then nothing is written", verdict.sound == 7 && count == 7, 1);

@@ -4,11 +4,11 @@
  * Each submission has to have one outcome, which fits what was submitted, and the journals have to be sound.
  * The last line is 'N passed, M failed', and the status is 0 if nothing failed.
  */
+#define _POSIX_C_SOURCE 200809L
 #include "checks.h"
 #include <pthread.h>
-#include <sched.h>
 #include <stdlib.h>
-#include <string.h>
+#include <time.h>
 
 enum { CORES = 3, OUTSIDE = CORES, PLACES = 16, BURST = 3, MOST_OUTSTANDING = CORES * PLACES };
 
@@ -44,11 +44,18 @@ static bool keep(actor *a, uint32_t code, const fx_name *name, uint64_t job) {
     return code != FX_FULL;
 }
 
+/* On the link of a core to itself a place stays free for wakes: its own jobs, if all of them are parked, would hold all the others. */
+static bool may_submit(const actor *a, uint32_t to) {
+    uint32_t own = 0;
+    for (uint32_t each = 0; each < a->asked_count; each++) own += a->asks[each].name.to == a->number;
+    return a->asked_count < MOST_OUTSTANDING && (to != a->number || own + 1 < PLACES);
+}
+
 static bool submit(actor *a) {
     fx_name name;
     uint32_t to = below(a, CORES), queue = below(a, 3);
     uint64_t job = ++a->next_job * (CORES + 1) + a->number;
-    if (a->asked_count == MOST_OUTSTANDING) return false;
+    if (!may_submit(a, to)) return false;
     if (below(a, 20) > 0) return keep(a, fx_seat_submit(&a->seat, to, queue, job, &name), &name, job);
     if (below(a, 2) > 0) return keep(a, fx_seat_create(&a->seat, to, 200 + below(a, 800), &name), &name, 0);
     return keep(a, fx_seat_set_shares(&a->seat, to, queue, 200 + below(a, 800), &name), &name, 0);
@@ -88,16 +95,24 @@ static void wake(actor *a) {
     if (code == FX_OK) a->parked[each] = a->parked[--a->parked_count];
 }
 
-static void turn(actor *a, bool may_park) {
+/* Whether there was a turn. */
+static bool turn(actor *a, bool may_park) {
     fx_turn it = {.size = sizeof it};
     uint32_t code = fx_seat_next(&a->seat, &it);
-    if (code == FX_IDLE || code == FX_BACK) return;
+    if (code == FX_IDLE || code == FX_BACK) return code == FX_BACK;
     a->wrong += code != FX_START && code != FX_RESUME;
     if (below(a, 4) == 0) submit(a);
     uint32_t kind = below(a, 10), step = kind < 6 ? FX_STEP_DONE : kind < 8 || !may_park ? FX_STEP_YIELD : FX_STEP_PARK;
     code = fx_seat_settle(&a->seat, step, 3 * it.job, below(a, 5000));
     if (code == FX_PARKED) a->parked[a->parked_count++] = it.name;
     a->wrong += code != (step == FX_STEP_DONE ? FX_DONE : FX_OK) && code != FX_PARKED;
+    return true;
+}
+
+/* Lets others run, if nothing shows. */
+static void rest(actor *a) {
+    struct timespec little = {0, 20000};
+    if (fx_seat_shows(&a->seat) == FX_IDLE) nanosleep(&little, NULL);
 }
 
 /* Gates of others are shut at once, and its own once no job is inside: parked ones have to be woken. */
@@ -108,11 +123,12 @@ static void shut(actor *a) {
         if (sender != a->number || stats.held == 0) fx_seat_shut(&a->seat, sender);
 }
 
-static void make_round(actor *a, bool is_open) {
+static bool make_round(actor *a, bool is_open) {
     for (uint32_t sender = 0; sender <= CORES; sender++) a->wrong += fx_seat_deliver(&a->seat, sender) == FX_JOURNAL_FULL;
-    turn(a, is_open);
+    bool ran = turn(a, is_open);
     if (a->parked_count > 0 && (!is_open || below(a, 2) == 0)) wake(a);
     collect(a);
+    return ran;
 }
 
 static void *serve(void *given) {
@@ -124,8 +140,7 @@ static void *serve(void *given) {
     a->wrong += fx_seat_close(&a->seat, a->number % 2 == 0 ? FX_MODE_FINISH : FX_MODE_RETURN) != FX_OK;
     while (fx_seat_drained(&a->seat) != FX_OK) {
         shut(a);
-        make_round(a, false);
-        if (fx_seat_shows(&a->seat) == FX_IDLE) sched_yield();
+        if (!make_round(a, false)) rest(a);
     }
     return NULL;
 }
@@ -135,7 +150,7 @@ static void *drive(void *given) {
     for (uint64_t each = 0; each < a->rounds / 4;) {
         each += submit(a);
         collect(a);
-        if (fx_seat_shows(&a->seat) == FX_IDLE) sched_yield();
+        rest(a);
     }
     return NULL;
 }
