@@ -1,6 +1,7 @@
 //! A house ends: its journals are handed in, are sound, and have a text.
 
 use crate::room::{Room, no_name, open};
+use rt_hosted_calls::names::Name;
 use rt_hosted_calls::orders::job_order;
 use rt_hosted_calls::verdicts::VerdictTold;
 use rt_hosted_calls::{Code, Member};
@@ -18,17 +19,34 @@ fn no_verdict() -> VerdictTold {
     }
 }
 
+/// Whether the core closes once, and shuts its gates.
+fn closes(room: &mut Room) -> bool {
+    room.core.close(1) == Code::Ok
+        && room.core.close(0) == Code::CoreClosed
+        && room.core.shut(0) == Code::Ok
+        && room.core.shut(1) == Code::Ok
+}
+
+/// Whether the core takes in one order of the outside actor, and no more.
+fn takes_one(room: &mut Room) -> bool {
+    room.core.deliver(1) == Code::Ok && room.core.deliver(1) == Code::Idle
+}
+
+/// Whether job 7 comes back under this name.
+fn is_back(room: &mut Room, name: &Name) -> bool {
+    let (redeemed, outcome) = room.answer(name);
+    redeemed == Code::Ok && outcome.kind == 1 && outcome.job == 7
+}
+
 /// Whether a job of the outside actor comes back from a core that closes, and the core comes to its end.
 fn drains(room: &mut Room) -> bool {
     let mut name = no_name();
-    let sent = room.outside.send(0, job_order(0, 7), &mut name) == Code::Ok;
-    let closed = room.core.close(1) == Code::Ok && room.core.close(0) == Code::CoreClosed;
-    let shut = room.core.shut(0) == Code::Ok && room.core.shut(1) == Code::Ok;
-    let early = room.core.drained() == Code::NotDrained;
-    let delivered = room.core.deliver(1) == Code::Ok && room.core.deliver(1) == Code::Idle;
-    let (redeemed, outcome) = room.answer(&name);
-    let back = redeemed == Code::Ok && outcome.kind == 1 && outcome.job == 7;
-    sent && closed && shut && early && delivered && back && room.core.drained() == Code::Ok
+    room.outside.send(0, job_order(0, 7), &mut name) == Code::Ok
+        && closes(room)
+        && room.core.drained() == Code::NotDrained
+        && takes_one(room)
+        && is_back(room, &name)
+        && room.core.drained() == Code::Ok
 }
 
 /// Whether a seat ends in the house.
@@ -46,6 +64,18 @@ fn tells(alloc: Global, house: &mut Member) -> bool {
     first && begins && last
 }
 
+/// What the audit of a house answers, and whether it tells that all is sound.
+fn judged(alloc: Global, house: &mut Member) -> (Code, u32) {
+    let mut verdict = no_verdict();
+    let code = house.audit(alloc, &mut verdict);
+    (code, verdict.sound)
+}
+
+/// Whether a house whose journals were handed in is sound, and tells its text.
+fn is_judged(alloc: Global, house: &mut Member) -> bool {
+    judged(alloc, house) == (Code::Ok, 1) && tells(alloc, house)
+}
+
 /// Whether a house that has drained ends with sound journals.
 fn is_sound(alloc: Global, room: Room) -> bool {
     let Room {
@@ -54,12 +84,10 @@ fn is_sound(alloc: Global, room: Room) -> bool {
         outside,
     } = room;
     let mut house = house;
-    let mut verdict = no_verdict();
-    let missing = house.audit(alloc, &mut verdict) == Code::Pending;
+    let (missing, _) = judged(alloc, &mut house);
     let core_ends = ends(alloc, &mut house, core);
     let outside_ends = ends(alloc, &mut house, outside);
-    let judged = house.audit(alloc, &mut verdict) == Code::Ok;
-    missing && core_ends && outside_ends && judged && verdict.sound == 1 && tells(alloc, &mut house)
+    missing == Code::Pending && core_ends && outside_ends && is_judged(alloc, &mut house)
 }
 
 #[test]

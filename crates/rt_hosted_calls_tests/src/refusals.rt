@@ -4,6 +4,7 @@ use crate::room::{Room, config, no_name, no_outcome, no_turn, open};
 use rt_hosted_calls::Code;
 use rt_hosted_calls::house::{Config, House};
 use rt_hosted_calls::orders::{close_order, core_order, create_order, job_order, shares_order};
+use rt_ids::Order;
 use std::test::Fail;
 
 #[test]
@@ -35,34 +36,45 @@ fn a_bad_config_opens_no_house(rt: HostRuntime) {
     }
 }
 
-/// Whether orders of numbers that there aren't are refused.
-fn refuses_numbers(room: &mut Room) -> bool {
+/// What the outside actor answers to an order for this core.
+fn sent(room: &mut Room, core: u32, order: Result<Order<u64>, Code>) -> Code {
     let mut name = no_name();
-    let queue = room.outside.send(0, job_order(256, 1), &mut name) == Code::NoQueue;
-    let shares = room.outside.send(0, create_order(0), &mut name) == Code::BadShares;
-    let other = room.outside.send(0, shares_order(256, 1), &mut name) == Code::NoQueue;
-    let line = room.outside.send(0, close_order(0, 2), &mut name) == Code::BadNumber;
-    let mode = room.outside.send(0, core_order(2), &mut name) == Code::BadNumber;
-    let core = room.outside.send(1, job_order(0, 1), &mut name) == Code::UnknownCore;
-    let far = room.outside.send(256, job_order(0, 1), &mut name) == Code::UnknownCore;
-    let none = name.number == 0;
-    let sender = room.core.deliver(2) == Code::NoActor && room.core.deliver(256) == Code::NoActor;
-    queue && shares && other && line && mode && core && far && none && sender
+    room.outside.send(core, order, &mut name)
+}
+
+/// Whether orders with numbers that there aren't are refused.
+fn refuses_orders(room: &mut Room) -> bool {
+    sent(room, 0, job_order(256, 1)) == Code::NoQueue
+        && sent(room, 0, create_order(0)) == Code::BadShares
+        && sent(room, 0, shares_order(256, 1)) == Code::NoQueue
+        && sent(room, 0, close_order(0, 2)) == Code::BadNumber
+        && sent(room, 0, core_order(2)) == Code::BadNumber
+}
+
+/// Whether cores and senders that there aren't are refused.
+fn refuses_numbers(room: &mut Room) -> bool {
+    sent(room, 1, job_order(0, 1)) == Code::UnknownCore
+        && sent(room, 256, job_order(0, 1)) == Code::UnknownCore
+        && room.core.deliver(2) == Code::NoActor
+        && room.core.deliver(256) == Code::NoActor
 }
 
 /// Whether calls out of order are refused.
 fn refuses_order(room: &mut Room) -> bool {
+    room.core.settle(0, 0, 1) == Code::NoJob
+        && room.core.settle(3, 0, 1) == Code::BadNumber
+        && room.core.shut(0) == Code::Open
+}
+
+/// Whether a name that was never given is refused, and structs that are too small.
+fn refuses_structs(room: &mut Room) -> bool {
     let mut turn = no_turn();
     let mut outcome = no_outcome();
-    let early = room.core.settle(0, 0, 1) == Code::NoJob;
-    let step = room.core.settle(3, 0, 1) == Code::BadNumber;
-    let gate = room.core.shut(0) == Code::Open;
     let unknown = room.core.redeem(&no_name(), &mut outcome) == Code::Unknown;
     turn.size = 39;
     outcome.size = 31;
     let small = room.core.next(&mut turn) == Code::BadNumber;
-    let narrow = room.core.redeem(&no_name(), &mut outcome) == Code::BadNumber;
-    early && step && gate && unknown && small && narrow
+    unknown && small && room.core.redeem(&no_name(), &mut outcome) == Code::BadNumber
 }
 
 /// Whether each call is refused by a member that it isn't for.
@@ -83,8 +95,10 @@ fn calls_are_refused(rt: HostRuntime) -> Result<(), Fail> {
         assert!(rt; false, "no house");
         return Ok(());
     };
+    assert!(rt; refuses_orders(&mut room));
     assert!(rt; refuses_numbers(&mut room));
     assert!(rt; refuses_order(&mut room));
+    assert!(rt; refuses_structs(&mut room));
     assert!(rt; refuses_members(&mut room));
     let none = matches!(room.house.take_seat(rt.alloc()), Err(Code::Absent));
     assert!(rt; none);

@@ -20,26 +20,29 @@ fn hand_in(room: &mut Room, order: Result<Order<u64>, Code>) -> Option<Name> {
     }
 }
 
-/// Whether a job of this queue runs, and is done with its answer.
-fn runs(room: &mut Room, queue: u32) -> bool {
-    let Some(name) = hand_in(room, job_order(queue, 7)) else {
-        return false;
-    };
+/// Whether job 7 of this queue runs twice, and is done with its answer.
+fn is_run(room: &mut Room, queue: u32) -> bool {
     let mut turn = no_turn();
-    let started = room.core.next(&mut turn) == Code::Start;
-    let yielded = room.core.settle(0, 0, 10) == Code::Ok;
-    let resumed = room.core.next(&mut turn) == Code::Resume;
-    let done = room.core.settle(1, 14, 10) == Code::Done;
-    let (redeemed, outcome) = room.answer(&name);
-    started
-        && yielded
-        && resumed
-        && done
+    room.core.next(&mut turn) == Code::Start
+        && room.core.settle(0, 0, 10) == Code::Ok
+        && room.core.next(&mut turn) == Code::Resume
+        && room.core.settle(1, 14, 10) == Code::Done
         && turn.job == 7
         && turn.queue == queue
-        && redeemed == Code::Ok
-        && outcome.kind == 0
-        && outcome.answer == 14
+}
+
+/// Whether the answer is redeemed under this name.
+fn is_answered(room: &mut Room, name: &Name) -> bool {
+    let (redeemed, outcome) = room.answer(name);
+    redeemed == Code::Ok && outcome.kind == 0 && outcome.answer == 14
+}
+
+/// Whether a job of this queue runs, and its answer comes back.
+fn runs(room: &mut Room, queue: u32) -> bool {
+    match hand_in(room, job_order(queue, 7)) {
+        Some(name) => is_run(room, queue) && is_answered(room, &name),
+        None => false,
+    }
 }
 
 #[test]
@@ -65,16 +68,19 @@ fn told(room: &mut Room, order: Result<Order<u64>, Code>) -> Option<(u32, u32)> 
     }
 }
 
-/// Whether the orders are answered.
-fn orders_are_answered(room: &mut Room) -> bool {
-    let made = told(room, create_order(500)) == Some((0, 1));
-    let weighed = told(room, shares_order(1, 100)) == Some((4, 0));
-    let ran = runs(room, 1);
-    let absent = told(room, shares_order(2, 100)) == Some((5, 0));
-    let closed = told(room, close_order(1, 0)) == Some((6, 0));
-    let again = told(room, close_order(1, 0)) == Some((7, 0));
-    let all = told(room, core_order(1)) == Some((6, 0));
-    made && weighed && ran && absent && closed && again && all
+/// Whether the orders about a queue are answered, and a job of it runs.
+fn queue_is_answered(room: &mut Room) -> bool {
+    told(room, create_order(500)) == Some((0, 1))
+        && told(room, shares_order(1, 100)) == Some((4, 0))
+        && runs(room, 1)
+        && told(room, shares_order(2, 100)) == Some((5, 0))
+}
+
+/// Whether the orders that close are answered.
+fn closes_are_answered(room: &mut Room) -> bool {
+    told(room, close_order(1, 0)) == Some((6, 0))
+        && told(room, close_order(1, 0)) == Some((7, 0))
+        && told(room, core_order(1)) == Some((6, 0))
 }
 
 #[test]
@@ -83,22 +89,31 @@ fn orders_run(rt: HostRuntime) -> Result<(), Fail> {
         assert!(rt; false, "no house");
         return Ok(());
     };
-    assert!(rt; orders_are_answered(&mut room));
+    assert!(rt; queue_is_answered(&mut room));
+    assert!(rt; closes_are_answered(&mut room));
     Ok(())
+}
+
+/// Whether the job that came in parks.
+fn parks(room: &mut Room) -> bool {
+    let mut turn = no_turn();
+    room.core.next(&mut turn) == Code::Start
+        && room.core.settle(2, 0, 10) == Code::Parked
+        && room.core.next(&mut turn) == Code::Idle
+}
+
+/// Whether a parked job runs again once it is woken.
+fn wakes(room: &mut Room, name: &Name) -> bool {
+    let mut turn = no_turn();
+    told(room, wake_order(name)) == Some((8, 0)) && room.core.next(&mut turn) == Code::Resume
 }
 
 /// Whether a job that parks runs again once it is woken.
 fn parks_and_wakes(room: &mut Room) -> bool {
-    let Some(name) = hand_in(room, job_order(0, 7)) else {
-        return false;
-    };
-    let mut turn = no_turn();
-    let started = room.core.next(&mut turn) == Code::Start;
-    let parked = room.core.settle(2, 0, 10) == Code::Parked;
-    let idle = room.core.next(&mut turn) == Code::Idle;
-    let woken = told(room, wake_order(&name)) == Some((8, 0));
-    let resumed = room.core.next(&mut turn) == Code::Resume;
-    started && parked && idle && woken && resumed
+    match hand_in(room, job_order(0, 7)) {
+        Some(name) => parks(room) && wakes(room, &name),
+        None => false,
+    }
 }
 
 #[test]
@@ -111,20 +126,27 @@ fn a_parked_job_is_woken(rt: HostRuntime) -> Result<(), Fail> {
     Ok(())
 }
 
-/// Whether a job of a queue that isn't there comes back, and one that is detached is gone.
+/// Whether a job of a queue that isn't there comes back.
 fn comes_back(room: &mut Room) -> bool {
     let Some(name) = hand_in(room, job_order(5, 8)) else {
         return false;
     };
     let shows = room.outside.shows() == Code::Ok;
     let (redeemed, outcome) = room.answer(&name);
-    let back = redeemed == Code::Ok && outcome.kind == 1 && outcome.why == 0;
-    let Some(other) = hand_in(room, job_order(0, 9)) else {
+    shows
+        && redeemed == Code::Ok
+        && outcome.kind == 1
+        && outcome.why == 0
+        && outcome.job == 8
+        && outcome.queue == 5
+}
+
+/// Whether a submission is let go once.
+fn is_let_go(room: &mut Room) -> bool {
+    let Some(name) = hand_in(room, job_order(0, 9)) else {
         return false;
     };
-    let let_go = room.outside.detach(&other) == Code::Ok
-        && room.outside.detach(&other) == Code::Gone;
-    shows && back && outcome.job == 8 && outcome.queue == 5 && let_go
+    room.outside.detach(&name) == Code::Ok && room.outside.detach(&name) == Code::Gone
 }
 
 #[test]
@@ -134,5 +156,6 @@ fn a_job_comes_back(rt: HostRuntime) -> Result<(), Fail> {
         return Ok(());
     };
     assert!(rt; comes_back(&mut room));
+    assert!(rt; is_let_go(&mut room));
     Ok(())
 }
