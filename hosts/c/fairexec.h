@@ -344,7 +344,7 @@ uint32_t fx_house_take(fx_house *house, fx_seat *seat, uint32_t *actor) FX_NOT_N
 /*
  * Ends a seat, and hands its journal to the house. The seat is empty from then on. All seats have to be taken, and they end in the order of
  * their numbers: core 0 first, the outside actor last. The host hands in the seats of this house: nothing tests that, but an audit.
- * FX_EMPTY: house; FX_EMPTY: seat; FX_NO_ACTOR: another number is next; FX_NOT_DRAINED: a core; FX_OK.
+ * FX_EMPTY: house; FX_EMPTY: seat; FX_NO_ACTOR: another number is next; FX_NOT_DRAINED: a core; FX_NO_MEMORY; FX_OK.
  */
 uint32_t fx_house_end(fx_house *house, fx_seat *seat) FX_NOT_NULL;
 
@@ -422,13 +422,13 @@ uint32_t fx_seat_wake(fx_seat *seat, const fx_name *job, fx_name *name) FX_NOT_N
 
 /*
  * Writes the outcome of a submission that was collected. It is gone from then on.
- * FX_EMPTY; FX_BAD_NUMBER: size; FX_JOURNAL_FULL; FX_UNKNOWN; FX_GONE; FX_PENDING; FX_OK.
+ * FX_EMPTY; FX_BAD_NUMBER: size; FX_UNKNOWN: a number of an actor or a core above 255; FX_JOURNAL_FULL; FX_UNKNOWN; FX_GONE; FX_PENDING; FX_OK.
  */
 uint32_t fx_seat_redeem(fx_seat *seat, const fx_name *name, fx_outcome *outcome) FX_NOT_NULL;
 
 /*
  * Nobody will ask for the outcome of a submission. The host still learns by fx_house_text alone what became of its job.
- * FX_EMPTY; FX_JOURNAL_FULL; FX_UNKNOWN; FX_GONE; FX_OK.
+ * FX_EMPTY; FX_UNKNOWN: a number of an actor or a core above 255; FX_JOURNAL_FULL; FX_UNKNOWN; FX_GONE; FX_OK.
  */
 uint32_t fx_seat_detach(fx_seat *seat, const fx_name *name) FX_NOT_NULL;
 
