@@ -379,6 +379,31 @@ fn turn_all<W: Form, J: Load>(mut front: Out<W, J>, mut behind: In<W, J>, turns:
     sum
 }
 
+// The first so many steps of a batch: sends so many jobs, takes them, answers them instead, and redeems all answers.
+#[inline(never)]
+fn step_all<W: Form, J: Load>(mut front: Out<W, J>, mut behind: In<W, J>, credits: u64, steps: u64) -> u64 {
+    let mut sum = 0u64;
+    for number in 0..credits {
+        send(&mut front, number);
+    }
+    if steps == 2 {
+        for _ in 0..credits {
+            sum = sum.wrapping_add(take(&mut behind).unwrap_or(0));
+        }
+    }
+    if steps > 2 {
+        for _ in 0..credits {
+            serve(&mut behind);
+        }
+    }
+    if steps > 3 {
+        for _ in 0..credits {
+            sum = sum.wrapping_add(collect(&mut front).unwrap_or(0));
+        }
+    }
+    sum
+}
+
 // The nanoseconds of one measure, and a sum that must agree with that of the others. The thread that is started sends, as in the
 // ring's program: one way, who starts first decides whether the receiver follows from slot to slot or runs behind.
 type Measured = (u128, u64);
@@ -420,6 +445,17 @@ fn alone<W: Form, J: Load>(jobs: u64) -> Measured {
     (start.elapsed().as_nanos(), sum)
 }
 
+// The same of many batches of 64 jobs on one thread, each through a link of its own.
+fn steps<W: Form, J: Load>(jobs: u64, steps: u64) -> Measured {
+    let start = Instant::now();
+    let mut sum = 0;
+    for _ in 0..jobs / 64 {
+        let (front, behind) = open::<W, J>(64);
+        sum = step_all(front, behind, 64, steps);
+    }
+    (start.elapsed().as_nanos(), sum)
+}
+
 fn line(name: &str, jobs: u64, measure: impl Fn() -> Measured) {
     let mut words = std::env::args().skip(1);
     if !name.starts_with(&words.next().unwrap_or_default()) {
@@ -445,6 +481,9 @@ fn all<W: Form>(name: &str) {
     line(&format!("{name} trip_1024"), JOBS, || trips::<W, u64>(1024, JOBS, 1024));
     line(&format!("{name} single"), SINGLE, || trips::<W, u64>(64, SINGLE, 1));
     line(&format!("{name} alone"), JOBS, || alone::<W, u64>(JOBS));
+    for count in 1..=4 {
+        line(&format!("{name} steps_{count}"), JOBS, || steps::<W, u64>(JOBS, count));
+    }
     line(&format!("{name} heavy_64"), JOBS, || trips::<W, Heavy>(64, JOBS, 64));
     line(&format!("{name} heavy_alone"), JOBS, || alone::<W, Heavy>(JOBS));
 }

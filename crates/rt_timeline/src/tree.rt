@@ -10,9 +10,11 @@ use std::marker::Model;
 use std::mem;
 
 mod balance;
+mod lead;
 mod levels;
 
 use balance::{parted, tilt};
+pub(crate) use lead::{enter, leave};
 
 /// A side of a node, or the whole: balanced at every level.
 #[cycle(tree)]

@@ -1,0 +1,60 @@
+//! The least node, which stands beside the tree of the later ones.
+//!
+//! A turn of a core looks at the least key, takes it out, and puts it back behind others. A look at a node beside the tree takes no way
+//! down, and a timeline of one queue has no tree to go through.
+ghost use Rattle.std.specs.Prelude.{◌≡◌};
+ghost use Rattle.rt_timeline.specs.Rising.{IsRising, inserted};
+ghost use Rattle.rt_timeline.specs.Nodes.{key_of, IsLoose};
+ghost use Rattle.rt_timeline.specs.Led.{led_keys, IsLed};
+
+use super::balance::put;
+use super::levels::is_behind;
+use super::{Link, Node, Tree};
+use std::alloc::Allocator;
+use std::mem;
+
+/// Puts a node in the place of its key: beside the tree if that place is free or the key is the least, and else into the tree. A node
+/// that has to give way goes into the tree.
+#[inline(always)]
+#[tactic(auto, using(crate::proofs::Leading::inserted-ahead))]
+pub(crate) fn enter<A: Allocator>(
+    least: &mut Link<A>,
+    later: &mut Tree<A>,
+    node: Box<Node<A>, A>,
+    vr: u128,
+)
+    requires loose { IsLoose node.value }
+    requires led { IsLed least.old later.old }
+    requires rising { IsRising (led_keys least.old later.old) }
+    ensures keys { led_keys least.new later.new ≡ inserted (key_of vr node.value) (led_keys least.old later.old) }
+    ensures led { IsLed least.new later.new }
+{
+    match least {
+        Link::Empty => put(least, node, vr),
+        Link::Top(first, at) => {
+            if is_behind(vr, node.queue, *at, first.queue) {
+                later.insert(node, vr);
+            } else {
+                let node = mem::replace(first, node);
+                let vr = mem::replace(at, vr);
+                later.insert(node, vr);
+            }
+        }
+    }
+}
+
+/// Takes the node beside the tree, if there is one. The first node of the tree takes its place.
+#[inline(always)]
+pub(crate) fn leave<A: Allocator>(least: &mut Link<A>, later: &mut Tree<A>) -> Link<A>
+    requires led { IsLed least.old later.old }
+    ensures taken { result ≡ least.old }
+    ensures keys { led_keys least.new later.new ≡ later.old.keys }
+    ensures led { IsLed least.new later.new }
+{
+    if later.is_empty() {
+        return mem::replace(least, Link::Empty);
+    }
+    let mut vr = 0;
+    let (next, _lower) = later.take_first(&mut vr);
+    mem::replace(least, Link::Top(next, vr))
+}
