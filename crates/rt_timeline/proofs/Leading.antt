@@ -25,3 +25,6 @@ length-later (Top node vr) later = omega arith
 
 pub IsLow-led : {A : Type 0} (least : Link A) (later : KeyTree) → IsFilled later → IsLow (led least later)
 IsLow-led least later filled = λ digits below. IsLow-from_filled later filled digits (omega (arith, length-later least later))
+
+-- what a node that comes before the least one asks
+pub ruleset ahead = (inserted-ahead)

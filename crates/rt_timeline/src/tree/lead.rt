@@ -16,7 +16,7 @@ use std::mem;
 /// Puts a node in the place of its key: beside the tree if that place is free or the key is the least, and else into the tree. A node
 /// that has to give way goes into the tree.
 #[inline(always)]
-#[tactic(auto, using(crate::proofs::Leading::inserted-ahead))]
+#[tactic(auto, using(crate::proofs::Leading::ahead))]
 pub(crate) fn enter<A: Allocator>(
     least: &mut Link<A>,
     later: &mut Tree<A>,
