@@ -1,5 +1,5 @@
 // The yardstick: an intrusive AVL tree with parent pointers, balance factors and the leftmost node at hand, keyed by
-// (128-bit virtual runtime, queue number). Prints nanoseconds for one pick and reinsertion.
+// (128-bit virtual runtime, queue number). Prints nanoseconds for one look at the least, its pick and its reinsertion.
 #include <chrono>
 #include <cstdint>
 #include <cstdio>
@@ -140,10 +140,11 @@ int main() {
                 nodes[q].queue = q;
                 tree.insert(&nodes[q]);
             }
-            uint64_t dice = 1;
+            uint64_t dice = 1, sum = 0;
             const int turns = 100000;
             auto start = std::chrono::steady_clock::now();
             for (int turn = 0; turn < turns; turn++) {
+                sum += tree.least->queue;
                 Node *node = tree.take_least();
                 dice = dice * 6364136223846793005u + 1442695040888963407u;
                 node->vr += dice >> 44;
@@ -151,7 +152,7 @@ int main() {
             }
             std::chrono::duration<double, std::nano> took = std::chrono::steady_clock::now() - start;
             if (took.count() / turns < best) best = took.count() / turns;
-            check = tree.least->vr;
+            check = tree.least->vr + sum;
         }
         printf("%d %.1f %llu\n", queues, best, (unsigned long long)check);
     }
