@@ -1,5 +1,5 @@
 -- Keys in rising order, at most one of each queue.
-use Rattle.std.specs.Prelude.{◌≢◌, ℕ, ◌<◌, Bool, false, not, ◌&&◌, ◌||◌, ◌==◌, nat_lt, if◌then◌else◌, List, [], ◌∷◌, filter, map, Option, Some, None}
+use Rattle.std.specs.Prelude.{◌≢◌, ℕ, ◌<◌, Bool, not, ◌&&◌, ◌||◌, ◌==◌, nat_lt, if◌then◌else◌, List, [], ◌∷◌, filter, map, Option, Some, None}
 use Rattle.std.specs.List.{AllByRecursion, list_any}
 use Rattle.rt_ids.specs.Keys.{KeyBefore}
 use Rattle.rt_ids.specs.declared.names.Key.{Key}
@@ -55,11 +55,6 @@ has_queue queue keys = list_any (λ key. key.queue == queue) keys
 abbrev pub first_key : List Key → Option Key
 first_key [] = None
 first_key (key ∷ later) = Some key
-
--- whether this key is the first of them
-abbrev pub is_first_key : Key → List Key → Bool
-is_first_key key [] = false
-is_first_key key (next ∷ later) = same_key key next
 
 -- the queues of the keys, in their order
 abbrev pub queues_of : List Key → List ℕ

@@ -1,11 +1,11 @@
 //! The keys of the active queues, least first.
 ghost use Rattle.std.specs.Prelude.{◌≡◌, ◌≤◌, ◌↔◌, false, [], ◌∷◌, length, IsTrue, IsNone, IsSome, IfSome, IfNone, Contains};
-ghost use Rattle.rt_timeline.specs.Rising.{LacksQueue, IsRising, HasDistinctQueues, has_queue, inserted, removed, first_key, is_first_key};
+ghost use Rattle.rt_timeline.specs.Rising.{LacksQueue, IsRising, HasDistinctQueues, has_queue, inserted, removed, first_key};
 ghost use Rattle.rt_timeline.specs.Tree.{empty_tree, IsLow};
 
 use crate::slip::Slip;
 use crate::slips::Slips;
-use crate::tree::{Link, Tree, enter, leave};
+use crate::tree::{Link, Tree, detach, enter, leave};
 use rt_ids::{Key, QueueNo};
 use std::alloc::Allocator;
 use std::marker::Model;
@@ -89,23 +89,9 @@ impl<A: Allocator> Timeline<A> {
         ensures slip { IfSome result (λ slip. slip ≡ key.queue) }
         ensures absent { IfSome result (λ slip. LacksQueue slip self.new.keys) }
     {
-        if self.is_least(&key) {
-            let (_, slip) = self.take_least()?;
-            return Some(slip);
-        }
-        let (node, _lower) = self.later.remove(&key)?;
+        let node = detach(&mut self.first, &mut self.later, &key)?;
         self.len -= 1;
         Some(Slip::from_node(node))
-    }
-
-    /// Whether this key is the least.
-    fn is_least(&self, key: &Key) -> bool
-        ensures { result ≡ is_first_key key.now self.now.keys }
-    {
-        match &self.first {
-            Link::Empty => false,
-            Link::Top(node, vr) => key.vr == *vr && key.queue == node.queue,
-        }
     }
 
     /// How many queues are in the timeline: at most 256.

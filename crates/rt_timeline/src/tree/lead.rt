@@ -2,14 +2,15 @@
 //!
 //! A turn of a core looks at the least key, takes it out, and puts it back behind others. A look at a node beside the tree takes no way
 //! down, and a timeline of one queue has no tree to go through.
-ghost use Rattle.std.specs.Prelude.{◌≡◌};
-ghost use Rattle.rt_timeline.specs.Rising.{IsRising, inserted};
+ghost use Rattle.std.specs.Prelude.{◌≡◌, is_some, IfSome, IfNone};
+ghost use Rattle.rt_timeline.specs.Rising.{IsRising, has_key, inserted, removed};
 ghost use Rattle.rt_timeline.specs.Nodes.{key_of, IsLoose};
-ghost use Rattle.rt_timeline.specs.Led.{led_keys, IsLed};
+ghost use Rattle.rt_timeline.specs.Led.{led_keys, IsLed, leads};
 
 use super::balance::put;
 use super::levels::is_behind;
 use super::{Link, Node, Tree};
+use rt_ids::Key;
 use std::alloc::Allocator;
 use std::mem;
 
@@ -57,4 +58,40 @@ pub(crate) fn leave<A: Allocator>(least: &mut Link<A>, later: &mut Tree<A>) -> L
     let mut vr = 0;
     let (next, _lower) = later.take_first(&mut vr);
     mem::replace(least, Link::Top(next, vr))
+}
+
+/// Whether this is the key of the node beside the tree.
+fn is_lead<A: Allocator>(least: &Link<A>, key: &Key) -> bool
+    ensures { result ≡ leads key.now least.now }
+{
+    match least {
+        Link::Empty => false,
+        Link::Top(node, vr) => key.vr == *vr && key.queue == node.queue,
+    }
+}
+
+/// Takes the node of this key out, if it is there.
+#[tactic(auto, using(crate::proofs::Leading::around_lead))]
+pub(crate) fn detach<A: Allocator>(
+    least: &mut Link<A>,
+    later: &mut Tree<A>,
+    key: &Key,
+) -> Option<Box<Node<A>, A>>
+    requires led { IsLed least.old later.old }
+    requires rising { IsRising (led_keys least.old later.old) }
+    ensures found { is_some result ≡ has_key key.now (led_keys least.old later.old) }
+    ensures unchanged { IfNone result ((least.new ≡ least.old) × (later.new ≡ later.old)) }
+    ensures keys { led_keys least.new later.new ≡ removed key.now (led_keys least.old later.old) }
+    ensures same_queue { IfSome result (λ node. node.value.queue ≡ key.now.queue) }
+    ensures loose { IfSome result (λ node. IsLoose node.value) }
+    ensures led { IsLed least.new later.new }
+{
+    if is_lead(least, key) {
+        let Link::Top(node, _) = leave(least, later) else {
+            unreachable!()
+        };
+        return Some(node);
+    }
+    let (node, _lower) = later.remove(key)?;
+    Some(node)
 }

@@ -1,4 +1,4 @@
-use Rattle.std.proofs.Common.{arith, ap}
+use Rattle.std.proofs.Common.{arith, subst, sym}
 use Rattle.rt_ids.specs.declared.names.Key.{Key}
 use Rattle.rt_timeline.specs.Rising.{LacksQueue}
 use Rattle.rt_timeline.specs.Led.{led_keys}
@@ -12,7 +12,7 @@ pub invariant_of-self : goal.invariant_of-self
 invariant_of-self g c =
     let keys = led_keys c.self.inside.first c.self.inside.later in
     let key : Key = record { vr = c.args.vr; queue = c.args.slip } in
-    let absent : LacksQueue c.args.slip keys = rw c.self.view_is c.requires.absent in
+    let absent : LacksQueue c.args.slip keys = subst (λ tree. LacksQueue c.args.slip tree.keys) (sym c.self.view_is) c.requires.absent in
     rw (c.enter.ensures.keys, c.into_node.ensures.queue) (
       IsOfQueues-inserted key keys absent c.into_node.ensures.numbered c.self.invariant.0,
       omega (arith, length-inserted key keys),
