@@ -6,9 +6,9 @@ use Rattle.rt_timeline.specs.declared.tree.Link.{Link}
 use Rattle.rt_timeline.specs.declared.tree.Link.TheVariants.{Empty, Top}
 use Rattle.rt_timeline.specs.Rising.{StandsBefore, stands_before, EachKey, IsRising, has_key, inserted, removed}
 use Rattle.rt_timeline.specs.Tree.{KeyTree, IsFilled, IsLow}
-use Rattle.rt_timeline.specs.Nodes.{key_of, IsLoose}
-use Rattle.rt_timeline.specs.Led.{led_keys, led, IsLed, leads}
-use Rattle.rt_timeline.proofs.Before.{Decides-stands_before, Decides-same_key}
+use Rattle.rt_timeline.specs.Nodes.{key_of}
+use Rattle.rt_timeline.specs.Led.{led_keys, led, leads}
+use Rattle.rt_timeline.proofs.Before.{Decides-stands_before}
 use Rattle.rt_timeline.proofs.Rising.{inserted-before, removed-same}
 use Rattle.rt_timeline.proofs.Heights.{IsLow-from_filled}
 
