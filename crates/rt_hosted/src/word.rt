@@ -16,6 +16,8 @@ use rt_jobs::{Post, Ran, Step, Task};
 pub struct Word {
     pub step: Step<u64>,
     pub asked: Option<Ticket>,
+    // Jobs of a host share nothing.
+    local: (),
 }
 
 impl Post<HostJob, u64> for Word {
@@ -55,6 +57,10 @@ impl Post<HostJob, u64> for Word {
         let _name = ticket;
         Err(TicketError::Unknown)
     }
+
+    fn local(&mut self) -> &mut () {
+        &mut self.local
+    }
 }
 
 /// Polls a job whose run came to this step.
@@ -66,6 +72,10 @@ pub fn poll_told(job: HostJob, step: Step<u64>) -> Ran<HostJob>
     ensures told { result.told ≡ None }
     ensures polled { IsPolled host_meaning result }
 {
-    let mut word = Word { step, asked: None };
+    let mut word = Word {
+        step,
+        asked: None,
+        local: (),
+    };
     Ran::poll(job, &mut word)
 }

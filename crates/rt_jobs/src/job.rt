@@ -24,6 +24,9 @@ pub trait Task: Drop {
     /// What it answers.
     type Out: Drop;
 
+    /// What the jobs of one core share while they are polled: `()` for jobs that share nothing.
+    type Local: Drop;
+
     /// What the job means: its task, whether it has answered, what a poll needs and owes, and which answers the task may have.
     ghost meaning: { Meaning Self Self.Out };
 
