@@ -31,6 +31,9 @@ use Rattle.rt_journal.specs.Figures.{counted_up}
 use Rattle.rt_stats.proofs.WaitingLaw.{waiting_is_line}
 use Rattle.rt_core.specs.Closing as closing
 use Rattle.rt_journal.specs.Recorded.{terms_at}
+use Rattle.rt_journal.specs.Stats.{AreExact}
+use Rattle.std.proofs.Common.{subst}
+use Rattle.std.proofs.lemmas.Option.{get_or_from_slice_get, slice_get_within}
 use Rattle.rt_journal.proofs.Drained.{drained_told, drained_here}
 
 -- a count of the first numbers together
@@ -122,7 +125,7 @@ module _ {T : Type 0} (terms : Terms) where
       omega arith
 
 -- no more jobs are done than there are notes
-finished-within : {T : Type 0} (queue : ℕ) (journal : Journal T) → finished_count queue journal ≤ length journal
+pub finished-within : {T : Type 0} (queue : ℕ) (journal : Journal T) → finished_count queue journal ≤ length journal
 finished-within queue [] = omega arith
 finished-within queue (note ∷ before) = omega (arith, finished-within queue before, small (is_number queue (queue_of_told (name_finished note) before)))
   where
@@ -151,33 +154,53 @@ module _ {J T : Type 0} {meaning : Meaning J T} (view : RecordedView J T) (recor
   waits queue = waits_told queue ∙ sym (waiting_is_line (terms_at view) queue view.journal.notes recorded.kept.notes)
 
   -- there are fewer notes than jobs that a core counts as done
-  finished_fits : length view.journal.notes < 2 ^ 64 → (queue : ℕ) → finished_count queue view.journal.notes ≡ counted_up (finished_count queue view.journal.notes)
-  finished_fits few queue = omega (arith, finished-within queue view.journal.notes, few)
+  finished_fits : length view.journal.notes < 2 ^ 64 → (queue : ℕ) → queue < queue_count view.core.queues → finished_count queue view.journal.notes ≡ counted_up (finished_count queue view.journal.notes)
+  finished_fits few queue within = omega (arith, finished-within queue view.journal.notes, few)
 
   -- all numbers of a queue
-  sums_of : length view.journal.notes < 2 ^ 64 → (queue : ℕ) → queue < queue_count view.core.queues → queue_stats queue view.core ≡ stats_of view.core.bursts.burst queue view.journal.notes
-  sums_of few queue within = λ i. record {
+  sums_of : (queue : ℕ) → queue < queue_count view.core.queues → finished_count queue view.journal.notes ≡ counted_up (finished_count queue view.journal.notes) →
+      queue_stats queue view.core ≡ stats_of view.core.bursts.burst queue view.journal.notes
+  sums_of queue within fits = λ i. record {
     shares = recorded.kept.agrees.weights queue within i;
     selected = (recorded.kept.agrees.figures queue i).selected;
     runtime = (recorded.kept.agrees.figures queue i).time;
     virtual_runtime = (recorded.kept.agrees.runtimes queue ∙ runtime_fits (terms_at view) queue view.journal.notes recorded.kept.notes) i;
     waiting = waits queue i;
-    finished = (ap (λ figures. figures.finished) (recorded.kept.agrees.figures queue) ∙ sym (finished_fits few queue)) i;
+    finished = (ap (λ figures. figures.finished) (recorded.kept.agrees.figures queue) ∙ sym fits) i;
     returned = (recorded.kept.agrees.figures queue i).returned;
   }
 
-  pub queues_told : length view.journal.notes < 2 ^ 64 → (count : ℕ) (told : List QueueStats) → count ≡ queue_count view.core.queues →
-      ((queue : ℕ) → queue < queue_count view.core.queues → slice_get told queue ≡ Some (queue_stats queue view.core)) → TellsQueues view.core.bursts.burst view.journal.notes count told
-  queues_told few count told count_is at = record {
-    count_is = count_is ∙ recorded.kept.agrees.last;
-    each = λ queue known.
-        let within : queue < queue_count view.core.queues = omega (arith, known, recorded.kept.agrees.last) in (
-          queue_stats queue view.core,
-          at queue within,
-          record {
-            sums = sums_of few queue within;
-            runtime_is = recorded.kept.agrees.runtimes queue;
-            waiting_are = waits_told queue;
-          },
-        );
-  }
+  module _ (count : ℕ) (told : List QueueStats) (count_is : count ≡ queue_count view.core.queues) (at : (queue : ℕ) → queue < queue_count view.core.queues → slice_get told queue ≡ Some (queue_stats queue view.core)) where
+    told_where : ((queue : ℕ) → queue < queue_count view.core.queues → finished_count queue view.journal.notes ≡ counted_up (finished_count queue view.journal.notes)) →
+        TellsQueues view.core.bursts.burst view.journal.notes count told
+    told_where fits = record {
+      count_is = count_is ∙ recorded.kept.agrees.last;
+      each = λ queue known.
+          let within : queue < queue_count view.core.queues = omega (arith, known, recorded.kept.agrees.last) in (
+            queue_stats queue view.core,
+            at queue within,
+            record {
+              sums = sums_of queue within (fits queue within);
+              runtime_is = recorded.kept.agrees.runtimes queue;
+              waiting_are = waits_told queue;
+            },
+          );
+    }
+
+    pub queues_told : length view.journal.notes < 2 ^ 64 → TellsQueues view.core.bursts.burst view.journal.notes count told
+    queues_told few = told_where (finished_fits few)
+
+    -- what is told is below the greatest count, so it wasn't cut
+    below_most : AreExact told → (queue : ℕ) → queue < queue_count view.core.queues → (queue_stats queue view.core).finished < 2 ^ 64 - 1
+    below_most exact queue within =
+        subst (λ (stats : QueueStats). stats.finished < 2 ^ 64 - 1) (get_or_from_slice_get told queue (queue_stats queue view.core) (queue_stats queue view.core) (at queue within))
+        (exact queue (queue_stats queue view.core) (slice_get_within told queue (queue_stats queue view.core) (at queue within)))
+
+    exact_fits : AreExact told → (queue : ℕ) → queue < queue_count view.core.queues → finished_count queue view.journal.notes ≡ counted_up (finished_count queue view.journal.notes)
+    exact_fits exact queue within =
+        let is : (queue_stats queue view.core).finished ≡ counted_up (finished_count queue view.journal.notes) = ap (λ figures. figures.finished) (recorded.kept.agrees.figures queue) in
+        let below = below_most exact queue within in
+        omega (arith, is, below)
+
+    pub exact_told : AreExact told → TellsQueues view.core.bursts.burst view.journal.notes count told
+    exact_told exact = told_where (exact_fits exact)

@@ -1,5 +1,5 @@
 -- The numbers of a core and of its queues: the sums over the core's journal.
-use Rattle.std.specs.Prelude.{◌≡◌, ◌↔◌, ℕ, ◌+◌, ◌≤◌, List, length, Some, slice_get, IsTrue}
+use Rattle.std.specs.Prelude.{◌≡◌, ◌↔◌, All, ℕ, ◌+◌, ◌-◌, ◌^◌, ◌<◌, ◌≤◌, List, length, Some, slice_get, IsTrue}
 use Rattle.rt_ids.specs.declared.stats.CoreStats.{CoreStats}
 use Rattle.rt_ids.specs.declared.stats.QueueStats.{QueueStats}
 use Rattle.rt_ids.specs.Closing.{IsDrained}
@@ -26,3 +26,7 @@ module _ {T : Type 0} where
   pub record TellsQueues (burst : ℕ) (journal : Journal T) (count : ℕ) (told : List QueueStats) : Type 0 where
     pub count_is : count ≡ created_count journal + 1
     pub each : (queue : ℕ) → queue ≤ created_count journal → (stats : QueueStats) × (slice_get told queue ≡ Some stats) × TellsQueue burst queue journal stats
+
+-- of each queue fewer jobs are told as done than a core counts up to
+abbrev pub AreExact : List QueueStats → Type 0
+AreExact told = All (λ stats. stats.finished < 2 ^ 64 - 1) told

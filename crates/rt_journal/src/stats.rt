@@ -1,9 +1,9 @@
 //! What a core beside its journal tells of itself in numbers: the sums over the journal.
 
-ghost use Rattle.std.specs.Prelude.{◌^◌, ◌<◌, length};
+ghost use Rattle.std.specs.Prelude.{◌^◌, ◌<◌, ◌↔◌, IsTrue, length};
 ghost use Rattle.arrayvec.specs.ArrayVec.{array_vec_len};
 ghost use Rattle.rt_journal.specs.Recorded.{IsRecorded};
-ghost use Rattle.rt_journal.specs.Stats.{TellsCore, TellsQueues};
+ghost use Rattle.rt_journal.specs.Stats.{AreExact, TellsCore, TellsQueues};
 
 use crate::Recorded;
 use arrayvec::ArrayVec;
@@ -11,13 +11,22 @@ use rt_ids::{CoreStats, QueueStats};
 use rt_jobs::Task;
 use std::alloc::Allocator;
 
-/// The numbers of the core and of its queues, by number. Times are in nanoseconds. A count of jobs that are done stays at 2^64 - 1; a journal of fewer notes tells of fewer jobs.
+/// The numbers of the core and of its queues, by number. Times are in nanoseconds. A count of jobs that are done stays at 2^64 - 1: `are_exact`
+/// tells whether each is below that. A journal of fewer notes tells of fewer jobs.
 pub fn told_stats<J: Task<Out = u64>, A: Allocator + Clone>(
     recorded: &Recorded<J, A>,
 ) -> (CoreStats, ArrayVec<QueueStats, 256>)
     requires sound { IsRecorded J.meaning recorded.now }
     ensures core { TellsCore recorded.now.core.cores recorded.now.journal.notes result.0 }
     ensures queues { length recorded.now.journal.notes < 2 ^ 64 → TellsQueues recorded.now.core.bursts.burst recorded.now.journal.notes (array_vec_len result.1) result.1.items }
+    ensures exact { AreExact result.1.items → TellsQueues recorded.now.core.bursts.burst recorded.now.journal.notes (array_vec_len result.1) result.1.items }
 {
     recorded.core().stats()
+}
+
+/// Whether of each queue fewer than 2^64 - 1 jobs are told as done, where a core counts no further.
+pub fn are_exact(queues: &[QueueStats]) -> bool
+    ensures { IsTrue result ↔ AreExact queues.now }
+{
+    queues.iter().all(|stats| stats.finished < u64::MAX)
 }

@@ -18,11 +18,13 @@ use Rattle.rt_runtime_worker.specs.Ended.{EndedView, HasDrained, HasEnded}
 use Rattle.rt_runtime_worker.specs.Linked.{LinkedView, RunsOn}
 use Rattle.rt_runtime_worker.specs.Rooms.{ActsByCommand, MayAct, least_free}
 use Rattle.rt_runtime_worker.specs.Together.{EndedAreJoined, all_ends, no_linked, worker_at}
-use Rattle.rt_runtime_worker.specs.Workers.{WorkerView}
+use Rattle.rt_runtime_worker.specs.Workers.{KeepsOn, WorkerView}
 use Rattle.rt_runtime.specs.declared.passed.ActorNotes.{ActorNotes}
 use Rattle.rt_runtime.specs.declared.passed.Passed.{Passed}
 use Rattle.rt_runtime.specs.Calls.{HasFinishedBy}
 use Rattle.rt_runtime.specs.Finishing.{IsPart, Parts}
+use Rattle.rt_runtime.specs.Watching.{watch_at}
+use Rattle.rt_watch.specs.Growth.{Grows}
 use Rattle.rt_runtime.specs.State.{IsRuntime, RuntimeView, closing_at, outside_of}
 use Rattle.rt_runtime.specs.WithSinks.{HasPassed, KeepsRefused, MayActAmong, MayActBeside, assembly_of, notes_of}
 use Rattle.rt_runtime.proofs.Dealt.{same_maps, together_maps}
@@ -55,7 +57,7 @@ map_twice f g [] = refl
 map_twice f g (x ∷ xs) = ap (λ rest. f (g x) ∷ rest) (map_twice f g xs)
 
 -- what follows of each pair holds of the second list
-together_all : {A B : Type 0} (related : A → B → Type 0) (P : B → Type 0) → ((x : A) (y : B) → related x y → P y) → (xs : List A) (ys : List B) → Together related xs ys → All P ys
+pub together_all : {A B : Type 0} (related : A → B → Type 0) (P : B → Type 0) → ((x : A) (y : B) → related x y → P y) → (xs : List A) (ys : List B) → Together related xs ys → All P ys
 together_all related P follows [] [] both = All-nil P
 together_all related P follows [] (y ∷ ys) both = absurd both
 together_all related P follows (x ∷ xs) [] both = absurd both
@@ -74,10 +76,16 @@ ends_of_each {J} {S} all ends both =
     sym (map-id ends) ∙ same_maps (λ (worker : EndedView J ℕ S). worker.linked.ends) (λ (ends : EndsView J ℕ). ends) (λ worker ends. ends ≡ worker.linked.ends) (λ worker ends is. is) all ends both
 
 -- each worker runs on to what it gives back
-pub all_run_on : {J C G S : Type 0} (workers : List (WorkerView J ℕ C G S)) (all : List (EndedView J ℕ S)) → Together (λ worker ended. RunsOn worker.linked ended.linked) workers all →
+pub all_run_on : {J C G S : Type 0} (workers : List (WorkerView J ℕ C G S)) (all : List (EndedView J ℕ S)) → Together KeepsOn workers all →
     Together RunsOn (map (λ worker. worker.linked) workers) (map (λ ended. ended.linked) all)
 all_run_on {J} {C} {G} {S} workers all both =
-    together_maps (λ (worker : WorkerView J ℕ C G S). worker.linked) (λ (ended : EndedView J ℕ S). ended.linked) (λ worker ended. RunsOn worker.linked ended.linked) RunsOn (λ worker ended runs. runs) workers all both
+    together_maps (λ (worker : WorkerView J ℕ C G S). worker.linked) (λ (ended : EndedView J ℕ S). ended.linked) KeepsOn RunsOn (λ worker ended keeps. keeps.runs) workers all both
+
+-- and keeps its board
+pub all_boards : {J C G S : Type 0} (workers : List (WorkerView J ℕ C G S)) (all : List (EndedView J ℕ S)) → Together KeepsOn workers all →
+    map (λ (ended : EndedView J ℕ S). ended.shown.board) all ≡ map (λ (worker : WorkerView J ℕ C G S). worker.shown.board) workers
+all_boards {J} {C} {G} {S} workers all both =
+    same_maps (λ (worker : WorkerView J ℕ C G S). worker.shown.board) (λ (ended : EndedView J ℕ S). ended.shown.board) KeepsOn (λ worker ended keeps. keeps.board) workers all both
 
 -- with those of the outside actor they are the ends of all actors
 pub ends_together : {J S : Type 0} (all : List (EndedView J ℕ S)) (outside : EndsView J ℕ) →
@@ -117,7 +125,8 @@ module _ {J S : Type 0} (meaning : Meaning J ℕ) (has : S → Journal ℕ) (ref
       ended.rest
 
   module _ (view : RuntimeView J ℕ) (is : IsRuntime (Fits meaning) view) (all : List (EndedView J ℕ S)) (kept : Together RunsOn view.workers (map (λ worker. worker.linked) all)) (actors : List (ActorNotes S))
-      (each : Together (IsPart meaning has refused) all actors) (last : ActorNotes S) (outside : notes_of has last ≡ view.desk.journal.notes) (rest : KeepsRefused has refused last) where
+      (each : Together (IsPart meaning has refused) all actors) (last : ActorNotes S) (outside : notes_of has last ≡ view.desk.journal.notes) (rest : KeepsRefused has refused last)
+      (seen : (core : ℕ) → core < view.desk.cores → Grows (watch_at core view.watched).notes (worker_at core (map (λ (worker : EndedView J ℕ S). worker.linked) all)).recorded.journal.notes) where
     abbrev ended : List (LinkedView J ℕ)
     ended = map (λ (worker : EndedView J ℕ S). worker.linked) all
 
@@ -165,7 +174,7 @@ module _ {J S : Type 0} (meaning : Meaning J ℕ) (has : S → Journal ℕ) (ref
         ((core : ℕ) → core < length view.closing → closing_at core view ≡ true) → HasPassed meaning has refused view passed
     has_passed passed ends cores_are cap_is burst_is actors_are ends_are reunited joined_law sound_law spelled_law closed = record {
       finished = subst (λ actors. HasFinishedBy meaning (MayActAmong refused view actors) view (assembly_of has passed)) (sym actors_are)
-          (finished_as meaning view is ended kept all_drained (MayActAmong refused view (actors ++ last ∷ [])) all_act passed.cores passed.cap passed.burst ends (map (notes_of has) passed.actors.items) cores_are cap_is burst_is ends_are
+          (finished_as meaning view is ended kept all_drained (MayActAmong refused view (actors ++ last ∷ [])) all_act seen passed.cores passed.cap passed.burst ends (map (notes_of has) passed.actors.items) cores_are cap_is burst_is ends_are
           (ap (map (notes_of has)) actors_are ∙ notes_together) reunited joined_law sound_law spelled_law closed);
       rest = subst (All (KeepsRefused has refused)) (sym actors_are) all_rest;
     }

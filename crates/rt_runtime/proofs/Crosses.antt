@@ -19,6 +19,7 @@ use Rattle.rt_core.specs.contracts.one_core.Core.{the_row as core}
 use Rattle.rt_journal_desk.specs.contracts.desk.RecordedDesk.{the_row as desk}
 use Rattle.rt_journal.specs.contracts.recorded.Recorded.{the_row as recorded}
 use Rattle.rt_runtime_worker.proofs.bell.Bell.TheSendSync as bell
+use Rattle.rt_watch.proofs.publisher.Publisher.TheSendSync as publisher
 use Rattle.rt_runtime_worker.specs.contracts.linked.Linked.{the_row as linked}
 use Rattle.rt_runtime_worker.specs.contracts.ended.Ended.{the_row as ended}
 use Rattle.rt_runtime_worker.specs.contracts.worker.Worker.{the_row as worker}
@@ -41,7 +42,7 @@ module _ (T : RattleType) (t : Ghosts (param 0 T).Denot ℕ) (j : IsSend (param 
 
   module _ (S : RattleType) (sink : Passes (param 3 S).Denot) (s : IsSend (param 3 S)) where
     pub ended_send : IsSend (ended (param 0 T) (param 3 S) t sink)
-    ended_send = search (linked_send, crosses, sendable) depth 60 fits 20000
+    ended_send = search (linked_send, publisher.the_send, crosses, sendable) depth 60 fits 20000
 
     pub worker_send : (C G : RattleType) → IsSend (param 1 C) → IsSend (param 2 G) → IsSend (worker (param 0 T) (param 1 C) (param 2 G) (param 3 S) t sink)
-    worker_send C G c g = search (linked_send, bell.the_send, crosses, sendable) depth 60 fits 20000
+    worker_send C G c g = search (linked_send, bell.the_send, publisher.the_send, crosses, sendable) depth 60 fits 20000

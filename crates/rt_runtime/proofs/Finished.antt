@@ -28,6 +28,8 @@ use Rattle.rt_runtime_worker.proofs.Ending.{before_last, at_last}
 use Rattle.rt_runtime.specs.State.{RuntimeView, IsRuntime, outside_of, closing_at}
 use Rattle.rt_runtime.specs.Calls.{HasFinishedBy, IsFirstOpen}
 use Rattle.rt_runtime.specs.Finishing.{IsFirstOpenOf}
+use Rattle.rt_runtime.specs.Watching.{watch_at}
+use Rattle.rt_watch.specs.Growth.{Grows}
 use Rattle.rt_runtime.proofs.Fitting.{all_fit}
 use Rattle.rt_runtime.proofs.Orders.{are_its_orders, its_orders}
 use Rattle.rt_runtime.proofs.Outcomes.{all_have_outcomes}
@@ -127,7 +129,8 @@ module _ {J : Type 0} (meaning : Meaning J ℕ) (view : RuntimeView J ℕ) (is :
       least_free (worker_at core ended).recorded.core.cores (worker_at core ended).recorded.cap (worker_at core ended).recorded.core.bursts.burst ≡ least_free view.desk.cores view.desk.cap view.desk.burst
   least_now core low = ap (λ (terms : Terms). least_free terms.cores terms.cap terms.burst) (terms_now core low)
 
-  module _ (each : All (HasDrained meaning) ended) (may : ℕ → Journal ℕ → Type 0) (acts : (core : ℕ) → core < view.desk.cores → may core (worker_at core ended).recorded.journal.notes) where
+  module _ (each : All (HasDrained meaning) ended) (may : ℕ → Journal ℕ → Type 0) (acts : (core : ℕ) → core < view.desk.cores → may core (worker_at core ended).recorded.journal.notes)
+      (seen : (core : ℕ) → core < view.desk.cores → Grows (watch_at core view.watched).notes (worker_at core ended).recorded.journal.notes) where
     have_ended : AreReunited (Fits meaning) view.desk.cores (all_ends ended (outside_of view)) → HaveEnded meaning view.desk.cores view.desk.cap view.desk.burst ended (outside_of view)
     have_ended reunited = record {
       count = count;
@@ -159,6 +162,7 @@ module _ {J : Type 0} (meaning : Meaning J ℕ) (view : RuntimeView J ℕ) (is :
           outcomes = all_have_outcomes view assembly (its_orders view ended have assembly is_assembly) refl (sound_law assembly law.0) (are_its_orders view ended have assembly is_assembly) law.1;
           fitting = all_fit view ended have assembly is_assembly;
           polls = all_owed view ended have assembly is_assembly;
+          watched = λ core low. subst (Grows (watch_at core view.watched).notes) (sym (here core low)) (seen core low);
         }
 
     -- the same of the assembly as the code has it

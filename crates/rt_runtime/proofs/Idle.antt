@@ -30,7 +30,7 @@ module _ {J T : Type 0} where
         closing = refl;
         rung = refl;
         passes = record { journal = refl; refused = refl };
-        stays = record { desk = refl; places = refl; grows = ([], refl); workers = refl; room = refl; bells = refl; names = refl };
+        stays = record { desk = refl; places = refl; grows = ([], refl); workers = refl; room = refl; bells = refl; names = refl; watched = refl };
       })
 
   stays_then : (old between new : RuntimeView J T) → StaysRunning old between → StaysRunning between new → StaysRunning old new
@@ -42,6 +42,7 @@ module _ {J T : Type 0} where
     room = later.room ∙ first.room;
     bells = later.bells ∙ first.bells;
     names = later.names ∙ first.names;
+    watched = later.watched ∙ first.watched;
   }
 
   pub nothing_then : (old between new : RuntimeView J T) → SubmitsNothing old between → SubmitsNothing between new → SubmitsNothing old new

@@ -53,7 +53,7 @@ module _ {J T : Type 0} {fits : Order J → Outcome J T → Type 0} where
       (is_put : ends ≡ record inside.ends { outs = set inside.ends.outs name.to later }) (sent : later.out.sent ≡ submitted name.to inside)
       (gate : later.out.closed ≡ is_told_shut name.to inside) where
     abbrev new : RuntimeView J T
-    new = record { desk = desk; ends = ends; closing = inside.closing; workers = inside.workers; room = inside.room; rung = inside.rung; bells = inside.bells; refused = inside.refused }
+    new = record { desk = desk; ends = ends; closing = inside.closing; workers = inside.workers; room = inside.room; rung = inside.rung; bells = inside.bells; refused = inside.refused; watched = inside.watched }
 
     pub redeemed_here : (answer : Result (Outcome J T) TicketError) → RedeemsTicket name inside.desk answer desk → IfOk answer (IsGot (out_at name.to inside.ends).out name.number) →
         IfOk answer (FitsSent fits (out_at name.to inside.ends).out name.number) → RedeemsHere fits name view answer new

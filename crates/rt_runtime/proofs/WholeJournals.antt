@@ -50,6 +50,7 @@ finished_more meaning may more view assembly follows was = record {
   outcomes = was.outcomes;
   fitting = was.fitting;
   polls = was.polls;
+  watched = was.watched;
 }
 
 module _ {S : Type 0} (has : S → Journal ℕ) (none : (sink : S) → has sink ≡ []) where

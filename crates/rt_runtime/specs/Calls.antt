@@ -1,5 +1,5 @@
 -- How a runtime starts and finishes.
-use Rattle.std.specs.Prelude.{◌≡◌, ℕ, ◌+◌, ◌<◌, true, false, List, [], length, replicate, Result, Ok, Err}
+use Rattle.std.specs.Prelude.{◌≡◌, All, ℕ, ◌+◌, ◌<◌, true, false, List, [], length, replicate, Result, Ok, Err}
 use Rattle.rt_ids.specs.Assembly.{Assembly, journal_of}
 use Rattle.rt_ids.specs.Closing.{IsDrained}
 use Rattle.rt_ids.specs.Journal.{EachNote, Journal}
@@ -21,10 +21,11 @@ use Rattle.rt_runtime_config.specs.Configs.{Entry, IsGood}
 use Rattle.rt_runtime.specs.Outcomes.{AllFitTheirOrders, AllHaveOutcomes, AllPollsAreOwed, AreItsOrders, Orders, TellsOrders}
 use Rattle.rt_runtime.specs.Starting.{HaveQueues}
 use Rattle.rt_runtime.specs.State.{RuntimeView, closing_at, submitted}
+use Rattle.rt_runtime.specs.Watching.{SawBeginnings}
 
 module _ {J T : Type 0} where
   -- A runtime that was just started. There is a worker for each core, and the outside actor has a fresh end to each. Each core has the queues that
-  -- the configuration names for it, in their order. Each worker rings the very bells that the caller has.
+  -- the configuration names for it, in their order. Each worker rings the very bells that the caller has. Nothing was seen of a core yet.
   pub record IsStarted (cores cap burst room : ℕ) (queues : List Entry) (view : RuntimeView J T) : Type 0 where
     pub desk : view.desk ≡ opened_desk cores cores cap room burst
     pub closing : view.closing ≡ replicate cores false
@@ -37,6 +38,8 @@ module _ {J T : Type 0} where
     pub none : (core : ℕ) → core < cores → submitted core view ≡ []
     pub have_queues : HaveQueues cores queues view.workers
     pub refused : view.refused ≡ false
+    pub watched : length view.watched ≡ cores
+    pub unseen : All (λ seen. seen.notes ≡ []) view.watched
 
   -- this is the first core that the caller didn't close
   pub record IsFirstOpen (core : ℕ) (view : RuntimeView J T) : Type 0 where
@@ -60,7 +63,8 @@ module _ {J T : Type 0} where
 module _ {J : Type 0} (meaning : Meaning J ℕ) (may : ℕ → Journal ℕ → Type 0) where
   -- The journals are joined, so they are sound, and they have a text. The outside journal is that of the caller's calls. Each core is drained.
   -- It closed by itself, and sent, redeemed and let go, only as it may. Its journal begins with what its worker began with. There is one order for each
-  -- name, as it was sent: each has an outcome, what the journals tell of it is what it asks, and each of its polls is one that it owes.
+  -- name, as it was sent: each has an outcome, what the journals tell of it is what it asks, and each of its polls is one that it owes. What the caller saw of
+  -- a core while it ran are the numbers of a beginning of its journal.
   pub record HasFinishedBy (view : RuntimeView J ℕ) (assembly : Assembly ℕ) : Type 0 where
     pub closed : (core : ℕ) → core < view.desk.cores → closing_at core view ≡ true
     pub cores : assembly.cores ≡ view.desk.cores
@@ -78,6 +82,7 @@ module _ {J : Type 0} (meaning : Meaning J ℕ) (may : ℕ → Journal ℕ → T
     pub outcomes : AllHaveOutcomes view assembly orders
     pub fitting : AllFitTheirOrders view assembly orders (Fits meaning)
     pub polls : AllPollsAreOwed view assembly orders meaning
+    pub watched : SawBeginnings view assembly
 
 -- what it says of the orders
 abbrev pub orders_told : {J : Type 0} {meaning : Meaning J ℕ} {may : ℕ → Journal ℕ → Type 0} {view : RuntimeView J ℕ} {assembly : Assembly ℕ} → HasFinishedBy meaning may view assembly → TellsOrders meaning view assembly

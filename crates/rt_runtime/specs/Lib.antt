@@ -1,6 +1,7 @@
 pub mod Rings
 pub mod State
 pub mod Stored
+pub mod Watching
 pub mod Passing
 pub mod Starting
 pub mod Sends

@@ -15,11 +15,12 @@ use Rattle.rt_runtime_worker.specs.Linked.{Grows, LinkedView}
 use Rattle.rt_runtime_worker.specs.Opening.{IsWorkerOf}
 use Rattle.rt_runtime_worker.specs.Together.{OutsideView, IsOutside, worker_at, all_ends}
 use Rattle.rt_runtime.specs.Rings.{RingsView}
+use Rattle.rt_watch.specs.declared.watcher.Watching.{Watching}
 
 -- The outside actor's journal and ends, and for each core whether the caller closed it: an order to close it was accepted, or a send to it was
 -- answered `Closed`. The workers are as they began, with room for so many notes each. Which bells the caller has, how often it
 -- rang that of each core, and behind what; and which bells each worker rings, by their names. Whether the outside actor's sink refused when it was last
--- asked.
+-- asked. For each core what the caller last saw of it.
 pub record RuntimeView (J T : Type 0) : Type 0 where
   pub desk : DeskView J T
   pub ends : EndsView J T
@@ -29,6 +30,7 @@ pub record RuntimeView (J T : Type 0) : Type 0 where
   pub rung : RingsView J T
   pub bells : List (List ℕ)
   pub refused : Bool
+  pub watched : List Watching
 
 module _ {J T : Type 0} where
   -- the outside actor
@@ -52,7 +54,7 @@ module _ {J T : Type 0} where
   submitted_under name view = slice_get (submitted name.to view) (name.number - 1)
 
   -- what no call changes: the outside actor, how many of its notes may be kept, each note that stands in its journal, how much room a core has, the
-  -- workers, and all bells
+  -- workers, all bells, and what was seen of the cores, except by a watch
   pub record StaysRunning (old new : RuntimeView J T) : Type 0 where
     pub desk : new.desk ≡ record old.desk { journal = new.desk.journal; lanes = new.desk.lanes }
     pub places : places_of new.desk.journal ≡ places_of old.desk.journal
@@ -61,6 +63,7 @@ module _ {J T : Type 0} where
     pub room : new.room ≡ old.room
     pub bells : new.bells ≡ old.bells
     pub names : new.rung.names ≡ old.rung.names
+    pub watched : new.watched ≡ old.watched
 
   -- nothing was passed on, and the sink wasn't asked
   pub record PassesNothing (old new : RuntimeView J T) : Type 0 where

@@ -1,11 +1,14 @@
 //! How the workers of a runtime end, and what their journals are together.
 
-ghost use Rattle.std.specs.Prelude.{◌≡◌, ◌+◌, ◌<◌, ◌≤◌, ℕ, true, [], length, vec_capacity};
+ghost use Rattle.std.specs.Prelude.{◌≡◌, ◌+◌, ◌<◌, ◌≤◌, ℕ, true, [], length, map, vec_capacity};
 ghost use Rattle.rt_ring_mesh.specs.Grid.{IsGrid, AreReunited};
 ghost use Rattle.rt_link.specs.Fits.{Fits};
 ghost use Rattle.rt_runtime.specs.Calls.{Finishes};
 ghost use Rattle.rt_runtime.specs.State.{closing_at};
 ghost use Rattle.rt_runtime.specs.Finishing.{IsFirstOpenOf, IsPart, Parts};
+ghost use Rattle.rt_runtime.specs.Watching.{watch_at};
+ghost use Rattle.rt_runtime_worker.specs.Together.{worker_at};
+ghost use Rattle.rt_watch.specs.Growth.{Grows};
 ghost use Rattle.rt_runtime.specs.WithSinks.{FinishesWithSinks, HasPassed, KeepsRefused, assembly_of, notes_of};
 
 use crate::error::FinishError;
@@ -21,8 +24,38 @@ use rt_ring_mesh::{Ends, reunite_all};
 use rt_runtime_config::{Clock, Gate};
 use rt_runtime_worker::Ended;
 use rt_runtime_worker::laws::ended_are_joined;
+use rt_watch::Watcher;
 use std::sync::Wait;
 use std::thread::Threads;
+
+/// Tells, for proofs alone, that the journal of this worker begins with what its watcher has seen.
+fn compare_at<J: Task<Out = u64>, S: Sink>(
+    ended: &mut Vec<Ended<J, S>>,
+    watchers: &mut Vec<Watcher>,
+    core: usize,
+)
+    requires there { core < length ended.old.items }
+    requires boards { map (λ watcher. watcher.board) watchers.old.items ≡ map (λ worker. worker.shown.board) ended.old.items }
+    ensures ended { ended.new.items ≡ ended.old.items }
+    ensures watchers { watchers.new.items ≡ watchers.old.items }
+    ensures grows { Grows (watch_at core watchers.old.items).notes (worker_at core (map (λ worker. worker.linked) ended.old.items)).recorded.journal.notes }
+{
+    ended[core].compare(&mut watchers[core]);
+}
+
+/// The same of all workers.
+fn compare_all<J: Task<Out = u64>, S: Sink>(
+    ended: &mut Vec<Ended<J, S>>,
+    watchers: &mut Vec<Watcher>,
+)
+    requires { map (λ watcher. watcher.board) watchers.old.items ≡ map (λ worker. worker.shown.board) ended.old.items }
+    ensures ended { ended.new.items ≡ ended.old.items }
+    ensures grows { (core : ℕ) → core < length ended.old.items → Grows (watch_at core watchers.old.items).notes (worker_at core (map (λ worker. worker.linked) ended.old.items)).recorded.journal.notes }
+{
+    for core in 0..ended.len() {
+        compare_at(ended, watchers, core);
+    }
+}
 
 /// What one worker leaves: its ends and its notes.
 fn part<J: Task<Out = u64>, S: Sink>(ended: Ended<J, S>) -> (Ends<J>, ActorNotes<S>)
@@ -120,12 +153,15 @@ impl<J: Job + Task<Out = u64>, C: Clock + Drop, G: Gate + Drop, S: Sink> Runtime
             ends,
             sink,
             team,
+            watchers,
             spare_ends,
             spare_actors,
             spare_journals,
             ..
         } = self;
-        let (mut all, mut actors) = part_all(team.join(rt), spare_ends, spare_actors);
+        let (mut ended, mut watchers) = (team.join(rt), watchers);
+        compare_all(&mut ended, &mut watchers);
+        let (mut all, mut actors) = part_all(ended, spare_ends, spare_actors);
         let burst = desk.burst();
         all.push_reserved(ends);
         actors.push_reserved(part_outside(desk, sink));

@@ -12,10 +12,12 @@ pub mod runtime;
 mod starting;
 mod tickets;
 mod waiting;
+mod watching;
 
 pub use error::{FinishError, StartError, SubmitError};
 pub use passed::{ActorNotes, Passed};
 pub use rt_journal_notes::{Refused, Sink, Whole};
 pub use rt_runtime_config::{Clock, Config, Gate, NoGate, SystemClock};
 pub use rt_runtime_worker::{Ended, Worker};
+pub use rt_watch::Watcher;
 pub use runtime::Runtime;

@@ -10,6 +10,7 @@ use rt_journal_notes::{Journal, Sink, Whole};
 use rt_ring_mesh::Ends;
 use rt_runtime_team::Team;
 use rt_runtime_worker::Worker;
+use rt_watch::Watcher;
 use std::marker::Model;
 
 /// A worker on a thread of its own for each core, and the outside actor, whose calls the caller makes.
@@ -37,6 +38,8 @@ pub struct Runtime<J: Task<Out = u64>, C: Drop, G: Drop, S: Sink = Whole> {
     /// For each core whether the caller closed it: an order to close it was accepted, or a send to it was answered `Closed`.
     pub(crate) closing: Vec<bool>,
     pub(crate) team: Team<Worker<J, C, G, S>>,
+    /// The watcher of each core's board.
+    pub(crate) watchers: Vec<Watcher>,
     // Empty, with room for what the workers give back.
     pub(crate) spare_ends: Vec<Ends<J>>,
     pub(crate) spare_actors: Vec<ActorNotes<S>>,
@@ -53,15 +56,16 @@ impl<J: Task<Out = u64>, C: Drop, G: Drop, S: Sink> Model for Runtime<J, C, G, S
     ghost use Rattle.rt_link.specs.Fits.{Fits};
     ghost use Rattle.rt_runtime.specs.State.{IsRuntime};
     ghost use Rattle.rt_runtime.specs.Stored.{IsSinkOf, IsStored};
+    ghost use Rattle.rt_runtime.specs.Watching.{AreWatching};
 
-    ghost view = { λ r. record { desk = r.desk; ends = r.ends; closing = r.closing.items; workers = map (λ worker. worker.linked) r.team; room = r.room; rung = r.bells; bells = map (λ worker. worker.bells) r.team; refused = r.refused } };
+    ghost view = { λ r. record { desk = r.desk; ends = r.ends; closing = r.closing.items; workers = map (λ worker. worker.linked) r.team; room = r.room; rung = r.bells; bells = map (λ worker. worker.bells) r.team; refused = r.refused; watched = r.watchers.items } };
 
     ghost invariant = { λ r.
-        IsRuntime (Fits J.meaning) (record { desk = r.desk; ends = r.ends; closing = r.closing.items; workers = map (λ worker. worker.linked) r.team; room = r.room; rung = r.bells; bells = map (λ worker. worker.bells) r.team; refused = r.refused })
-        × IsStored (record { desk = r.desk; ends = r.ends; closing = r.closing.items; workers = map (λ worker. worker.linked) r.team; room = r.room; rung = r.bells; bells = map (λ worker. worker.bells) r.team; refused = r.refused })
+        IsRuntime (Fits J.meaning) (record { desk = r.desk; ends = r.ends; closing = r.closing.items; workers = map (λ worker. worker.linked) r.team; room = r.room; rung = r.bells; bells = map (λ worker. worker.bells) r.team; refused = r.refused; watched = r.watchers.items })
+        × IsStored (record { desk = r.desk; ends = r.ends; closing = r.closing.items; workers = map (λ worker. worker.linked) r.team; room = r.room; rung = r.bells; bells = map (λ worker. worker.bells) r.team; refused = r.refused; watched = r.watchers.items })
         r.cores r.cap (vec_capacity r.spare_ends) (vec_capacity r.spare_actors) (vec_capacity r.spare_journals)
-        × IsSinkOf S.has S.refused (record { desk = r.desk; ends = r.ends; closing = r.closing.items; workers = map (λ worker. worker.linked) r.team; room = r.room; rung = r.bells; bells = map (λ worker. worker.bells) r.team; refused = r.refused }) r.sink
-        × (r.spare_ends.items ≡ []) × (r.spare_actors.items ≡ []) × (r.spare_journals.items ≡ []) };
+        × IsSinkOf S.has S.refused (record { desk = r.desk; ends = r.ends; closing = r.closing.items; workers = map (λ worker. worker.linked) r.team; room = r.room; rung = r.bells; bells = map (λ worker. worker.bells) r.team; refused = r.refused; watched = r.watchers.items }) r.sink
+        × (r.spare_ends.items ≡ []) × (r.spare_actors.items ≡ []) × (r.spare_journals.items ≡ []) × AreWatching r.watchers.items r.team };
 }
 
 impl<J: Task<Out = u64>, C: Drop, G: Drop> Runtime<J, C, G> {

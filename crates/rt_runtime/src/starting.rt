@@ -7,6 +7,7 @@ ghost use Rattle.rt_journal_desk.specs.Submissions.{IsWritten, opened_desk, term
 ghost use Rattle.rt_runtime.specs.Calls.{Begins, Starts};
 ghost use Rattle.rt_runtime.specs.WithSinks.{StartsWithSinks};
 ghost use Rattle.rt_runtime.specs.Starting.{AreOpening, IsHouse, IsOpenedWith, IsWiredWith};
+ghost use Rattle.rt_runtime.specs.Watching.{IsWatcherOf};
 
 use crate::error::StartError;
 use crate::passed::ActorNotes;
@@ -20,6 +21,7 @@ use rt_ring_mesh::{Ends, open_all};
 use rt_runtime_config::{Clock, Config, Gate, is_good};
 use rt_runtime_team::{NotStarted, Team};
 use rt_runtime_worker::{Bells, Worker};
+use rt_watch::Watcher;
 use std::alloc::{AllocError, Global};
 use std::sync::Wait;
 use std::thread::Threads;
@@ -64,19 +66,24 @@ fn deal<J: Task<Out = u64>, C: Drop, G: Drop, S: Sink>(
     Ok(seats)
 }
 
+/// Workers, and the watcher of each.
+type Watched<J, C, G, S> = (Vec<Worker<J, C, G, S>>, Vec<Watcher>);
+
 /// Opens a worker of each seat.
 fn open_seats<J: Task<Out = u64>, C: Drop, G: Drop, S: Sink>(
     alloc: Global,
     config: &Config,
     seats: Vec<Seat<J, C, G, S>>,
     bells: &Bells,
-) -> Result<Vec<Worker<J, C, G, S>>, AllocError>
+) -> Result<Watched<J, C, G, S>, AllocError>
     requires each { All (λ seat. AreOpening config.now.cores config.now.cap config.now.burst config.now.room config.now.queues.items seat.ends) seats.items }
     requires empty { All (λ seat. S.has seat.sink ≡ []) seats.items }
     requires bells { length bells.now.rings ≡ config.now.cores + 1 }
-    ensures { IfOk result (λ opened. Together (λ seat worker. IsWiredWith (IsOpenedWith config.now.cores config.now.cap config.now.burst config.now.room config.now.queues.items seat.ends) seat.clock seat.gate seat.sink bells.now.names worker) seats.items opened.items) }
+    ensures workers { IfOk result (λ opened. Together (λ seat worker. IsWiredWith (IsOpenedWith config.now.cores config.now.cap config.now.burst config.now.room config.now.queues.items seat.ends) seat.clock seat.gate seat.sink bells.now.names worker) seats.items opened.0.items) }
+    ensures watchers { IfOk result (λ opened. Together IsWatcherOf opened.0.items opened.1.items) }
 {
     let mut workers = Vec::with_capacity(alloc, seats.len())?;
+    let mut watchers = Vec::with_capacity(alloc, seats.len())?;
     for seat in seats {
         let Seat {
             ends,
@@ -84,9 +91,11 @@ fn open_seats<J: Task<Out = u64>, C: Drop, G: Drop, S: Sink>(
             gate,
             sink,
         } = seat;
-        workers.push_reserved(Worker::open(alloc, config, ends, clock, gate, bells, sink)?);
+        let (worker, watcher) = Worker::open(alloc, config, ends, clock, gate, bells, sink)?;
+        workers.push_reserved(worker);
+        watchers.push_reserved(watcher);
     }
-    Ok(workers)
+    Ok((workers, watchers))
 }
 
 /// Opens the workers of a house, each with the clock, the gate and the sink of its number. All ring the same bells.
@@ -98,31 +107,35 @@ fn open_workers<J: Task<Out = u64>, C: Drop, G: Drop, S: Sink>(
     clocks: Vec<C>,
     gates: Vec<G>,
     sinks: Vec<S>,
-) -> Result<Vec<Worker<J, C, G, S>>, AllocError>
+) -> Result<Watched<J, C, G, S>, AllocError>
     requires each { All (AreOpening config.now.cores config.now.cap config.now.burst config.now.room config.now.queues.items) all.items }
     requires bells { length bells.now.rings ≡ config.now.cores + 1 }
     requires clocks { length clocks.items ≡ length all.items }
     requires gates { length gates.items ≡ length all.items }
     requires sinks { length sinks.items ≡ length all.items }
     requires empty { All (λ sink. S.has sink ≡ []) sinks.items }
-    ensures opened { IfOk result (λ opened. Together (IsOpenedWith config.now.cores config.now.cap config.now.burst config.now.room config.now.queues.items) all.items (map (λ worker. worker.linked) opened.items)) }
-    ensures clocks { IfOk result (λ opened. map (λ worker. worker.clock) opened.items ≡ clocks.items) }
-    ensures gates { IfOk result (λ opened. map (λ worker. worker.gate) opened.items ≡ gates.items) }
-    ensures sinks { IfOk result (λ opened. map (λ worker. worker.sink) opened.items ≡ sinks.items) }
-    ensures bells { IfOk result (λ opened. map (λ worker. worker.bells) opened.items ≡ map (λ ends. bells.now.names) all.items) }
+    ensures opened { IfOk result (λ opened. Together (IsOpenedWith config.now.cores config.now.cap config.now.burst config.now.room config.now.queues.items) all.items (map (λ worker. worker.linked) opened.0.items)) }
+    ensures clocks { IfOk result (λ opened. map (λ worker. worker.clock) opened.0.items ≡ clocks.items) }
+    ensures gates { IfOk result (λ opened. map (λ worker. worker.gate) opened.0.items ≡ gates.items) }
+    ensures sinks { IfOk result (λ opened. map (λ worker. worker.sink) opened.0.items ≡ sinks.items) }
+    ensures bells { IfOk result (λ opened. map (λ worker. worker.bells) opened.0.items ≡ map (λ ends. bells.now.names) all.items) }
+    ensures watchers { IfOk result (λ opened. Together IsWatcherOf opened.0.items opened.1.items) }
 {
     let seats = deal(alloc, all, clocks, gates, sinks)?;
     open_seats(alloc, config, seats, bells)
 }
 
-/// What a house has before its threads are there: its workers, their bells, and the outside actor's ends.
+/// What a house has before its threads are there: its workers, their bells, the outside actor's ends, and the watcher of each worker.
+type Opened<J, C, G, S> = (Vec<Worker<J, C, G, S>>, Bells, Ends<J>, Vec<Watcher>);
+
+/// Opens a house, for which no thread is there yet.
 fn open_house<J: Task<Out = u64>, C: Drop, G: Drop, S: Sink>(
     alloc: Global,
     config: &Config,
     clocks: Vec<C>,
     gates: Vec<G>,
     sinks: Vec<S>,
-) -> Result<(Vec<Worker<J, C, G, S>>, Bells, Ends<J>), AllocError>
+) -> Result<Opened<J, C, G, S>, AllocError>
     requires good { IsGood config.now.cores config.now.cap config.now.burst config.now.room config.now.queues.items (length clocks.items) (length gates.items) }
     requires sinks { length sinks.items ≡ config.now.cores }
     requires empty { All (λ sink. S.has sink ≡ []) sinks.items }
@@ -132,6 +145,7 @@ fn open_house<J: Task<Out = u64>, C: Drop, G: Drop, S: Sink>(
     ensures sinks { IfOk result (λ house. map (λ worker. worker.sink) house.0.items ≡ sinks.items) }
     ensures shared { IfOk result (λ house. map (λ worker. worker.bells) house.0.items ≡ replicate config.now.cores house.1.names) }
     ensures bells { IfOk result (λ house. house.1.rings ≡ replicate (config.now.cores + 1) 0) }
+    ensures watchers { IfOk result (λ house. Together IsWatcherOf house.0.items house.3.items) }
 {
     let bells = Bells::open(alloc, config.cores)?;
     let Ok(mut all) = open_all::<J>(alloc, config.cores, config.cap) else {
@@ -140,8 +154,8 @@ fn open_house<J: Task<Out = u64>, C: Drop, G: Drop, S: Sink>(
     let Some(outside) = all.pop() else {
         unreachable!()
     };
-    let workers = open_workers(alloc, config, all, &bells, clocks, gates, sinks)?;
-    Ok((workers, bells, outside))
+    let (workers, watchers) = open_workers(alloc, config, all, &bells, clocks, gates, sinks)?;
+    Ok((workers, bells, outside, watchers))
 }
 
 /// What the outside actor has at the start: its journal, and no core that it closed.
@@ -220,7 +234,8 @@ impl<J: Task<Out = u64>, C: Drop, G: Drop, S: Sink> Runtime<J, C, G, S> {
         let Some(sink) = sinks.pop() else {
             unreachable!()
         };
-        let Ok((workers, bells, ends)) = open_house(alloc, config, clocks, gates, sinks) else {
+        let Ok((workers, bells, ends, watchers)) = open_house(alloc, config, clocks, gates, sinks)
+        else {
             return Err(StartError::Memory);
         };
         let Ok((desk, closing)) = open_outside(alloc, config) else {
@@ -242,6 +257,7 @@ impl<J: Task<Out = u64>, C: Drop, G: Drop, S: Sink> Runtime<J, C, G, S> {
                 bells,
                 closing,
                 team,
+                watchers,
                 spare_ends,
                 spare_actors,
                 spare_journals,

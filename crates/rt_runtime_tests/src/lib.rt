@@ -11,3 +11,5 @@ mod calls;
 mod closing;
 #[cfg(test)]
 mod errors;
+#[cfg(test)]
+mod watching;

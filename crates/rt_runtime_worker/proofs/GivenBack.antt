@@ -13,10 +13,12 @@ use Rattle.rt_runtime_worker.specs.Linked.{IsBetweenTurns, IsLinked, LinkedView}
 use Rattle.rt_runtime_worker.specs.Opening.{IsOpenedOver}
 use Rattle.rt_runtime_worker.specs.Passing.{HandsOn, PassesTo}
 use Rattle.rt_runtime_worker.specs.Rooms.{ActsAsItMay, ActsByCommand, MayAct, least_free}
+use Rattle.rt_runtime_worker.specs.Shown.{IsShownWhole, ShownView}
 use Rattle.rt_runtime_worker.proofs.Acting.{command_acts}
 use Rattle.rt_runtime_worker.proofs.Passed.{all_passed, has_passed}
+use Rattle.rt_runtime_worker.proofs.Published.{whole_runs}
 use Rattle.rt_runtime_worker.proofs.Spare.{places_some}
-use Rattle.rt_runtime_worker.proofs.Supplied.{hands_least, hands_notes, hands_places}
+use Rattle.rt_runtime_worker.proofs.Supplied.{hands_least, hands_notes, hands_places, hands_runs}
 
 module _ {J T S : Type 0} (has : S → Journal T) (refused : S → ℕ → Type 0) where
   -- a worker that was just opened has passed on nothing
@@ -47,9 +49,9 @@ module _ {J T S : Type 0} (has : S → Journal T) (refused : S → ℕ → Type 
         )
 
     -- its core is drained, and its sink has what was passed on
-    pub given_back : {meaning : Meaning J T} → IsServed meaning served → IsDrained served.linked.recorded.core.cores served.linked.recorded.journal.notes → IsLinked meaning new → IsBetweenTurns new.recorded →
-        HasEnded meaning has refused (record { linked = new; sink = after })
-    given_back sound drained linked between = record {
+    pub given_back : {meaning : Meaning J T} (shown : ShownView T) → IsServed meaning served → IsDrained served.linked.recorded.core.cores served.linked.recorded.journal.notes → IsLinked meaning new → IsBetweenTurns new.recorded →
+        IsShownWhole served.linked.recorded shown → HasEnded meaning has refused (record { linked = new; sink = after; shown = shown })
+    given_back shown sound drained linked between shows = record {
       drained = record {
         linked = linked;
         between = between;
@@ -60,6 +62,7 @@ module _ {J T S : Type 0} (has : S → Journal T) (refused : S → ℕ → Type 
       passed = has_passed has refused served.linked.recorded.journal new.recorded.journal sink after did.answer did.passes passes.passed;
       rest = all_passed has refused served.linked.recorded.journal new.recorded.journal sink after did.answer did.passes;
       acts = acts_behind served.ending refl sound.acts;
+      shows = whole_runs served.linked new shown (hands_runs has refused served.linked new sink after did) (hands_notes has refused served.linked new sink after did) shows;
     }
 
 module _ {J T S : Type 0} (refused : S → ℕ → Type 0) (sink : S) (view : RecordedView J T) where

@@ -1,5 +1,6 @@
 pub mod Along
 pub mod Growing
+pub mod Published
 pub mod Seen
 pub mod Openings
 pub mod Rung
@@ -34,6 +35,7 @@ mod Passed
 mod Supplied
 pub mod GivenBack
 mod Resting
+mod ShownAgain
 pub mod Opened
 pub mod Creating
 pub mod Ending

@@ -10,40 +10,41 @@ use Rattle.rt_runtime_worker.specs.Linked.{LinkedView, RunsOn, StaysLinked}
 use Rattle.rt_runtime_worker.specs.Looks.{LooksAtAll, MakesRound}
 use Rattle.rt_runtime_worker.specs.Passing.{HandsOnWhere, IsDue, IsDueAtRest}
 use Rattle.rt_runtime_worker.specs.Serves.{CountsIdle, GoesOn, Rests, round_of}
+use Rattle.rt_runtime_worker.specs.Shown.{ShownView}
 use Rattle.rt_runtime_worker.specs.Workers.{IsBellOf, WorkerView, served_of}
 use Rattle.rt_runtime_worker.proofs.Along.{runs_along, runs_stays}
 use Rattle.rt_runtime_worker.proofs.Asking.{asks_none, asks_then}
 use Rattle.rt_runtime_worker.proofs.Supplied.{where_gate, where_notes, where_runs}
 
 -- a worker, put together
-abbrev pub worker_of : {J T C G S : Type 0} → LinkedView J T → Bool → C → G → ℕ → ℕ → ℕ → ℕ → List ℕ → S → WorkerView J T C G S
-worker_of linked ending clock gate taken turns tries idle bells sink =
-    record { linked = linked; ending = ending; clock = clock; gate = gate; taken = taken; turns = turns; tries = tries; idle = idle; bells = bells; sink = sink }
+abbrev pub worker_of : {J T C G S : Type 0} → LinkedView J T → Bool → C → G → ℕ → ℕ → ℕ → ℕ → List ℕ → S → ShownView T → ℕ → WorkerView J T C G S
+worker_of linked ending clock gate taken turns tries idle bells sink shown since =
+    record { linked = linked; ending = ending; clock = clock; gate = gate; taken = taken; turns = turns; tries = tries; idle = idle; bells = bells; sink = sink; shown = shown; since = since }
 
 module _ {J T C G S : Type 0} (meaning : Meaning J T) (reads : C → ℕ → C → Type 0) (asked : G → ℕ → JobId → G → Type 0) (has : S → Journal T) (refused : S → ℕ → Type 0) where
   -- notes are passed on, then a round is made, and it is counted
   pub goes : (old ready inside new : WorkerView J T C G S) (result some again : Bool) → inside ≡ ready → HandsOnWhere has refused (IsDue (served_of old)) old ready → result ≡ some →
       MakesRound meaning reads asked (nat_lt 0 inside.idle) inside.turns (round_of inside) result new.turns (round_of new) →
-      CountsIdle inside.tries some inside.idle again new.idle → new.tries ≡ inside.tries → new.bells ≡ inside.bells → new.sink ≡ inside.sink → GoesOn meaning reads asked has refused old again new
-  goes old ready inside new result some again seen hands told makes counts tries bells sink = record {
+      CountsIdle inside.tries some inside.idle again new.idle → new.tries ≡ inside.tries → new.bells ≡ inside.bells → new.sink ≡ inside.sink → new.shown ≡ inside.shown → new.since ≡ inside.since → GoesOn meaning reads asked has refused old again new
+  goes old ready inside new result some again seen hands told makes counts tries bells sink shown since = record {
     ready = inside;
     hands = subst (HandsOnWhere has refused (IsDue (served_of old)) old) (sym seen) hands;
     some = some;
     makes = subst (λ some. MakesRound meaning reads asked (nat_lt 0 inside.idle) inside.turns (round_of inside) some new.turns (round_of new)) told makes;
     counts = counts;
-    keeps = record { tries = tries; bells = bells; sink = sink };
+    keeps = record { tries = tries; bells = bells; sink = sink; shown = shown; since = since };
   }
 
   -- notes are passed on, and then there is a look
   pub rests : (old ready inside new : WorkerView J T C G S) (slept : Bool) → inside ≡ ready → HandsOnWhere has refused (IsDueAtRest (served_of old)) old ready →
       LooksAtAll meaning reads asked (round_of inside) (not slept) new.turns (round_of new) →
-      new.idle ≡ (if slept then inside.idle else 0) → new.tries ≡ inside.tries → new.bells ≡ inside.bells → new.sink ≡ inside.sink → Rests meaning reads asked has refused old slept new
-  rests old ready inside new slept seen hands looks counts tries bells sink = record {
+      new.idle ≡ (if slept then inside.idle else 0) → new.tries ≡ inside.tries → new.bells ≡ inside.bells → new.sink ≡ inside.sink → new.shown ≡ inside.shown → new.since ≡ inside.since → Rests meaning reads asked has refused old slept new
+  rests old ready inside new slept seen hands looks counts tries bells sink shown since = record {
     ready = inside;
     hands = subst (HandsOnWhere has refused (IsDueAtRest (served_of old)) old) (sym seen) hands;
     looks = looks;
     counts = counts;
-    keeps = record { tries = tries; bells = bells; sink = sink };
+    keeps = record { tries = tries; bells = bells; sink = sink; shown = shown; since = since };
   }
 
 module _ {J T C G S : Type 0} (has : S → Journal T) (refused : S → ℕ → Type 0) {due : Type 0} (old ready inside : WorkerView J T C G S) (seen : inside ≡ ready) (hands : HandsOnWhere has refused due old ready) where

@@ -7,16 +7,18 @@ use Rattle.rt_journal.specs.Recorded.{RecordedView}
 use Rattle.rt_journal_notes.specs.Journals.{places_of}
 use Rattle.rt_runtime_worker.specs.Linked.{LinkedView, IsBetweenTurns, IsLinked}
 use Rattle.rt_runtime_worker.specs.Rooms.{least_free, ActsAsItMay, ActsByCommand, IsProvided, MayAct}
+use Rattle.rt_runtime_worker.specs.Shown.{IsShownWhole, ShownView}
 
 -- a linked core, and whether its worker is at its end: then it hands everything back and polls no more
 pub record ServedView (J T : Type 0) : Type 0 where
   pub linked : LinkedView J T
   pub ending : Bool
 
--- a linked core, and the sink to which notes of its journal were passed on
+-- a linked core, the sink to which notes of its journal were passed on, and its board
 pub record EndedView (J T S : Type 0) : Type 0 where
   pub linked : LinkedView J T
   pub sink : S
+  pub shown : ShownView T
 
 module _ {J T : Type 0} (meaning : Meaning J T) where
   -- Core, journal and ends agree, no turn is open, and there is room for what is left. The core closed by itself only where its worker is at its end and the
@@ -43,12 +45,13 @@ module _ {J T S : Type 0} (refused : S → ℕ → Type 0) where
 
 module _ {J T S : Type 0} (meaning : Meaning J T) (has : S → Journal T) (refused : S → ℕ → Type 0) where
   -- The core is drained, and the sink has the notes that were passed on: all of them, unless it refused the rest. The core closed by itself only if the sink
-  -- refused and the journal was short.
+  -- refused and the journal was short. The numbers of the whole journal were published last, unless they can't be published.
   pub record HasEnded (view : EndedView J T S) : Type 0 where
     pub drained : HasDrained meaning view.linked
     pub passed : has view.sink ≡ view.linked.recorded.journal.passed
     pub rest : (view.linked.recorded.journal.passed ≡ view.linked.recorded.journal.notes) ⊎ refused view.sink (length view.linked.recorded.journal.passed)
     pub acts : ActsUnlessRefused refused view.sink view.linked.recorded
+    pub shows : IsShownWhole view.linked.recorded view.shown
 
   -- a core whose sink never refused never closed by itself
   abbrev pub NeverRefusedActs : Type 0

@@ -3,6 +3,7 @@ pub mod Linked
 pub mod Steps
 pub mod Bursts
 pub mod Rooms
+pub mod Shown
 pub mod Gates
 pub mod Ended
 pub mod Few

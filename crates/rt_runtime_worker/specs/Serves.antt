@@ -7,6 +7,7 @@ use Rattle.rt_runtime_worker.specs.Ended.{EndedView}
 use Rattle.rt_runtime_worker.specs.Looks.{LooksAtAll, MakesRound, RoundView}
 use Rattle.rt_runtime_worker.specs.Passing.{HandsOn, HandsOnWhere, IsDue, IsDueAtRest}
 use Rattle.rt_runtime_worker.specs.Readings.{watch_view}
+use Rattle.rt_runtime_worker.specs.Shown.{Shows, shown_each}
 use Rattle.rt_runtime_worker.specs.Workers.{WorkerView, served_of}
 
 -- The rounds in a row in which nothing was done are counted. The next round is made at once, unless nothing was done in this one and in as many before it as
@@ -21,11 +22,26 @@ module _ {J T C G S : Type 0} where
   abbrev pub round_of : WorkerView J T C G S → RoundView J T C G
   round_of worker = record { served = served_of worker; watch = watch_view worker.clock worker.taken; gate = worker.gate }
 
-  -- the worker tries as often as before, and rings the same bells; its sink isn't asked
+  -- the worker tries as often as before, and rings the same bells; its sink isn't asked, and nothing is published
   pub record KeepsTries (old new : WorkerView J T C G S) : Type 0 where
     pub tries : new.tries ≡ old.tries
     pub bells : new.bells ≡ old.bells
     pub sink : new.sink ≡ old.sink
+    pub shown : new.shown ≡ old.shown
+    pub since : new.since ≡ old.since
+
+  -- the numbers of the whole journal are published, unless they can't be, and the rounds are counted anew
+  pub record ShowsNow (old new : WorkerView J T C G S) : Type 0 where
+    pub shows : Shows old.linked.recorded.journal.notes old.shown new.shown
+    pub rest : new ≡ record old { shown = new.shown; since = 0 }
+
+  -- the round before is counted, if something was done in it
+  abbrev pub counted_round : WorkerView J T C G S → WorkerView J T C G S
+  counted_round worker = record worker { since = if nat_lt 0 worker.idle then worker.since else worker.since + 1 }
+
+  -- they are published where enough rounds were counted since the last time, and otherwise the round before is counted
+  abbrev pub ShowsAgain : WorkerView J T C G S → WorkerView J T C G S → Type 0
+  ShowsAgain old new = ((shown_each ≤ old.since) × ShowsNow old new) ⊎ ((old.since < shown_each) × (new ≡ counted_round old))
 
 module _ {J T C G S : Type 0} (meaning : Meaning J T) (reads : C → ℕ → C → Type 0) (asked : G → ℕ → JobId → G → Type 0) (has : S → Journal T) (refused : S → ℕ → Type 0) where
   -- notes are passed on where the journal is low, and then there is one round; and whether the next one is made at once
@@ -45,9 +61,15 @@ module _ {J T C G S : Type 0} (meaning : Meaning J T) (reads : C → ℕ → C �
     pub counts : new.idle ≡ (if slept then ready.idle else 0)
     pub keeps : KeepsTries ready new
 
-  -- one round, and a rest where the next one isn't made at once
+  -- one round; or one behind which the next one isn't made at once, and then the numbers are published, and there is a rest
+  abbrev pub ServesOnce : WorkerView J T C G S → WorkerView J T C G S → Type 0
+  ServesOnce old new =
+      GoesOn old true new
+      ⊎ ((tired : WorkerView J T C G S) × GoesOn old false tired × ((told : WorkerView J T C G S) × ShowsNow tired told × ((slept : Bool) × Rests told slept new)))
+
+  -- the numbers are published if it is time, and then there is one round, and a rest where the next one isn't made at once
   abbrev pub Serves : WorkerView J T C G S → WorkerView J T C G S → Type 0
-  Serves old new = GoesOn old true new ⊎ ((tired : WorkerView J T C G S) × GoesOn old false tired × ((slept : Bool) × Rests tired slept new))
+  Serves old new = (shown : WorkerView J T C G S) × ShowsAgain old shown × ServesOnce shown new
 
   -- the worker served like this once and again, and these are its states between, the last one first
   abbrev pub ServesAlong : List (WorkerView J T C G S) → WorkerView J T C G S → WorkerView J T C G S → Type 0
@@ -58,8 +80,10 @@ module _ {J T C G S : Type 0} (meaning : Meaning J T) (reads : C → ℕ → C �
   abbrev pub ServesOn : WorkerView J T C G S → WorkerView J T C G S → Type 0
   ServesOn old new = (states : List (WorkerView J T C G S)) × ServesAlong states old new
 
-  -- The worker served like this, and then what was still kept was handed to its sink. What it gives back is its core and its sink.
+  -- The worker served like this, then its numbers were published for the last time, and what was still kept was handed to its sink. What it gives back is its
+  -- core, its sink and its board.
   pub record ServesToItsEnd (old : WorkerView J T C G S) (new : EndedView J T S) : Type 0 where
     pub last : WorkerView J T C G S
     pub serves : ServesOn old last
+    pub shows : Shows last.linked.recorded.journal.notes last.shown new.shown
     pub hands : HandsOn has refused last.linked last.sink new.linked new.sink

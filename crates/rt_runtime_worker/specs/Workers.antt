@@ -1,12 +1,14 @@
 -- What is seen of a worker.
 use Rattle.std.specs.Prelude.{◌≡◌, ℕ, Bool, false, List, slice_index_or}
 use Rattle.rt_runtime_worker.specs.Bells.{BellView}
-use Rattle.rt_runtime_worker.specs.Ended.{ServedView}
-use Rattle.rt_runtime_worker.specs.Linked.{LinkedView}
+use Rattle.rt_runtime_worker.specs.Ended.{EndedView, ServedView}
+use Rattle.rt_runtime_worker.specs.Linked.{LinkedView, RunsOn}
+use Rattle.rt_runtime_worker.specs.Shown.{ShownView}
 
 -- A core beside its journal and ends, with a clock and a gate of its own, and whether the worker is at its end. How long polls took since its last look at
 -- its links, and how many turns it may make before the next. After how many rounds in which nothing was done it parks, and how many such rounds it made in a
--- row. The names of the bells that it rings, and the sink to which it passes on notes.
+-- row. The names of the bells that it rings, and the sink to which it passes on notes. Its board, and how many rounds in which something was done it counted
+-- since it published last.
 pub record WorkerView (J T C G S : Type 0) : Type 0 where
   pub linked : LinkedView J T
   pub ending : Bool
@@ -18,6 +20,8 @@ pub record WorkerView (J T C G S : Type 0) : Type 0 where
   pub idle : ℕ
   pub bells : List ℕ
   pub sink : S
+  pub shown : ShownView T
+  pub since : ℕ
 
 -- its core, and whether it is at its end
 abbrev pub served_of : {J T C G S : Type 0} → WorkerView J T C G S → ServedView J T
@@ -34,3 +38,8 @@ pub record HasNotBegun {J T C G S : Type 0} (worker : WorkerView J T C G S) : Ty
   pub taken : worker.taken ≡ 0
   pub turns : worker.turns ≡ 0
   pub idle : worker.idle ≡ 0
+
+-- what a worker owes of what it gives back: its life goes on, and it is the same board
+pub record KeepsOn {J T C G S : Type 0} (worker : WorkerView J T C G S) (ended : EndedView J T S) : Type 0 where
+  pub runs : RunsOn worker.linked ended.linked
+  pub board : ended.shown.board ≡ worker.shown.board

@@ -1,18 +1,22 @@
 //! What a worker gives back.
 
 ghost use Rattle.std.specs.Prelude.{◌≡◌};
+ghost use Rattle.rt_watch.specs.Growth.{Grows};
 ghost use Rattle.rt_runtime_worker.specs.Ended.{HasEnded};
+ghost use Rattle.rt_runtime_worker.specs.Shown.{shown_of};
 
 use crate::linked::Linked;
 use rt_jobs::Task;
 use rt_journal_notes::{Sink, Whole};
+use rt_watch::{Publisher, Watcher, compare};
 use std::marker::Model;
 
-/// A drained core with its journal and ends, and the sink that has the notes that were passed on.
+/// A drained core with its journal and ends, the sink that has the notes that were passed on, and the board on which its numbers were published.
 #[derive(Drop)]
 pub struct Ended<J: Task<Out = u64>, S: Sink = Whole> {
     linked: Linked<J>,
     sink: S,
+    publisher: Publisher,
 }
 
 impl<J: Task<Out = u64>, S: Sink> Model for Ended<J, S> {
@@ -22,19 +26,34 @@ impl<J: Task<Out = u64>, S: Sink> Model for Ended<J, S> {
     ghost Value = { EndedView J ℕ S };
 
     ghost use Rattle.rt_runtime_worker.specs.Ended.{HasEnded};
+    ghost use Rattle.rt_runtime_worker.specs.Shown.{shown_of};
 
-    ghost view = { λ e. record { linked = e.linked; sink = e.sink } };
+    ghost view = { λ e. record { linked = e.linked; sink = e.sink; shown = shown_of e.publisher } };
 
-    ghost invariant = { λ e. HasEnded J.meaning S.has S.refused (record { linked = e.linked; sink = e.sink }) };
+    ghost invariant = { λ e. HasEnded J.meaning S.has S.refused (record { linked = e.linked; sink = e.sink; shown = shown_of e.publisher }) };
 }
 
 impl<J: Task<Out = u64>, S: Sink> Ended<J, S> {
     /// What a worker gives back at its end.
-    pub fn of(linked: Linked<J>, sink: S) -> Self
-        requires { HasEnded J.meaning S.has S.refused (record { linked = linked; sink = sink }) }
-        ensures { result ≡ record { linked = linked; sink = sink } }
+    pub fn of(linked: Linked<J>, sink: S, publisher: Publisher) -> Self
+        requires { HasEnded J.meaning S.has S.refused (record { linked = linked; sink = sink; shown = shown_of publisher }) }
+        ensures { result ≡ record { linked = linked; sink = sink; shown = shown_of publisher } }
     {
-        Ended { linked, sink }
+        Ended {
+            linked,
+            sink,
+            publisher,
+        }
+    }
+
+    /// Tells, for proofs alone, that the core's journal begins with the notes whose numbers this watcher of its board tells.
+    pub fn compare(&mut self, watcher: &mut Watcher)
+        requires { watcher.old.board ≡ self.old.shown.board }
+        ensures same { self.new ≡ self.old }
+        ensures watcher { watcher.new ≡ watcher.old }
+        ensures grows { Grows watcher.old.notes self.old.linked.recorded.journal.notes }
+    {
+        compare(&mut self.publisher, watcher);
     }
 
     /// The core with its journal and ends, and the sink.
@@ -43,7 +62,7 @@ impl<J: Task<Out = u64>, S: Sink> Ended<J, S> {
         ensures sink { result.1 ≡ self.sink }
         ensures ended { HasEnded J.meaning S.has S.refused self }
     {
-        let Ended { linked, sink } = self;
+        let Ended { linked, sink, .. } = self;
         (linked, sink)
     }
 

@@ -17,6 +17,7 @@ mod posting;
 mod quiet;
 mod rounds;
 pub mod served;
+mod showing;
 pub mod stopwatch;
 pub mod turn;
 pub mod worker;

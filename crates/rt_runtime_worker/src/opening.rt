@@ -13,6 +13,7 @@ ghost use Rattle.rt_runtime_worker.specs.Workers.{HasNotBegun};
 use crate::bells::Bells;
 use crate::linked::Linked;
 use crate::served::Served;
+use crate::showing::PLACES;
 use crate::worker::Worker;
 use rt_ids::{ActorNo, CoreNo};
 use rt_jobs::Task;
@@ -21,6 +22,7 @@ use rt_journal_notes::Sink;
 use rt_ring_mesh::Ends;
 use rt_runtime_config::Config;
 use rt_shares::Shares;
+use rt_watch::{Terms, Watcher};
 use std::alloc::{AllocError, Global};
 
 /// Makes the next queue, before anything else is done.
@@ -107,7 +109,8 @@ fn serve_core<J: Task<Out = u64>>(
 
 impl<J: Task<Out = u64>, C: Drop, G: Drop, S: Sink> Worker<J, C, G, S> {
     /// Opens the worker of the core that has these ends, with the queues that the configuration names for it. It rings these bells, and parks
-    /// on that of its core. It passes on its notes to this sink, which has none yet.
+    /// on that of its core. It passes on its notes to this sink, which has none yet. The watcher is of the board on which it publishes its numbers,
+    /// and tells those of no note.
     ///
     /// # Errors
     ///
@@ -120,23 +123,32 @@ impl<J: Task<Out = u64>, C: Drop, G: Drop, S: Sink> Worker<J, C, G, S> {
         gate: G,
         bells: &Bells,
         sink: S,
-    ) -> Result<Self, AllocError>
+    ) -> Result<(Self, Watcher), AllocError>
         requires ends { AreEndsOf config.now.cores config.now.cap ends }
         requires room { least_room config.now.cores config.now.cap config.now.burst + queues_of ends.number config.now.queues.items ≤ config.now.room }
         requires bells { length bells.now.rings ≡ config.now.cores + 1 }
         requires none { S.has sink ≡ [] }
-        ensures over { IfOk result (λ worker. IsOpenedOver config.now.cores config.now.cap config.now.burst config.now.room ends worker.linked) }
-        ensures clock { IfOk result (λ worker. worker.clock ≡ clock) }
-        ensures gate { IfOk result (λ worker. worker.gate ≡ gate) }
-        ensures sink { IfOk result (λ worker. worker.sink ≡ sink) }
-        ensures bells { IfOk result (λ worker. worker.bells ≡ bells.now.names) }
-        ensures begins { IfOk result (λ worker. HasNotBegun worker × (worker.tries ≡ 1024)) }
-        ensures queues { IfOk result (λ worker. worker.linked.recorded.journal.notes ≡ creations ends.number config.now.queues.items) }
+        ensures over { IfOk result (λ opened. IsOpenedOver config.now.cores config.now.cap config.now.burst config.now.room ends opened.0.linked) }
+        ensures clock { IfOk result (λ opened. opened.0.clock ≡ clock) }
+        ensures gate { IfOk result (λ opened. opened.0.gate ≡ gate) }
+        ensures sink { IfOk result (λ opened. opened.0.sink ≡ sink) }
+        ensures bells { IfOk result (λ opened. opened.0.bells ≡ bells.now.names) }
+        ensures begins { IfOk result (λ opened. HasNotBegun opened.0 × (opened.0.tries ≡ 1024)) }
+        ensures queues { IfOk result (λ opened. opened.0.linked.recorded.journal.notes ≡ creations ends.number config.now.queues.items) }
+        ensures shown { IfOk result (λ opened. (opened.0.shown.notes ≡ []) × (opened.0.shown.count ≡ 0) × (opened.0.since ≡ 0)) }
+        ensures watches { IfOk result (λ opened. opened.1 ≡ record { board = opened.0.shown.board; terms = opened.0.shown.terms; notes = [] }) }
     {
         let number = ends.number;
         let served = serve_core(alloc, config, ends)?;
         let own = bells.bell_of(ActorNo(number.0))?;
         let all = bells.again(alloc)?;
-        Ok(Worker::of(alloc, served, clock, gate, own, all, sink))
+        let terms = Terms {
+            cores: config.cores,
+            burst: config.burst,
+            places: PLACES,
+        };
+        let (publisher, watcher) = rt_watch::open(alloc, terms)?;
+        let worker = Worker::of(alloc, served, clock, gate, own, all, sink, publisher);
+        Ok((worker, watcher))
     }
 }

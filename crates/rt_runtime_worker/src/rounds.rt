@@ -2,6 +2,7 @@
 
 ghost use Rattle.std.specs.Prelude.{◌≡◌, ◌||◌, ◌+◌, ◌*◌, ◌≤◌, ◌↔◌, IsTrue, drop, false, length, reverse, true};
 ghost use Rattle.rt_ids.specs.Closing.{IsDrained};
+ghost use Rattle.rt_journal.specs.Recorded.{IsRecorded};
 ghost use Rattle.rt_runtime_worker.specs.Bells.{AreRung, once_more, rung_for};
 ghost use Rattle.rt_runtime_worker.specs.Asks.{AsksSince, NotesNoPoll};
 ghost use Rattle.rt_runtime_worker.specs.Ended.{IsServed};
@@ -18,6 +19,7 @@ use crate::linked::Linked;
 use crate::served::Served;
 use crate::stopwatch::Stopwatch;
 use rt_jobs::{Job, Task};
+use rt_journal::Recorded;
 use rt_journal_notes::{RunningJournal, Sink};
 use rt_runtime_config::{Clock, Gate};
 use std::alloc::Global;
@@ -106,6 +108,14 @@ impl<J: Task<Out = u64>, C: Drop, G: Drop> Rounds<J, C, G> {
     {
         let Rounds { served, .. } = self;
         served.into_linked()
+    }
+
+    /// The core beside its journal.
+    pub(crate) fn recorded(&self) -> &Recorded<J>
+        ensures recorded { result.now ≡ self.now.served.linked.recorded }
+        ensures sound { IsRecorded J.meaning self.now.served.linked.recorded }
+    {
+        self.served.recorded()
     }
 
     /// Whether notes are due to be passed on before a round.

@@ -2,6 +2,7 @@
 
 ghost use Rattle.std.specs.Prelude.{◌≡◌, ◌+◌, ◌*◌, ◌<◌, ◌≤◌, ◌↔◌, IsTrue, false};
 ghost use Rattle.rt_ids.specs.Closing.{IsDrained};
+ghost use Rattle.rt_journal.specs.Recorded.{IsRecorded};
 ghost use Rattle.rt_runtime_worker.specs.Asks.{AsksSince, NotesNoPoll};
 ghost use Rattle.rt_runtime_worker.specs.Ended.{IsServed};
 ghost use Rattle.rt_runtime_worker.specs.Few.{TurnsFew, WritesFew};
@@ -17,6 +18,7 @@ use crate::linked::Linked;
 use crate::turn::Made;
 use rt_ids::{ActorNo, CoreNo};
 use rt_jobs::{Job, Task};
+use rt_journal::Recorded;
 use rt_journal_notes::{RunningJournal, Sink};
 use rt_runtime_config::Gate;
 use rt_taskqueue::Meter;
@@ -214,6 +216,14 @@ impl<J: Task<Out = u64>> Served<J> {
         ensures { result ≡ false → HasNoTurn self.now.linked.recorded.journal.notes }
     {
         self.linked.has_turn()
+    }
+
+    /// The core beside its journal.
+    pub(crate) fn recorded(&self) -> &Recorded<J>
+        ensures recorded { result.now ≡ self.now.linked.recorded }
+        ensures sound { IsRecorded J.meaning self.now.linked.recorded }
+    {
+        &self.linked.recorded
     }
 
     /// The notes of this worker.

@@ -5,9 +5,10 @@ ghost use Rattle.rt_ids.specs.Closing.{IsDrained};
 ghost use Rattle.rt_runtime_worker.specs.Asks.{AsksSince};
 ghost use Rattle.rt_runtime_worker.specs.Bells.{AreRung};
 ghost use Rattle.rt_runtime_worker.specs.Linked.{RunsOn};
+ghost use Rattle.rt_runtime_worker.specs.Shown.{IsShown, Shows, shown_of};
 ghost use Rattle.rt_runtime_worker.specs.Passing.{HandsOn, HandsOnWhere, IsDue, IsDueAtRest, IsSupplied, PassesTo};
-ghost use Rattle.rt_runtime_worker.specs.Serves.{GoesOn, Rests, Serves, ServesToItsEnd};
-ghost use Rattle.rt_runtime_worker.specs.Workers.{HasNotBegun, IsBellOf, served_of};
+ghost use Rattle.rt_runtime_worker.specs.Serves.{GoesOn, Rests, Serves, ServesToItsEnd, ShowsAgain, ShowsNow};
+ghost use Rattle.rt_runtime_worker.specs.Workers.{HasNotBegun, IsBellOf, KeepsOn, served_of};
 
 use crate::bell::Bell;
 use crate::bells::Bells;
@@ -15,10 +16,12 @@ use crate::ended::Ended;
 use crate::quiet::rest;
 use crate::rounds::Rounds;
 use crate::served::Served;
+use crate::showing::{SHOWN_EACH, show_on};
 use rt_jobs::{Job, Task};
 use rt_journal_notes::{Sink, Whole};
 use rt_runtime_config::{Clock, Gate};
 use rt_runtime_team::{Promised, Work};
+use rt_watch::Publisher;
 use std::alloc::Global;
 use std::marker::Model;
 use std::sync::Wait;
@@ -27,7 +30,7 @@ use std::sync::Wait;
 const TRIES: u32 = 1024;
 
 /// A core beside its journal, over its actor's ends of the links, with a clock and a gate of its own. It rang the bell of each core for each
-/// of its notes that is for that core, and it parks on the bell of its own core. It passes on its notes to its sink, between rounds and rests.
+/// of its notes that is for that core, and it parks on the bell of its own core. It passes on its notes to its sink, between rounds and rests, and publishes its numbers on its board.
 #[derive(Drop)]
 pub struct Worker<J: Task<Out = u64>, C: Drop, G: Drop, S: Sink = Whole> {
     own: Bell,
@@ -37,6 +40,9 @@ pub struct Worker<J: Task<Out = u64>, C: Drop, G: Drop, S: Sink = Whole> {
     tries: u32,
     /// How many rounds in a row nothing was done.
     idle: u32,
+    publisher: Publisher,
+    /// How many rounds in which something was done were counted since the last publication.
+    since: u32,
 }
 
 impl<J: Task<Out = u64>, C: Drop, G: Drop, S: Sink> Model for Worker<J, C, G, S> {
@@ -47,13 +53,14 @@ impl<J: Task<Out = u64>, C: Drop, G: Drop, S: Sink> Model for Worker<J, C, G, S>
 
     ghost use Rattle.rt_runtime_worker.specs.Bells.{AreRung};
     ghost use Rattle.rt_runtime_worker.specs.Passing.{PassesTo};
+    ghost use Rattle.rt_runtime_worker.specs.Shown.{IsShown, shown_of};
     ghost use Rattle.rt_runtime_worker.specs.Workers.{IsBellOf};
 
-    ghost view = { λ w. record { linked = w.rounds.served.linked; ending = w.rounds.served.ending; clock = w.rounds.watch.clock; gate = w.rounds.gate; taken = w.rounds.watch.taken; turns = w.rounds.turns; tries = w.tries; idle = w.idle; bells = w.rounds.bells.names; sink = w.sink } };
+    ghost view = { λ w. record { linked = w.rounds.served.linked; ending = w.rounds.served.ending; clock = w.rounds.watch.clock; gate = w.rounds.gate; taken = w.rounds.watch.taken; turns = w.rounds.turns; tries = w.tries; idle = w.idle; bells = w.rounds.bells.names; sink = w.sink; shown = shown_of w.publisher; since = w.since } };
 
     ghost invariant = { λ w.
         AreRung w.rounds.served w.rounds.bells × IsBellOf w.rounds.served.linked.recorded.core.core w.rounds.bells.names w.own
-        × PassesTo S.has S.refused w.rounds.served w.sink };
+        × PassesTo S.has S.refused w.rounds.served w.sink × IsShown w.rounds.served.linked.recorded (shown_of w.publisher) };
 }
 
 impl<J: Task<Out = u64>, C: Drop, G: Drop, S: Sink> Worker<J, C, G, S> {
@@ -66,16 +73,20 @@ impl<J: Task<Out = u64>, C: Drop, G: Drop, S: Sink> Worker<J, C, G, S> {
         own: Bell,
         bells: Bells,
         sink: S,
+        publisher: Publisher,
     ) -> Self
         requires own { IsBellOf served.linked.recorded.core.core bells.names own }
         requires rung { AreRung served bells }
         requires ending { served.ending ≡ false }
         requires passes { PassesTo S.has S.refused served sink }
+        requires shown { IsShown served.linked.recorded (shown_of publisher) }
         ensures linked { result.linked ≡ served.linked }
         ensures clock { result.clock ≡ clock }
         ensures gate { result.gate ≡ gate }
         ensures sink { result.sink ≡ sink }
         ensures bells { result.bells ≡ bells.names }
+        ensures shown { result.shown ≡ shown_of publisher }
+        ensures since { result.since ≡ 0 }
         ensures begins { HasNotBegun result }
         ensures tries { result.tries ≡ 1024 }
     {
@@ -85,6 +96,8 @@ impl<J: Task<Out = u64>, C: Drop, G: Drop, S: Sink> Worker<J, C, G, S> {
             sink,
             tries: TRIES,
             idle: 0,
+            publisher,
+            since: 0,
         }
     }
 
@@ -117,16 +130,42 @@ impl<J: Task<Out = u64>, C: Drop, G: Drop, S: Sink> Worker<J, C, G, S> {
         }
     }
 
-    /// What a worker of a drained core leaves. What is still kept is handed to the sink.
+    /// Publishes the numbers of the core and of its queues as they stand, unless they can't be published any more. The rounds are counted anew.
+    fn show(&mut self)
+        ensures { ShowsNow self.old self.new }
+    {
+        show_on(self.rounds.recorded(), &mut self.publisher);
+        self.since = 0;
+    }
+
+    /// Publishes where enough rounds were counted since the last time. Otherwise the round before is counted, if something was done in it.
+    fn show_again(&mut self)
+        ensures { ShowsAgain self.old self.new }
+    {
+        if self.since >= SHOWN_EACH {
+            self.show();
+        } else if self.idle == 0 {
+            self.since += 1;
+        }
+    }
+
+    /// What a worker of a drained core leaves. Its numbers are published for the last time, and what is still kept is handed to the sink.
     fn into_ended(self) -> Ended<J, S>
         requires { IsDrained self.linked.recorded.core.cores self.linked.recorded.journal.notes }
-        ensures { HandsOn S.has S.refused self.linked self.sink result.linked result.sink }
+        ensures hands { HandsOn S.has S.refused self.linked self.sink result.linked result.sink }
+        ensures shows { Shows self.linked.recorded.journal.notes self.shown result.shown }
     {
-        let Worker { rounds, sink, .. } = self;
+        let Worker {
+            rounds,
+            sink,
+            publisher,
+            ..
+        } = self;
+        let (mut sink, mut publisher) = (sink, publisher);
+        show_on(rounds.recorded(), &mut publisher);
         let mut linked = rounds.into_linked();
-        let mut sink = sink;
         let _answer = linked.hand_on(&mut sink);
-        Ended::of(linked, sink)
+        Ended::of(linked, sink, publisher)
     }
 }
 
@@ -167,13 +206,16 @@ impl<J: Job + Task<Out = u64>, C: Clock + Drop, G: Gate + Drop, S: Sink> Worker<
         false
     }
 
-    /// One round, and a rest where the next one isn't made at once.
+    /// Publishes if it is time, and makes one round. If the next one isn't made at once, it publishes and rests.
     fn serve<R: Wait>(&mut self, rt: &R)
         ensures serves { Serves J.meaning C.Reads G.Asked S.has S.refused self.old self.new }
         ensures runs { RunsOn self.old.linked self.new.linked }
         ensures asks { AsksSince G.Asked self.old.linked.recorded.core.core self.old.linked.recorded.journal.notes self.new.linked.recorded.journal.notes self.old.gate self.new.gate }
     {
+        self.show_again();
         if !self.goes_on() {
+            // Before it lies down, so that an idle core's board is complete.
+            self.show();
             self.rests(rt);
         }
     }
@@ -182,13 +224,13 @@ impl<J: Job + Task<Out = u64>, C: Clock + Drop, G: Gate + Drop, S: Sink> Worker<
 impl<J: Task<Out = u64>, C: Drop, G: Drop, S: Sink> Promised for Worker<J, C, G, S> {
     type Ended = Ended<J, S>;
 
-    ghost keeps = { λ worker ended. RunsOn worker.linked ended.linked };
+    ghost keeps = { KeepsOn };
 }
 
 impl<J: Job + Task<Out = u64>, C: Clock + Drop, G: Gate + Drop, S: Sink> Work
     for Worker<J, C, G, S> {
     fn run<R: Wait>(self, rt: &R) -> Ended<J, S>
-        ensures keeps { RunsOn self.linked result.linked }
+        ensures keeps { KeepsOn self result }
         ensures serves { ServesToItsEnd J.meaning C.Reads G.Asked S.has S.refused self result }
         ensures asks { (gate : G) × AsksSince G.Asked self.linked.recorded.core.core self.linked.recorded.journal.notes result.linked.recorded.journal.notes self.gate gate }
     {

@@ -1,7 +1,7 @@
 use Rattle.rt_journal.proofs.Words.{◌≡◌, ◌<◌, ◌∙◌, ap, subst, ◌↔◌, IsTrue, Some, slice_get, queue_count, core_stats, queue_stats}
 use Rattle.arrayvec.specs.ArrayVec.{array_vec_len}
 use Rattle.rt_core.specs.Closing as closing
-use Rattle.rt_journal.proofs.StatsTold.{core_told, queues_told}
+use Rattle.rt_journal.proofs.StatsTold.{core_told, exact_told, queues_told}
 use Rattle.rt_journal.proofs.stats.told_stats.Goals as goal
 
 pub returns-clause-core : goal.returns-clause-core
@@ -13,5 +13,11 @@ returns-clause-core g c =
 pub returns-clause-queues : goal.returns-clause-queues
 returns-clause-queues g c =
     let its = c.core.ensures in
-    λ few. queues_told _ c.requires.sound few (array_vec_len c.stats.result.1) c.stats.result.1.items (c.stats.ensures.count ∙ ap (λ core. queue_count core.queues) its)
+    queues_told _ c.requires.sound (array_vec_len c.stats.result.1) c.stats.result.1.items (c.stats.ensures.count ∙ ap (λ core. queue_count core.queues) its)
+    (subst (λ core. (queue : _) → queue < queue_count core.queues → slice_get c.stats.result.1.items queue ≡ Some (queue_stats queue core)) its c.stats.ensures.queues)
+
+pub returns-clause-exact : goal.returns-clause-exact
+returns-clause-exact g c =
+    let its = c.core.ensures in
+    exact_told _ c.requires.sound (array_vec_len c.stats.result.1) c.stats.result.1.items (c.stats.ensures.count ∙ ap (λ core. queue_count core.queues) its)
     (subst (λ core. (queue : _) → queue < queue_count core.queues → slice_get c.stats.result.1.items queue ≡ Some (queue_stats queue core)) its c.stats.ensures.queues)

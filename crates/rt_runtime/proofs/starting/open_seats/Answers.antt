@@ -10,6 +10,9 @@ loop-seat-init g c =
     let gives = c.into_iter-seat-iterator.ensures.into_iter_gives in
     record {
       reserved = omega (arith, c.in_ok-workers.ensures.capacity, c.len.ensures, c.args.seats.ok.0);
+      room = omega (arith, c.in_ok-watchers.ensures.capacity, c.len-2.ensures, c.args.seats.ok.0);
+      watched = subst (λ watchers. Together IsWatcherOf c.in_ok-workers.workers.items watchers) (sym c.in_ok-watchers.ensures.items)
+          (subst (λ workers. Together (IsWatcherOf {J = g.row.J.Denot} {T = _} {C = g.row.C.Denot} {G = g.row.G.Denot} {S = g.row.S.Denot}) workers []) (sym c.in_ok-workers.ensures.items) tt);
       made = made_first
           (λ seat worker. IsWiredWith (IsOpenedWith c.args.config.now.cores c.args.config.now.cap c.args.config.now.burst c.args.config.now.room c.args.config.now.queues.items seat.ends)
           seat.clock seat.gate seat.sink c.args.bells.now.names worker)
@@ -37,17 +40,22 @@ loop-seat-preserved g c =
     let loop = c.loop-seat in let steps = c.in-Some.ensures.steps in
     record {
       reserved = omega (arith, loop.invariant.reserved, c.push_reserved.ensures.capacity);
+      room = omega (arith, loop.invariant.room, c.push_reserved-in-loop-seat.ensures.capacity);
+      watched = rw c.push_reserved.ensures.items
+          (rw c.push_reserved-in-loop-seat.ensures.items
+          (together_more IsWatcherOf loop.workers.items loop.watchers.items c.in_ok-worker.result.0 c.in_ok-worker.result.1 loop.invariant.watched
+          (record { board = ap (λ watcher. watcher.board) c.in_ok-worker.ensures.watches; terms_are = ap (λ watcher. watcher.terms) c.in_ok-worker.ensures.watches; none = ap (λ watcher. watcher.notes) c.in_ok-worker.ensures.watches })));
       made = rw c.push_reserved.ensures.items
           (made_more
           (λ seat worker. IsWiredWith (IsOpenedWith c.args.config.now.cores c.args.config.now.cap c.args.config.now.burst c.args.config.now.room c.args.config.now.queues.items seat.ends)
           seat.clock seat.gate seat.sink c.args.bells.now.names worker)
           c.args.seats.items (into_iter_items loop.seat-iterator) (into_iter_items c.next.new.self)
-          (into_iter_len loop.seat-iterator) (into_iter_len c.next.new.self) loop.workers.items c.in-Some.seat c.in_ok-open.field-0 loop.invariant.made steps.0 steps.1
-          (record { linked = record { over = c.in_ok-open.ensures.over; queues_are = c.in_ok-open.ensures.queues }; clock_is = c.in_ok-open.ensures.clock; gate_is = c.in_ok-open.ensures.gate; sink_is = c.in_ok-open.ensures.sink; bells_are = c.in_ok-open.ensures.bells }));
+          (into_iter_len loop.seat-iterator) (into_iter_len c.next.new.self) loop.workers.items c.in-Some.seat c.in_ok-worker.result.0 loop.invariant.made steps.0 steps.1
+          (record { linked = record { over = c.in_ok-worker.ensures.over; queues_are = c.in_ok-worker.ensures.queues }; clock_is = c.in_ok-worker.ensures.clock; gate_is = c.in_ok-worker.ensures.gate; sink_is = c.in_ok-worker.ensures.sink; bells_are = c.in_ok-worker.ensures.bells }));
     }
 
-pub returns : goal.returns
-returns g c =
+pub returns-clause-workers : goal.returns-clause-workers
+returns-clause-workers g c =
     let rest = into_iter_items c.loop-seat.seat-iterator in
     made_all
     (λ seat worker. IsWiredWith (IsOpenedWith c.args.config.now.cores c.args.config.now.cap c.args.config.now.burst c.args.config.now.room c.args.config.now.queues.items seat.ends)

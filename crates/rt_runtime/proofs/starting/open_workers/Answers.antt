@@ -19,30 +19,30 @@ open_seats-requires-clause-empty g c =
 pub returns-clause-opened : goal.returns-clause-opened
 returns-clause-opened g c =
     let opened_with = IsOpenedWith c.args.config.now.cores c.args.config.now.cap c.args.config.now.burst c.args.config.now.room c.args.config.now.queues.items in
-    if_ok _ _ (λ opened both. subst (λ all. Together opened_with all (map (λ worker. worker.linked) opened.items)) c.in_ok-seats.ensures.ends
-    (together_maps (λ seat. seat.ends) (λ worker. worker.linked) _ opened_with (λ seat worker wired. wired.linked) c.in_ok-seats.seats.items opened.items both))
-    c.open_seats.result c.open_seats.ensures
+    if_ok _ _ (λ opened both. subst (λ all. Together opened_with all (map (λ worker. worker.linked) opened.0.items)) c.in_ok-seats.ensures.ends
+    (together_maps (λ seat. seat.ends) (λ worker. worker.linked) _ opened_with (λ seat worker wired. wired.linked) c.in_ok-seats.seats.items opened.0.items both))
+    c.open_seats.result c.open_seats.ensures.workers
 
 pub returns-clause-clocks : goal.returns-clause-clocks
 returns-clause-clocks g c =
-    if_ok _ _ (λ opened both. same_maps (λ seat. seat.clock) (λ worker. worker.clock) _ (λ seat worker wired. wired.clock_is) c.in_ok-seats.seats.items opened.items both ∙ c.in_ok-seats.ensures.clocks)
-    c.open_seats.result c.open_seats.ensures
+    if_ok _ _ (λ opened both. same_maps (λ seat. seat.clock) (λ worker. worker.clock) _ (λ seat worker wired. wired.clock_is) c.in_ok-seats.seats.items opened.0.items both ∙ c.in_ok-seats.ensures.clocks)
+    c.open_seats.result c.open_seats.ensures.workers
 
 pub returns-clause-gates : goal.returns-clause-gates
 returns-clause-gates g c =
-    if_ok _ _ (λ opened both. same_maps (λ seat. seat.gate) (λ worker. worker.gate) _ (λ seat worker wired. wired.gate_is) c.in_ok-seats.seats.items opened.items both ∙ c.in_ok-seats.ensures.gates)
-    c.open_seats.result c.open_seats.ensures
+    if_ok _ _ (λ opened both. same_maps (λ seat. seat.gate) (λ worker. worker.gate) _ (λ seat worker wired. wired.gate_is) c.in_ok-seats.seats.items opened.0.items both ∙ c.in_ok-seats.ensures.gates)
+    c.open_seats.result c.open_seats.ensures.workers
 
 pub returns-clause-sinks : goal.returns-clause-sinks
 returns-clause-sinks g c =
-    if_ok _ _ (λ opened both. same_maps (λ seat. seat.sink) (λ worker. worker.sink) _ (λ seat worker wired. wired.sink_is) c.in_ok-seats.seats.items opened.items both ∙ c.in_ok-seats.ensures.sinks)
-    c.open_seats.result c.open_seats.ensures
+    if_ok _ _ (λ opened both. same_maps (λ seat. seat.sink) (λ worker. worker.sink) _ (λ seat worker wired. wired.sink_is) c.in_ok-seats.seats.items opened.0.items both ∙ c.in_ok-seats.ensures.sinks)
+    c.open_seats.result c.open_seats.ensures.workers
 
 pub returns-clause-bells : goal.returns-clause-bells
 returns-clause-bells g c =
     let names = c.args.bells.now.names in
     let seats = c.in_ok-seats.seats.items in
     let count : length seats ≡ length c.args.all.items = sym (length-map seats (λ seat. seat.ends)) ∙ ap length c.in_ok-seats.ensures.ends in
-    if_ok _ _ (λ opened both. same_maps (λ seat. names) (λ worker. worker.bells) _ (λ seat worker wired. wired.bells_are) seats opened.items both
+    if_ok _ _ (λ opened both. same_maps (λ seat. names) (λ worker. worker.bells) _ (λ seat worker wired. wired.bells_are) seats opened.0.items both
     ∙ (same_of_each names seats (length c.args.all.items) count ∙ sym (same_of_each names c.args.all.items (length c.args.all.items) refl)))
-    c.open_seats.result c.open_seats.ensures
+    c.open_seats.result c.open_seats.ensures.workers

@@ -6,6 +6,11 @@ use Rattle.rt_runtime.proofs.Crosses.{worker_send, ended_send}
 use Rattle.rt_link.specs.Fits.{Fits}
 use Rattle.rt_runtime_config.specs.Configs.{least_room}
 use Rattle.rt_runtime.specs.Starting.{HaveQueues, IsHouse}
+use Rattle.std.proofs.lemmas.List.{length-map}
+use Rattle.rt_runtime_team.proofs.Lists.{together_length}
+use Rattle.rt_runtime.specs.Watching.{IsWatcherOf}
+use Rattle.rt_runtime.proofs.AllPassed.{together_all}
+use Rattle.rt_runtime.proofs.Dealt.{same_maps}
 use Rattle.rt_runtime.proofs.Started.{holds_next, none_submitted, started}
 use Rattle.rt_runtime.proofs.runtime.Runtime.begin.Goals as goal
 
@@ -33,7 +38,7 @@ invariant_of-result g c =
     let numbers = c.requires.good.numbers in (
       started c.args.config.now.cores c.args.config.now.cap c.args.config.now.burst c.args.config.now.room c.args.config.now.queues.items (map (λ worker. worker.linked) c.in-Ok-start.team) c.in-Ok.ends c.in-Ok-open_outside.desk c.in-Ok-open_outside.closing.items
           (subst (λ workers. IsHouse c.args.config.now.cores c.args.config.now.cap c.args.config.now.burst c.args.config.now.room c.args.config.now.queues.items (map (λ worker. worker.linked) workers) c.in-Ok.ends) (sym c.in-Ok-start.ensures.ok) c.in-Ok.ensures.house) desk
-          c.in-Ok-open_outside.ensures.written c.in-Ok-open_outside.ensures.closing c.of-bells.result (map (λ worker. worker.bells) c.in-Ok-start.team) (ap (λ rung. rung.times) c.of-bells.ensures ∙ c.in-Ok.ensures.bells) false enough
+          c.in-Ok-open_outside.ensures.written c.in-Ok-open_outside.ensures.closing c.of-bells.result (map (λ worker. worker.bells) c.in-Ok-start.team) (ap (λ rung. rung.times) c.of-bells.ensures ∙ c.in-Ok.ensures.bells) false c.in-Ok.watchers.items enough
           (record {
             some_core = omega (arith, numbers.some_core);
             few_cores = numbers.cores_most;
@@ -54,6 +59,8 @@ invariant_of-result g c =
       c.in-Ok-open_spares.ensures.ends.0,
       c.in-Ok-open_spares.ensures.actors.0,
       c.in-Ok-open_spares.ensures.journals.0,
+      same_maps (λ worker. worker.shown.board) (λ watcher. watcher.board) IsWatcherOf (λ worker watcher is. is.board) c.in-Ok.workers.items c.in-Ok.watchers.items c.in-Ok.ensures.watchers
+          ∙ ap (λ workers. map (λ worker. worker.shown.board) workers) (sym c.in-Ok-start.ensures.ok),
     )
 
 pub returns-in-Ok-start : goal.returns-in-Ok-start
@@ -68,5 +75,9 @@ returns-in-Ok-start g c = record {
   fresh = c.in-Ok.ensures.house.fresh;
   none = none_submitted c.args.config.now.cores c.args.config.now.cap c.args.config.now.burst c.args.config.now.room c.args.config.now.queues.items (map (λ worker. worker.linked) c.in-Ok.workers.items) c.in-Ok.ends c.in-Ok.ensures.house;
   refused = refl;
+  watched =
+      sym (together_length IsWatcherOf c.in-Ok.workers.items c.in-Ok.watchers.items c.in-Ok.ensures.watchers)
+      ∙ (sym (length-map c.in-Ok.workers.items (λ worker. worker.linked)) ∙ c.in-Ok.ensures.house.count);
+  unseen = together_all IsWatcherOf (λ seen. seen.notes ≡ []) (λ worker watcher is. is.none) c.in-Ok.workers.items c.in-Ok.watchers.items c.in-Ok.ensures.watchers;
   have_queues = subst (λ workers. HaveQueues c.args.config.now.cores c.args.config.now.queues.items (map (λ worker. worker.linked) workers)) (sym c.in-Ok-start.ensures.ok) c.in-Ok.ensures.house.have_queues;
 }

@@ -19,4 +19,5 @@ invariant_of-self g c =
       c.self.invariant.3,
       c.self.invariant.4,
       c.self.invariant.5,
+      c.self.invariant.6,
     )

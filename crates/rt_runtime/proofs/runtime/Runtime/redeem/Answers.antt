@@ -21,6 +21,7 @@ invariant_of-self g c =
       c.self.invariant.3,
       c.self.invariant.4,
       c.self.invariant.5,
+      c.self.invariant.6,
     )
 
 pub returns : goal.returns

@@ -22,6 +22,7 @@ invariant_of-self g c =
       c.self.invariant.3,
       c.self.invariant.4,
       c.self.invariant.5,
+      c.self.invariant.6,
     )
 
 pub returns : goal.returns
@@ -39,6 +40,7 @@ returns g c =
       rung = c.ring.new.self;
       bells = map (λ worker. worker.bells) c.self.inside.team;
       refused = c.self.inside.refused;
+      watched = c.self.inside.watchers.items;
     } in
     record {
       there = λ there. record {

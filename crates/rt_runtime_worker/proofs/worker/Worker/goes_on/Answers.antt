@@ -2,6 +2,8 @@ use Rattle.std.proofs.Common.{refl, sym, subst, arith}
 use Rattle.std.specs.Prelude.{false, true}
 use Rattle.rt_runtime_worker.specs.Passing.{IsSupplied}
 use Rattle.rt_runtime_worker.specs.Workers.{served_of}
+use Rattle.rt_runtime_worker.proofs.Along.{runs_stays}
+use Rattle.rt_runtime_worker.proofs.Published.{shown_runs}
 use Rattle.rt_runtime_worker.proofs.Resting.{behind_asks, behind_runs, bell_still, goes}
 use Rattle.rt_runtime_worker.proofs.Supplied.{round_passes}
 use Rattle.rt_runtime_worker.proofs.worker.Worker.goes_on.Goals as goal
@@ -12,6 +14,7 @@ invariant_of-self g c = (
   bell_still _ _ _ _ c.self.inside.own c.round.ensures.steps.stays.seat.number c.round.ensures.names c.self.invariant.1,
   round_passes g.S.Sink.has g.S.Sink.refused c.self.inside.rounds.served c.self.inside.sink c.self.invariant.2 c.round.new.self.served
       (subst (λ view. IsSupplied g.S.Sink.has g.S.Sink.refused (served_of view) view.sink) (sym c.self.view_is) c.hand_on_if_low.ensures.supplied) c.round.ensures.steps.stays c.round.ensures.few,
+  shown_runs _ _ _ (runs_stays _ _ c.round.ensures.steps.stays) c.self.invariant.3,
 )
 
 pub invariant_of-self-then-self : goal.invariant_of-self-then-self
@@ -20,6 +23,7 @@ invariant_of-self-then-self g c = (
   bell_still _ _ _ _ c.self.inside.own c.round.ensures.steps.stays.seat.number c.round.ensures.names c.self.invariant.1,
   round_passes g.S.Sink.has g.S.Sink.refused c.self.inside.rounds.served c.self.inside.sink c.self.invariant.2 c.round.new.self.served
       (subst (λ view. IsSupplied g.S.Sink.has g.S.Sink.refused (served_of view) view.sink) (sym c.self.view_is) c.hand_on_if_low.ensures.supplied) c.round.ensures.steps.stays c.round.ensures.few,
+  shown_runs _ _ _ (runs_stays _ _ c.round.ensures.steps.stays) c.self.invariant.3,
 )
 
 pub invariant_of-self-else-self : goal.invariant_of-self-else-self
@@ -28,12 +32,13 @@ invariant_of-self-else-self g c = (
   bell_still _ _ _ _ c.self.inside.own c.round.ensures.steps.stays.seat.number c.round.ensures.names c.self.invariant.1,
   round_passes g.S.Sink.has g.S.Sink.refused c.self.inside.rounds.served c.self.inside.sink c.self.invariant.2 c.round.new.self.served
       (subst (λ view. IsSupplied g.S.Sink.has g.S.Sink.refused (served_of view) view.sink) (sym c.self.view_is) c.hand_on_if_low.ensures.supplied) c.round.ensures.steps.stays c.round.ensures.few,
+  shown_runs _ _ _ (runs_stays _ _ c.round.ensures.steps.stays) c.self.invariant.3,
 )
 
 pub returns-then-round-clause-goes : goal.returns-then-round-clause-goes
 returns-then-round-clause-goes g c =
     goes g.J.Task.meaning g.C.Clock.Reads g.G.Gate.Asked g.S.Sink.has g.S.Sink.refused c.args.self.now c.hand_on_if_low.new.self _ _ c.round.result true true c.self.view_is c.hand_on_if_low.ensures.hands c.if-round.true c.round.ensures.makes (refl, refl) refl
-    c.round.ensures.names refl
+    c.round.ensures.names refl refl refl
 
 pub returns-then-round-clause-runs : goal.returns-then-round-clause-runs
 returns-then-round-clause-runs g c = behind_runs g.S.Sink.has g.S.Sink.refused c.args.self.now c.hand_on_if_low.new.self _ c.self.view_is c.hand_on_if_low.ensures.hands c.round.new.self.served.linked c.round.ensures.steps.stays
@@ -45,7 +50,7 @@ returns-then-round-clause-asks g c =
 pub returns-then-self-clause-goes : goal.returns-then-self-clause-goes
 returns-then-self-clause-goes g c =
     goes g.J.Task.meaning g.C.Clock.Reads g.G.Gate.Asked g.S.Sink.has g.S.Sink.refused c.args.self.now c.hand_on_if_low.new.self _ _ c.round.result false true c.self.view_is c.hand_on_if_low.ensures.hands c.if-round.false c.round.ensures.makes (omega (arith, c.if-self.true), refl) refl
-    c.round.ensures.names refl
+    c.round.ensures.names refl refl refl
 
 pub returns-then-self-clause-runs : goal.returns-then-self-clause-runs
 returns-then-self-clause-runs g c = behind_runs g.S.Sink.has g.S.Sink.refused c.args.self.now c.hand_on_if_low.new.self _ c.self.view_is c.hand_on_if_low.ensures.hands c.round.new.self.served.linked c.round.ensures.steps.stays
@@ -57,7 +62,7 @@ returns-then-self-clause-asks g c =
 pub returns-clause-goes : goal.returns-clause-goes
 returns-clause-goes g c =
     goes g.J.Task.meaning g.C.Clock.Reads g.G.Gate.Asked g.S.Sink.has g.S.Sink.refused c.args.self.now c.hand_on_if_low.new.self _ _ c.round.result false false c.self.view_is c.hand_on_if_low.ensures.hands c.if-round.false c.round.ensures.makes (omega (arith, c.if-self.false), refl) refl
-    c.round.ensures.names refl
+    c.round.ensures.names refl refl refl
 
 pub returns-clause-runs : goal.returns-clause-runs
 returns-clause-runs g c = behind_runs g.S.Sink.has g.S.Sink.refused c.args.self.now c.hand_on_if_low.new.self _ c.self.view_is c.hand_on_if_low.ensures.hands c.round.new.self.served.linked c.round.ensures.steps.stays

@@ -23,3 +23,6 @@ pub of-requires-clause-rung : goal.of-requires-clause-rung
 of-requires-clause-rung g c =
     opened_rung c.in_ok-served.served c.args.ends.number c.args.config.now.cores c.args.config.now.queues.items c.in_ok-all.all (length c.args.bells.now.rings) c.in_ok-served.ensures.queues (ap (λ terms. terms.cores) c.in_ok-served.ensures.over.of.terms)
     c.requires.bells c.in_ok-all.ensures.rings
+
+pub of-requires-clause-shown : goal.of-requires-clause-shown
+of-requires-clause-shown g c = opened_shown c.in_ok-served.served.linked c.args.config.now.cores c.args.config.now.cap c.args.config.now.burst c.args.config.now.room c.args.ends _ c.in_ok-served.ensures.over (search rules) (search rules)

@@ -3,6 +3,8 @@ use Rattle.std.specs.Prelude.{false, true, is_none}
 use Rattle.rt_runtime_worker.specs.Looks.{LooksAtAll, round_view}
 use Rattle.rt_runtime_worker.specs.Passing.{IsSupplied}
 use Rattle.rt_runtime_worker.specs.Workers.{served_of}
+use Rattle.rt_runtime_worker.proofs.Along.{runs_stays}
+use Rattle.rt_runtime_worker.proofs.Published.{shown_runs}
 use Rattle.rt_runtime_worker.proofs.Resting.{behind_asks, behind_runs, rests}
 use Rattle.rt_runtime_worker.proofs.Supplied.{round_passes}
 use Rattle.rt_runtime_worker.proofs.worker.Worker.rests.Goals as goal
@@ -13,6 +15,7 @@ invariant_of-self g c = (
   c.rest.ensures.bell,
   round_passes g.S.Sink.has g.S.Sink.refused c.self.inside.rounds.served c.self.inside.sink c.self.invariant.2 c.rest.new.rounds.served
       (subst (λ view. IsSupplied g.S.Sink.has g.S.Sink.refused (served_of view) view.sink) (sym c.self.view_is) c.hand_on_if_kept.ensures.supplied) c.rest.ensures.stays c.rest.ensures.few,
+  shown_runs _ _ _ (runs_stays _ _ c.rest.ensures.stays) c.self.invariant.3,
 )
 
 pub returns-in-Some-clause-rests : goal.returns-in-Some-clause-rests
@@ -21,7 +24,7 @@ returns-in-Some-clause-rests g c =
     (subst
     (λ none. LooksAtAll g.J.Task.meaning g.C.Clock.Reads g.G.Gate.Asked (round_view c.self.inside.rounds.served c.self.inside.rounds.watch.clock c.self.inside.rounds.watch.taken c.self.inside.rounds.gate) none c.rest.new.rounds.turns
     (round_view c.rest.new.rounds.served c.rest.new.rounds.watch.clock c.rest.new.rounds.watch.taken c.rest.new.rounds.gate))
-    (ap is_none c.in-Some.is) c.rest.ensures.looks) refl refl c.rest.ensures.names refl
+    (ap is_none c.in-Some.is) c.rest.ensures.looks) refl refl c.rest.ensures.names refl refl refl
 
 pub returns-in-Some-clause-runs : goal.returns-in-Some-clause-runs
 returns-in-Some-clause-runs g c = behind_runs g.S.Sink.has g.S.Sink.refused c.args.self.now c.hand_on_if_kept.new.self _ c.self.view_is c.hand_on_if_kept.ensures.hands c.rest.new.rounds.served.linked c.rest.ensures.stays
@@ -36,7 +39,7 @@ returns-in-None-clause-rests g c =
     (subst
     (λ none. LooksAtAll g.J.Task.meaning g.C.Clock.Reads g.G.Gate.Asked (round_view c.self.inside.rounds.served c.self.inside.rounds.watch.clock c.self.inside.rounds.watch.taken c.self.inside.rounds.gate) none c.rest.new.rounds.turns
     (round_view c.rest.new.rounds.served c.rest.new.rounds.watch.clock c.rest.new.rounds.watch.taken c.rest.new.rounds.gate))
-    (ap is_none c.in-None.is) c.rest.ensures.looks) refl refl c.rest.ensures.names refl
+    (ap is_none c.in-None.is) c.rest.ensures.looks) refl refl c.rest.ensures.names refl refl refl
 
 pub returns-in-None-clause-runs : goal.returns-in-None-clause-runs
 returns-in-None-clause-runs g c = behind_runs g.S.Sink.has g.S.Sink.refused c.args.self.now c.hand_on_if_kept.new.self _ c.self.view_is c.hand_on_if_kept.ensures.hands c.rest.new.rounds.served.linked c.rest.ensures.stays

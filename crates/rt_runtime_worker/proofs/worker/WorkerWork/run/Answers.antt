@@ -5,6 +5,8 @@ use Rattle.rt_runtime_worker.specs.Workers.{WorkerView}
 use Rattle.rt_runtime_worker.proofs.Along.{runs_along, runs_same}
 use Rattle.rt_runtime_worker.proofs.Asking.{asks_none, asks_then}
 use Rattle.rt_runtime_worker.proofs.Resting.{worker_of}
+use Rattle.rt_runtime_worker.specs.Shown.{shown_of}
+use Rattle.rt_runtime_worker.proofs.ShownAgain.{serves_board, shows_board}
 use Rattle.rt_runtime_worker.proofs.Supplied.{hands_notes, hands_runs}
 use Rattle.rt_runtime_worker.proofs.worker.WorkerWork.run.Goals as goal
 
@@ -14,13 +16,14 @@ loop-init g c = (
   tt,
   (
     [],
-    ap (λ rounds. worker_of rounds.served.linked rounds.served.ending rounds.watch.clock rounds.gate rounds.watch.taken rounds.turns c.worker.inside.tries c.worker.inside.idle rounds.bells.names c.worker.inside.sink) c.prefault.ensures
+    ap (λ rounds. worker_of rounds.served.linked rounds.served.ending rounds.watch.clock rounds.gate rounds.watch.taken rounds.turns c.worker.inside.tries c.worker.inside.idle rounds.bells.names c.worker.inside.sink (shown_of c.worker.inside.publisher) c.worker.inside.since) c.prefault.ensures
         ∙ c.worker.view_is,
   ),
   subst (λ rounds. RunsOn c.args.self.linked rounds.served.linked) (sym c.prefault.ensures)
       (subst (λ (old : WorkerView _ _ _ _ _). RunsOn old.linked c.worker.inside.rounds.served.linked) c.worker.view_is (runs_same c.worker.inside.rounds.served.linked)),
   asks_none g.G.Gate.Asked _ _ _ _ _ (ap (λ rounds. polls_of rounds.served.linked.recorded.journal.notes) c.prefault.ensures ∙ ap (λ (worker : WorkerView _ _ _ _ _). polls_of worker.linked.recorded.journal.notes) c.worker.view_is)
       (ap (λ rounds. rounds.gate) c.prefault.ensures ∙ ap (λ (worker : WorkerView _ _ _ _ _). worker.gate) c.worker.view_is),
+  ap (λ (worker : WorkerView _ _ _ _ _). worker.shown.board) c.worker.view_is,
 )
 
 pub loop-preserved : goal.loop-preserved
@@ -31,19 +34,22 @@ loop-preserved g c = (
   runs_along c.args.self.linked c.loop.worker.linked c.serve.new.self.linked c.loop.invariant.3 c.serve.ensures.runs,
   asks_then g.G.Gate.Asked c.args.self.linked.recorded.core.core c.loop.worker.linked.recorded.core.core c.args.self.linked.recorded.journal.notes c.loop.worker.linked.recorded.journal.notes c.serve.new.self.linked.recorded.journal.notes
       c.args.self.gate c.loop.worker.gate c.serve.new.self.gate (ap (λ terms. terms.actor) c.loop.invariant.3.seat) c.loop.invariant.4 c.serve.ensures.asks,
+  serves_board g.J.Task.meaning g.C.Clock.Reads g.G.Gate.Asked g.S.Sink.has g.S.Sink.refused c.loop.worker c.serve.new.self c.serve.ensures.serves ∙ c.loop.invariant.5,
 )
 
 pub returns-then-is_drained-clause-keeps : goal.returns-then-is_drained-clause-keeps
-returns-then-is_drained-clause-keeps g c =
-    runs_along c.args.self.linked c.loop.worker.linked c.into_ended.result.linked c.loop.invariant.3
-    (hands_runs g.S.Sink.has g.S.Sink.refused c.loop.worker.linked c.into_ended.result.linked c.loop.worker.sink c.into_ended.result.sink c.into_ended.ensures)
+returns-then-is_drained-clause-keeps g c = record {
+  runs = runs_along c.args.self.linked c.loop.worker.linked c.into_ended.result.linked c.loop.invariant.3
+      (hands_runs g.S.Sink.has g.S.Sink.refused c.loop.worker.linked c.into_ended.result.linked c.loop.worker.sink c.into_ended.result.sink c.into_ended.ensures.hands);
+  board = shows_board c.loop.worker.linked.recorded.journal.notes c.loop.worker.shown c.into_ended.result.shown c.into_ended.ensures.shows ∙ c.loop.invariant.5;
+}
 
 pub returns-then-is_drained-clause-serves : goal.returns-then-is_drained-clause-serves
-returns-then-is_drained-clause-serves g c = record { last = c.loop.worker; serves = c.loop.invariant.2; hands = c.into_ended.ensures }
+returns-then-is_drained-clause-serves g c = record { last = c.loop.worker; serves = c.loop.invariant.2; shows = c.into_ended.ensures.shows; hands = c.into_ended.ensures.hands }
 
 pub returns-then-is_drained-clause-asks : goal.returns-then-is_drained-clause-asks
 returns-then-is_drained-clause-asks g c = (
   c.loop.worker.gate,
   subst (λ notes. AsksSince g.G.Gate.Asked c.args.self.linked.recorded.core.core c.args.self.linked.recorded.journal.notes notes c.args.self.gate c.loop.worker.gate)
-      (sym (hands_notes g.S.Sink.has g.S.Sink.refused c.loop.worker.linked c.into_ended.result.linked c.loop.worker.sink c.into_ended.result.sink c.into_ended.ensures)) c.loop.invariant.4,
+      (sym (hands_notes g.S.Sink.has g.S.Sink.refused c.loop.worker.linked c.into_ended.result.linked c.loop.worker.sink c.into_ended.result.sink c.into_ended.ensures.hands)) c.loop.invariant.4,
 )

@@ -1,3 +1,4 @@
+use Rattle.std.proofs.Common.{◌≡◌}
 use Rattle.rt_runtime_worker.specs.Asks.{AsksSince}
 use Rattle.rt_runtime_worker.specs.Linked.{RunsOn}
 use Rattle.rt_runtime_worker.specs.Serves.{ServesOn}
@@ -6,4 +7,4 @@ use Rattle.rt_runtime_worker.proofs.worker.WorkerWork.run.Given as goal
 abbrev pub invariant-loop : goal.invariant-loop
 invariant-loop g l =
     (goal.iterator-loop g).can_next l.iterator' × (goal.iterator-loop g).is_finite l.iterator' × ServesOn g.J.Task.meaning g.C.Clock.Reads g.G.Gate.Asked g.S.Sink.has g.S.Sink.refused l.fn.self l.worker
-    × RunsOn l.fn.self.linked l.worker.linked × AsksSince g.G.Gate.Asked l.fn.self.linked.recorded.core.core l.fn.self.linked.recorded.journal.notes l.worker.linked.recorded.journal.notes l.fn.self.gate l.worker.gate
+    × RunsOn l.fn.self.linked l.worker.linked × AsksSince g.G.Gate.Asked l.fn.self.linked.recorded.core.core l.fn.self.linked.recorded.journal.notes l.worker.linked.recorded.journal.notes l.fn.self.gate l.worker.gate × (l.worker.shown.board ≡ l.fn.self.shown.board)

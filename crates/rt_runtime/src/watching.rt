@@ -1,0 +1,36 @@
+//! What the caller sees of the cores while they run.
+
+ghost use Rattle.std.specs.Prelude.{◌≡◌, ◌<◌, ◌≤◌, IfSome, None, false};
+ghost use Rattle.rt_runtime.specs.Watching.{Watches, watch_at};
+
+use crate::runtime::Runtime;
+use rt_ids::CoreNo;
+use rt_jobs::Task;
+use rt_journal_notes::Sink;
+use rt_watch::Watcher;
+
+impl<J: Task<Out = u64>, C: Drop, G: Drop, S: Sink> Runtime<J, C, G, S> {
+    /// Looks at the numbers that the worker of this core published last. `watched` tells them. False if there is no such core, or if each try
+    /// of the look met a publication on the way; then `watched` tells the same as before.
+    ///
+    /// A worker publishes behind each 1024 rounds in which something was done, before it lies down, and when its core is drained. It waits for
+    /// nobody that looks, and isn't asked. No clause says that a look sees a publication soon.
+    pub fn watch(&mut self, core: CoreNo) -> bool
+        ensures watches { core < self.old.desk.cores → Watches core self.old result self.new }
+        ensures missing { self.old.desk.cores ≤ core → (result ≡ false) × (self.new ≡ self.old) }
+    {
+        if core.0 >= self.cores {
+            return false;
+        }
+        self.watchers[core.0 as usize].look()
+    }
+
+    /// What the last watch of this core saw: its numbers and those of its queues, all of one moment. Before the first watch they are those of a
+    /// core with no note. None if there is no such core.
+    pub fn watched(&self, core: CoreNo) -> Option<&Watcher>
+        ensures some { core < self.now.desk.cores → IfSome result (λ watcher. watcher.now ≡ watch_at core self.now.watched) }
+        ensures none { self.now.desk.cores ≤ core → result ≡ None }
+    {
+        self.watchers.get(core.0 as usize)
+    }
+}
