@@ -12,6 +12,7 @@ ghost use Rattle.rt_jobs.specs.Posts.{LendsState, NotesSubmit, NotesRedeem, Note
 ghost use Rattle.rt_jobs.specs.Ready.{HasReadyJob};
 
 use crate::job::Task;
+use crate::state::CoreState;
 use rt_ids::{CoreNo, Order, Outcome, SendError, Ticket, TicketError};
 use std::marker::Model;
 
@@ -93,7 +94,7 @@ impl<L> NoPost<L> {
     }
 }
 
-impl<L: Drop, J: Task<Local = L>, T> Post<J, T> for NoPost<L> {
+impl<L: CoreState, J: Task<Local = L>, T> Post<J, T> for NoPost<L> {
     ghost use Rattle.std.specs.Prelude.{◌≡◌, []};
     ghost use Rattle.rt_jobs.specs.Calls.{IsRefused};
 

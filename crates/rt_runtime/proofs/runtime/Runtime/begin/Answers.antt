@@ -61,6 +61,8 @@ invariant_of-result g c =
       c.in-Ok-open_spares.ensures.journals.0,
       same_maps (λ worker. worker.shown.board) (λ watcher. watcher.board) IsWatcherOf (λ worker watcher is. is.board) c.in-Ok.workers.items c.in-Ok.watchers.items c.in-Ok.ensures.watchers
           ∙ ap (λ workers. map (λ worker. worker.shown.board) workers) (sym c.in-Ok-start.ensures.ok),
+      c.in-Ok-open_spares.ensures.locals.0,
+      c.in-Ok-open_spares.ensures.locals.1,
     )
 
 pub returns-in-Ok-start : goal.returns-in-Ok-start
