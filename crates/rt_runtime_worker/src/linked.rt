@@ -73,7 +73,7 @@ impl<J: Task<Out = u64>> Linked<J> {
 
     /// Makes what is still to be made of what the jobs of the core share.
     pub(crate) fn begin(&self, local: &mut J::Local) {
-        local.begin(self.ends.number);
+        local.begin(CoreNo(self.ends.number.0));
     }
 
     /// Whether the core is closed, in either mode.
