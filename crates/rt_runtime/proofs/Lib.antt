@@ -17,6 +17,7 @@ pub mod SinksTold
 pub mod Booked
 pub mod HandedOn
 pub mod Dealt
+pub mod Watched
 pub mod Started
 pub mod Collected
 pub mod Sent

@@ -174,7 +174,8 @@ impl<J: Job + Task<Out = u64>, C: Clock + Drop, G: Gate + Drop, S: Sink> Runtime
             spare_locals,
             ..
         } = self;
-        let (mut ended, mut watchers) = (team.join(rt), watchers);
+        let mut watchers = watchers;
+        let mut ended = team.join(rt);
         compare_all(&mut ended, &mut watchers);
         let (mut all, mut actors, locals) = part_all(ended, spare_ends, spare_actors, spare_locals);
         let burst = desk.burst();

@@ -14,8 +14,10 @@ use Rattle.rt_runtime_worker.specs.Linked.{IsBetweenTurns, IsLinked, LinkedView,
 use Rattle.rt_runtime_worker.specs.Passing.{HandsOn, HandsOnWhere, HasPlaces, IsDue, IsDueAtRest, IsSupplied, PassesTo}
 use Rattle.rt_runtime_worker.specs.Queues.{opening_of}
 use Rattle.rt_runtime_worker.specs.Rooms.{ActsAsItMay, ActsByCommand, HasSpare, IsProvided, least_free}
+use Rattle.rt_runtime_worker.specs.Shown.{IsShown, ShownView}
 use Rattle.rt_runtime_worker.specs.Workers.{WorkerView}
 use Rattle.rt_runtime_worker.proofs.Along.{least_along, runs_same, sees_same}
+use Rattle.rt_runtime_worker.proofs.Published.{shown_runs}
 use Rattle.rt_runtime_worker.proofs.Passed.{free_behind, has_passed, same_notes, same_places, still_free}
 
 module _ {J T S : Type 0} (has : S → Journal T) (refused : S → ℕ → Type 0) where
@@ -39,6 +41,10 @@ module _ {J T S : Type 0} (has : S → Journal T) (refused : S → ℕ → Type 
       opening = ap opening_of hands_notes;
       grows = ([], hands_notes);
     }
+
+    -- what was published stays a beginning of the journal
+    pub hands_shown : (shown : ShownView T) → IsShown old.recorded shown → IsShown new.recorded shown
+    hands_shown shown is = shown_runs old new shown hands_runs is
 
     -- the worker isn't at its end, and its sink has what was passed on
     pub hands_passes : HasPlaces old.recorded → has before ≡ old.recorded.journal.passed → (ending : Bool) → ending ≡ false → PassesTo has refused (record { linked = new; ending = ending }) after

@@ -229,7 +229,7 @@ impl<J: Job + Task<Out = u64>, C: Clock + Drop, G: Gate + Drop, S: Sink> Worker<
 impl<J: Task<Out = u64>, C: Drop, G: Drop, S: Sink> Promised for Worker<J, C, G, S> {
     type Ended = Ended<J, S>;
 
-    ghost keeps = { KeepsOn };
+    ghost keeps = { λ worker ended. KeepsOn worker ended };
 }
 
 impl<J: Job + Task<Out = u64>, C: Clock + Drop, G: Gate + Drop, S: Sink> Work

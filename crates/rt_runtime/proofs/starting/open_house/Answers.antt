@@ -11,7 +11,7 @@ open_workers-requires-clause-each g c =
 pub returns-clause-house : goal.returns-clause-house
 returns-clause-house g c =
     opened_house c.args.config.now.cores c.args.config.now.cap c.args.config.now.burst c.args.config.now.room c.args.config.now.queues.items c.in-Ok.all.items c.pop.new.self.items c.in-Some.outside c.in-Some.ensures.items c.in-Ok.ensures.grid c.in-Ok.ensures.fresh
-    (map (λ worker. worker.linked) c.in_ok-workers.result.0.items) c.in_ok-workers.ensures.opened
+    (map (λ worker. worker.linked) c.in_ok-workers.workers.items) c.in_ok-workers.ensures.opened
 
 pub returns-clause-shared : goal.returns-clause-shared
 returns-clause-shared g c =

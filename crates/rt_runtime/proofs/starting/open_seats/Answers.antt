@@ -1,7 +1,9 @@
-use Rattle.std.proofs.Common.{◌≡◌, [], ◌∙◌, subst, arith}
+use Rattle.std.proofs.Common.{◌≡◌, [], ◌∙◌, ap, sym, subst, arith}
 use Rattle.std.specs.Vec.Iter.{into_iter_items, into_iter_len}
-use Rattle.rt_runtime_team.proofs.Lists.{IsMade, made_all, made_first, made_more}
+use Rattle.rt_runtime_team.proofs.Lists.{IsMade, made_all, made_first, made_more, together_more}
 use Rattle.rt_runtime.specs.Starting.{AreOpening, IsOpenedWith, IsWiredWith}
+use Rattle.rt_runtime_team.specs.Works.{Together}
+use Rattle.rt_runtime.specs.Watching.{IsWatcherOf}
 use Rattle.rt_runtime.proofs.Started.{holds_next}
 use Rattle.rt_runtime.proofs.starting.open_seats.Goals as goal
 
@@ -43,14 +45,14 @@ loop-seat-preserved g c =
       room = omega (arith, loop.invariant.room, c.push_reserved-in-loop-seat.ensures.capacity);
       watched = rw c.push_reserved.ensures.items
           (rw c.push_reserved-in-loop-seat.ensures.items
-          (together_more IsWatcherOf loop.workers.items loop.watchers.items c.in_ok-worker.result.0 c.in_ok-worker.result.1 loop.invariant.watched
+          (together_more IsWatcherOf loop.workers.items loop.watchers.items c.in_ok-worker.worker c.in_ok-worker.watcher loop.invariant.watched
           (record { board = ap (λ watcher. watcher.board) c.in_ok-worker.ensures.watches; terms_are = ap (λ watcher. watcher.terms) c.in_ok-worker.ensures.watches; none = ap (λ watcher. watcher.notes) c.in_ok-worker.ensures.watches })));
       made = rw c.push_reserved.ensures.items
           (made_more
           (λ seat worker. IsWiredWith (IsOpenedWith c.args.config.now.cores c.args.config.now.cap c.args.config.now.burst c.args.config.now.room c.args.config.now.queues.items seat.ends)
           seat.clock seat.gate seat.sink c.args.bells.now.names worker)
           c.args.seats.items (into_iter_items loop.seat-iterator) (into_iter_items c.next.new.self)
-          (into_iter_len loop.seat-iterator) (into_iter_len c.next.new.self) loop.workers.items c.in-Some.seat c.in_ok-worker.result.0 loop.invariant.made steps.0 steps.1
+          (into_iter_len loop.seat-iterator) (into_iter_len c.next.new.self) loop.workers.items c.in-Some.seat c.in_ok-worker.worker loop.invariant.made steps.0 steps.1
           (record { linked = record { over = c.in_ok-worker.ensures.over; queues_are = c.in_ok-worker.ensures.queues }; clock_is = c.in_ok-worker.ensures.clock; gate_is = c.in_ok-worker.ensures.gate; sink_is = c.in_ok-worker.ensures.sink; bells_are = c.in_ok-worker.ensures.bells }));
     }
 
@@ -67,3 +69,6 @@ returns-clause-workers g c =
     seat.clock seat.gate seat.sink c.args.bells.now.names worker)
     c.args.seats.items rest left c.loop-seat.workers.items)
     c.in-None.ensures.steps.0 c.loop-seat.invariant.made)
+
+pub returns-clause-watchers : goal.returns-clause-watchers
+returns-clause-watchers g c = c.loop-seat.invariant.watched

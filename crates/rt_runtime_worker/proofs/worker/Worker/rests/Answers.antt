@@ -18,6 +18,15 @@ invariant_of-self g c = (
   shown_runs _ _ _ (runs_stays _ _ c.rest.ensures.stays) c.self.invariant.3,
 )
 
+pub invariant_of-self-in-None : goal.invariant_of-self-in-None
+invariant_of-self-in-None g c = (
+  c.rest.ensures.rung,
+  c.rest.ensures.bell,
+  round_passes g.S.Sink.has g.S.Sink.refused c.self.inside.rounds.served c.self.inside.sink c.self.invariant.2 c.rest.new.rounds.served
+      (subst (λ view. IsSupplied g.S.Sink.has g.S.Sink.refused (served_of view) view.sink) (sym c.self.view_is) c.hand_on_if_kept.ensures.supplied) c.rest.ensures.stays c.rest.ensures.few,
+  shown_runs _ _ _ (runs_stays _ _ c.rest.ensures.stays) c.self.invariant.3,
+)
+
 pub returns-in-Some-clause-rests : goal.returns-in-Some-clause-rests
 returns-in-Some-clause-rests g c =
     rests g.J.Task.meaning g.C.Clock.Reads g.G.Gate.Asked g.S.Sink.has g.S.Sink.refused c.args.self.now c.hand_on_if_kept.new.self _ _ true c.self.view_is c.hand_on_if_kept.ensures.hands
