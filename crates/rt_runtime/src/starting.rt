@@ -97,8 +97,7 @@ fn open_seats<J: Task<Out = u64>, C: Drop, G: Drop, S: Sink>(
             sink,
             local,
         } = seat;
-        let (worker, watcher) =
-            Worker::open(alloc, config, ends, clock, gate, bells, sink, local)?;
+        let (worker, watcher) = Worker::open(alloc, config, ends, clock, gate, bells, sink, local)?;
         workers.push_reserved(worker);
         watchers.push_reserved(watcher);
     }
@@ -165,7 +164,9 @@ fn open_house<J: Task<Out = u64>, C: Drop, G: Drop, S: Sink>(
     let Some(outside) = all.pop() else {
         unreachable!()
     };
-    let (workers, watchers) = open_workers(alloc, config, all, &bells, clocks, gates, sinks, locals)?;
+    let (workers, watchers) = open_workers(
+        alloc, config, all, &bells, clocks, gates, sinks, locals,
+    )?;
     Ok((workers, bells, outside, watchers))
 }
 
@@ -193,12 +194,7 @@ fn open_outside<J: Task<Out = u64>>(
 }
 
 /// Room for what the actors of a house give back: their ends, their notes, their journals, and what their jobs shared.
-type Spares<J, S, L> = (
-    Vec<Ends<J>>,
-    Vec<ActorNotes<S>>,
-    Vec<Journal<u64>>,
-    Vec<L>,
-);
+type Spares<J, S, L> = (Vec<Ends<J>>, Vec<ActorNotes<S>>, Vec<Journal<u64>>, Vec<L>);
 
 /// Takes room for what so many actors give back.
 fn open_spares<J: Task<Out = u64>, S: Sink>(
@@ -246,17 +242,18 @@ impl<J: Task<Out = u64>, C: Drop, G: Drop, S: Sink> Runtime<J, C, G, S> {
         let Some(sink) = sinks.pop() else {
             unreachable!()
         };
-        let Ok((workers, bells, ends, watchers)) =
-            open_house(alloc, config, clocks, gates, sinks, locals)
-        else {
+        let Ok((workers, bells, ends, watchers)) = open_house(
+            alloc, config, clocks, gates, sinks, locals,
+        ) else {
             return Err(StartError::Memory);
         };
         let Ok((desk, closing)) = open_outside(alloc, config) else {
             return Err(StartError::Memory);
         };
-        let Ok((spare_ends, spare_actors, spare_journals, spare_locals)) =
-            open_spares(alloc, config.cores)
-        else {
+        let Ok((spare_ends, spare_actors, spare_journals, spare_locals)) = open_spares(
+            alloc,
+            config.cores,
+        ) else {
             return Err(StartError::Memory);
         };
         let bells = Rings::of(bells, &ends);

@@ -266,7 +266,15 @@ impl<J: Job<Out = u64>, A: Allocator + Clone> Recorded<J, A> {
         self.said.see_lanes();
         let picked = picked_notes(next);
         self.said.write(&picked);
-        let (step, time) = turn_lent(alloc, &mut self.core, &mut self.said, ends, local, next, meter);
+        let (step, time) = turn_lent(
+            alloc,
+            &mut self.core,
+            &mut self.said,
+            ends,
+            local,
+            next,
+            meter,
+        );
         note_settled(&mut self.said, next, &step, time)
     }
 
@@ -320,7 +328,15 @@ impl<J: Job<Out = u64>, A: Allocator + Clone> Recorded<J, A> {
         self.said.see_lanes();
         let begun = followed_notes(next);
         self.said.write(&begun);
-        let (step, time) = further_lent(alloc, &mut self.core, &mut self.said, ends, local, next, meter);
+        let (step, time) = further_lent(
+            alloc,
+            &mut self.core,
+            &mut self.said,
+            ends,
+            local,
+            next,
+            meter,
+        );
         note_settled(&mut self.said, next, &step, time)
     }
 
