@@ -66,9 +66,9 @@ impl<'a, J: Task<Out = u64>, O: OutEnd<J>> RecordedPost<'a, J, O> {
 
     /// The desk and its ends, after what was posted.
     pub fn into_parts(self) -> (RecordedDesk<J>, Vec<O, Global>)
-        ensures desk { result.0 ≡ self.desk }
-        ensures ends { result.1.items ≡ self.ends }
-        ensures lent { IsLent (Fits J.meaning) O.out O.credited self }
+        ensures desk { result.0 ≡ self.entry.desk }
+        ensures ends { result.1.items ≡ self.entry.ends }
+        ensures lent { IsLent (Fits J.meaning) O.out O.credited self.entry }
     {
         let RecordedPost {
             said,

@@ -128,7 +128,7 @@ fn put_back<J: Job<Out = u64>, O: OutEnd<J> + Drop>(
     ends: &mut Vec<O, Global>,
     post: RecordedPost<'_, J, O>,
 )
-    ensures back { lends said.new ends.new.items ≡ post }
+    ensures back { lends said.new ends.new.items ≡ post.entry }
     ensures outs { AreOutsOf (Fits J.meaning) O.out O.credited said.new ends.new.items }
     ensures room { length said.new.journal.notes < said.new.journal.room }
     ensures written { IsWritten (terms_of_desk said.new) said.new.journal.notes }
