@@ -19,6 +19,7 @@ const LOOKS: u64 = 1 << 30;
 
 /// How many jobs the busy core has, and how often each yields. So it makes some thousand turns.
 const JOBS: u64 = 20;
+
 const YIELDS: u32 = 400;
 
 /// The numbers of a core and of its queue 0.
@@ -126,7 +127,9 @@ fn an_idle_core_has_told_all(rt: HostRuntime) -> Result<(), Fail> {
     // Six turns are too few for a publication while the core works. It publishes before it lies down.
     assert!(rt; submits(&mut house, 1, 5));
     let told = watch_until(&mut house, CoreNo(0), 1, false);
-    assert!(rt; matches!(told, Some((core, _)) if core.turns == 6 && core.held == 0 && !core.drained));
+    assert!(rt;
+        matches!(told, Some((core, _)) if core.turns == 6 && core.held == 0 && !core.drained)
+    );
     assert!(rt; house.close_core(CoreNo(0), Mode::Finish).is_ok() && house.finish(&rt).is_ok());
     Ok(())
 }

@@ -46,10 +46,10 @@ many_notes burst notes queues tells inexact =
     (λ (few : length notes < 2 ^ 64 - 1).
     let all = tells (omega (arith, few)) in
     absurd (inexact (λ queue other low.
-      let its = all.each queue (omega (arith, low, all.count_is)) in
-      let here : get_or queues queue other ≡ its.0 = get_or_from_slice_get queues queue its.0 other its.1 in
-      let done = ap (λ (stats : QueueStats). stats.finished) (here ∙ its.2.sums) in
-      omega (arith, done, finished-within queue notes, few))))
+    let its = all.each queue (omega (arith, low, all.count_is)) in
+    let here : get_or queues queue other ≡ its.0 = get_or_from_slice_get queues queue its.0 other its.1 in
+    let done = ap (λ (stats : QueueStats). stats.finished) (here ∙ its.2.sums) in
+    omega (arith, done, finished-within queue notes, few))))
     (λ (many : 2 ^ 64 - 1 ≤ length notes). many)
     (cases_lt (length notes) (2 ^ 64 - 1))
 

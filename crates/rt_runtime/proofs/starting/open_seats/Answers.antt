@@ -1,6 +1,6 @@
 use Rattle.std.proofs.Common.{◌≡◌, [], ◌∙◌, ap, sym, subst, arith}
 use Rattle.std.specs.Vec.Iter.{into_iter_items, into_iter_len}
-use Rattle.rt_runtime_team.proofs.Lists.{IsMade, made_all, made_first, made_more, together_more}
+use Rattle.rt_runtime_team.proofs.Lists.{IsMade, made_all, made_first, made_more, together_length, together_more}
 use Rattle.rt_runtime.specs.Starting.{AreOpening, IsOpenedWith, IsWiredWith}
 use Rattle.rt_runtime_team.specs.Works.{Together}
 use Rattle.rt_runtime.specs.Watching.{IsWatcherOf}
@@ -72,3 +72,14 @@ returns-clause-workers g c =
 
 pub returns-clause-watchers : goal.returns-clause-watchers
 returns-clause-watchers g c = c.loop-seat.invariant.watched
+
+pub push_reserved-requires-in-loop-seat : goal.push_reserved-requires-in-loop-seat
+push_reserved-requires-in-loop-seat g c =
+    omega (
+      arith,
+      c.loop-seat.invariant.room,
+      together_length IsWatcherOf c.loop-seat.workers.items c.loop-seat.watchers.items c.loop-seat.invariant.watched,
+      c.loop-seat.invariant.made.count,
+      c.in-Some.ensures.steps.1,
+      c.loop-seat.watchers.ok.0,
+    )

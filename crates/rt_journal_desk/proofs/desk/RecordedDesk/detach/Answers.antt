@@ -46,3 +46,10 @@ push-requires g c =
       free = may_note (record { actor = c.self.inside.actor; cores = c.self.inside.cores; cap = c.self.inside.cap; burst = c.self.inside.burst; journal = c.self.inside.journal; lanes = c.self.inside.lanes.items })
           c.args.self.now c.self.view_is c.args.ticket c.requires.room c.name.inside.0.1.0.0 _ (ap (λ id. id.to) named) (ap (λ id. id.number) named) _ taken.there held;
     }
+
+pub invariant_of-self-in-Err : goal.invariant_of-self-in-Err
+invariant_of-self-in-Err g c =
+    let taken = lane_taken c.self.view_is c.self.invariant (ap (λ id. id.to) (c.name.view_is ∙ c.name-name.ensures)) c.requires.beside c.requires.lane c.index_mut-lane.ensures.value in
+    let named = its_name (c.name.view_is ∙ c.name-name.ensures) (are_same _ _ c.ne.result c.ne.ensures c.if-ne.false) in
+    let refused = detach_refused c.args.ticket taken named c.in-Err.ensures.lane c.in-Err.ensures.out c.in-Err.error c.in-Err.ensures.detaches in
+    (refused.1.written, refused.1.known)
