@@ -5,7 +5,7 @@ use Rattle.example_broker.specs.declared.work.Work.TheVariants.{Publish, Index, 
 
 -- whether it has answered
 abbrev pub is_over : Work → Bool
-is_over (Publish message index home from number kept) = false
-is_over (Index message home from number) = false
+is_over (Publish message index own kept) = false
+is_over (Index message waiting) = false
 is_over (Compact blocks left) = false
 is_over Ended = true

@@ -6,7 +6,7 @@
 
 use fairexec_report::put_stats;
 use rt_audit::{Verdict, audit};
-use rt_ids::{ActorNo, CoreNo, Mode, Order, Outcome, Ticket};
+use rt_ids::{ActorNo, CoreNo, JobId, Mode, Order, Outcome, Ticket};
 use rt_journal::Assembly;
 use rt_runtime::{Config, NoGate, Runtime, SubmitError, SystemClock};
 use rt_shares::Shares;
@@ -107,13 +107,15 @@ fn publish<R: Eprint + Drop>(
     message: u32,
     last: Ticket,
 ) -> Option<Ticket> {
-    let name = last.name();
+    let before = last.name();
+    let own = JobId {
+        number: before.number.saturating_add(1),
+        ..before
+    };
     let job = Work::Publish {
         message,
-        index: CoreNo((core.0 as u32 + 1) as u8 % CORES),
-        home: core,
-        from: name.from,
-        number: name.number.saturating_add(1),
+        index: CoreNo((core.0 % CORES + 1) % CORES),
+        own,
         kept: None,
     };
     accepted(rt, core, node.submit(core, Order::Job(PUBLISH, job)))

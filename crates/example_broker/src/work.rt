@@ -4,7 +4,7 @@ ghost use Rattle.std.specs.Prelude.{◌≡◌, true};
 ghost use Rattle.example_broker.specs.Over.{is_over};
 ghost use Rattle.rt_jobs.specs.declared.job.Step.TheVariants.{Done};
 
-use rt_ids::{ActorNo, CoreNo, Order, Outcome, QueueNo, Ticket};
+use rt_ids::{CoreNo, JobId, Order, Outcome, QueueNo, SendError, Ticket};
 use rt_jobs::{
     Asks, Job, Post, Redeemed, Step, Task, poll_asking, redeem_if_there, submit_and_detach,
     submit_and_keep,
@@ -24,22 +24,17 @@ pub const NOT_INDEXED: u64 = u64::MAX;
 /// What is submitted to a core.
 #[derive(Drop)]
 pub enum Work {
-    /// Publishes a message: the core `index` indexes it, and the answer is its place. The job runs on the core `home` as the submission
-    /// `number` of the actor `from`, by which it is woken.
+    /// Publishes a message: the core `index` indexes it, and the answer is its place. `own` is the job's own name, by which it is woken.
     Publish {
         message: u32,
         index: CoreNo,
-        home: CoreNo,
-        from: ActorNo,
-        number: u64,
+        own: JobId,
         kept: Option<Ticket>,
     },
-    /// Indexes a message, and wakes the job that publishes it. The answer is its place.
+    /// Indexes a message, and wakes the job that waits for it. The answer is its place.
     Index {
         message: u32,
-        home: CoreNo,
-        from: ActorNo,
-        number: u64,
+        waiting: JobId,
     },
     /// Merges so many blocks, one in each poll.
     Compact {
@@ -92,17 +87,13 @@ impl Asks for Work {
             Work::Publish {
                 message,
                 index,
-                home,
-                from,
-                number,
+                own,
                 kept,
             } => {
                 let Some(ticket) = *kept else {
                     let job = Work::Index {
                         message: *message,
-                        home: *home,
-                        from: *from,
-                        number: *number,
+                        waiting: *own,
                     };
                     *kept = submit_and_keep(begun, post, *index, Order::Job(INDEX, job)).ok();
                     return match kept {
@@ -117,17 +108,12 @@ impl Asks for Work {
                     _ => self.end(NOT_INDEXED),
                 }
             }
-            Work::Index {
-                message,
-                home,
-                from,
-                number,
-            } => {
+            Work::Index { message, waiting } => {
                 let place = *message as u64 * 2;
-                let wake = Order::Wake(*from, *number);
-                match submit_and_detach(begun, post, *home, wake) {
-                    Ok(_) => self.end(place),
-                    Err(_) => Step::Yield,
+                let wake = Order::Wake(waiting.from, waiting.number);
+                match submit_and_detach(begun, post, waiting.to, wake) {
+                    Err(SendError::Full(_)) => Step::Yield,
+                    _ => self.end(place),
                 }
             }
             Work::Compact { blocks, left } => {
