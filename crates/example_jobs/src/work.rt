@@ -56,6 +56,8 @@ impl Task for Work {
 
     type Out = u64;
 
+    type Local = ();
+
     ghost meaning = { plain_meaning is_over };
 
     ghost laws = { plain_laws is_over };

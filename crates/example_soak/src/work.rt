@@ -19,6 +19,8 @@ impl Task for Work {
 
     type Out = u64;
 
+    type Local = ();
+
     ghost meaning = { answering_meaning is_ended MayAnswer };
 
     ghost laws = { answering_laws is_ended MayAnswer };

@@ -17,8 +17,10 @@ use std::process::ExitCode;
 use std::sync::Wait;
 use std::thread::Threads;
 use std::time::Clock;
+use table::Table;
 use work::Work;
 
+mod table;
 mod work;
 
 const CORES: u8 = 2;
@@ -59,12 +61,16 @@ where
         return None;
     };
     let (mut clocks, mut gates) = (Vec::new(alloc), Vec::new(alloc));
+    let mut tables = Vec::new(alloc);
     for _ in 0..CORES {
         if clocks.push(SystemClock::new(rt)).is_err() || gates.push(NoGate).is_err() {
             return None;
         }
+        if tables.push(Table::new(alloc)).is_err() {
+            return None;
+        }
     }
-    Node::start(rt, alloc, config, clocks, gates).ok()
+    Node::start_with_locals(rt, alloc, config, clocks, gates, tables).ok()
 }
 
 /// The ticket of an order that was submitted. Standard error tells why it was refused, if it was: its core has closed, or the journal of the
@@ -156,8 +162,8 @@ fn do_work<R: Wait + Eprint + Drop>(rt: &R, node: &mut Node<R>) -> Option<(u64, 
 }
 
 /// Closes the cores, waits until they have ended, and puts the journals together. A core that has closed by itself refuses the order, and
-/// counts as closed, too.
-fn finish<R>(rt: &R, node: Node<R>, mode: Mode) -> Option<Assembly>
+/// counts as closed, too. The table of each core comes back.
+fn finish<R>(rt: &R, node: Node<R>, mode: Mode) -> Option<(Assembly, Vec<Table>)>
 where
     R: Threads + Wait + Clock + Eprint + Drop,
 {
@@ -166,8 +172,8 @@ where
         let core = CoreNo(core);
         let _ticket = accepted(rt, core, node.close_core(core, mode));
     }
-    match node.finish(rt) {
-        Ok(assembly) => Some(assembly),
+    match node.finish_with_locals(rt) {
+        Ok(both) => Some(both),
         Err(error) => {
             let _ = eprintln!(rt; "{error}");
             None
@@ -213,6 +219,16 @@ fn statistics(alloc: Global, assembly: &Assembly) -> Result<String, AllocError> 
     Ok(page)
 }
 
+/// Tells what stands in the tables of all cores.
+fn tell_tables<R: Print>(rt: &R, tables: &[Table]) -> Option<()> {
+    let (mut reads, mut keys) = (0u64, 0usize);
+    for table in tables {
+        reads = reads.saturating_add(table.reads());
+        keys = keys.saturating_add(table.count());
+    }
+    println!(rt; "tables: {reads} reads, {keys} committed").ok()
+}
+
 /// Tells what became of the work.
 fn tell_work<R: Print>(rt: &R, done: Option<(u64, u64)>) -> Option<()> {
     if let Some((sum, key)) = done {
@@ -237,11 +253,12 @@ where
     } else {
         Mode::Return
     };
-    let assembly = finish(rt, node, mode)?;
+    let (assembly, tables) = finish(rt, node, mode)?;
     tell_short(rt, &assembly);
     let page = statistics(alloc, &assembly).ok()?;
     eprint!(rt; "{page}").ok()?;
     tell_work(rt, done)?;
+    tell_tables(rt, &tables)?;
     let sound = matches!(audit(alloc, &assembly), Ok(Verdict::Sound));
     println!(rt; "{}", if sound { "sound" } else { "not sound" }).ok()?;
     Some(sound && done.is_some())

@@ -2,6 +2,7 @@
 
 ghost use Rattle.std.specs.Prelude.{◌≡◌, false};
 
+use crate::table::Table;
 use rt_jobs::{Job, Post, Step, Task};
 
 /// What is submitted to a core.
@@ -11,7 +12,7 @@ pub enum Work {
     Read { key: u32 },
     /// In the background: so many blocks are merged, one in each poll.
     Compact { blocks: u32, left: u32 },
-    /// In the foreground: a key is written, and the job parks until it is woken, since another core has the key too.
+    /// In the foreground: a key is written into the table of its core, and the job parks until it is woken, since another core has the key too.
     Commit { key: u32, is_written: bool },
     /// It has answered.
     Ended,
@@ -23,6 +24,8 @@ impl Task for Work {
     ghost use Rattle.example_storage.specs.Answers.{MayAnswer, is_ended};
 
     type Out = u64;
+
+    type Local = Table;
 
     ghost meaning = { answering_meaning is_ended MayAnswer };
 
@@ -38,9 +41,12 @@ impl Task for Work {
 }
 
 impl Job for Work {
-    fn poll<P: Post<Self, u64>>(&mut self, _post: &mut P) -> Step<u64> {
+    fn poll<P: Post<Self, u64>>(&mut self, post: &mut P) -> Step<u64> {
         let answer = match self {
-            Work::Read { key } => *key as u64 * *key as u64,
+            Work::Read { key } => {
+                post.local().count_read();
+                *key as u64 * *key as u64
+            }
             Work::Compact { blocks, left } => {
                 if *left > 0 {
                     *left -= 1;
@@ -50,8 +56,8 @@ impl Job for Work {
             }
             Work::Commit { key, is_written } => {
                 if !*is_written {
-                    *is_written = true;
-                    return Step::Park;
+                    *is_written = post.local().keep(*key);
+                    return if *is_written { Step::Park } else { Step::Yield };
                 }
                 *key as u64
             }

@@ -18,6 +18,8 @@ impl Task for Steps {
 
     type Out = u64;
 
+    type Local = ();
+
     ghost meaning = { record {
       same = λ _ _. Unit {0};
       done = λ steps. steps.done;

@@ -46,7 +46,7 @@ impl Polled for Nine {
 }
 
 /// What a job comes to that is submitted at a desk over a ring, served, collected and redeemed.
-fn trip<J: Job<Out = u64>>(alloc: Global, job: J) -> Came
+fn trip<J: Job<Out = u64, Local = ()>>(alloc: Global, job: J) -> Came
     requires open { J.meaning.done job ≡ false }
     requires ready { J.meaning.can_poll job }
 {

@@ -175,7 +175,7 @@ pub fn at_desk<O: OutEnd<ScriptJob>>(
 }
 
 /// Takes an order, polls its job to its end and gives the answer.
-pub fn serve<J: Job<Out = u64>, I: InEnd<J>>(end: &mut I) -> Came
+pub fn serve<J: Job<Out = u64, Local = ()>, I: InEnd<J>>(end: &mut I) -> Came
     ensures { I.untouched end.new ≡ I.untouched end.old }
 {
     let Some(Envelope { name, order }) = end.take() else {

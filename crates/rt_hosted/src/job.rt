@@ -31,6 +31,8 @@ impl Task for HostJob {
 
     type Out = u64;
 
+    type Local = ();
+
     ghost meaning = { host_meaning };
 
     ghost laws = { host_laws };

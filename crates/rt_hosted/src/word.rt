@@ -17,6 +17,8 @@ use rt_jobs::{Post, Ran, Step, Task};
 pub struct Word {
     pub step: Step<u64>,
     pub asked: Option<Ticket>,
+    // Jobs of a host share nothing.
+    local: (),
 }
 
 impl Post<HostJob, u64> for Word {
@@ -56,6 +58,10 @@ impl Post<HostJob, u64> for Word {
         let _name = ticket;
         Err(TicketError::Unknown)
     }
+
+    fn local(&mut self) -> &mut () {
+        &mut self.local
+    }
 }
 
 /// Polls a job whose run came to this step.
@@ -68,6 +74,10 @@ pub fn poll_told(job: HostJob, step: Step<u64>) -> Ran<HostJob>
     ensures polled { IsPolled host_meaning result }
     ensures same { IfUndone result.step (job.handle ≡ result.job.handle) }
 {
-    let mut word = Word { step, asked: None };
+    let mut word = Word {
+        step,
+        asked: None,
+        local: (),
+    };
     Ran::poll(job, &mut word)
 }

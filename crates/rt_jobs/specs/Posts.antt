@@ -1,4 +1,5 @@
--- What each call of a post adds to its notes. The newest note stands first.
+-- What each call of a post adds to its notes, the newest first, and what it leaves as it was.
+use Rattle.std.specs.Borrow.{Fml, Lends, MutBor, RattleType}
 use Rattle.std.specs.Prelude.{◌≡◌, ℕ, ◌∷◌, Result, Ok, Err}
 use Rattle.rt_ids.specs.declared.names.JobId.{JobId}
 use Rattle.rt_ids.specs.declared.names.TicketError.{TicketError}
@@ -32,3 +33,7 @@ NotesRedeem old name (Err error) new = new ≡ old
 abbrev pub NotesDetach : {T : Type 0} → Journal T → JobId → Result (Unit {0}) TicketError → Journal T → Type 0
 NotesDetach old name (Ok done) new = new ≡ Detached name ∷ old
 NotesDetach old name (Err error) new = new ≡ old
+
+-- a post that lends a state is as it was once the state is back, whatever was written there
+abbrev pub LendsState : (R T : RattleType) → MutBor R.Denot → MutBor T.Denot → Fml
+LendsState R T post state = Lends R T post state (λ _. post.now)

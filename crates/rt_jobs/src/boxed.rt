@@ -105,6 +105,8 @@ impl<B: Drop, C: Drop, M: KeyAnswers> Task for BoxedJob<B, C, M> {
 
     type Out = u64;
 
+    type Local = ();
+
     ghost meaning = { record {
       same = λ a b. a.key ≡ b.key;
       done = λ job. is_ended job.body;

@@ -45,6 +45,8 @@ impl<C: Called> Task for OnceOf<C> {
 
     type Out = C::Out;
 
+    type Local = ();
+
     ghost meaning = { record {
       same = λ a b. a.call ≡ b.call;
       done = λ job. is_none job.call;

@@ -27,6 +27,8 @@ impl Task for Work {
 
     type Out = u64;
 
+    type Local = ();
+
     ghost meaning = { answering_meaning is_ended MayAnswer };
 
     ghost laws = { answering_laws is_ended MayAnswer };
@@ -68,7 +70,7 @@ impl Job for Work {
 }
 
 /// Polls a job until it is done, at most so often, where it can submit nothing. If it isn't done by then, it comes back and can be polled on.
-pub fn drive<J: Job>(job: J, most: u32) -> Result<J::Out, J>
+pub fn drive<J: Job<Local = ()>>(job: J, most: u32) -> Result<J::Out, J>
     requires open { J.meaning.done job ≡ false }
     requires ready { J.meaning.can_poll job }
     ensures answers { IfOk result (J.meaning.answers job) }

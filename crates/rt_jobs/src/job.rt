@@ -5,6 +5,7 @@ ghost use Rattle.rt_jobs.specs.Meanings.{Meaning, IsMeaning};
 ghost use Rattle.rt_jobs.specs.Steps.{IfDone, IfUndone, OwesAt, OwesOn, OwesOnce, is_done_step};
 
 use crate::post::Post;
+use crate::state::CoreState;
 use std::marker::Model;
 use std::snapshot::Snapshot;
 
@@ -23,6 +24,9 @@ pub enum Step<T> {
 pub trait Task: Drop {
     /// What it answers.
     type Out: Drop;
+
+    /// What the jobs of one core share: `()` for jobs that share nothing.
+    type Local: CoreState;
 
     /// What the job means: its task, whether it has answered, what a poll needs and owes, and which answers the task may have.
     ghost meaning: { Meaning Self Self.Out };

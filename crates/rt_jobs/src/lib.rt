@@ -11,6 +11,7 @@ pub mod once;
 pub mod poll;
 pub mod post;
 pub mod script;
+pub mod state;
 
 pub use any::{AnyJob, OnceBox, Polled, Range, Within, once_job, polled_job};
 pub use asking::{
@@ -23,3 +24,4 @@ pub use once::Once;
 pub use poll::Poll;
 pub use post::{NoPost, Post};
 pub use script::{MOST_POLLS, ScriptJob};
+pub use state::CoreState;

@@ -32,6 +32,8 @@ impl<R: Drop, F: FnOnce() -> R + Drop> Task for Once<F> {
 
     type Out = R;
 
+    type Local = ();
+
     ghost meaning = { record {
       same = λ a b. a.call ≡ b.call;
       done = λ job. is_none job.call;

@@ -1,5 +1,6 @@
 //! What a job may ask for while it is polled.
 
+ghost use Rattle.std.specs.Borrow.{sem};
 ghost use Rattle.std.specs.Prelude.{◌≡◌, [], Err, IsOk, IfOk};
 ghost use Rattle.rt_ids.specs.declared.names.JobId.{JobId};
 ghost use Rattle.rt_ids.specs.Journal.{Journal};
@@ -7,11 +8,13 @@ ghost use Rattle.rt_ids.specs.declared.order.SendError.TheVariants.{NoCore};
 ghost use Rattle.rt_ids.specs.declared.names.TicketError.TheVariants.{Unknown};
 ghost use Rattle.rt_jobs.specs.Calls.Call.{Submit, Redeem, Detach};
 ghost use Rattle.rt_jobs.specs.Calls.{Call, Doing};
-ghost use Rattle.rt_jobs.specs.Posts.{NotesSubmit, NotesRedeem, NotesDetach};
+ghost use Rattle.rt_jobs.specs.Posts.{LendsState, NotesSubmit, NotesRedeem, NotesDetach};
 ghost use Rattle.rt_jobs.specs.Ready.{HasReadyJob};
 
 use crate::job::Task;
+use crate::state::CoreState;
 use rt_ids::{CoreNo, Order, Outcome, SendError, Ticket, TicketError};
+use std::marker::Model;
 
 /// Submits orders for jobs `J` whose answers are `T`, and asks for their outcomes. It notes what it did.
 ///
@@ -55,13 +58,43 @@ pub trait Post<J: Task, T> {
         ensures noted { NotesDetach (notes self.old) ticket result (notes self.new) }
         ensures waits { Waits self.old ticket → IsOk result }
         ensures does { Does self.old (Detach ticket result) self.new };
+
+    /// What the jobs of this core share. A contract tells nothing of its content, and whatever a job writes there leaves the post as it is.
+    fn local(&mut self) -> &mut J::Local
+        ensures* same { sem 𝓛 (LendsState Self.row J.Local.row self.entry result) };
 }
 
-/// A post of an actor that has no links: there is no core for it, and it notes nothing.
-#[derive(Clone, Copy, Debug)]
-pub struct NoPost;
+/// A post of an actor that has no links: there is no core for it, and it notes nothing. It lends the state that it was made with.
+///
+/// A contract sees nothing of it.
+#[derive(Drop)]
+pub struct NoPost<L = ()> {
+    local: L,
+}
 
-impl<J: Task, T> Post<J, T> for NoPost {
+/// The same for jobs that share nothing.
+pub const NoPost: NoPost = NoPost { local: () };
+
+impl<L> Model for NoPost<L> {
+    ghost Value = { Unit {0} };
+
+    ghost view = { λ _. tt };
+}
+
+impl<L> NoPost<L> {
+    /// A post that lends this state.
+    pub fn lending(local: L) -> Self {
+        NoPost { local }
+    }
+
+    /// The state, as the jobs left it.
+    pub fn into_local(self) -> L {
+        let NoPost { local } = self;
+        local
+    }
+}
+
+impl<L: CoreState, J: Task<Local = L>, T> Post<J, T> for NoPost<L> {
     ghost use Rattle.std.specs.Prelude.{◌≡◌, []};
     ghost use Rattle.rt_jobs.specs.Calls.{IsRefused};
 
@@ -91,5 +124,9 @@ impl<J: Task, T> Post<J, T> for NoPost {
         ensures noted { NotesDetach {T = T} [] _ticket result [] }
     {
         Err(TicketError::Unknown)
+    }
+
+    fn local(&mut self) -> &mut L {
+        &mut self.local
     }
 }

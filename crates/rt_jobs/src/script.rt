@@ -126,6 +126,8 @@ impl Task for ScriptJob {
 
     type Out = u64;
 
+    type Local = ();
+
     ghost meaning = { script_meaning };
 
     ghost laws = { script_laws };

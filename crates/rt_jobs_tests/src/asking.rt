@@ -23,6 +23,7 @@ struct Desk {
     journal: Journal<u64>,
     cores: u8,
     asked: bool,
+    local: (),
 }
 
 impl Post<Work, u64> for Desk {
@@ -79,6 +80,10 @@ impl Post<Work, u64> for Desk {
         self.journal.push(Note::Detached(ticket.name()));
         Ok(())
     }
+
+    fn local(&mut self) -> &mut () {
+        &mut self.local
+    }
 }
 
 /// A desk with two cores and room for so many notes, at which nobody asked yet.
@@ -90,6 +95,7 @@ fn new_desk(alloc: Global, room: u32) -> Option<Desk> {
         journal,
         cores: 2,
         asked: false,
+        local: (),
     })
 }
 

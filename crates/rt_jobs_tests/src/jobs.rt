@@ -12,7 +12,7 @@ use std::alloc::{AllocError, Global};
 use std::test::Fail;
 
 /// Whether a job yields just so often, and then answers this.
-fn answers_after<J: Job<Out = u64>>(yields: u32, job: J, answer: u64) -> bool
+fn answers_after<J: Job<Out = u64, Local = ()>>(yields: u32, job: J, answer: u64) -> bool
     requires open { J.meaning.done job ≡ false }
     requires ready { J.meaning.can_poll job }
 {
@@ -23,7 +23,7 @@ fn answers_after<J: Job<Out = u64>>(yields: u32, job: J, answer: u64) -> bool
 }
 
 /// Whether five polls of a job all yield.
-fn only_yields<J: Job>(job: J) -> bool
+fn only_yields<J: Job<Local = ()>>(job: J) -> bool
     requires open { J.meaning.done job ≡ false }
     requires ready { J.meaning.can_poll job }
 {
@@ -31,7 +31,7 @@ fn only_yields<J: Job>(job: J) -> bool
 }
 
 /// Whether a job yields at these times, and then answers this.
-fn tells<J: Job<Out = u64>>(job: J, times: &[u64], answer: u64) -> bool
+fn tells<J: Job<Out = u64, Local = ()>>(job: J, times: &[u64], answer: u64) -> bool
     requires open { J.meaning.done job ≡ false }
     requires ready { J.meaning.can_poll job }
 {

@@ -6,4 +6,6 @@ mod asking;
 #[cfg(test)]
 mod jobs;
 #[cfg(test)]
+mod local;
+#[cfg(test)]
 mod posts;

@@ -18,6 +18,7 @@ use std::test::Fail;
 struct Notebook {
     journal: Journal<u64>,
     cores: u8,
+    local: (),
 }
 
 impl Post<ScriptJob, u64> for Notebook {
@@ -71,6 +72,10 @@ impl Post<ScriptJob, u64> for Notebook {
         self.journal.push(Note::Detached(ticket.name()));
         Ok(())
     }
+
+    fn local(&mut self) -> &mut () {
+        &mut self.local
+    }
 }
 
 /// A job that submits to queue 3 of this core, and then is done.
@@ -85,7 +90,11 @@ fn leaves(alloc: Global, room: u32, core: u8, notes: usize) -> bool {
     let Ok(journal) = Journal::try_with_room(alloc, room) else {
         return false;
     };
-    let mut post = Notebook { journal, cores: 2 };
+    let mut post = Notebook {
+        journal,
+        cores: 2,
+        local: (),
+    };
     let Some(job) = submits_to(core) else {
         return false;
     };
@@ -100,7 +109,11 @@ fn notes_right(alloc: Global) -> bool {
     let Ok(journal) = Journal::try_with_room(alloc, 2) else {
         return false;
     };
-    let mut post = Notebook { journal, cores: 2 };
+    let mut post = Notebook {
+        journal,
+        cores: 2,
+        local: (),
+    };
     let Some(job) = submits_to(1) else {
         return false;
     };

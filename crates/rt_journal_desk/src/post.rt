@@ -17,15 +17,16 @@ use rt_link::OutEnd;
 use std::alloc::Global;
 use std::marker::Model;
 
-/// A desk and its ends, one for each core, lent to a job for one poll.
+/// A desk and its ends, one for each core, lent to a job for one poll, beside what the jobs of the core share.
 ///
-/// A contract sees both as they are. What each call does says `Does`.
-pub struct RecordedPost<J: Task<Out = u64>, O: OutEnd<J>> {
+/// A contract sees the desk and the ends as they are, and nothing of what is shared. What each call does says `Does`.
+pub struct RecordedPost<'a, J: Task<Out = u64>, O: OutEnd<J>> {
     said: RecordedDesk<J>,
     ends: Vec<O, Global>,
+    local: &'a mut J::Local,
 }
 
-impl<J: Task<Out = u64>, O: OutEnd<J>> Model for RecordedPost<J, O> {
+impl<'a, J: Task<Out = u64>, O: OutEnd<J>> Model for RecordedPost<'a, J, O> {
     ghost use Rattle.std.specs.Prelude.{ℕ};
     ghost use Rattle.rt_link.specs.Fits.{Fits};
     ghost use Rattle.rt_journal_desk.specs.Posts.{PostView, IsLent};
@@ -37,40 +38,48 @@ impl<J: Task<Out = u64>, O: OutEnd<J>> Model for RecordedPost<J, O> {
     ghost invariant = { λ p. IsLent (Fits J.meaning) O.out O.credited (record { desk = p.said; ends = p.ends.items }) };
 }
 
-impl<J: Task<Out = u64>, O: OutEnd<J>> RecordedPost<J, O> {
+impl<'a, J: Task<Out = u64>, O: OutEnd<J>> RecordedPost<'a, J, O> {
     /// Lends a desk and its ends. There is room for three notes for each place of each link, and for one more.
-    pub fn lend(said: RecordedDesk<J>, ends: Vec<O, Global>) -> Self
+    pub fn lend(said: RecordedDesk<J>, ends: Vec<O, Global>, local: &'a mut J::Local) -> Self
         requires outs { AreOutsOf (Fits J.meaning) O.out O.credited said ends.items }
         requires room { length said.journal.notes + said.cores * (3 * said.cap) < said.journal.room }
         ensures lent { result ≡ record { desk = said; ends = ends.items } }
         ensures few { sum_by left_of said.lanes ≤ said.cores * (3 * said.cap) }
     {
         said.see_lanes();
-        Self::lend_further(said, ends)
+        Self::lend_further(said, ends, local)
     }
 
     /// The same, where an earlier poll of the turn used some of that room. There is room for each note that can be made before the
     /// next outcome is collected, and for one more.
-    pub fn lend_further(said: RecordedDesk<J>, ends: Vec<O, Global>) -> Self
+    pub fn lend_further(
+        said: RecordedDesk<J>,
+        ends: Vec<O, Global>,
+        local: &'a mut J::Local,
+    ) -> Self
         requires outs { AreOutsOf (Fits J.meaning) O.out O.credited said ends.items }
         requires spare { length said.journal.notes + sum_by left_of said.lanes < said.journal.room }
         ensures lent { result ≡ record { desk = said; ends = ends.items } }
     {
-        RecordedPost { said, ends }
+        RecordedPost { said, ends, local }
     }
 
     /// The desk and its ends, after what was posted.
     pub fn into_parts(self) -> (RecordedDesk<J>, Vec<O, Global>)
-        ensures desk { result.0 ≡ self.desk }
-        ensures ends { result.1.items ≡ self.ends }
-        ensures lent { IsLent (Fits J.meaning) O.out O.credited self }
+        ensures desk { result.0 ≡ self.entry.desk }
+        ensures ends { result.1.items ≡ self.entry.ends }
+        ensures lent { IsLent (Fits J.meaning) O.out O.credited self.entry }
     {
-        let RecordedPost { said, ends } = self;
+        let RecordedPost {
+            said,
+            ends,
+            local: _,
+        } = self;
         (said, ends)
     }
 }
 
-impl<J: Task<Out = u64>, O: OutEnd<J>> Post<J, u64> for RecordedPost<J, O> {
+impl<J: Task<Out = u64>, O: OutEnd<J>> Post<J, u64> for RecordedPost<'_, J, O> {
     ghost use Rattle.rt_ids.specs.Collecting.{IsDetachable};
     ghost use Rattle.rt_link.specs.Fits.{Fits};
     ghost use Rattle.rt_journal_desk.specs.Calls.{Does};
@@ -116,5 +125,9 @@ impl<J: Task<Out = u64>, O: OutEnd<J>> Post<J, u64> for RecordedPost<J, O> {
         }
         let end = &mut self.ends[ticket.name().to.0 as usize];
         self.said.detach(end, ticket)
+    }
+
+    fn local(&mut self) -> &mut J::Local {
+        self.local
     }
 }

@@ -118,7 +118,7 @@ impl<O: OutEnd<ScriptJob> + Drop, I: InEnd<ScriptJob> + Drop> Poster<O, I> {
         let mut spent = 5;
         let settled = self
             .core
-            .turn_posting(alloc, &mut self.outs, &next, &mut spent);
+            .turn_posting(alloc, &mut self.outs, &mut (), &next, &mut spent);
         if next.name.from == OWN {
             self.core.give_done(&mut self.own, next.name, &settled);
         } else if next.name.from == OUTSIDE {
@@ -142,7 +142,7 @@ impl<O: OutEnd<ScriptJob> + Drop, I: InEnd<ScriptJob> + Drop> Poster<O, I> {
         let mut spent = 5;
         let settled = self
             .core
-            .further_posting(alloc, &mut self.outs, &next, &mut spent);
+            .further_posting(alloc, &mut self.outs, &mut (), &next, &mut spent);
         self.core.give_done(&mut self.outside, next.name, &settled);
         ends_turn(&mut self.core)
     }

@@ -25,6 +25,8 @@ impl Task for Number {
 
     type Out = u64;
 
+    type Local = ();
+
     ghost meaning = { record {
       same = λ a b. a.value ≡ b.value;
       done = λ _. false;

@@ -24,25 +24,26 @@ use Rattle.rt_runtime_worker.specs.contracts.linked.Linked.{the_row as linked}
 use Rattle.rt_runtime_worker.specs.contracts.ended.Ended.{the_row as ended}
 use Rattle.rt_runtime_worker.specs.contracts.worker.Worker.{the_row as worker}
 
-module _ (T : RattleType) (t : Ghosts (param 0 T).Denot ℕ) (j : IsSend (param 0 T)) where
-  core_send : IsSend (core (param 0 T) global u64-field.row t its_alloc (copied global))
+-- The state that jobs share is the type at this place of the function that starts them.
+module _ (T L : RattleType) (n : ℕ) (t : Ghosts (param 0 T).Denot ℕ (param n L).Denot) (j : IsSend (param 0 T)) (l : IsSend (param n L)) where
+  core_send : IsSend (core (param 0 T) global u64-field.row (param n L) t its_alloc (copied global))
   core_send = search (crosses, tree.crosses, sendable) depth 60 fits 20000
 
-  lane_send : IsSend (lane (param 0 T) u64-field.row t)
+  lane_send : IsSend (lane (param 0 T) u64-field.row (param n L) t)
   lane_send = search (crosses, trie.crosses, sendable) depth 60 fits 20000
 
-  desk_send : IsSend (desk (param 0 T) t)
+  desk_send : IsSend (desk (param 0 T) (param n L) t)
   desk_send = search (lane_send, journal.the_send, crosses, sendable) depth 60 fits 20000
 
-  recorded_send : IsSend (recorded (param 0 T) global t its_alloc (copied global))
+  recorded_send : IsSend (recorded (param 0 T) global (param n L) t its_alloc (copied global))
   recorded_send = search (core_send, desk_send, crosses, sendable) depth 60 fits 20000
 
-  linked_send : IsSend (linked (param 0 T) t)
+  linked_send : IsSend (linked (param 0 T) (param n L) t)
   linked_send = search (recorded_send, ends.the_send, crosses, sendable) depth 60 fits 20000
 
   module _ (S : RattleType) (sink : Passes (param 3 S).Denot) (s : IsSend (param 3 S)) where
-    pub ended_send : IsSend (ended (param 0 T) (param 3 S) t sink)
+    pub ended_send : IsSend (ended (param 0 T) (param 3 S) (param n L) t sink)
     ended_send = search (linked_send, publisher.the_send, crosses, sendable) depth 60 fits 20000
 
-    pub worker_send : (C G : RattleType) → IsSend (param 1 C) → IsSend (param 2 G) → IsSend (worker (param 0 T) (param 1 C) (param 2 G) (param 3 S) t sink)
+    pub worker_send : (C G : RattleType) → IsSend (param 1 C) → IsSend (param 2 G) → IsSend (worker (param 0 T) (param 1 C) (param 2 G) (param 3 S) (param n L) t sink)
     worker_send C G c g = search (linked_send, bell.the_send, publisher.the_send, crosses, sendable) depth 60 fits 20000

@@ -6,6 +6,7 @@ pub mod InARow
 pub mod Vain
 pub mod WaitedOnce
 mod WaitsRefused
+mod LocalsRefused
 pub mod Polled
 pub mod PollsOwed
 mod PollsRefused

@@ -10,6 +10,7 @@ pub mod Waiting
 pub mod Outcomes
 pub mod Calls
 pub mod WithSinks
+pub mod WithLocals
 pub mod Errors
 pub mod Finishing
 pub mod Laws

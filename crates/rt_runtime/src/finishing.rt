@@ -1,6 +1,6 @@
 //! How the workers of a runtime end, and what their journals are together.
 
-ghost use Rattle.std.specs.Prelude.{◌≡◌, ◌+◌, ◌<◌, ◌≤◌, ℕ, true, [], length, map, vec_capacity};
+ghost use Rattle.std.specs.Prelude.{◌≡◌, ◌+◌, ◌<◌, ◌≤◌, ℕ, true, [], IfOk, length, map, vec_capacity};
 ghost use Rattle.rt_ring_mesh.specs.Grid.{IsGrid, AreReunited};
 ghost use Rattle.rt_link.specs.Fits.{Fits};
 ghost use Rattle.rt_runtime.specs.Calls.{Finishes};
@@ -9,6 +9,7 @@ ghost use Rattle.rt_runtime.specs.Finishing.{IsFirstOpenOf, IsPart, Parts};
 ghost use Rattle.rt_runtime.specs.Watching.{watch_at};
 ghost use Rattle.rt_runtime_worker.specs.Together.{worker_at};
 ghost use Rattle.rt_watch.specs.Growth.{Grows};
+ghost use Rattle.rt_runtime.specs.WithLocals.{without_locals};
 ghost use Rattle.rt_runtime.specs.WithSinks.{FinishesWithSinks, HasPassed, KeepsRefused, assembly_of, notes_of};
 
 use crate::error::FinishError;
@@ -57,39 +58,48 @@ fn compare_all<J: Task<Out = u64>, S: Sink>(
     }
 }
 
-/// What one worker leaves: its ends and its notes.
-fn part<J: Task<Out = u64>, S: Sink>(ended: Ended<J, S>) -> (Ends<J>, ActorNotes<S>)
+/// What one worker leaves: its ends, its notes, and what its jobs shared.
+fn part<J: Task<Out = u64>, S: Sink>(ended: Ended<J, S>) -> (Ends<J>, ActorNotes<S>, J::Local)
     ensures ends { result.0 ≡ ended.linked.ends }
     ensures part { IsPart J.meaning S.has S.refused ended result.1 }
 {
-    let (linked, sink) = ended.into_parts();
+    let (linked, sink, local) = ended.into_all();
     let (recorded, ends) = linked.into_parts();
     let kept = recorded.into_journal().into_kept();
-    (ends, ActorNotes { sink, kept })
+    (ends, ActorNotes { sink, kept }, local)
 }
 
-/// What all workers leave: their ends and their notes.
+/// What all workers leave: their ends, their notes, and what their jobs shared.
+type Left<J, S, L> = (Vec<Ends<J>>, Vec<ActorNotes<S>>, Vec<L>);
+
+/// Takes apart what all workers leave.
 fn part_all<J: Task<Out = u64>, S: Sink>(
     all: Vec<Ended<J, S>>,
     ends: Vec<Ends<J>>,
     actors: Vec<ActorNotes<S>>,
-) -> (Vec<Ends<J>>, Vec<ActorNotes<S>>)
+    locals: Vec<J::Local>,
+) -> Left<J, S, J::Local>
     requires no_ends { ends.items ≡ [] }
     requires no_actors { actors.items ≡ [] }
+    requires no_locals { locals.items ≡ [] }
     requires room_ends { length all.items ≤ vec_capacity ends }
     requires room_actors { length all.items ≤ vec_capacity actors }
+    requires room_locals { length all.items ≤ vec_capacity locals }
     ensures parts { Parts J.meaning S.has S.refused all.items result.0.items result.1.items }
     ensures room_ends { vec_capacity result.0 ≡ vec_capacity ends }
     ensures room_actors { vec_capacity result.1 ≡ vec_capacity actors }
+    ensures locals { length result.2.items ≡ length all.items }
 {
     let mut all_ends = ends;
     let mut all_actors = actors;
+    let mut all_locals = locals;
     for one in all {
-        let (its_ends, actor) = part(one);
+        let (its_ends, actor, local) = part(one);
         all_ends.push_reserved(its_ends);
         all_actors.push_reserved(actor);
+        all_locals.push_reserved(local);
     }
-    (all_ends, all_actors)
+    (all_ends, all_actors, all_locals)
 }
 
 /// The notes of the outside actor. What is kept is passed on for the last time.
@@ -138,13 +148,17 @@ fn whole_assembly(passed: Passed<Whole>, journals: Vec<Journal<u64>>) -> Assembl
     Assembly::of_burst(cores, cap, burst, all)
 }
 
+/// The notes of all actors, room for their journals, and what the jobs of each core shared.
+type Over<S, L> = (Passed<S>, Vec<Journal<u64>>, Vec<L>);
+
 impl<J: Job + Task<Out = u64>, C: Clock + Drop, G: Gate + Drop, S: Sink> Runtime<J, C, G, S> {
     /// Waits until all workers have ended, and ends the links. Room for the journals comes back beside the notes.
-    fn end<R: Threads + Wait>(self, rt: &R) -> (Passed<S>, Vec<Journal<u64>>)
+    fn end<R: Threads + Wait>(self, rt: &R) -> Over<S, J::Local>
         requires { (core : ℕ) → core < length self.closing → closing_at core self ≡ true }
         ensures passed { HasPassed J.meaning S.has S.refused self result.0 }
         ensures none { result.1.items ≡ [] }
         ensures room { length result.0.actors.items ≤ vec_capacity result.1 }
+        ensures locals { length result.2.items ≡ self.desk.cores }
     {
         let Runtime {
             cores,
@@ -157,12 +171,13 @@ impl<J: Job + Task<Out = u64>, C: Clock + Drop, G: Gate + Drop, S: Sink> Runtime
             spare_ends,
             spare_actors,
             spare_journals,
+            spare_locals,
             ..
         } = self;
         let mut watchers = watchers;
         let mut ended = team.join(rt);
         compare_all(&mut ended, &mut watchers);
-        let (mut all, mut actors) = part_all(ended, spare_ends, spare_actors);
+        let (mut all, mut actors, locals) = part_all(ended, spare_ends, spare_actors, spare_locals);
         let burst = desk.burst();
         all.push_reserved(ends);
         actors.push_reserved(part_outside(desk, sink));
@@ -177,7 +192,7 @@ impl<J: Job + Task<Out = u64>, C: Clock + Drop, G: Gate + Drop, S: Sink> Runtime
             burst,
             actors,
         };
-        (passed, spare_journals)
+        (passed, spare_journals, locals)
     }
 
     /// Waits until all workers have ended. The notes of each actor come back: its sink, and what the sink refused. The body asks for no
@@ -195,8 +210,29 @@ impl<J: Job + Task<Out = u64>, C: Clock + Drop, G: Gate + Drop, S: Sink> Runtime
         match first_open(self.cores, &self.closing) {
             Some(core) => Err(FinishError::NotClosed(CoreNo(core), self)),
             None => {
-                let (passed, _journals) = self.end(rt);
+                let (passed, _journals, _locals) = self.end(rt);
                 Ok(passed)
+            }
+        }
+    }
+
+    /// The same, where what the jobs of each core shared comes back too, by the core's number.
+    ///
+    /// # Errors
+    ///
+    /// As `finish_with_sinks`.
+    pub fn finish_with_sinks_and_locals<R: Threads + Wait>(
+        self,
+        rt: &R,
+    ) -> Result<(Passed<S>, Vec<J::Local>), FinishError<Self>>
+        ensures finishes { FinishesWithSinks J.meaning S.has S.refused self (without_locals result) }
+        ensures locals { IfOk result (λ both. length both.1.items ≡ self.desk.cores) }
+    {
+        match first_open(self.cores, &self.closing) {
+            Some(core) => Err(FinishError::NotClosed(CoreNo(core), self)),
+            None => {
+                let (passed, _journals, locals) = self.end(rt);
+                Ok((passed, locals))
             }
         }
     }
@@ -214,8 +250,29 @@ impl<J: Job + Task<Out = u64>, C: Clock + Drop, G: Gate + Drop> Runtime<J, C, G>
         match first_open(self.cores, &self.closing) {
             Some(core) => Err(FinishError::NotClosed(CoreNo(core), self)),
             None => {
-                let (passed, journals) = self.end(rt);
+                let (passed, journals, _locals) = self.end(rt);
                 Ok(whole_assembly(passed, journals))
+            }
+        }
+    }
+
+    /// The same, where what the jobs of each core shared comes back too, by the core's number.
+    ///
+    /// # Errors
+    ///
+    /// As `finish`.
+    pub fn finish_with_locals<R: Threads + Wait>(
+        self,
+        rt: &R,
+    ) -> Result<(Assembly, Vec<J::Local>), FinishError<Self>>
+        ensures finishes { Finishes J.meaning self (without_locals result) }
+        ensures locals { IfOk result (λ both. length both.1.items ≡ self.desk.cores) }
+    {
+        match first_open(self.cores, &self.closing) {
+            Some(core) => Err(FinishError::NotClosed(CoreNo(core), self)),
+            None => {
+                let (passed, journals, locals) = self.end(rt);
+                Ok((whole_assembly(passed, journals), locals))
             }
         }
     }

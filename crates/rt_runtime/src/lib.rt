@@ -10,6 +10,7 @@ mod passing;
 mod rings;
 pub mod runtime;
 mod starting;
+mod starts;
 mod tickets;
 mod waiting;
 mod watching;

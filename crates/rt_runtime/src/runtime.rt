@@ -44,6 +44,7 @@ pub struct Runtime<J: Task<Out = u64>, C: Drop, G: Drop, S: Sink = Whole> {
     pub(crate) spare_ends: Vec<Ends<J>>,
     pub(crate) spare_actors: Vec<ActorNotes<S>>,
     pub(crate) spare_journals: Vec<Journal<u64>>,
+    pub(crate) spare_locals: Vec<J::Local>,
 }
 
 impl<J: Task<Out = u64>, C: Drop, G: Drop, S: Sink> Model for Runtime<J, C, G, S> {
@@ -52,7 +53,7 @@ impl<J: Task<Out = u64>, C: Drop, G: Drop, S: Sink> Model for Runtime<J, C, G, S
 
     ghost Value = { RuntimeView J ℕ };
 
-    ghost use Rattle.std.specs.Prelude.{◌≡◌, [], map, vec_capacity};
+    ghost use Rattle.std.specs.Prelude.{◌≡◌, ◌+◌, ◌≤◌, [], map, vec_capacity};
     ghost use Rattle.rt_link.specs.Fits.{Fits};
     ghost use Rattle.rt_runtime.specs.State.{IsRuntime};
     ghost use Rattle.rt_runtime.specs.Stored.{IsSinkOf, IsStored};
@@ -65,7 +66,8 @@ impl<J: Task<Out = u64>, C: Drop, G: Drop, S: Sink> Model for Runtime<J, C, G, S
         × IsStored (record { desk = r.desk; ends = r.ends; closing = r.closing.items; workers = map (λ worker. worker.linked) r.team; room = r.room; rung = r.bells; bells = map (λ worker. worker.bells) r.team; refused = r.refused; watched = r.watchers.items })
         r.cores r.cap (vec_capacity r.spare_ends) (vec_capacity r.spare_actors) (vec_capacity r.spare_journals)
         × IsSinkOf S.has S.refused (record { desk = r.desk; ends = r.ends; closing = r.closing.items; workers = map (λ worker. worker.linked) r.team; room = r.room; rung = r.bells; bells = map (λ worker. worker.bells) r.team; refused = r.refused; watched = r.watchers.items }) r.sink
-        × (r.spare_ends.items ≡ []) × (r.spare_actors.items ≡ []) × (r.spare_journals.items ≡ []) × AreWatching r.watchers.items r.team };
+        × (r.spare_ends.items ≡ []) × (r.spare_actors.items ≡ []) × (r.spare_journals.items ≡ []) × AreWatching r.watchers.items r.team
+        × (r.spare_locals.items ≡ []) × (r.cores + 1 ≤ vec_capacity r.spare_locals) };
 }
 
 impl<J: Task<Out = u64>, C: Drop, G: Drop> Runtime<J, C, G> {

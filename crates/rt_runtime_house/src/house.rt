@@ -190,7 +190,7 @@ impl House {
     /// Those of `Runtime::start`.
     pub fn start<J, R>(self, rt: R, alloc: Global) -> Result<(Node<J, R>, QueueNames), StartError>
     where
-        J: Job + Task<Out = u64> + Send + 'static,
+        J: Job + Task<Out = u64, Local = ()> + Send + 'static,
         R: Threads + Wait + time::Clock + Copy + Drop + Send + 'static,
         ensures { StartsPlan self result }
     {
@@ -218,7 +218,7 @@ impl House {
         sinks: Vec<S>,
     ) -> Result<(Node<J, R, S>, QueueNames), StartError>
     where
-        J: Job + Task<Out = u64> + Send + 'static,
+        J: Job + Task<Out = u64, Local = ()> + Send + 'static,
         R: Threads + Wait + time::Clock + Copy + Drop + Send + 'static,
         S: Sink + Send + 'static,
         requires { All (λ sink. S.has sink ≡ []) sinks.items }

@@ -109,12 +109,30 @@ pub fn begin<J, R>(
     asked: &Mark,
 ) -> Result<Result<House<J>, StartError>, AllocError>
 where
-    J: Job + Task<Out = u64> + Send + 'static,
+    J: Job + Task<Out = u64, Local = ()> + Send + 'static,
     R: Threads + Wait + Copy + Drop + Send + 'static,
 {
     let clocks = clocks(alloc, count)?;
     let gates = gates(alloc, config.cores, asked)?;
     Ok(House::start(rt, alloc, config, clocks, gates))
+}
+
+/// A house on threads whose jobs share these states, or why there is none.
+pub fn begin_with_locals<J, R>(
+    rt: R,
+    alloc: Global,
+    config: Config,
+    asked: &Mark,
+    locals: Vec<J::Local>,
+) -> Result<Result<House<J>, StartError>, AllocError>
+where
+    J: Job + Task<Out = u64> + Send + 'static,
+    J::Local: Send + 'static,
+    R: Threads + Wait + Copy + Drop + Send + 'static,
+{
+    let clocks = clocks(alloc, config.cores)?;
+    let gates = gates(alloc, config.cores, asked)?;
+    Ok(House::start_with_locals(rt, alloc, config, clocks, gates, locals))
 }
 
 /// A house on threads whose actors pass their notes on to these sinks, or why there is none.
@@ -126,7 +144,7 @@ pub fn begin_with_sinks<J, S, R>(
     sinks: Vec<S>,
 ) -> Result<Result<PassingHouse<J, S>, StartError>, AllocError>
 where
-    J: Job + Task<Out = u64> + Send + 'static,
+    J: Job + Task<Out = u64, Local = ()> + Send + 'static,
     S: Sink + Send + 'static,
     R: Threads + Wait + Copy + Drop + Send + 'static,
     requires { All (λ sink. S.has sink ≡ []) sinks.items }

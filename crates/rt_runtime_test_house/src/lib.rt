@@ -4,6 +4,6 @@
 mod house;
 
 pub use house::{
-    Counter, House, Mark, PassingHouse, Ticks, begin, begin_with_sinks, collects, is_set_soon,
-    named, new_mark, plain, says, with_burst, with_queue,
+    Counter, House, Mark, PassingHouse, Ticks, begin, begin_with_locals, begin_with_sinks,
+    collects, is_set_soon, named, new_mark, plain, says, with_burst, with_queue,
 };

@@ -12,4 +12,6 @@ mod closing;
 #[cfg(test)]
 mod errors;
 #[cfg(test)]
+mod locals;
+#[cfg(test)]
 mod watching;

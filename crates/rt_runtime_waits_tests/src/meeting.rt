@@ -28,6 +28,8 @@ impl Task for Meeter {
 
     type Out = u64;
 
+    type Local = ();
+
     ghost meaning = { record {
       same = λ _ _. Unit {0};
       done = λ job. job.ended;

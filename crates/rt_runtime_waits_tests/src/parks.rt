@@ -61,6 +61,8 @@ impl Task for Napper {
 
     type Out = u64;
 
+    type Local = ();
+
     ghost meaning = { plain_meaning (λ job. job.ended) };
 
     ghost laws = { plain_laws (λ job. job.ended) };

@@ -46,6 +46,8 @@ impl Task for Waker {
 
     type Out = u64;
 
+    type Local = ();
+
     ghost meaning = { plain_meaning (λ job. job.ended) };
 
     ghost laws = { plain_laws (λ job. job.ended) };

@@ -32,6 +32,7 @@ fn poll_first<J: Job + Task<Out = u64>, M: Meter, G: Gate>(
     alloc: Global,
     recorded: &mut Recorded<J>,
     ends: &mut Ends<J>,
+    local: &mut J::Local,
     next: &Next,
     meter: &mut M,
     gate: &mut G,
@@ -45,7 +46,7 @@ fn poll_first<J: Job + Task<Out = u64>, M: Meter, G: Gate>(
 {
     let core = number_of(ends);
     let leave = ask(gate, core, &next.name);
-    turn_on(alloc, recorded, ends, next, leave, meter);
+    turn_on(alloc, recorded, ends, local, next, leave, meter);
 }
 
 // Asks the gate for a further poll of the open turn, and makes it.
@@ -53,6 +54,7 @@ fn poll_further<J: Job + Task<Out = u64>, M: Meter, G: Gate>(
     alloc: Global,
     recorded: &mut Recorded<J>,
     ends: &mut Ends<J>,
+    local: &mut J::Local,
     next: &Next,
     meter: &mut M,
     gate: &mut G,
@@ -66,7 +68,7 @@ fn poll_further<J: Job + Task<Out = u64>, M: Meter, G: Gate>(
 {
     let core = number_of(ends);
     let leave = ask(gate, core, &next.name);
-    further_on(alloc, recorded, ends, next, leave, meter);
+    further_on(alloc, recorded, ends, local, next, leave, meter);
 }
 
 // Makes further polls of the open turn, as long as it may go on.
@@ -74,6 +76,7 @@ fn poll_on<J: Job + Task<Out = u64>, M: Meter, G: Gate>(
     alloc: Global,
     recorded: &mut Recorded<J>,
     ends: &mut Ends<J>,
+    local: &mut J::Local,
     meter: &mut M,
     gate: &mut G,
 )
@@ -88,7 +91,7 @@ fn poll_on<J: Job + Task<Out = u64>, M: Meter, G: Gate>(
     ensures stays { StaysLinked (record { recorded = recorded.old; ends = ends.old }) (record { recorded = recorded.new; ends = ends.new }) }
 {
     while let Some(next) = recorded.ahead_in_turn() {
-        poll_further(alloc, recorded, ends, &next, meter, gate);
+        poll_further(alloc, recorded, ends, local, &next, meter, gate);
     }
 }
 
@@ -113,6 +116,7 @@ pub(crate) fn poll_through<J: Job + Task<Out = u64>, M: Meter, G: Gate>(
     alloc: Global,
     recorded: &mut Recorded<J>,
     ends: &mut Ends<J>,
+    local: &mut J::Local,
     next: &Next,
     meter: &mut M,
     gate: &mut G,
@@ -126,10 +130,10 @@ pub(crate) fn poll_through<J: Job + Task<Out = u64>, M: Meter, G: Gate>(
     ensures between { IsBetweenTurns recorded.new }
     ensures stays { StaysLinked (record { recorded = recorded.old; ends = ends.old }) (record { recorded = recorded.new; ends = ends.new }) }
 {
-    poll_first(alloc, recorded, ends, next, meter, gate);
+    poll_first(alloc, recorded, ends, local, next, meter, gate);
     if !recorded.has_open_turn() {
         return;
     }
-    poll_on(alloc, recorded, ends, meter, gate);
+    poll_on(alloc, recorded, ends, local, meter, gate);
     end_on(recorded, ends);
 }

@@ -11,11 +11,13 @@ use rt_journal_notes::{Sink, Whole};
 use rt_watch::{Publisher, Watcher, compare};
 use std::marker::Model;
 
-/// A drained core with its journal and ends, the sink that has the notes that were passed on, and the board on which its numbers were published.
+/// A drained core with its journal and ends, the sink that has the notes that were passed on, what its jobs shared, and the board on which
+/// its numbers were published.
 #[derive(Drop)]
 pub struct Ended<J: Task<Out = u64>, S: Sink = Whole> {
     linked: Linked<J>,
     sink: S,
+    local: J::Local,
     publisher: Publisher,
 }
 
@@ -35,13 +37,14 @@ impl<J: Task<Out = u64>, S: Sink> Model for Ended<J, S> {
 
 impl<J: Task<Out = u64>, S: Sink> Ended<J, S> {
     /// What a worker gives back at its end.
-    pub fn of(linked: Linked<J>, sink: S, publisher: Publisher) -> Self
+    pub fn of(linked: Linked<J>, sink: S, local: J::Local, publisher: Publisher) -> Self
         requires { HasEnded J.meaning S.has S.refused (record { linked = linked; sink = sink; shown = shown_of publisher }) }
         ensures { result ≡ record { linked = linked; sink = sink; shown = shown_of publisher } }
     {
         Ended {
             linked,
             sink,
+            local,
             publisher,
         }
     }
@@ -54,6 +57,21 @@ impl<J: Task<Out = u64>, S: Sink> Ended<J, S> {
         ensures grows { Grows watcher.old.notes self.old.linked.recorded.journal.notes }
     {
         compare(&mut self.publisher, watcher);
+    }
+
+    /// The core with its journal and ends, the sink, and what the jobs of the core shared.
+    pub fn into_all(self) -> (Linked<J>, S, J::Local)
+        ensures linked { result.0 ≡ self.linked }
+        ensures sink { result.1 ≡ self.sink }
+        ensures ended { HasEnded J.meaning S.has S.refused self }
+    {
+        let Ended {
+            linked,
+            sink,
+            local,
+            ..
+        } = self;
+        (linked, sink, local)
     }
 
     /// The core with its journal and ends, and the sink.

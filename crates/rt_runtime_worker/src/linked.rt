@@ -10,7 +10,7 @@ ghost use Rattle.rt_runtime_worker.specs.Steps.{ShutsGate, DeliversFrom, Collect
 use crate::lent::{collect_on, deliver_on, shut_on};
 use rt_core::{Ahead, PickError};
 use rt_ids::{ActorNo, CoreNo};
-use rt_jobs::Task;
+use rt_jobs::{CoreState, Task};
 use rt_journal::Recorded;
 use rt_journal_notes::{Refused, Sink};
 use rt_ring_mesh::Ends;
@@ -69,6 +69,11 @@ impl<J: Task<Out = u64>> Linked<J> {
         ensures { self.new ≡ self.old }
     {
         self.recorded.prefault();
+    }
+
+    /// Makes what is still to be made of what the jobs of the core share.
+    pub(crate) fn begin(&self, local: &mut J::Local) {
+        local.begin(CoreNo(self.ends.number.0));
     }
 
     /// Whether the core is closed, in either mode.

@@ -109,7 +109,7 @@ fn serve_core<J: Task<Out = u64>>(
 
 impl<J: Task<Out = u64>, C: Drop, G: Drop, S: Sink> Worker<J, C, G, S> {
     /// Opens the worker of the core that has these ends, with the queues that the configuration names for it. It rings these bells, and parks
-    /// on that of its core. It passes on its notes to this sink, which has none yet. The watcher is of the board on which it publishes its numbers,
+    /// on that of its core. Its jobs share this state. It passes on its notes to this sink, which has none yet. The watcher is of the board on which it publishes its numbers,
     /// and tells those of no note.
     ///
     /// # Errors
@@ -123,6 +123,7 @@ impl<J: Task<Out = u64>, C: Drop, G: Drop, S: Sink> Worker<J, C, G, S> {
         gate: G,
         bells: &Bells,
         sink: S,
+        local: J::Local,
     ) -> Result<(Self, Watcher), AllocError>
         requires ends { AreEndsOf config.now.cores config.now.cap ends }
         requires room { least_room config.now.cores config.now.cap config.now.burst + queues_of ends.number config.now.queues.items ≤ config.now.room }
@@ -148,7 +149,7 @@ impl<J: Task<Out = u64>, C: Drop, G: Drop, S: Sink> Worker<J, C, G, S> {
             places: PLACES,
         };
         let (publisher, watcher) = rt_watch::open(alloc, terms)?;
-        let worker = Worker::of(alloc, served, clock, gate, own, all, sink, publisher);
+        let worker = Worker::of(alloc, served, clock, gate, own, all, sink, local, publisher);
         Ok((worker, watcher))
     }
 }

@@ -29,6 +29,7 @@ fn post_turn<J: Job + Task<Out = u64>, M: Meter>(
     alloc: Global,
     recorded: &mut Recorded<J>,
     ends: &mut Ends<J>,
+    local: &mut J::Local,
     next: &Next,
     leave: Leave,
     meter: &mut M,
@@ -50,7 +51,7 @@ fn post_turn<J: Job + Task<Out = u64>, M: Meter>(
     ensures sound { IsRecorded J.meaning recorded.new }
 {
     let _leave = leave;
-    recorded.turn_posting(alloc, &mut ends.outs, next, meter)
+    recorded.turn_posting(alloc, &mut ends.outs, local, next, meter)
 }
 
 // Makes a further poll of the open turn, for which the gate was asked. What it owes to the job's sender isn't given yet.
@@ -58,6 +59,7 @@ fn post_further<J: Job + Task<Out = u64>, M: Meter>(
     alloc: Global,
     recorded: &mut Recorded<J>,
     ends: &mut Ends<J>,
+    local: &mut J::Local,
     next: &Next,
     leave: Leave,
     meter: &mut M,
@@ -79,7 +81,7 @@ fn post_further<J: Job + Task<Out = u64>, M: Meter>(
     ensures sound { IsRecorded J.meaning recorded.new }
 {
     let _leave = leave;
-    recorded.further_posting(alloc, &mut ends.outs, next, meter)
+    recorded.further_posting(alloc, &mut ends.outs, local, next, meter)
 }
 
 // Gives the outcome of a poll on the end of the job's sender, if the job is done.
@@ -108,6 +110,7 @@ pub(crate) fn turn_on<J: Job + Task<Out = u64>, M: Meter>(
     alloc: Global,
     recorded: &mut Recorded<J>,
     ends: &mut Ends<J>,
+    local: &mut J::Local,
     next: &Next,
     leave: Leave,
     meter: &mut M,
@@ -123,7 +126,7 @@ pub(crate) fn turn_on<J: Job + Task<Out = u64>, M: Meter>(
     ensures linked { IsLinked J.meaning (record { recorded = recorded.new; ends = ends.new }) }
     ensures stays { StaysLinked (record { recorded = recorded.old; ends = ends.old }) (record { recorded = recorded.new; ends = ends.new }) }
 {
-    let settled = post_turn(alloc, recorded, ends, next, leave, meter);
+    let settled = post_turn(alloc, recorded, ends, local, next, leave, meter);
     done_on(recorded, ends, next.name, &settled);
 }
 
@@ -132,6 +135,7 @@ pub(crate) fn further_on<J: Job + Task<Out = u64>, M: Meter>(
     alloc: Global,
     recorded: &mut Recorded<J>,
     ends: &mut Ends<J>,
+    local: &mut J::Local,
     next: &Next,
     leave: Leave,
     meter: &mut M,
@@ -147,6 +151,6 @@ pub(crate) fn further_on<J: Job + Task<Out = u64>, M: Meter>(
     ensures linked { IsLinked J.meaning (record { recorded = recorded.new; ends = ends.new }) }
     ensures stays { StaysLinked (record { recorded = recorded.old; ends = ends.old }) (record { recorded = recorded.new; ends = ends.new }) }
 {
-    let settled = post_further(alloc, recorded, ends, next, leave, meter);
+    let settled = post_further(alloc, recorded, ends, local, next, leave, meter);
     done_on(recorded, ends, next.name, &settled);
 }

@@ -36,6 +36,7 @@ impl<'a> Quiet<'a> {
 /// Looks once more at all links, and makes a turn, behind the moment in which the worker lay down. It gets up if anything was done.
 pub(crate) fn look_again<'a, J: Job + Task<Out = u64>, C: Clock + Drop, G: Gate + Drop>(
     rounds: &mut Rounds<J, C, G>,
+    local: &mut J::Local,
     lain: Lain<'a>,
 ) -> Option<Quiet<'a>>
     requires rung { AreRung rounds.old.served rounds.old.bells }
@@ -52,7 +53,7 @@ pub(crate) fn look_again<'a, J: Job + Task<Out = u64>, C: Clock + Drop, G: Gate 
     ensures rung { AreRung rounds.new.served rounds.new.bells }
     ensures names { rounds.new.bells.names ≡ rounds.old.bells.names }
 {
-    if rounds.look() {
+    if rounds.look(local) {
         // step: get up, by the key of `lain` that is dropped
         return None;
     }
@@ -64,6 +65,7 @@ pub(crate) fn rest<'a, J: Job + Task<Out = u64>, C: Clock + Drop, G: Gate + Drop
     rt: &R,
     own: &'a Bell,
     rounds: &mut Rounds<J, C, G>,
+    local: &mut J::Local,
 ) -> Option<Slept<'a>>
     requires rung { AreRung rounds.old.served rounds.old.bells }
     requires own { IsBellOf rounds.old.served.linked.recorded.core.core rounds.old.bells.names own.now }
@@ -80,7 +82,7 @@ pub(crate) fn rest<'a, J: Job + Task<Out = u64>, C: Clock + Drop, G: Gate + Drop
     ensures names { rounds.new.bells.names ≡ rounds.old.bells.names }
 {
     let lain = lie_down(own, rounds);
-    match look_again(rounds, lain) {
+    match look_again(rounds, local, lain) {
         Some(quiet) => Some(quiet.sleep(rt)),
         None => None,
     }

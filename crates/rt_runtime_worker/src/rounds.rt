@@ -94,6 +94,11 @@ impl<J: Task<Out = u64>, C: Drop, G: Drop> Rounds<J, C, G> {
         self.served.prefault();
     }
 
+    /// Makes what is still to be made of what the jobs of the core share.
+    pub(crate) fn begin(&self, local: &mut J::Local) {
+        self.served.begin(local);
+    }
+
     /// Whether every gate is shut, all behind it was delivered, no queue has work, and no job is parked.
     pub(crate) fn is_drained(&self) -> bool
         ensures { IsTrue result ↔ IsDrained self.now.served.linked.recorded.core.cores self.now.served.linked.recorded.journal.notes }
@@ -233,7 +238,7 @@ impl<J: Task<Out = u64>, C: Drop, G: Drop> Rounds<J, C, G> {
 
 impl<J: Job + Task<Out = u64>, C: Clock + Drop, G: Gate + Drop> Rounds<J, C, G> {
     /// Makes one turn. Whether there was work.
-    fn take_turn(&mut self) -> bool
+    fn take_turn(&mut self, local: &mut J::Local) -> bool
         requires rung { AreRung self.old.served self.old.bells }
         ensures steps { StepsServed self.old.served result self.new.served }
         ensures few { TurnsFew self.old.served self.new.served }
@@ -247,13 +252,13 @@ impl<J: Job + Task<Out = u64>, C: Clock + Drop, G: Gate + Drop> Rounds<J, C, G> 
         let before = self.served.journal().kept_count();
         let turned = self
             .served
-            .take_turn(self.alloc, &mut self.watch, &mut self.gate);
+            .take_turn(self.alloc, local, &mut self.watch, &mut self.gate);
         ring_since(&mut self.bells, self.served.journal(), before);
         turned
     }
 
     /// A look at all links, and one turn: gates, deliveries, the turn, outcomes. Whether anything was done.
-    pub(crate) fn look(&mut self) -> bool
+    pub(crate) fn look(&mut self, local: &mut J::Local) -> bool
         requires rung { AreRung self.old.served self.old.bells }
         ensures steps { StepsServed self.old.served result self.new.served }
         ensures few { RoundsFew self.old.served self.new.served }
@@ -264,7 +269,7 @@ impl<J: Job + Task<Out = u64>, C: Clock + Drop, G: Gate + Drop> Rounds<J, C, G> 
         ensures names { self.new.bells.names ≡ self.old.bells.names }
     {
         let taken = self.take_in();
-        let turned = self.take_turn();
+        let turned = self.take_turn(local);
         let collected = self.gather();
         let came = either(taken, collected);
         self.plan(is_quiet(turned, came));
@@ -272,7 +277,7 @@ impl<J: Job + Task<Out = u64>, C: Clock + Drop, G: Gate + Drop> Rounds<J, C, G> 
     }
 
     /// Makes a turn without a look at the links, if they had nothing a moment ago. Whether there was work.
-    fn turn_alone(&mut self) -> bool
+    fn turn_alone(&mut self, local: &mut J::Local) -> bool
         requires rung { AreRung self.old.served self.old.bells }
         ensures steps { StepsServed self.old.served result self.new.served }
         ensures few { TurnsFew self.old.served self.new.served }
@@ -284,12 +289,12 @@ impl<J: Job + Task<Out = u64>, C: Clock + Drop, G: Gate + Drop> Rounds<J, C, G> 
         if !self.passes_links() {
             return false;
         }
-        self.take_turn()
+        self.take_turn(local)
     }
 
     /// One round: a turn alone if the links had nothing a moment ago and there is work, else a look at all links and a turn. Whether
     /// anything was done. After a round in which nothing was done there is something to do only where a link shows it.
-    pub(crate) fn round(&mut self, was_idle: bool) -> bool
+    pub(crate) fn round(&mut self, was_idle: bool, local: &mut J::Local) -> bool
         requires rung { AreRung self.old.served self.old.bells }
         ensures steps { StepsServed self.old.served result self.new.served }
         ensures few { RoundsFew self.old.served self.new.served }
@@ -298,12 +303,12 @@ impl<J: Job + Task<Out = u64>, C: Clock + Drop, G: Gate + Drop> Rounds<J, C, G> 
         ensures rung { AreRung self.new.served self.new.bells }
         ensures names { self.new.bells.names ≡ self.old.bells.names }
     {
-        if self.turn_alone() {
+        if self.turn_alone(local) {
             return true;
         }
         if self.has_nothing(was_idle) {
             return false;
         }
-        self.look()
+        self.look(local)
     }
 }

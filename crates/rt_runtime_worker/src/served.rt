@@ -83,6 +83,11 @@ impl<J: Task<Out = u64>> Served<J> {
         self.linked.prefault();
     }
 
+    /// Makes what is still to be made of what the jobs of the core share.
+    pub(crate) fn begin(&self, local: &mut J::Local) {
+        self.linked.begin(local);
+    }
+
     /// The linked core.
     pub(crate) fn into_linked(self) -> Linked<J>
         ensures same { result ≡ self.linked }
@@ -259,6 +264,7 @@ impl<J: Job + Task<Out = u64>> Served<J> {
     pub(crate) fn take_turn<M: Meter, G: Gate>(
         &mut self,
         alloc: Global,
+        local: &mut J::Local,
         meter: &mut M,
         gate: &mut G,
     ) -> bool
@@ -268,6 +274,6 @@ impl<J: Job + Task<Out = u64>> Served<J> {
         ensures asks { AsksSince G.Asked self.old.linked.recorded.core.core self.old.linked.recorded.journal.notes self.new.linked.recorded.journal.notes gate.old gate.new }
     {
         self.look();
-        is_work(self.linked.turn(alloc, meter, gate))
+        is_work(self.linked.turn(alloc, local, meter, gate))
     }
 }

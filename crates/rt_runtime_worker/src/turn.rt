@@ -31,9 +31,15 @@ impl<J: Job + Task<Out = u64>> Linked<J> {
     /// Makes one turn: the first job of the right pick is polled, or handed back. What is to be done is told ahead of the pick. If a turn may
     /// have several polls, jobs of the same queue are polled as long as the turn may go on, and a note of its own ends the turn.
     ///
-    /// A job that is polled may submit, redeem and detach as this core. The gate is asked just before each poll, and the meter is told that
+    /// A job that is polled may submit, redeem and detach as this core, and is lent what the jobs of the core share. The gate is asked just before each poll, and the meter is told that
     /// the poll begins, and asked how long it took. `alloc` gives no memory: what is lent leaves an empty list of it behind.
-    pub fn turn<M: Meter, G: Gate>(&mut self, alloc: Global, meter: &mut M, gate: &mut G) -> Made
+    pub fn turn<M: Meter, G: Gate>(
+        &mut self,
+        alloc: Global,
+        local: &mut J::Local,
+        meter: &mut M,
+        gate: &mut G,
+    ) -> Made
         requires room { HasTurnRoom self.old.recorded }
         ensures makes { MakesTurn J.meaning M.Tells G.Asked (turn_view self.old meter.old gate.old) result (turn_view self.new meter.new gate.new) }
         ensures stays { StaysLinked self.old self.new }
@@ -46,6 +52,7 @@ impl<J: Job + Task<Out = u64>> Linked<J> {
                     alloc,
                     &mut self.recorded,
                     &mut self.ends,
+                    local,
                     &next,
                     meter,
                     gate,

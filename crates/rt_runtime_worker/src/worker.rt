@@ -40,6 +40,8 @@ pub struct Worker<J: Task<Out = u64>, C: Drop, G: Drop, S: Sink = Whole> {
     tries: u32,
     /// How many rounds in a row nothing was done.
     idle: u32,
+    /// What the jobs of the core share. It is ready once the worker runs.
+    local: J::Local,
     publisher: Publisher,
     /// How many rounds in which something was done were counted since the last publication.
     since: u32,
@@ -73,6 +75,7 @@ impl<J: Task<Out = u64>, C: Drop, G: Drop, S: Sink> Worker<J, C, G, S> {
         own: Bell,
         bells: Bells,
         sink: S,
+        local: J::Local,
         publisher: Publisher,
     ) -> Self
         requires own { IsBellOf served.linked.recorded.core.core bells.names own }
@@ -96,6 +99,7 @@ impl<J: Task<Out = u64>, C: Drop, G: Drop, S: Sink> Worker<J, C, G, S> {
             sink,
             tries: TRIES,
             idle: 0,
+            local,
             publisher,
             since: 0,
         }
@@ -158,6 +162,7 @@ impl<J: Task<Out = u64>, C: Drop, G: Drop, S: Sink> Worker<J, C, G, S> {
         let Worker {
             rounds,
             sink,
+            local,
             publisher,
             ..
         } = self;
@@ -165,7 +170,7 @@ impl<J: Task<Out = u64>, C: Drop, G: Drop, S: Sink> Worker<J, C, G, S> {
         show_on(rounds.recorded(), &mut publisher);
         let mut linked = rounds.into_linked();
         let _answer = linked.hand_on(&mut sink);
-        Ended::of(linked, sink, publisher)
+        Ended::of(linked, sink, local, publisher)
     }
 }
 
@@ -177,7 +182,7 @@ impl<J: Job + Task<Out = u64>, C: Clock + Drop, G: Gate + Drop, S: Sink> Worker<
         ensures asks { AsksSince G.Asked self.old.linked.recorded.core.core self.old.linked.recorded.journal.notes self.new.linked.recorded.journal.notes self.old.gate self.new.gate }
     {
         self.hand_on_if_kept();
-        match rest(rt, &self.own, &mut self.rounds) {
+        match rest(rt, &self.own, &mut self.rounds, &mut self.local) {
             Some(_) => true,
             None => {
                 self.idle = 0;
@@ -195,7 +200,7 @@ impl<J: Job + Task<Out = u64>, C: Clock + Drop, G: Gate + Drop, S: Sink> Worker<
     {
         self.hand_on_if_low();
         let was_idle = self.idle > 0;
-        if self.rounds.round(was_idle) {
+        if self.rounds.round(was_idle, &mut self.local) {
             self.idle = 0;
             return true;
         }
@@ -235,8 +240,9 @@ impl<J: Job + Task<Out = u64>, C: Clock + Drop, G: Gate + Drop, S: Sink> Work
         ensures asks { (gate : G) × AsksSince G.Asked self.linked.recorded.core.core self.linked.recorded.journal.notes result.linked.recorded.journal.notes self.gate gate }
     {
         let mut worker = self;
-        // On the thread that writes the notes, so that their pages come from memory that is near to it.
+        // On the thread that writes the notes, so that their pages come from memory that is near to it. So does what the jobs share.
         worker.rounds.prefault();
+        worker.rounds.begin(&mut worker.local);
         for _ in rt.forever() {
             if worker.rounds.is_drained() {
                 return worker.into_ended();

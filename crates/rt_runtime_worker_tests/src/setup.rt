@@ -199,7 +199,16 @@ pub(crate) fn open<S: Sink>(
         asked: Arc::try_clone(&shared.asked)?,
         wrong: Arc::try_clone(&shared.wrong)?,
     };
-    let (worker, _watcher) = Worker::open(alloc, &config, own, clock, gate, &shared.bells, sink)?;
+    let (worker, _watcher) = Worker::open(
+        alloc,
+        &config,
+        own,
+        clock,
+        gate,
+        &shared.bells,
+        sink,
+        (),
+    )?;
     Ok(worker.with_tries(0))
 }
 

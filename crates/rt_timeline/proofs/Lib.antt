@@ -1,5 +1,6 @@
 pub mod Before
 pub mod Heights
+pub mod Leading
 pub mod Places
 pub mod Queues
 pub mod Removed

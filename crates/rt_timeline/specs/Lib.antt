@@ -3,3 +3,4 @@ pub mod Tree
 pub mod Nodes
 pub mod Sides
 pub mod Middle
+pub mod Led

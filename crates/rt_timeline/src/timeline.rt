@@ -5,15 +5,16 @@ ghost use Rattle.rt_timeline.specs.Tree.{empty_tree, IsLow};
 
 use crate::slip::Slip;
 use crate::slips::Slips;
-use crate::tree::Tree;
+use crate::tree::{Link, Tree, detach, enter, leave};
 use rt_ids::{Key, QueueNo};
 use std::alloc::Allocator;
 use std::marker::Model;
 
-/// The keys of the active queues, at most one of each queue, in a balanced tree.
+/// The keys of the active queues, at most one of each queue: the least one, and the others in a balanced tree.
 #[derive(Drop)]
 pub struct Timeline<A: Allocator> {
-    tree: Tree<A>,
+    first: Link<A>,
+    later: Tree<A>,
     len: usize,
 }
 
@@ -21,12 +22,13 @@ impl<A: Allocator> Model for Timeline<A> {
     ghost use Rattle.std.specs.Prelude.{◌≡◌, length};
     ghost use Rattle.rt_timeline.specs.Tree.{KeyTree};
     ghost use Rattle.rt_timeline.specs.Rising.{IsOfQueues};
+    ghost use Rattle.rt_timeline.specs.Led.{led, led_keys, IsLed};
 
     ghost Value = { KeyTree };
 
-    ghost view = { λ t. t.tree };
+    ghost view = { λ t. led t.first t.later };
 
-    ghost invariant = { λ t. IsOfQueues t.tree.keys × (t.len ≡ length t.tree.keys) };
+    ghost invariant = { λ t. IsOfQueues (led_keys t.first t.later) × (t.len ≡ length (led_keys t.first t.later)) × IsLed t.first t.later };
 }
 
 impl<A: Allocator> Timeline<A> {
@@ -35,7 +37,8 @@ impl<A: Allocator> Timeline<A> {
         ensures { result ≡ empty_tree }
     {
         Timeline {
-            tree: Tree::new(),
+            first: Link::Empty,
+            later: Tree::new(),
             len: 0,
         }
     }
@@ -45,7 +48,7 @@ impl<A: Allocator> Timeline<A> {
         requires absent { LacksQueue slip self.old.keys }
         ensures keys { self.new.keys ≡ inserted (record { vr = vr; queue = slip }) self.old.keys }
     {
-        self.tree.insert(slip.into_node(), vr);
+        enter(&mut self.first, &mut self.later, slip.into_node(), vr);
         self.len += 1;
     }
 
@@ -53,7 +56,10 @@ impl<A: Allocator> Timeline<A> {
     pub fn least(&self) -> Option<Key>
         ensures { result ≡ first_key self.now.keys }
     {
-        self.tree.first()
+        match &self.first {
+            Link::Empty => None,
+            Link::Top(node, vr) => Some(node.key(*vr)),
+        }
     }
 
     /// Takes the queue of the least key out, with its slip.
@@ -68,8 +74,9 @@ impl<A: Allocator> Timeline<A> {
         if self.len == 0 {
             return None;
         }
-        let mut vr = 0;
-        let (node, _lower) = self.tree.take_first(&mut vr);
+        let Link::Top(node, vr) = leave(&mut self.first, &mut self.later) else {
+            unreachable!()
+        };
         self.len -= 1;
         Some((node.key(vr), Slip::from_node(node)))
     }
@@ -82,7 +89,7 @@ impl<A: Allocator> Timeline<A> {
         ensures slip { IfSome result (λ slip. slip ≡ key.queue) }
         ensures absent { IfSome result (λ slip. LacksQueue slip self.new.keys) }
     {
-        let (node, _lower) = self.tree.remove(&key)?;
+        let node = detach(&mut self.first, &mut self.later, &key)?;
         self.len -= 1;
         Some(Slip::from_node(node))
     }
@@ -109,16 +116,19 @@ impl<A: Allocator> Timeline<A> {
         ensures value { result ≡ has_queue queue self.now.keys }
         ensures absent { result ≡ false → LacksQueue queue self.now.keys }
     {
-        self.tree.has_queue(queue)
+        match &self.first {
+            Link::Empty => false,
+            Link::Top(node, _) => node.queue == queue || self.later.has_queue(queue),
+        }
     }
 
-    /// How many levels the tree has.
+    /// How many levels the tree has. The least key stands beside it.
     pub fn height(&self) -> usize
         ensures value { result ≡ self.now.height }
         ensures low { IsLow self.now }
     {
-        self.tree.know_filled();
-        self.tree.height()
+        self.later.know_filled();
+        self.later.height()
     }
 
     /// All slips, by rising key.

@@ -1,6 +1,6 @@
 //! The tree behind the timeline: balanced nodes, each seen with what hangs on it as keys and a height.
 ghost use Rattle.std.specs.Prelude.{◌≡◌, ◌+◌, ◌^◌, ◌<◌, ◌↔◌, ◌∷◌, true, false, length, Some, is_some, IfSome, IfNone, IsTrue};
-ghost use Rattle.rt_timeline.specs.Rising.{IsRising, stands_before, has_key, has_queue, first_key, inserted, removed};
+ghost use Rattle.rt_timeline.specs.Rising.{IsRising, stands_before, has_key, has_queue, removed};
 ghost use Rattle.rt_timeline.specs.Tree.{empty_tree, IsFilled};
 ghost use Rattle.rt_timeline.specs.Nodes.{seen, key_of, keys_of, IsBalanced, IsLoose};
 
@@ -10,9 +10,11 @@ use std::marker::Model;
 use std::mem;
 
 mod balance;
+mod lead;
 mod levels;
 
 use balance::{parted, tilt};
+pub(crate) use lead::{detach, enter, leave};
 
 /// A side of a node, or the whole: balanced at every level.
 #[cycle(tree)]
@@ -106,16 +108,6 @@ impl<A: Allocator> Tree<A> {
             Link::Top(_, _) => false,
         }
     }
-
-    /// The first key.
-    pub(crate) fn first(&self) -> Option<Key>
-        ensures { result ≡ first_key self.now.keys }
-    {
-        match &self.root {
-            Link::Empty => None,
-            Link::Top(node, vr) => Some(node.first(*vr)),
-        }
-    }
 }
 
 impl<A: Allocator> Node<A> {
@@ -140,19 +132,6 @@ impl<A: Allocator> Node<A> {
             vr,
             queue: self.queue,
         }
-    }
-
-    /// The first key of the node, which stands at this virtual runtime, and its sides.
-    fn first(&self, vr: u128) -> Key
-        ensures { first_key (keys_of vr self.now) ≡ Some result }
-    {
-        let mut node = self;
-        let mut at = vr;
-        while let Link::Top(next, vr) = &node.left.root {
-            node = next;
-            at = *vr;
-        }
-        node.key(at)
     }
 }
 

@@ -9,5 +9,5 @@ use Rattle.rt_world_links.specs.contracts.links.Links as rows
 use Rattle.rt_world_links.specs.Links.{with_link}
 
 -- the links end with the last one behind `lent` in its place
-abbrev pub LendsLink : (J : RattleType) → (task : Ghosts J.Denot ℕ) → MutBor (List (List (Whole J.Denot ℕ))) → ℕ → ℕ → MutBor (Whole J.Denot ℕ) → Fml
-LendsLink J task links sender core lent = Lends (rows.the_row J task) (link.the_row J u64 task) links lent (with_link links.now sender core)
+abbrev pub LendsLink : (J L : RattleType) → (task : Ghosts J.Denot ℕ L.Denot) → MutBor (List (List (Whole J.Denot ℕ))) → ℕ → ℕ → MutBor (Whole J.Denot ℕ) → Fml
+LendsLink J L task links sender core lent = Lends (rows.the_row J L task) (link.the_row J u64 L task) links lent (with_link links.now sender core)

@@ -48,7 +48,7 @@ impl<J: Task<Out = u64>> Links<J> {
         requires sender { from < length self.old }
         requires core { to < length (row_of from self.old) }
         ensures value { result.now ≡ link_at from to self.old }
-        ensures* lends { sem 𝓛 (LendsLink J.row J.Task self.entry from to result) }
+        ensures* lends { sem 𝓛 (LendsLink J.row J.Local.row J.Task self.entry from to result) }
     {
         let row = &mut self.rows[from.0 as usize];
         &mut row[to.0 as usize]

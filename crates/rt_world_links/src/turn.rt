@@ -38,11 +38,12 @@ pub enum Turned {
 
 /// One core picks a queue and polls its first job once, or hands it back. If a turn may have several polls, further jobs of that queue
 /// are polled, each once, as long as the turn may go on; then it ends, which charges the queue. A job's post has the links on which the
-/// core sends. The outcome of a job that is done is given on the link of its sender, right behind its poll. Each poll takes `spent`,
-/// unless its job tells a time of its own.
+/// core sends, and lends what the jobs of the core share. The outcome of a job that is done is given on the link of its sender, right
+/// behind its poll. Each poll takes `spent`, unless its job tells a time of its own.
 pub fn turn_of<J: Job + Task<Out = u64>, A: Allocator + Clone>(
     core: &mut Recorded<J, A>,
     links: &mut Links<J>,
+    local: &mut J::Local,
     number: CoreNo,
     spent: u64,
 ) -> Turned
@@ -58,8 +59,8 @@ pub fn turn_of<J: Job + Task<Out = u64>, A: Allocator + Clone>(
 {
     match core.ahead() {
         Ok(Ahead::Job(next)) => {
-            poll_first(core, links, number, &next, spent);
-            go_on(core, links, number, spent);
+            poll_first(core, links, local, number, &next, spent);
+            go_on(core, links, local, number, spent);
             Turned::Made
         }
         Ok(Ahead::Back) => {
@@ -76,6 +77,7 @@ pub fn turn_of<J: Job + Task<Out = u64>, A: Allocator + Clone>(
 fn poll_first<J: Job + Task<Out = u64>, A: Allocator + Clone>(
     core: &mut Recorded<J, A>,
     links: &mut Links<J>,
+    local: &mut J::Local,
     number: CoreNo,
     next: &Next,
     spent: u64,
@@ -88,7 +90,7 @@ fn poll_first<J: Job + Task<Out = u64>, A: Allocator + Clone>(
     ensures polls { one.PollsOne J.meaning IsPick number spent next.now.name core.old core.new links.old links.new }
     ensures between { IsBetween J.meaning number core.new links.new }
 {
-    let settled = post_first(core, links, number, next, spent);
+    let settled = post_first(core, links, local, number, next, spent);
     give_done_on(core, links, number, next.name, &settled);
 }
 
@@ -96,6 +98,7 @@ fn poll_first<J: Job + Task<Out = u64>, A: Allocator + Clone>(
 fn go_on<J: Job + Task<Out = u64>, A: Allocator + Clone>(
     core: &mut Recorded<J, A>,
     links: &mut Links<J>,
+    local: &mut J::Local,
     number: CoreNo,
     spent: u64,
 )
@@ -104,7 +107,7 @@ fn go_on<J: Job + Task<Out = u64>, A: Allocator + Clone>(
     ensures no_turn { open_queue core.new ≡ None }
 {
     while let Some(next) = core.ahead_in_turn() {
-        poll_further(core, links, number, &next, spent);
+        poll_further(core, links, local, number, &next, spent);
     }
     end_of(core);
 }
@@ -113,6 +116,7 @@ fn go_on<J: Job + Task<Out = u64>, A: Allocator + Clone>(
 fn poll_further<J: Job + Task<Out = u64>, A: Allocator + Clone>(
     core: &mut Recorded<J, A>,
     links: &mut Links<J>,
+    local: &mut J::Local,
     number: CoreNo,
     next: &Next,
     spent: u64,
@@ -123,7 +127,7 @@ fn poll_further<J: Job + Task<Out = u64>, A: Allocator + Clone>(
     ensures between { IsBetween J.meaning number core.new links.new }
     ensures fewer { polls_left core.new < polls_left core.old }
 {
-    let settled = post_further(core, links, number, next, spent);
+    let settled = post_further(core, links, local, number, next, spent);
     give_done_on(core, links, number, next.name, &settled);
 }
 
@@ -132,6 +136,7 @@ fn poll_further<J: Job + Task<Out = u64>, A: Allocator + Clone>(
 fn post_first<J: Job + Task<Out = u64>, A: Allocator + Clone>(
     core: &mut Recorded<J, A>,
     links: &mut Links<J>,
+    local: &mut J::Local,
     number: CoreNo,
     next: &Next,
     spent: u64,
@@ -148,13 +153,20 @@ fn post_first<J: Job + Task<Out = u64>, A: Allocator + Clone>(
 {
     let alloc = *links.rows.allocator();
     let mut meter = spent;
-    core.turn_posting(alloc, &mut links.rows[number.0 as usize], next, &mut meter)
+    core.turn_posting(
+        alloc,
+        &mut links.rows[number.0 as usize],
+        local,
+        next,
+        &mut meter,
+    )
 }
 
 // Makes a further poll of the open turn, of the job that was told ahead, in the same way.
 fn post_further<J: Job + Task<Out = u64>, A: Allocator + Clone>(
     core: &mut Recorded<J, A>,
     links: &mut Links<J>,
+    local: &mut J::Local,
     number: CoreNo,
     next: &Next,
     spent: u64,
@@ -169,7 +181,13 @@ fn post_further<J: Job + Task<Out = u64>, A: Allocator + Clone>(
 {
     let alloc = *links.rows.allocator();
     let mut meter = spent;
-    core.further_posting(alloc, &mut links.rows[number.0 as usize], next, &mut meter)
+    core.further_posting(
+        alloc,
+        &mut links.rows[number.0 as usize],
+        local,
+        next,
+        &mut meter,
+    )
 }
 
 // Gives the outcome of a poll on the link of the job's sender, if the job is done.

@@ -105,28 +105,30 @@ fn note_settled<J: Task<Out = u64>>(
     settled(step, next.woken)
 }
 
-/// The desk and its ends, lent as a post. What stays in their places owns no memory, and nothing is dropped when they come back.
-fn lend_out<J: Job<Out = u64>, O: OutEnd<J> + Drop>(
+/// The desk and its ends, lent as a post beside what the jobs share. What stays in their places owns no memory, and nothing is dropped
+/// when they come back.
+fn lend_out<'a, J: Job<Out = u64>, O: OutEnd<J> + Drop>(
     alloc: Global,
     said: &mut RecordedDesk<J>,
     ends: &mut Vec<O, Global>,
-) -> RecordedPost<J, O>
+    local: &'a mut J::Local,
+) -> RecordedPost<'a, J, O>
     requires outs { AreOutsOf (Fits J.meaning) O.out O.credited said.old ends.old.items }
     requires spare { length said.old.journal.notes + sum_by left_of said.old.lanes < said.old.journal.room }
     ensures { result ≡ lends said.old ends.old.items }
 {
     let desk = mem::replace(said, RecordedDesk::nothing(alloc));
     let lent = mem::replace(ends, Vec::new(alloc));
-    RecordedPost::lend_further(desk, lent)
+    RecordedPost::lend_further(desk, lent, local)
 }
 
 /// Puts the desk and its ends back.
 fn put_back<J: Job<Out = u64>, O: OutEnd<J> + Drop>(
     said: &mut RecordedDesk<J>,
     ends: &mut Vec<O, Global>,
-    post: RecordedPost<J, O>,
+    post: RecordedPost<'_, J, O>,
 )
-    ensures back { lends said.new ends.new.items ≡ post }
+    ensures back { lends said.new ends.new.items ≡ post.entry }
     ensures outs { AreOutsOf (Fits J.meaning) O.out O.credited said.new ends.new.items }
     ensures room { length said.new.journal.notes < said.new.journal.room }
     ensures written { IsWritten (terms_of_desk said.new) said.new.journal.notes }
@@ -144,6 +146,7 @@ fn turn_lent<J: Job<Out = u64>, A: Allocator + Clone, O: OutEnd<J> + Drop, M: Me
     core: &mut Core<J, A>,
     said: &mut RecordedDesk<J>,
     ends: &mut Vec<O, Global>,
+    local: &mut J::Local,
     next: &Next,
     meter: &mut M,
 ) -> (Step<u64>, u64)
@@ -157,7 +160,7 @@ fn turn_lent<J: Job<Out = u64>, A: Allocator + Clone, O: OutEnd<J> + Drop, M: Me
     ensures room { length said.new.journal.notes < said.new.journal.room }
     ensures written { IsWritten (terms_of_desk said.new) said.new.journal.notes }
 {
-    let mut post = lend_out(alloc, said, ends);
+    let mut post = lend_out(alloc, said, ends, local);
     let (step, time) = core.turn_metered(next, &mut post, meter);
     put_back(said, ends, post);
     (step, time)
@@ -169,6 +172,7 @@ fn further_lent<J: Job<Out = u64>, A: Allocator + Clone, O: OutEnd<J> + Drop, M:
     core: &mut Core<J, A>,
     said: &mut RecordedDesk<J>,
     ends: &mut Vec<O, Global>,
+    local: &mut J::Local,
     next: &Next,
     meter: &mut M,
 ) -> (Step<u64>, u64)
@@ -182,7 +186,7 @@ fn further_lent<J: Job<Out = u64>, A: Allocator + Clone, O: OutEnd<J> + Drop, M:
     ensures room { length said.new.journal.notes < said.new.journal.room }
     ensures written { IsWritten (terms_of_desk said.new) said.new.journal.notes }
 {
-    let mut post = lend_out(alloc, said, ends);
+    let mut post = lend_out(alloc, said, ends, local);
     let (step, time) = core.turn_further_metered(next, &mut post, meter);
     put_back(said, ends, post);
     (step, time)
@@ -219,6 +223,7 @@ impl<J: Job<Out = u64>, A: Allocator + Clone> Recorded<J, A> {
         &mut self,
         alloc: Global,
         ends: &mut Vec<O, Global>,
+        local: &mut J::Local,
         next: &Next,
         meter: &mut M,
     ) -> Settled<u64>
@@ -240,7 +245,7 @@ impl<J: Job<Out = u64>, A: Allocator + Clone> Recorded<J, A> {
         ensures seat { IsSameSeat self.old self.new }
         ensures sound { IsRecorded J.meaning self.new }
     {
-        self.turn_noted(alloc, ends, next, meter)
+        self.turn_noted(alloc, ends, local, next, meter)
     }
 
     /// Notes the pick, makes the turn, and notes its settling.
@@ -248,6 +253,7 @@ impl<J: Job<Out = u64>, A: Allocator + Clone> Recorded<J, A> {
         &mut self,
         alloc: Global,
         ends: &mut Vec<O, Global>,
+        local: &mut J::Local,
         next: &Next,
         meter: &mut M,
     ) -> Settled<u64>
@@ -260,7 +266,15 @@ impl<J: Job<Out = u64>, A: Allocator + Clone> Recorded<J, A> {
         self.said.see_lanes();
         let picked = picked_notes(next);
         self.said.write(&picked);
-        let (step, time) = turn_lent(alloc, &mut self.core, &mut self.said, ends, next, meter);
+        let (step, time) = turn_lent(
+            alloc,
+            &mut self.core,
+            &mut self.said,
+            ends,
+            local,
+            next,
+            meter,
+        );
         note_settled(&mut self.said, next, &step, time)
     }
 
@@ -271,6 +285,7 @@ impl<J: Job<Out = u64>, A: Allocator + Clone> Recorded<J, A> {
         &mut self,
         alloc: Global,
         ends: &mut Vec<O, Global>,
+        local: &mut J::Local,
         next: &Next,
         meter: &mut M,
     ) -> Settled<u64>
@@ -292,7 +307,7 @@ impl<J: Job<Out = u64>, A: Allocator + Clone> Recorded<J, A> {
         ensures seat { IsSameSeat self.old self.new }
         ensures sound { IsRecorded J.meaning self.new }
     {
-        self.further_noted(alloc, ends, next, meter)
+        self.further_noted(alloc, ends, local, next, meter)
     }
 
     /// Notes the beginning, makes the poll, and notes its settling.
@@ -300,6 +315,7 @@ impl<J: Job<Out = u64>, A: Allocator + Clone> Recorded<J, A> {
         &mut self,
         alloc: Global,
         ends: &mut Vec<O, Global>,
+        local: &mut J::Local,
         next: &Next,
         meter: &mut M,
     ) -> Settled<u64>
@@ -312,7 +328,15 @@ impl<J: Job<Out = u64>, A: Allocator + Clone> Recorded<J, A> {
         self.said.see_lanes();
         let begun = followed_notes(next);
         self.said.write(&begun);
-        let (step, time) = further_lent(alloc, &mut self.core, &mut self.said, ends, next, meter);
+        let (step, time) = further_lent(
+            alloc,
+            &mut self.core,
+            &mut self.said,
+            ends,
+            local,
+            next,
+            meter,
+        );
         note_settled(&mut self.said, next, &step, time)
     }
 

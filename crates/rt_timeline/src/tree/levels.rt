@@ -71,7 +71,7 @@ fn low_half(vr: u128) -> u64
 
 /// Whether the key of this virtual runtime and queue doesn't stand before the other.
 #[inline]
-fn is_behind(vr: u128, queue: QueueNo, other_vr: u128, other_queue: QueueNo) -> bool
+pub(super) fn is_behind(vr: u128, queue: QueueNo, other_vr: u128, other_queue: QueueNo) -> bool
     ensures { result ≡ not (stands_before (record { vr = vr; queue = queue }) (record { vr = other_vr; queue = other_queue })) }
 {
     vr > other_vr || (vr == other_vr && queue.0 >= other_queue.0)

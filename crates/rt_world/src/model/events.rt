@@ -43,7 +43,7 @@ impl<J: Task<Out = u64>, A: Allocator + Clone> World<J, A> {
     }
 }
 
-impl<J: Job + Task<Out = u64>, A: Allocator + Clone> World<J, A> {
+impl<J: Job + Task<Out = u64, Local = ()>, A: Allocator + Clone> World<J, A> {
     /// One event. The reply says what it came to, and the new notes of its actor's journal what was done.
     ///
     /// # Errors

@@ -39,7 +39,7 @@ impl<J: Task<Out = u64>, A: Allocator + Clone> World<J, A> {
     }
 }
 
-impl<J: Job + Task<Out = u64>, A: Allocator + Clone> World<J, A> {
+impl<J: Job + Task<Out = u64, Local = ()>, A: Allocator + Clone> World<J, A> {
     /// Picks a queue of the core and polls its first job, and perhaps further ones, each once, or hands it back. The outcome of each goes
     /// to its sender's link.
     pub(super) fn turn(&mut self, core: CoreNo, spent: u64) -> Reply<J>
@@ -47,9 +47,11 @@ impl<J: Job + Task<Out = u64>, A: Allocator + Clone> World<J, A> {
         requires room { length (journal_at core self.old) + (3 * self.old.cores * self.old.cap + 2 * self.old.burst + 2) ≤ self.old.room }
         ensures { Turns J.meaning core spent self.old self.new result }
     {
+        let mut local = ();
         reply_for(turn_of(
             &mut self.inside[core.0 as usize],
             &mut self.links,
+            &mut local,
             core,
             spent,
         ))

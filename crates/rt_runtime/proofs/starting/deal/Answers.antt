@@ -16,6 +16,7 @@ loop-ends-init g c =
       some_clocks = c.requires.clocks ∙ sym left;
       some_gates = c.requires.gates ∙ sym left;
       some_sinks = c.requires.sinks ∙ sym left;
+      some_locals = c.requires.locals ∙ sym left;
     }
 
 pub loop-ends-preserved : goal.loop-ends-preserved
@@ -33,4 +34,5 @@ loop-ends-preserved g c =
       some_clocks = omega (arith, loop.invariant.some_clocks, c.remove-clock.ensures.len, steps.1, loop.clocks.ok.0, c.remove-clock.new.self.ok.0);
       some_gates = omega (arith, loop.invariant.some_gates, c.remove-gate.ensures.len, steps.1, loop.gates.ok.0, c.remove-gate.new.self.ok.0);
       some_sinks = omega (arith, loop.invariant.some_sinks, c.remove-sink.ensures.len, steps.1, loop.sinks.ok.0, c.remove-sink.new.self.ok.0);
+      some_locals = omega (arith, loop.invariant.some_locals, c.remove-local.ensures.len, steps.1, loop.locals.ok.0, c.remove-local.new.self.ok.0);
     }

@@ -12,4 +12,5 @@ invariant-loop-ends g l = record {
   some_clocks : length l.clocks.items ≡ into_iter_len l.ends-iterator;
   some_gates : length l.gates.items ≡ into_iter_len l.ends-iterator;
   some_sinks : length l.sinks.items ≡ into_iter_len l.ends-iterator;
+  some_locals : length l.locals.items ≡ into_iter_len l.ends-iterator;
 }

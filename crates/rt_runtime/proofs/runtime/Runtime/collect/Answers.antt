@@ -22,6 +22,8 @@ invariant_of-self g c =
       c.self.invariant.4,
       c.self.invariant.5,
       c.self.invariant.6,
+      c.self.invariant.7,
+      c.self.invariant.8,
     )
 
 pub returns : goal.returns

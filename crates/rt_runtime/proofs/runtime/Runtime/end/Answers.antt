@@ -25,6 +25,10 @@ pub part_all-all-requires-clause-room_actors : goal.part_all-all-requires-clause
 part_all-all-requires-clause-room_actors g c =
     omega (arith, all_ended g.J.Task.meaning _ c.self.invariant.0 c.compare_all.new.ended.items (all_run_on c.self.inside.team c.compare_all.new.ended.items (subst (Together KeepsOn c.self.inside.team) (sym c.compare_all.ensures.ended) c.join-ended.ensures)), c.self.invariant.1.room_actors, c.self.invariant.1.cores_are)
 
+pub part_all-all-requires-clause-room_locals : goal.part_all-all-requires-clause-room_locals
+part_all-all-requires-clause-room_locals g c =
+    omega (arith, all_ended g.J.Task.meaning _ c.self.invariant.0 c.compare_all.new.ended.items (all_run_on c.self.inside.team c.compare_all.new.ended.items (kept g c)), c.self.invariant.8, c.self.invariant.1.cores_are)
+
 pub push_reserved-requires : goal.push_reserved-requires
 push_reserved-requires g c =
     let counts = part_counts g.J.Task.meaning g.S.Sink.has g.S.Sink.refused c.compare_all.new.ended.items c.part_all-all.result.0.items c.part_all-all.result.1.items c.part_all-all.ensures.parts in
@@ -85,3 +89,9 @@ returns-clause-room g c =
       c.part_all-all.result.1.ok.0,
       c.push_reserved-2.new.self.ok.0,
     )
+
+pub returns-clause-locals : goal.returns-clause-locals
+returns-clause-locals g c =
+    c.part_all-all.ensures.locals
+    ∙ (all_ended g.J.Task.meaning _ c.self.invariant.0 c.compare_all.new.ended.items (all_run_on c.self.inside.team c.compare_all.new.ended.items (kept g c))
+    ∙ ap (λ view. view.desk.cores) c.self.view_is)

@@ -17,6 +17,8 @@ invariant_of-self g c = (
   c.self.invariant.5,
   map-set_same (λ (watcher : Watching). watcher.board) c.self.inside.watchers.items c.core.inside.0 c.look.new.self c.index_mut.result.now
       (c.look.ensures.same.0 ∙ ap (λ (watcher : Watching). watcher.board) c.index_mut.ensures.value) ∙ c.self.invariant.6,
+  c.self.invariant.7,
+  c.self.invariant.8,
 )
 
 pub returns-clause-watches : goal.returns-clause-watches

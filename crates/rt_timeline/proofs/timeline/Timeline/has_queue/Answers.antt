@@ -3,5 +3,5 @@ use Rattle.rt_timeline.specs.Rising.{has_queue}
 use Rattle.rt_timeline.proofs.Queues.{LacksQueue-from_test}
 use Rattle.rt_timeline.proofs.timeline.Timeline.has_queue.Goals as goal
 
-pub returns-clause-absent : goal.returns-clause-absent
-returns-clause-absent g c = λ none. LacksQueue-from_test c.args.queue c.args.self.now.keys (let e : has_queue c.args.queue c.args.self.now.keys ≡ false = search rules in e)
+pub returns-else-eq-clause-absent : goal.returns-else-eq-clause-absent
+returns-else-eq-clause-absent g c = λ none. LacksQueue-from_test c.args.queue c.args.self.now.keys (let e : has_queue c.args.queue c.args.self.now.keys ≡ false = search rules in e)
