@@ -31,7 +31,7 @@ module _ {A : Type 0} where
   first : (list : List A) (n capacity : ℕ) (held : Buffer A) → held ≡ buffer (drop n list) capacity → slice_get held.items 0 ≡ slice_get list n
   first list n capacity held is = ap (λ (b : Buffer A). slice_get b.items 0) is ∙ slice_get-drop n list 0 n (omega arith)
 
-module _ {J T : Type 0} {fits : Order J → Outcome J T → Type 0} {ready : Order J → Type 0} {p : Inside J T} (kept : IsPlain fits ready p) where
+module _ {J T L : Type 0} {fits : Order J → Outcome J T → Type 0} {ready : Order J → Type 0} {p : Inside J T L} (kept : IsPlain fits ready p) where
   pub IsPlain-send : (order : Order J) (sent : History (Order J)) (orders : Buffer (Order J)) → ready order → sent.items ≡ p.sent.items ++ order ∷ []
       → orders ≡ buffer (p.orders.items ++ order ∷ []) p.orders.capacity → p.base + p.count + 1 < 2 ^ 63 → p.count < p.credited + p.capacity
       → IsPlain fits ready (record p { sent = sent; orders = orders; count = p.count + 1 })

@@ -7,9 +7,9 @@ use Rattle.rt_link.specs.declared.plain.PlainLink.TheInside.{Inside}
 use Rattle.rt_link.specs.declared.plain.Whole.{Whole}
 use Rattle.rt_link.specs.Whole.{IsLink}
 
-module _ {J T : Type 0} where
+module _ {J T L : Type 0} where
   -- the link that it is
-  abbrev pub whole_of : Inside J T → Whole J T
+  abbrev pub whole_of : Inside J T L → Whole J T
   whole_of fields = record {
     from = fields.from;
     to = fields.to;
@@ -24,7 +24,7 @@ module _ {J T : Type 0} where
   }
 
   -- it keeps the law of a link; one buffer holds what was sent and not taken, the other what was given and not got
-  pub record IsPlain (fits : Order J → Outcome J T → Type 0) (ready : Order J → Type 0) (fields : Inside J T) : Type 0 where
+  pub record IsPlain (fits : Order J → Outcome J T → Type 0) (ready : Order J → Type 0) (fields : Inside J T L) : Type 0 where
     pub link : IsLink fits ready (whole_of fields)
     pub count_is : fields.count ≡ length fields.sent.items
     pub orders_are : fields.orders ≡ buffer (drop fields.taken fields.sent.items) fields.capacity
