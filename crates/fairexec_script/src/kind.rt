@@ -11,6 +11,7 @@ use crate::limits::{LONGEST_LINE, MOST_LINES};
 use rt_lines::fault::stopped;
 use rt_lines::{LineDraft, Stop};
 use rt_text::{Cause, Fault};
+use std::marker::Model;
 
 /// A script of some kind as far as its lines are judged.
 ///
@@ -51,7 +52,30 @@ pub trait ScriptDraft: Drop {
         ensures none { IsNone result ↔ (size self ≡ None) };
 }
 
-impl<D: ScriptDraft> LineDraft for D {
+/// A draft of some kind of script that takes no more lines, and no longer ones, than a script may have. A contract sees the draft.
+#[derive(Drop)]
+pub struct Limited<D> {
+    draft: D,
+}
+
+impl<D> Model for Limited<D> {
+    ghost Value = { D };
+
+    ghost view = { λ limited. limited.draft };
+
+    ghost invariant = { λ limited. Unit {0} };
+}
+
+impl<D> Limited<D> {
+    /// This draft with the limits of a script.
+    pub fn of(draft: D) -> Limited<D>
+        ensures { result ≡ draft }
+    {
+        Limited { draft }
+    }
+}
+
+impl<D: ScriptDraft> LineDraft for Limited<D> {
     type Cause = D::Why;
 
     type Whole = D::Script;
@@ -76,7 +100,7 @@ impl<D: ScriptDraft> LineDraft for D {
         if number > MOST_LINES {
             return Err(Stop::Cause(D::of_any(Cause::TooManyLines)));
         }
-        self.take_text(line)
+        self.draft.take_text(line)
     }
 
     fn too_long(&self, number: u32) -> D::Why {
@@ -89,10 +113,10 @@ impl<D: ScriptDraft> LineDraft for D {
 
     fn finish(mut self, number: u32, rest: &[u8]) -> Result<D::Script, Fault<D::Why>> {
         if rest.is_empty() {
-            return end(self, number);
+            return end(self.draft, number);
         }
         match self.take(number, rest) {
-            Ok(()) => end(self, number + 1),
+            Ok(()) => end(self.draft, number + 1),
             Err(stop) => Err(stopped(number, stop)),
         }
     }

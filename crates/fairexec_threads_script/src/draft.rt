@@ -12,11 +12,11 @@ ghost use Rattle.fairexec_threads_script.specs.Limits.{IsToldFor, SendsNoPark, T
 use crate::fault::ThreadsCause;
 use crate::line::{line_told, size_told};
 use crate::script::ThreadsScript;
-use fairexec_script::{ScriptDraft, ScriptEvent};
 use fairexec_script::counts::CoreCounts;
 use fairexec_script::kind::is_skipped;
 use fairexec_script::limits::MOST_QUEUE_LINES;
 use fairexec_script::line::Line;
+use fairexec_script::{ScriptDraft, ScriptEvent};
 use rt_ids::{CoreNo, Order};
 use rt_jobs::ScriptJob;
 use rt_lines::Stop;
