@@ -4,8 +4,8 @@ use Rattle.rt_world.specs.State.{journal_at}
 use Rattle.fairexec_script.specs.declared.event.ScriptEvent.{ScriptEvent}
 use Rattle.fairexec_script.specs.Drafts.{Drafted}
 use Rattle.fairexec_script.specs.Scripts.{script_of}
-use Rattle.fairexec_run.specs.BadOutputs.{OutputsAreRefused, idle}
-use Rattle.fairexec_run.specs.Begun.{IsCutShort, IsFirstText}
+use Rattle.fairexec_run.specs.BadOutputs.{OutputsAreRefused}
+use Rattle.fairexec_run.specs.Begun.{IsCutShort}
 use Rattle.fairexec_run.specs.Transcripts.{ScriptWorld, PrintsAll}
 
 -- an empty text tells no script

@@ -1,5 +1,5 @@
 -- Outputs of a script that are refused, each for one thing.
-use Rattle.std.specs.Prelude.{◌≡◌, ℕ, Bool, true, false, List, [], codes, replicate, Option, Some, None}
+use Rattle.std.specs.Prelude.{◌≡◌, ℕ, Bool, false, List, [], codes, replicate, Option, Some, None}
 use Rattle.rt_ids.specs.Assembly.{Assembly}
 use Rattle.rt_jobs.specs.Scripts.{Script}
 use Rattle.rt_world.specs.declared.event.Event.{Event}

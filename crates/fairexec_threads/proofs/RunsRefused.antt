@@ -1,5 +1,5 @@
 -- Each run with one thing wrong is refused.
-use Rattle.std.proofs.Common.{◌≡◌, ℕ, ◌<◌, List, [], ◌∷◌, ◌++◌, Some, Ok, sym, ◌∙◌, arith}
+use Rattle.std.proofs.Common.{◌≡◌, ℕ, ◌<◌, [], ◌∷◌, ◌++◌, Some, Ok, sym, ◌∙◌, arith}
 use Rattle.rt_ids.specs.declared.note.Note.{Note}
 use Rattle.rt_ids.specs.declared.order.Mode.TheVariants.{Finish, Return}
 use Rattle.rt_ids.specs.Assembly.{Assembly}
