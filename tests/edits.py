@@ -93,7 +93,7 @@ def look(crates):
     return 1 if failed else 0
 
 
-HEAD = re.compile(r"^([ \t]*)(?:pub(?:\([a-z]+\))? )?(?:const |unsafe )*fn (\w+)", re.MULTILINE)
+HEAD = re.compile(r"^([ \t]*)(?:pub(?:\([a-z]+\))? )?(?:const |unsafe |extern \"C\" )*fn (\w+)", re.MULTILINE)
 IMPL = re.compile(r"^impl\b([^{]*)\{", re.MULTILINE)
 
 
