@@ -33,8 +33,8 @@ ROOT = Path(__file__).resolve().parent.parent
 # How many functions one check proves at most, so that its memory stays small.
 MOST = 12
 
-# What a proof file says of a name that an edit took away. It tells nothing of the contract.
-NAMES = re.compile(r"has no field|is not in scope|has no `|was not admitted")
+# What a proof file says of a name that an edit took away, or of a goal that says nothing any more. It tells nothing of the contract.
+NAMES = re.compile(r"has no field|is not in scope|has no `|was not admitted|expected type `Unit \{0\}`")
 BY_NAME = "only because a proof file names what the edit took away"
 
 
