@@ -11,6 +11,7 @@ NAME..    these crates alone; without a name every crate that has edits
 --look    proves nothing: names each edit, of must-fail/ too, that can't be applied, in a second for all.
           The last line is 'N passed, M failed', and the status is 0 if each can be.
 
+An edit may change an answer of its function too, behind its change of the function, so that a clause of the contract stays open.
 Edits of one crate that change different functions are tried together: one check proves all the functions that they change, and
 nothing else. An edit is refused if a goal of its own function is open. Whatever isn't refused so, or changes more than the bodies
 of functions, is tried alone by `rt must-fail`, which checks the whole crate. An edit with a line 'compiler: CODE' must be refused
@@ -33,8 +34,8 @@ ROOT = Path(__file__).resolve().parent.parent
 # How many functions one check proves at most, so that its memory stays small.
 MOST = 12
 
-# What a proof file says of a name that an edit took away. It tells nothing of the contract.
-NAMES = re.compile(r"has no field|is not in scope|has no `|was not admitted")
+# What a proof file says of a name that an edit took away, or of a goal that says nothing any more. It tells nothing of the contract.
+NAMES = re.compile(r"has no field|is not in scope|has no `|was not admitted|expected type `Unit \{0\}`")
 BY_NAME = "only because a proof file names what the edit took away"
 
 
@@ -93,7 +94,7 @@ def look(crates):
     return 1 if failed else 0
 
 
-HEAD = re.compile(r"^([ \t]*)(?:pub(?:\([a-z]+\))? )?(?:const |unsafe )*fn (\w+)", re.MULTILINE)
+HEAD = re.compile(r"^([ \t]*)(?:pub(?:\([a-z]+\))? )?(?:const |unsafe |extern \"C\" )*fn (\w+)", re.MULTILINE)
 IMPL = re.compile(r"^impl\b([^{]*)\{", re.MULTILINE)
 
 
@@ -142,6 +143,8 @@ def changed_functions(crate, edit, folder, functions):
     """The functions whose bodies an edit changes. None if it changes anything else."""
     found = set()
     for file, old, _ in edit.pairs:
+        if file.startswith("proofs/") and "::".join(Path(file).parent.parts[1:]) in found:
+            continue
         text = (folder / file).read_text()
         place = text.find(old)
         at = file.startswith("src/") and place >= 0 and function_at(file, text, place + len(old) - len(old.lstrip()))
