@@ -26,7 +26,7 @@ apart : (a b : ℕ) → (a == b) ≡ false → b ≢ a
 apart a b away same = true≢false (sym (eq-eqb a b (sym same)) ∙ away)
 
 -- what is told of a place
-note_there : {J T : Type 0} → Option (Option (Outcome J T)) → Option (OutcomeNote T)
+abbrev note_there : {J T : Type 0} → Option (Option (Outcome J T)) → Option (OutcomeNote T)
 note_there (Some (Some outcome)) = Some (outcome_note outcome)
 note_there (Some None) = None
 note_there None = None

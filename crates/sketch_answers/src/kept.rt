@@ -56,8 +56,8 @@ impl<J: Answers> Kept<J> {
         requires room { length self.old.notes < self.old.room }
         ensures { Keeps name outcome self.old self.new }
     {
-        self.journal.push(Note::Collected(name, told(&outcome)));
         let place = name.number as usize;
+        self.journal.push(Note::Collected(name, told(&outcome)));
         let _before = mem::replace(&mut self.kept[place], Some(outcome));
     }
 
