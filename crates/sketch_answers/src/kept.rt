@@ -1,11 +1,13 @@
 //! Outcomes that wait to be redeemed, beside the notes of their actor. It stands for a recorded desk.
 
-ghost use Rattle.std.specs.Prelude.{◌≡◌, ◌<◌, [], None, length, replicate, IfOk};
+ghost use Rattle.std.specs.Prelude.{◌≡◌, ◌<◌, [], Some, None, length, replicate, IfOk};
+ghost use Rattle.rt_ids.specs.declared.order.Outcome.TheVariants.{Finished};
+ghost use Rattle.rt_jobs.specs.Steps.{IfDone, IfUndone};
 ghost use Rattle.sketch_answers.specs.Keeping.{Keeps, Redeems};
 
 use crate::answer::{Answer, Numbered, told};
 use rt_ids::{JobId, Note, Outcome};
-use rt_jobs::Task;
+use rt_jobs::{Step, Task};
 use rt_journal_notes::Journal;
 use std::alloc::{AllocError, Global};
 use std::marker::Model;
@@ -15,6 +17,22 @@ use std::mem;
 pub trait Answers: Task<Out = Numbered<Self::Value>> {
     /// What it answers.
     type Value: Answer;
+}
+
+/// Parts what a poll came to: the outcome has the answer itself, and the step that goes on has its number. An answer that is no copy can't be in both.
+pub fn parted<J, A: Answer>(step: Step<Numbered<A>>) -> (Option<Outcome<J, Numbered<A>>>, Step<u64>)
+    ensures outcome { IfDone step (λ out. result.0 ≡ Some (Finished out)) }
+    ensures none { IfUndone step (result.0 ≡ None) }
+    ensures step { result.1 ≡ step }
+{
+    match step {
+        Step::Yield => (None, Step::Yield),
+        Step::Park => (None, Step::Park),
+        Step::Done(answer) => {
+            let number = answer.number();
+            (Some(Outcome::Finished(answer)), Step::Done(number))
+        }
+    }
 }
 
 /// Outcomes that wait to be redeemed, each at the place of its number, and the notes of their actor.

@@ -6,4 +6,4 @@ mod kept;
 mod laws;
 
 pub use answer::{Answer, Numbered, note_of, told};
-pub use kept::{Answers, Kept};
+pub use kept::{Answers, Kept, parted};
