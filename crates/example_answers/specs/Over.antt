@@ -6,6 +6,6 @@ use Rattle.example_answers.specs.declared.work.Work.TheVariants.{List, Add, Hold
 -- whether it has answered
 abbrev pub is_over : Work → Bool
 is_over (List count rows slot) = false
-is_over (Add count rows slot kept) = false
+is_over (Add list slot kept) = false
 is_over (Hold count rows) = false
 is_over Ended = true

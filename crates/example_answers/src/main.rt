@@ -70,9 +70,9 @@ fn places(alloc: Global) -> Result<(Vec<u64>, Slot<Vec<u64>>), AllocError> {
 /// Has a job add up the list of another core.
 fn add<R: Wait + Print + Drop>(rt: &R, node: &mut Node<R>, alloc: Global) -> Option<()> {
     let (rows, slot) = places(alloc).ok()?;
+    let theirs = slot.again().ok()?;
     let job = Work::Add {
-        count: COUNT,
-        rows: Some(rows),
+        list: Some((COUNT, rows, theirs)),
         slot,
         kept: None,
     };

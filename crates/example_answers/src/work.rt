@@ -23,8 +23,7 @@ pub enum Work {
     },
     /// Has core 1 list the first squares, and answers their sum.
     Add {
-        count: u64,
-        rows: Option<Vec<u64>>,
+        list: Option<(u64, Vec<u64>, Slot<Vec<u64>>)>,
         slot: Slot<Vec<u64>>,
         kept: Option<Ticket>,
     },
@@ -88,27 +87,10 @@ impl Asks for Work {
                 let number = slot.fill(rows);
                 self.end(number)
             }
-            Work::Add {
-                count,
-                rows,
-                slot,
-                kept,
-            } => {
-                if let Some(rows) = rows.take() {
-                    let Ok(theirs) = slot.again() else {
-                        return self.end(0);
-                    };
-                    let list = Work::List {
-                        count: *count,
-                        rows,
-                        slot: theirs,
-                    };
-                    *kept = submit_and_keep(
-                        begun,
-                        post,
-                        CoreNo(1),
-                        Order::Job(QueueNo(0), list),
-                    ).ok();
+            Work::Add { list, slot, kept } => {
+                if let Some((count, rows, slot)) = list.take() {
+                    let order = Order::Job(QueueNo(0), Work::List { count, rows, slot });
+                    *kept = submit_and_keep(begun, post, CoreNo(1), order).ok();
                 }
                 let Some(ticket) = *kept else {
                     return self.end(0);

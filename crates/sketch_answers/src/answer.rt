@@ -6,6 +6,7 @@ ghost use Rattle.sketch_answers.specs.Numbers.{note_at};
 
 use rt_ids::{Answer as Told, Outcome, OutcomeNote};
 use std::marker::Model;
+use std::mem;
 
 /// What a job answers. A note tells its number, and nothing else of it.
 pub trait Answer: Drop {
@@ -70,6 +71,15 @@ impl<A: Answer> Numbered<A> {
         let Numbered { answer } = self;
         answer
     }
+}
+
+/// Exchanges two answers of the same number. A contract sees nothing of it: this is what numbers don't tell.
+pub fn exchanged<A: Answer>(one: &mut Numbered<A>, other: &mut Numbered<A>)
+    requires same { one.old ≡ other.old }
+    ensures one { one.new ≡ one.old }
+    ensures other { other.new ≡ other.old }
+{
+    mem::swap(one, other);
 }
 
 /// The outcome as a note tells it. The definition is the one of today.
