@@ -4,6 +4,13 @@ pub mod Published
 pub mod Seen
 pub mod Openings
 pub mod Rung
+mod SmallWorkers
+mod BoardsRefused
+mod LinksRefused
+mod ServesRefused
+mod OnceRefused
+mod EndsRefused
+mod LooksRefused
 mod QueuesRefused
 mod ActsRefused
 mod BellsRefused

@@ -50,7 +50,7 @@ module _ {J T C G S : Type 0} where
         (subst (λ linked. AsksSince asked linked.recorded.core.core linked.recorded.journal.notes notes middle.gate gate) same.linked asks)
 
   module _ (meaning : Meaning J T) (reads : C → ℕ → C → Type 0) (asked : G → ℕ → JobId → G → Type 0) (has : S → Journal T) (refused : S → ℕ → Type 0) where
-    where_shown : (due : Type 0) (old new : WorkerView J T C G S) → HandsOnWhere has refused due old new → new.shown ≡ old.shown
+    pub where_shown : (due : Type 0) (old new : WorkerView J T C G S) → HandsOnWhere has refused due old new → new.shown ≡ old.shown
     where_shown due old new (inl did) = ap (λ view. view.shown) did.2
     where_shown due old new (inr none) = ap (λ view. view.shown) none.1
 

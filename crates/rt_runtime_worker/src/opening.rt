@@ -109,8 +109,8 @@ fn serve_core<J: Task<Out = u64>>(
 
 impl<J: Task<Out = u64>, C: Drop, G: Drop, S: Sink> Worker<J, C, G, S> {
     /// Opens the worker of the core that has these ends, with the queues that the configuration names for it. It rings these bells, and parks
-    /// on that of its core. Its jobs share this state. It passes on its notes to this sink, which has none yet. The watcher is of the board on which it publishes its numbers,
-    /// and tells those of no note.
+    /// on that of its core. It passes on its notes to this sink, which has none yet. Its jobs share this state. The watcher is of the board on
+    /// which it publishes its numbers, and tells those of no note.
     ///
     /// # Errors
     ///

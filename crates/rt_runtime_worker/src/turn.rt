@@ -31,8 +31,9 @@ impl<J: Job + Task<Out = u64>> Linked<J> {
     /// Makes one turn: the first job of the right pick is polled, or handed back. What is to be done is told ahead of the pick. If a turn may
     /// have several polls, jobs of the same queue are polled as long as the turn may go on, and a note of its own ends the turn.
     ///
-    /// A job that is polled may submit, redeem and detach as this core, and is lent what the jobs of the core share. The gate is asked just before each poll, and the meter is told that
-    /// the poll begins, and asked how long it took. `alloc` gives no memory: what is lent leaves an empty list of it behind.
+    /// A job that is polled may submit, redeem and detach as this core, and is lent what the jobs of the core share. The gate is asked just
+    /// before each poll, and the meter is told that the poll begins, and asked how long it took. `alloc` gives no memory: what is lent leaves
+    /// an empty list of it behind.
     pub fn turn<M: Meter, G: Gate>(
         &mut self,
         alloc: Global,

@@ -240,8 +240,9 @@ impl<J: Job + Task<Out = u64>, C: Clock + Drop, G: Gate + Drop, S: Sink> Work
         ensures asks { (gate : G) × AsksSince G.Asked self.linked.recorded.core.core self.linked.recorded.journal.notes result.linked.recorded.journal.notes self.gate gate }
     {
         let mut worker = self;
-        // On the thread that writes the notes, so that their pages come from memory that is near to it. So does what the jobs share.
+        // On the thread that writes the notes, so that their pages come from memory that is near to it.
         worker.rounds.prefault();
+        // On the thread that polls the jobs, and before each of their polls.
         worker.rounds.begin(&mut worker.local);
         for _ in rt.forever() {
             if worker.rounds.is_drained() {

@@ -26,7 +26,7 @@ fn serve<R: Wait>(
     requires own { AreEndsOf 1 4 own }
     requires bells { shared.now.bells.rings ≡ replicate 2 0 }
 {
-    let worker = open(alloc, own, shared, 1, ROOM, Whole)?;
+    let worker = open(alloc, own, shared, 1, ROOM, Whole, ())?;
     let (recorded, _ends) = worker.run(rt).into_linked().into_parts();
     Ok(recorded.into_journal().into_kept())
 }
@@ -41,7 +41,7 @@ fn serve_bursts<R: Wait>(
     requires own { AreEndsOf 1 4 own }
     requires bells { shared.now.bells.rings ≡ replicate 2 0 }
 {
-    let worker = open(alloc, own, shared, 2, ROOM_OF_BURSTS, Whole)?;
+    let worker = open(alloc, own, shared, 2, ROOM_OF_BURSTS, Whole, ())?;
     let (recorded, _ends) = worker.run(rt).into_linked().into_parts();
     Ok(recorded.into_journal().into_kept())
 }

@@ -140,7 +140,7 @@ pub(crate) fn yielding_job(rt: &impl Abort) -> ScriptJob {
 }
 
 /// The ends of the core.
-fn own_of(all: &mut Vec<Ends<ScriptJob>>) -> Ends<ScriptJob>
+fn own_of<J: Task<Out = u64>>(all: &mut Vec<Ends<J>>) -> Ends<J>
     requires grid { IsGrid 1 all.old.items }
     requires fresh { AreAllFresh 1 4 all.old.items }
     ensures { AreEndsOf 1 4 result }
@@ -149,10 +149,10 @@ fn own_of(all: &mut Vec<Ends<ScriptJob>>) -> Ends<ScriptJob>
 }
 
 /// The ends of the core, and those of the outside actor.
-pub(crate) fn ends(alloc: Global) -> Result<(Ends<ScriptJob>, Ends<ScriptJob>), OpenError>
+pub(crate) fn ends<J: Task<Out = u64>>(alloc: Global) -> Result<(Ends<J>, Ends<J>), OpenError>
     ensures { IfOk result (λ ends. AreEndsOf 1 4 ends.0) }
 {
-    let mut all = open_all::<ScriptJob>(alloc, 1, CAP)?;
+    let mut all = open_all::<J>(alloc, 1, CAP)?;
     let own = own_of(&mut all);
     match all.pop() {
         Some(outside) => Ok((own, outside)),
@@ -161,8 +161,8 @@ pub(crate) fn ends(alloc: Global) -> Result<(Ends<ScriptJob>, Ends<ScriptJob>), 
 }
 
 /// Whether the order was sent to the core.
-pub(crate) fn send(outside: &mut Ends<ScriptJob>, order: Order<ScriptJob>) -> bool
-    requires { HasReadyJob ⟦<ScriptJob as Task>⟧.meaning order }
+pub(crate) fn send<J: Task<Out = u64>>(outside: &mut Ends<J>, order: Order<J>) -> bool
+    requires { HasReadyJob J.meaning order }
 {
     match outside.outs.get_mut(0) {
         Some(end) => end.send(order).is_ok(),
@@ -170,15 +170,16 @@ pub(crate) fn send(outside: &mut Ends<ScriptJob>, order: Order<ScriptJob>) -> bo
     }
 }
 
-/// A worker over these ends, which parks after each round in which nothing was done. A turn may have so many polls.
-pub(crate) fn open<S: Sink>(
+/// A worker over these ends, which parks after each round in which nothing was done. A turn may have so many polls. Its jobs share this state.
+pub(crate) fn open<J: Task<Out = u64>, S: Sink>(
     alloc: Global,
-    own: Ends<ScriptJob>,
+    own: Ends<J>,
     shared: &Shared,
     burst: u8,
     room: u32,
     sink: S,
-) -> Result<Worker<ScriptJob, Still, Counter, S>, AllocError>
+    local: J::Local,
+) -> Result<Worker<J, Still, Counter, S>, AllocError>
     requires room { least_room 1 4 burst ≤ room }
     requires none { S.has sink ≡ [] }
     requires own { AreEndsOf 1 4 own }
@@ -207,7 +208,7 @@ pub(crate) fn open<S: Sink>(
         gate,
         &shared.bells,
         sink,
-        (),
+        local,
     )?;
     Ok(worker.with_tries(0))
 }

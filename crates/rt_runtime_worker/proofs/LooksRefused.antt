@@ -1,0 +1,48 @@
+-- Looks of a small worker that are refused: gates that stay open, orders that are left, turns that are made up, too many notes.
+use Rattle.std.proofs.Common.{◌≡◌, ◌⊎◌, Bool, true, false, inl, inr, ℕ, ◌+◌, ◌<◌, ◌≤◌, [], ◌∷◌, length, replicate, refl, ap, arith}
+use Rattle.rt_ids.specs.declared.names.JobId.{JobId}
+use Rattle.rt_ids.specs.declared.note.Note.TheVariants.{CoreClosed, Created, Shut}
+use Rattle.rt_ids.specs.declared.order.Mode.TheVariants.{Return}
+use Rattle.rt_ids.specs.Journal.{Journal}
+use Rattle.rt_jobs.specs.Meanings.{Meaning}
+use Rattle.rt_runtime_worker.specs.Ended.{ServedView}
+use Rattle.rt_runtime_worker.specs.Few.{RoundsFew}
+use Rattle.rt_runtime_worker.specs.Looks.{LooksAtAll, RoundView, round_view, turns_after}
+use Rattle.rt_runtime_worker.specs.Readings.{WatchView}
+use Rattle.rt_runtime_worker.specs.Rounds.{HasShutGates, IsHeard, ShutsClosed}
+use Rattle.rt_runtime_worker.proofs.LinksRefused.{hearing, noted}
+use Rattle.rt_runtime_worker.proofs.SmallWorkers.{linked_of}
+
+-- the core is closed, and the gate of core 0 is shut, but not that of the outside actor
+abbrev half_shut : Journal ℕ
+half_shut = Shut 0 0 ∷ CoreClosed Return ∷ []
+
+gate_stays_open : HasShutGates (noted half_shut) → ⊥
+gate_stays_open shut = let gate = shut refl 1 (omega arith) in cc
+
+-- a look behind the close leaves it open
+look_leaves_a_gate : ShutsClosed (noted (CoreClosed Return ∷ [])) (noted half_shut) → ⊥
+look_leaves_a_gate shuts = let gate = shuts refl 1 (omega arith) in cc
+
+-- of two orders that an end has seen none is delivered
+hears_nobody : IsHeard 0 (hearing 0) (hearing 0) → ⊥
+hears_nobody (inl all) = omega (arith, all)
+hears_nobody (inr some) = omega (arith, some)
+
+-- a round of a core with one sender and one place in each link writes 33 notes
+writes_too_much : RoundsFew (record { linked = noted []; ending = false }) (record { linked = noted (replicate 33 (Created 1 900)); ending = false }) → ⊥
+writes_too_much few = let wrote = few.wrote refl in omega (arith, wrote)
+
+-- sixteen turns are left behind a quiet look, and none behind another
+are_other_turns : (quiet : Bool) → 5 ≡ turns_after quiet → ⊥
+are_other_turns true five = omega (arith, five)
+are_other_turns false five = omega (arith, five)
+
+module _ (meaning : Meaning ℕ ℕ) (reads : ℕ → ℕ → ℕ → Type 0) (asked : ℕ → ℕ → JobId → ℕ → Type 0) where
+  -- a look leaves five turns
+  leaves_five_turns : (old new : RoundView ℕ ℕ ℕ ℕ) (some : Bool) → LooksAtAll meaning reads asked old some 5 new → ⊥
+  leaves_five_turns old new some looks = are_other_turns _ looks.plans
+
+  -- the time of polls isn't counted anew behind a look
+  keeps_the_time : (old : RoundView ℕ ℕ ℕ ℕ) (served : ServedView ℕ ℕ) (some : Bool) (turns : ℕ) → LooksAtAll meaning reads asked old some turns (round_view served 0 7 0) → ⊥
+  keeps_the_time old served some turns looks = let taken = ap (λ (watch : WatchView ℕ). watch.taken) looks.forgets in omega (arith, taken)
