@@ -1,0 +1,2 @@
+pub mod BadDesks
+pub mod BadCalls
