@@ -3,7 +3,6 @@ use Rattle.std.proofs.Common.{IfOk, eqb, sym, ap, zero-add, zero, suc, get_or, r
 use Rattle.std.proofs.lemmas.Bool.Decides.{nat_tests}
 use Rattle.std.proofs.lemmas.List.Sums.{sum_by-append}
 use Rattle.std.proofs.lemmas.List.Elements.{All-push}
-use Rattle.rt_text.specs.declared.fault.Cause.{Cause}
 use Rattle.rt_text.specs.declared.fault.Cause.TheVariants.{WrongNumberOfWords}
 use Rattle.fairexec_script.specs.declared.event.ScriptEvent.{ScriptEvent}
 use Rattle.fairexec_script.specs.declared.line.Line.{Line}
@@ -70,11 +69,11 @@ line_of_ok keyword.Redeem size ws line some e = redeem_line_ok size ws line some
 line_of_ok keyword.Detach size ws line some e = detach_line_ok size ws line some e
 
 -- a choice that came to a value took a branch that has it
-cond_ok : {A : Type 0} (b : Bool) (r : Result A Cause) (cause : Cause) (value : A) → cond b r (Err cause) ≡ Ok value → r ≡ Ok value
-cond_ok true r cause value e = e
+pub cond_ok : {A E : Type 0} (b : Bool) (r : Result A E) (cause : E) (value : A) → cond b r (Err cause) ≡ Ok value → (b ≡ true) × (r ≡ Ok value)
+cond_ok true r cause value e = (refl, e)
 cond_ok false r cause value e = cc
 
-cond_not_ok : {A : Type 0} (b : Bool) (r : Result A Cause) (cause : Cause) (value : A) → cond b (Err cause) r ≡ Ok value → r ≡ Ok value
+pub cond_not_ok : {A E : Type 0} (b : Bool) (r : Result A E) (cause : E) (value : A) → cond b (Err cause) r ≡ Ok value → r ≡ Ok value
 cond_not_ok true r cause value e = cc
 cond_not_ok false r cause value e = e
 
@@ -90,7 +89,7 @@ first_line_ok ws line e =
 keyword_line_ok : (k : Option Keyword) (size : ℕ × ℕ) (late : Bool) (ws : List (List ℕ)) (line : Line) → 1 ≤ size.0 → keyword_line k size.0 late ws ≡ Ok line → MayFollow (Some size) line
 keyword_line_ok None size late ws line some e = cc
 keyword_line_ok (Some k) size late ws line some e =
-    line_of_ok k size (others ws) line some (cond_ok _ _ _ _ (cond_not_ok _ _ _ _ e))
+    line_of_ok k size (others ws) line some (cond_ok _ _ _ _ (cond_not_ok _ _ _ _ e)).1
 
 pub later_line_ok : (size : ℕ × ℕ) (late : Bool) (ws : List (List ℕ)) (line : Line) → 1 ≤ size.0 → later_line size.0 late ws ≡ Ok line → MayFollow (Some size) line
 later_line_ok size late ws line some e = keyword_line_ok (keyword_of (first ws)) size late ws line some e
@@ -156,6 +155,6 @@ counted_event draft event counts counted here = record {
   each = counted.each;
 }
 
-pub IfOk-from_each : {A : Type 0} (r : Result A Cause) (P : A → Type 0) → ((a : A) → r ≡ Ok a → P a) → IfOk r P
+pub IfOk-from_each : {A E : Type 0} (r : Result A E) (P : A → Type 0) → ((a : A) → r ≡ Ok a → P a) → IfOk r P
 IfOk-from_each (Ok a) P each = each a refl
 IfOk-from_each (Err cause) P each = tt

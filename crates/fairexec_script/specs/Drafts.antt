@@ -4,10 +4,9 @@ use Rattle.fairexec_script.specs.declared.event.ScriptEvent.{ScriptEvent}
 use Rattle.fairexec_script.specs.declared.line.Line.{Line}
 use Rattle.fairexec_script.specs.declared.line.Line.TheVariants.{Size, Queue, Step}
 use Rattle.rt_text.specs.declared.fault.Cause.{Cause}
-use Rattle.rt_text.specs.declared.fault.Cause.TheVariants.{TooManyLines, LineTooLong, TooManyQueues}
+use Rattle.rt_text.specs.declared.fault.Cause.TheVariants.{TooManyQueues}
 use Rattle.rt_words.specs.Words.{words}
 use Rattle.fairexec_script.specs.Lines.{first_line, later_line}
-use Rattle.fairexec_script.specs.TextLimits.{most_lines, longest_line}
 
 -- cores and capacity, once a line told them; the burst, 1 if no line told it; the `queue` lines by core and shares; the events; all in order
 pub record Drafted : Type 0 where
@@ -52,10 +51,3 @@ abbrev pub with_text : Drafted → List ℕ → Result Drafted Cause
 with_text draft line =
     if is_skipped line then Ok draft
     else with_read draft (line_at draft.size (nat_lt 0 (length draft.events)) (words line))
-
--- a line, by its number from 1
-abbrev pub judged : Drafted → ℕ → List ℕ → Result Drafted Cause
-judged draft number line =
-    if nat_lt most_lines number then Err TooManyLines
-    else (if nat_lt longest_line (length line) then Err LineTooLong
-    else with_text draft line)

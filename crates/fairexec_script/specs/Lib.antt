@@ -7,5 +7,6 @@ pub mod Drafts
 pub mod Limits
 pub mod Counts
 pub mod BadDrafts
+pub mod Ends
 pub mod Scripts
 pub mod Whole

@@ -1,7 +1,6 @@
 //! A script as far as its lines are judged.
 
-ghost use Rattle.std.specs.Prelude.{◌≡◌, Ok, Err, IfOk, IfErr, OnOk, OnErr, length, nat_lt, ◌≤◌, ◌+◌, IfSome, IsNone, None, ◌↔◌};
-ghost use Rattle.fairexec_script.specs.Whole.{drafted};
+ghost use Rattle.std.specs.Prelude.{◌≡◌, Ok, Err, IfOk, IfErr, OnOk, OnErr, length, nat_lt, ◌≤◌, ◌+◌};
 ghost use Rattle.rt_words.specs.Words.{words};
 ghost use Rattle.fairexec_script.specs.Drafts as spec;
 ghost use Rattle.fairexec_script.specs.Limits.{MayFollow};
@@ -9,6 +8,8 @@ ghost use Rattle.rt_lines.specs.Faults.{IfCause};
 
 use crate::counts::CoreCounts;
 use crate::event::ScriptEvent;
+use crate::kind::{ScriptDraft, is_skipped};
+use crate::limits::MOST_QUEUE_LINES;
 use crate::line::{Line, first_line, later_line};
 use crate::script::Script;
 use rt_ids::CoreNo;
@@ -17,9 +18,6 @@ use rt_shares::Shares;
 use rt_text::Cause;
 use std::alloc::Global;
 use std::marker::Model;
-
-/// The most `queue` lines of a core: with queue 0 they make 256.
-const MOST_QUEUE_LINES: usize = 255;
 
 /// A script as far as its lines are judged.
 #[derive(Drop)]
@@ -56,45 +54,6 @@ impl Draft {
             queues: Vec::new(alloc),
             counts: CoreCounts::new(),
             events: Vec::new(alloc),
-        }
-    }
-
-    /// The whole script, where the lines end here; None where none told the size.
-    pub(crate) fn finish_script(self) -> Option<Script>
-        requires { length self.events ≤ 4096 }
-        ensures whole { IfSome result (λ script. self ≡ drafted script) }
-        ensures none { IsNone result ↔ (self.size ≡ None) }
-    {
-        let Draft {
-            size,
-            burst,
-            queues,
-            counts: _,
-            events,
-        } = self;
-        let (cores, cap) = size?;
-        Some(Script {
-            cores,
-            cap,
-            burst,
-            queues,
-            events,
-        })
-    }
-
-    /// Takes one line that isn't too long.
-    pub(crate) fn take_text(&mut self, text: &[u8]) -> Result<(), Stop<Cause>>
-        ensures ok { OnOk result (spec.with_text self.old text.now ≡ Ok self.new) }
-        ensures faulty { IfErr result (IfCause (λ cause. spec.with_text self.old text.now ≡ Err cause)) }
-        ensures one_more { OnOk result (length self.new.events ≤ length self.old.events + 1) }
-        ensures err { OnErr result (self.new ≡ self.old) }
-    {
-        if is_skipped(text) {
-            return Ok(());
-        }
-        match self.line_at(text) {
-            Ok(line) => self.add(line),
-            Err(cause) => Err(Stop::Cause(cause)),
         }
     }
 
@@ -136,12 +95,54 @@ impl Draft {
     }
 }
 
-/// Whether the line is empty or begins with `#`.
-fn is_skipped(line: &[u8]) -> bool
-    ensures { result ≡ spec.is_skipped line.now }
-{
-    match line {
-        [] => true,
-        [first, ..] => *first == b'#',
+impl ScriptDraft for Draft {
+    type Why = Cause;
+
+    type Script = Script;
+
+    ghost use Rattle.std.specs.Prelude.{◌≡◌, length};
+    ghost use Rattle.fairexec_script.specs.Drafts.{with_text};
+    ghost use Rattle.fairexec_script.specs.Whole.{drafted};
+
+    ghost told = { λ cause. cause };
+
+    ghost with_text = { with_text };
+
+    ghost size = { λ draft. draft.size };
+
+    ghost steps = { λ draft. length draft.events };
+
+    ghost makes = { λ script draft. draft ≡ drafted script };
+
+    fn of_any(cause: Cause) -> Cause {
+        cause
+    }
+
+    fn take_text(&mut self, text: &[u8]) -> Result<(), Stop<Cause>> {
+        if is_skipped(text) {
+            return Ok(());
+        }
+        match self.line_at(text) {
+            Ok(line) => self.add(line),
+            Err(cause) => Err(Stop::Cause(cause)),
+        }
+    }
+
+    fn finish_script(self) -> Option<Script> {
+        let Draft {
+            size,
+            burst,
+            queues,
+            counts: _,
+            events,
+        } = self;
+        let (cores, cap) = size?;
+        Some(Script {
+            cores,
+            cap,
+            burst,
+            queues,
+            events,
+        })
     }
 }

@@ -2,6 +2,7 @@
 
 ghost use Rattle.std.specs.Prelude.{Some, length, ◌≤◌};
 ghost use Rattle.fairexec_script.specs.Limits.{IsSize, IsBurst, ArePlaced, HasFewQueues, AreEventsOf};
+ghost use Rattle.fairexec_script.specs.TextLimits.{most_lines};
 
 use crate::event::ScriptEvent;
 use rt_ids::CoreNo;
@@ -25,5 +26,5 @@ pub struct Script {
     ghost placed: { ArePlaced (Some (cores, cap)) queues.items },
     ghost few: { HasFewQueues queues.items },
     ghost happen: { AreEventsOf (Some (cores, cap)) events.items },
-    ghost short: { length events.items ≤ 4096 },
+    ghost short: { length events.items ≤ most_lines },
 }

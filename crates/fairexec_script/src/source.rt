@@ -9,6 +9,7 @@ ghost use Rattle.rt_sink.specs.Tries.{HasFailedSince};
 ghost use Rattle.rt_text.specs.Faults.{IfRead, IfText, IfUnwritten};
 
 use crate::draft::Draft;
+use crate::kind::Limited;
 use crate::script::Script;
 use rt_lines::{Source, read_lines};
 use rt_text::{Cause, Fault};
@@ -26,5 +27,5 @@ pub fn read_script<S: Source>(alloc: Global, source: &mut S) -> Result<Script, F
         IsToldByRead judge empty_draft S.remaining S.tries S.reads S.interrupts source.old source.new)) }
     ensures failed { IfErr result (IfRead (HasFailedSince S.tries S.interrupts S.fails source.old source.new)) }
 {
-    read_lines(Draft::new(alloc), source)
+    read_lines(Limited::of(Draft::new(alloc)), source)
 }

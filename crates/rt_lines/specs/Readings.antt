@@ -6,10 +6,14 @@ use Rattle.rt_lines.specs.Texts.{Reading}
 abbrev pub at : {D : Type 0} → D → ℕ → List ℕ → Reading D
 at draft number line = record { draft = draft; number = number; line = line }
 
+-- the most bytes of a line that any draft takes
+abbrev pub most_bytes : ℕ
+most_bytes = 2048
+
 -- the most bytes of a line are told right, and the reader has room for them
 pub record IsLongest (judged told : ℕ) : Type 0 where
   pub same : judged ≡ told
-  pub short : told ≤ 2048
+  pub short : told ≤ most_bytes
 
 -- the line that is begun may come next, and as many lines as still may are counted
 pub record IsReady {D : Type 0} (longest : ℕ) (fits : ℕ → D → Type 0) (lines_left : ℕ → D → ℕ) (reading : Reading D) : Type 0 where

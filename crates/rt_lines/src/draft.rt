@@ -7,6 +7,9 @@ ghost use Rattle.rt_lines.specs.Texts.{Judge};
 use crate::fault::Stop;
 use rt_text::Fault;
 
+/// The most bytes of a line that any draft takes.
+pub const MOST_BYTES: usize = 2048;
+
 /// What the lines of a text become, as far as they are judged.
 ///
 /// `judge` says what comes of a line and of the text's end. `fits` says that the line of a number may come next, and `lines_left` bounds
@@ -18,7 +21,7 @@ pub trait LineDraft: Drop {
     /// What a text is read as.
     type Whole: Drop;
 
-    /// The most bytes of a line before its line feed, 2048 at most.
+    /// The most bytes of a line before its line feed, at most `MOST_BYTES`.
     const LONGEST: usize;
 
     ghost LONGEST: { ℕ };

@@ -7,7 +7,7 @@ pub mod lines;
 mod reader;
 pub mod source;
 
-pub use draft::LineDraft;
+pub use draft::{LineDraft, MOST_BYTES};
 pub use fault::Stop;
 pub use lines::{read_lines, read_text};
 pub use source::{Source, TextSource};

@@ -7,7 +7,7 @@ ghost use Rattle.rt_lines.specs.Readings.{at, IsLongest, IsReady, room_left};
 ghost use Rattle.rt_lines.specs.Taking.{IsTaken, IsRefused, TakesByte, TakesAll};
 ghost use Rattle.rt_lines.specs.Texts.{text_from};
 
-use crate::draft::LineDraft;
+use crate::draft::{LineDraft, MOST_BYTES};
 use crate::fault::stopped;
 use arrayvec::ArrayVec;
 use rt_text::Fault;
@@ -15,14 +15,11 @@ use rt_text::Fault;
 /// What ends a line.
 const LINE_FEED: u8 = b'\n';
 
-/// The most bytes of a line that any draft takes.
-const LONGEST: usize = 2048;
-
 /// A text in the middle: the number of the line that is begun, and what is read of it. The lines before it are in a draft.
 #[derive(Drop)]
 pub(crate) struct LineReader {
     number: u32,
-    line: ArrayVec<u8, LONGEST>,
+    line: ArrayVec<u8, MOST_BYTES>,
 }
 
 impl LineReader {
