@@ -1,2 +1,3 @@
 pub mod LimitLemmas
 pub mod NoParks
+pub mod OrdersRefused

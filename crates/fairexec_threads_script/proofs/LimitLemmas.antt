@@ -1,5 +1,5 @@
 -- What the lines of a script for threads say keeps within the limits.
-use Rattle.std.proofs.Common.{IfOk, eqb, sym, ◌∙◌, ◌≡◌, ℕ, ◌+◌, ◌≤◌, ◌<◌, ◌==◌, ◌++◌, Bool, true, false, cond, List, [], ◌∷◌, Option, Some, None, Result, Ok, Err, refl, ap, zero-add, arith}
+use Rattle.std.proofs.Common.{eqb, sym, ◌∙◌, ◌≡◌, ℕ, ◌+◌, ◌≤◌, ◌<◌, ◌==◌, ◌++◌, Bool, true, false, cond, List, [], ◌∷◌, Option, Some, None, Result, Ok, Err, refl, ap, zero-add, arith}
 use Rattle.std.proofs.lemmas.Bool.Decides.{nat_tests}
 use Rattle.std.proofs.lemmas.List.Elements.{All-nil, All-push}
 use Rattle.std.proofs.lemmas.List.Sums.{sum_by-append}
@@ -11,14 +11,14 @@ use Rattle.fairexec_script.specs.declared.line.Line.{Line}
 use Rattle.fairexec_script.specs.Counts.{count_of}
 use Rattle.fairexec_script.specs.Drafts.{queue_lines}
 use Rattle.fairexec_script.specs.Limits as script
-use Rattle.fairexec_script.proofs.LimitLemmas.{first_line_ok, later_line_ok, limits_more, count_more}
+use Rattle.fairexec_script.proofs.LimitLemmas.{first_line_ok, later_line_ok, cond_not_ok, limits_more, count_more}
 use Rattle.rt_text.specs.declared.fault.Cause.{Cause}
 use Rattle.rt_words.specs.Words.{first, others}
 use Rattle.fairexec_script.specs.Keywords.{keyword_of}
 use Rattle.fairexec_script.specs.Lines.{first_line, later_line}
-use Rattle.fairexec_threads_script.specs.declared.fault.ThreadsCause.{ThreadsCause}
 use Rattle.fairexec_threads_script.specs.Lines.{of_script, is_barred, parks, size_told, line_told}
-use Rattle.fairexec_threads_script.specs.Drafts.{Told, Drafted, orders_to, cap_of, polls_of, polls_in}
+use Rattle.fairexec_threads_script.specs.Orders.{Told, orders_to, polls_of, polls_in}
+use Rattle.fairexec_threads_script.specs.Drafts.{Drafted, cap_of}
 use Rattle.fairexec_threads_script.specs.Limits.{job_in, NeverParks, IsToldOf, IsToldFor, AreTold, HasSpare, IsWithinLimits, AreCounted}
 
 pub of_script_ok : (r : Result Line Cause) (line : Line) → of_script r ≡ Ok line → r ≡ Ok line
@@ -28,15 +28,11 @@ of_script_ok (Err cause) line e = cc
 pub size_told_ok : (ws : List (List ℕ)) (line : Line) → size_told ws ≡ Ok line → script.MayFollow None line
 size_told_ok ws line e = first_line_ok ws line (of_script_ok (first_line ws) line e)
 
-pub not_barred_ok : (barred : Bool) (r : Result Line ThreadsCause) (cause : ThreadsCause) (line : Line) → cond barred (Err cause) r ≡ Ok line → r ≡ Ok line
-not_barred_ok true r cause line e = cc
-not_barred_ok false r cause line e = e
-
 pub line_told_ok : (size : ℕ × ℕ) (late : Bool) (ws : List (List ℕ)) (line : Line) → 1 ≤ size.0 → line_told size.0 late ws ≡ Ok line → script.MayFollow (Some size) line
 line_told_ok size late ws line some e =
     later_line_ok size late ws line some
     (of_script_ok (later_line size.0 late ws) line
-    (not_barred_ok (parks (keyword_of (first ws)) ws) _ _ line (not_barred_ok (is_barred (keyword_of (first ws)) size.0 (others ws)) _ _ line e)))
+    (cond_not_ok (parks (keyword_of (first ws)) ws) _ _ line (cond_not_ok (is_barred (keyword_of (first ws)) size.0 (others ws)) _ _ line e)))
 
 -- an order that is sent is told
 sent_of : (cores sender core : ℕ) (one : Order Script) → script.IsEventOf cores (Send sender core one) → NeverParks (job_in one).polls → IsToldOf cores (core, one)
@@ -126,7 +122,3 @@ few_sent size count sized room = let small = cap_small size sized in omega arith
 
 pub polls_more : (orders : List Told) (told : Told) → polls_in (orders ++ told ∷ []) ≡ polls_in orders + polls_of told.1
 polls_more orders told = sum_by-append (λ t. polls_of t.1) orders (told ∷ []) ∙ ap (λ n. polls_in orders + n) (zero-add (polls_of told.1))
-
-pub IfOk-from_each : {A : Type 0} (r : Result A ThreadsCause) (P : A → Type 0) → ((a : A) → r ≡ Ok a → P a) → IfOk r P
-IfOk-from_each (Ok a) P each = each a refl
-IfOk-from_each (Err cause) P each = tt

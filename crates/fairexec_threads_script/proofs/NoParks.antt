@@ -18,7 +18,8 @@ use Rattle.fairexec_script.specs.Polls.{submit_field, early_field, done_field, p
 use Rattle.fairexec_threads_script.specs.declared.fault.ThreadsCause.{ThreadsCause}
 use Rattle.fairexec_threads_script.specs.Lines.{bars, is_barred, is_park, has_park, parks, size_told, line_told}
 use Rattle.fairexec_threads_script.specs.Limits.{is_parking, NeverParks, TellsNoPark}
-use Rattle.fairexec_threads_script.proofs.LimitLemmas.{of_script_ok, not_barred_ok}
+use Rattle.fairexec_script.proofs.LimitLemmas.{cond_ok, cond_not_ok}
+use Rattle.fairexec_threads_script.proofs.LimitLemmas.{of_script_ok}
 
 -- what two tests say together
 neither : (a b : Bool) → (a || b) ≡ false → (a ≡ false) × (b ≡ false)
@@ -33,15 +34,6 @@ either_false true b one other = cc
 second_false : (a b : Bool) → a ≡ true → (a && b) ≡ false → b ≡ false
 second_false true b one e = e
 second_false false b one e = cc
-
--- a choice that came to a value
-chosen : {A : Type 0} (b : Bool) (r : Result A Cause) (cause : Cause) (value : A) → cond b r (Err cause) ≡ Ok value → (b ≡ true) × (r ≡ Ok value)
-chosen true r cause value e = (refl, e)
-chosen false r cause value e = cc
-
-missed : {A : Type 0} (b : Bool) (r : Result A Cause) (cause : Cause) (value : A) → cond b (Err cause) r ≡ Ok value → r ≡ Ok value
-missed true r cause value e = cc
-missed false r cause value e = e
 
 -- a poll whose word doesn't begin as one that parks
 by_letter : (yields submits parked : Bool) (cores : ℕ) (rest : List ℕ) (poll : Poll) → parked ≡ false →
@@ -108,7 +100,7 @@ line_never keyword.Detach cores ws line barred count free e = cc
 keyword_never : (k : Option Keyword) (cores : ℕ) (late : Bool) (ws : List (List ℕ)) (line : Line) → is_barred k cores (others ws) ≡ false → parks k ws ≡ false → keyword_line k cores late ws ≡ Ok line → TellsNoPark line
 keyword_never None cores late ws line barred free e = cc
 keyword_never (Some k) cores late ws line barred free e =
-    let read = chosen (counts (takes k) (word_count ws)) (line_of k cores (others ws)) WrongNumberOfWords line (missed (late && is_queue k) _ QueueLineTooLate line e) in
+    let read = cond_ok (counts (takes k) (word_count ws)) (line_of k cores (others ws)) WrongNumberOfWords line (cond_not_ok (late && is_queue k) _ QueueLineTooLate line e) in
     line_never k cores ws line barred read.0 free read.1
 
 -- a test that bars a line was passed
@@ -119,8 +111,8 @@ passed false r cause line e = refl
 pub line_told_never : (cores : ℕ) (late : Bool) (ws : List (List ℕ)) (line : Line) → line_told cores late ws ≡ Ok line → TellsNoPark line
 line_told_never cores late ws line e =
     let barred = is_barred (keyword_of (first ws)) cores (others ws) in
-    let rest = not_barred_ok barred _ _ line e in
-    let read = of_script_ok (later_line cores late ws) line (not_barred_ok (parks (keyword_of (first ws)) ws) _ _ line rest) in
+    let rest = cond_not_ok barred _ _ line e in
+    let read = of_script_ok (later_line cores late ws) line (cond_not_ok (parks (keyword_of (first ws)) ws) _ _ line rest) in
     keyword_never (keyword_of (first ws)) cores late ws line (passed barred _ _ line e) (passed (parks (keyword_of (first ws)) ws) _ _ line rest) read
 
 -- the first line
@@ -137,7 +129,7 @@ by_count false false ws line e = cc
 
 first_never : (ws : List (List ℕ)) (line : Line) → first_line ws ≡ Ok line → TellsNoPark line
 first_never ws line e =
-    by_count (counts (λ count. count == 4) (word_count ws)) (counts (λ count. count == 6) (word_count ws)) (others ws) line (missed _ _ _ _ e)
+    by_count (counts (λ count. count == 4) (word_count ws)) (counts (λ count. count == 6) (word_count ws)) (others ws) line (cond_not_ok _ _ _ _ e)
 
 pub size_told_never : (ws : List (List ℕ)) (line : Line) → size_told ws ≡ Ok line → TellsNoPark line
 size_told_never ws line e = first_never ws line (of_script_ok (first_line ws) line e)

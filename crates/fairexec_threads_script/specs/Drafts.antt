@@ -1,23 +1,16 @@
 -- A script for threads as far as its lines are judged.
-use Rattle.std.specs.Prelude.{ℕ, ◌+◌, ◌-◌, ◌==◌, ◌++◌, ◌∷◌, [], Bool, List, length, Option, Some, None, Result, Ok, Err, nat_lt, nat_le, if◌then◌else◌, count_by, sum_by}
-use Rattle.rt_ids.specs.declared.order.Order.{Order}
-use Rattle.rt_ids.specs.declared.order.Order.TheVariants as order
-use Rattle.rt_jobs.specs.Scripts.{Script}
+use Rattle.std.specs.Prelude.{ℕ, ◌+◌, ◌-◌, ◌++◌, ◌∷◌, [], Bool, List, length, Option, Some, None, Result, Ok, Err, nat_lt, nat_le, if◌then◌else◌}
 use Rattle.fairexec_script.specs.declared.event.ScriptEvent.{ScriptEvent}
 use Rattle.fairexec_script.specs.declared.event.ScriptEvent.TheVariants.{Send}
 use Rattle.fairexec_script.specs.declared.line.Line.{Line}
 use Rattle.fairexec_script.specs.declared.line.Line.TheVariants.{Size, Queue, Step}
 use Rattle.fairexec_script.specs.Drafts.{queue_lines, is_skipped}
-use Rattle.fairexec_script.specs.TextLimits.{most_lines, longest_line}
-use Rattle.rt_text.specs.declared.fault.Cause.TheVariants.{TooManyLines, LineTooLong, TooManyQueues}
+use Rattle.rt_text.specs.declared.fault.Cause.TheVariants.{TooManyQueues}
 use Rattle.rt_words.specs.Words.{words}
 use Rattle.fairexec_threads_script.specs.declared.fault.ThreadsCause.{ThreadsCause}
 use Rattle.fairexec_threads_script.specs.declared.fault.ThreadsCause.TheVariants as why
 use Rattle.fairexec_threads_script.specs.Lines.{size_told, line_told}
-
--- an order and the core that gets it
-abbrev pub Told : Type 0
-Told = ℕ × Order Script
+use Rattle.fairexec_threads_script.specs.Orders.{Told, orders_to, polls_of, polls_in, most_polls}
 
 -- cores and capacity, once a line told them; the burst, 1 if no line told it; the `queue` lines by core and shares; the orders; all in order
 pub record Drafted : Type 0 where
@@ -30,30 +23,17 @@ pub record Drafted : Type 0 where
 abbrev pub empty_draft : Drafted
 empty_draft = record { size = None; burst = 1; queues = []; orders = [] }
 
--- how many orders a core gets
-abbrev pub orders_to : ℕ → List Told → ℕ
-orders_to core orders = count_by (λ told. told.0 == core) orders
-
--- how many polls the job of an order has
-abbrev pub polls_of : Order Script → ℕ
-polls_of (order.Job queue job) = length job.polls
-polls_of _ = 0
-
--- how many polls all jobs have together
-abbrev pub polls_in : List Told → ℕ
-polls_in orders = sum_by (λ told. polls_of told.1) orders
-
 -- the capacity, 0 before it is told
 abbrev pub cap_of : Option (ℕ × ℕ) → ℕ
 cap_of None = 0
 cap_of (Some size) = size.1
 
 -- why there is no room for an order to this core with so many polls: a core gets fewer orders than the capacity, since one place stays for
--- the order that closes it; all jobs together have at most 4096 polls
+-- the order that closes it; all jobs together have at most so many polls
 abbrev pub refusal : Drafted → ℕ → ℕ → Option ThreadsCause
 refusal draft core polls =
     if nat_le (cap_of draft.size - 1) (orders_to core draft.orders) then Some why.TooManyForCap
-    else (if nat_lt 4096 (polls_in draft.orders + polls) then Some why.TooManyPolls else None)
+    else (if nat_lt most_polls (polls_in draft.orders + polls) then Some why.TooManyPolls else None)
 
 -- the draft and one order more, unless there is no room for it
 abbrev pub unless : Option ThreadsCause → Drafted → Told → Result Drafted ThreadsCause
@@ -95,10 +75,3 @@ abbrev pub with_text : Drafted → List ℕ → Result Drafted ThreadsCause
 with_text draft line =
     if is_skipped line then Ok draft
     else with_read draft (line_at draft.size (nat_lt 0 (length draft.orders)) (words line))
-
--- a line, by its number from 1
-abbrev pub judged : Drafted → ℕ → List ℕ → Result Drafted ThreadsCause
-judged draft number line =
-    if nat_lt most_lines number then Err (why.Line TooManyLines)
-    else (if nat_lt longest_line (length line) then Err (why.Line LineTooLong)
-    else with_text draft line)

@@ -13,7 +13,8 @@ use Rattle.fairexec_script.specs.declared.event.ScriptEvent.{ScriptEvent}
 use Rattle.fairexec_script.specs.declared.event.ScriptEvent.TheVariants.{Send}
 use Rattle.fairexec_script.specs.declared.line.Line.{Line}
 use Rattle.fairexec_script.specs.declared.line.Line.TheVariants.{Step}
-use Rattle.fairexec_threads_script.specs.Drafts.{Drafted, Told, orders_to}
+use Rattle.fairexec_threads_script.specs.Orders.{Told, orders_to}
+use Rattle.fairexec_threads_script.specs.Drafts.{Drafted}
 
 -- the job of an order; if it is none, one of a single poll that isn't made
 abbrev pub job_in : Order Script → Script

@@ -1,21 +1,22 @@
 //! A script for threads as far as its lines are judged.
 
-ghost use Rattle.std.specs.Prelude.{◌≡◌, Ok, Err, IfOk, IfErr, IfSome, IsNone, None, Some, OnOk, OnErr, length, nat_lt, ◌<◌, ◌≤◌, ◌+◌, ◌++◌, ◌∷◌, [], ◌↔◌};
+ghost use Rattle.std.specs.Prelude.{◌≡◌, Ok, Err, IfOk, IfErr, None, Some, OnOk, OnErr, length, nat_lt, ◌<◌, ◌≤◌, ◌+◌, ◌++◌, ◌∷◌, []};
 ghost use Rattle.rt_words.specs.Words.{words};
-ghost use Rattle.fairexec_script.specs.Drafts.{is_skipped};
 ghost use Rattle.fairexec_script.specs.Limits.{IsCoreOf, IsSize, IsBurst, MayFollow, IsEventFor};
 ghost use Rattle.rt_lines.specs.Faults.{IfCause};
 ghost use Rattle.rt_lines.specs.declared.fault.Stop.TheVariants.{Memory};
 ghost use Rattle.fairexec_threads_script.specs.Drafts as spec;
+ghost use Rattle.fairexec_threads_script.specs.Orders as orders;
 ghost use Rattle.fairexec_threads_script.specs.Limits.{IsToldFor, SendsNoPark, TellsNoPark};
-ghost use Rattle.fairexec_threads_script.specs.Whole.{drafted};
 
 use crate::fault::ThreadsCause;
 use crate::line::{line_told, size_told};
 use crate::script::ThreadsScript;
-use fairexec_script::ScriptEvent;
 use fairexec_script::counts::CoreCounts;
+use fairexec_script::kind::is_skipped;
+use fairexec_script::limits::MOST_QUEUE_LINES;
 use fairexec_script::line::Line;
+use fairexec_script::{ScriptDraft, ScriptEvent};
 use rt_ids::{CoreNo, Order};
 use rt_jobs::ScriptJob;
 use rt_lines::Stop;
@@ -24,10 +25,7 @@ use rt_text::Cause;
 use std::alloc::Global;
 use std::marker::Model;
 
-/// The most `queue` lines of a core: with queue 0 they make 256.
-const MOST_QUEUE_LINES: usize = 255;
-
-/// The most polls of all jobs together.
+/// The most polls of all jobs together. It is a limit of its own, though as many lines are allowed.
 const MOST_POLLS: u32 = 4096;
 
 /// A script for threads as far as its lines are judged.
@@ -48,7 +46,8 @@ pub(crate) struct Draft {
 
 impl Model for Draft {
     ghost use Rattle.std.specs.Prelude.{◌≤◌, ◌≡◌};
-    ghost use Rattle.fairexec_threads_script.specs.Drafts.{Drafted, polls_in};
+    ghost use Rattle.fairexec_threads_script.specs.Orders.{most_polls, polls_in};
+    ghost use Rattle.fairexec_threads_script.specs.Drafts.{Drafted};
     ghost use Rattle.fairexec_threads_script.specs.Limits.{IsWithinLimits, AreCounted};
 
     ghost Value = { Drafted };
@@ -57,7 +56,7 @@ impl Model for Draft {
 
     ghost invariant = { λ d. IsWithinLimits
         (record { size = d.size; burst = d.burst; queues = d.queues.items; orders = d.orders.items })
-        × (d.polls ≡ polls_in d.orders.items) × (d.polls ≤ 4096)
+        × (d.polls ≡ polls_in d.orders.items) × (d.polls ≤ most_polls)
         × AreCounted d.queues.items d.orders.items d.lines d.sent };
 }
 
@@ -74,47 +73,6 @@ impl Draft {
             orders: Vec::new(alloc),
             sent: CoreCounts::new(),
             polls: 0,
-        }
-    }
-
-    /// The whole script, if the lines end here; None if none told the size.
-    pub(crate) fn finish_script(self) -> Option<ThreadsScript>
-        requires { length self.orders ≤ 4096 }
-        ensures whole { IfSome result (λ script. self ≡ drafted script) }
-        ensures none { IsNone result ↔ (self.size ≡ None) }
-    {
-        let Draft {
-            size,
-            burst,
-            queues,
-            lines: _,
-            orders,
-            sent: _,
-            polls: _,
-        } = self;
-        let (cores, cap) = size?;
-        Some(ThreadsScript {
-            cores,
-            cap,
-            burst,
-            queues,
-            orders,
-        })
-    }
-
-    /// Takes one line that isn't too long.
-    pub(crate) fn take_text(&mut self, text: &[u8]) -> Result<(), Stop<ThreadsCause>>
-        ensures ok { OnOk result (spec.with_text self.old text.now ≡ Ok self.new) }
-        ensures faulty { IfErr result (IfCause (λ cause. spec.with_text self.old text.now ≡ Err cause)) }
-        ensures one_more { OnOk result (length self.new.orders ≤ length self.old.orders + 1) }
-        ensures err { OnErr result (self.new ≡ self.old) }
-    {
-        if is_skipped(text) {
-            return Ok(());
-        }
-        match self.line_at(text) {
-            Ok(line) => self.add(line),
-            Err(cause) => Err(Stop::Cause(cause)),
         }
     }
 
@@ -215,9 +173,9 @@ impl Draft {
         polls: u32,
     ) -> Result<(), Stop<ThreadsCause>>
         requires told { IsToldFor self.old.size (core, order) }
-        requires polls { polls ≡ spec.polls_of order }
-        requires few { spec.polls_in self.old.orders + polls ≤ 4096 }
-        requires room { spec.orders_to core self.old.orders + 1 < spec.cap_of self.old.size }
+        requires polls { polls ≡ orders.polls_of order }
+        requires few { orders.polls_in self.old.orders + polls ≤ orders.most_polls }
+        requires room { orders.orders_to core self.old.orders + 1 < spec.cap_of self.old.size }
         ensures ok { OnOk result (self.new
             ≡ record self.old { orders = self.old.orders ++ (core, order) ∷ [] }) }
         ensures stop { IfErr result (λ stop. stop ≡ Memory) }
@@ -255,23 +213,68 @@ impl Draft {
     }
 }
 
+impl ScriptDraft for Draft {
+    type Why = ThreadsCause;
+
+    type Script = ThreadsScript;
+
+    ghost use Rattle.std.specs.Prelude.{◌≡◌, length};
+    ghost use Rattle.fairexec_threads_script.specs.declared.fault.ThreadsCause.TheVariants.{Line};
+    ghost use Rattle.fairexec_threads_script.specs.Drafts.{with_text};
+    ghost use Rattle.fairexec_threads_script.specs.Whole.{drafted};
+
+    ghost told = { Line };
+
+    ghost with_text = { with_text };
+
+    ghost size = { λ draft. draft.size };
+
+    ghost steps = { λ draft. length draft.orders };
+
+    ghost makes = { λ script draft. draft ≡ drafted script };
+
+    fn of_any(cause: Cause) -> ThreadsCause {
+        ThreadsCause::Line(cause)
+    }
+
+    fn take_text(&mut self, text: &[u8]) -> Result<(), Stop<ThreadsCause>> {
+        if is_skipped(text) {
+            return Ok(());
+        }
+        match self.line_at(text) {
+            Ok(line) => self.add(line),
+            Err(cause) => Err(Stop::Cause(cause)),
+        }
+    }
+
+    fn finish_script(self) -> Option<ThreadsScript> {
+        let Draft {
+            size,
+            burst,
+            queues,
+            lines: _,
+            orders,
+            sent: _,
+            polls: _,
+        } = self;
+        let (cores, cap) = size?;
+        Some(ThreadsScript {
+            cores,
+            cap,
+            burst,
+            queues,
+            orders,
+        })
+    }
+}
+
 /// How many polls the job of an order has.
 fn polls_of(order: &Order<ScriptJob>) -> u32
-    ensures count { result ≡ spec.polls_of order.now }
+    ensures count { result ≡ orders.polls_of order.now }
     ensures few { result ≤ 64 }
 {
     match order {
         Order::Job(_, job) => job.poll_count() as u32,
         _ => 0,
-    }
-}
-
-/// Whether the line is empty or begins with `#`.
-fn is_skipped(line: &[u8]) -> bool
-    ensures { result ≡ is_skipped line.now }
-{
-    match line {
-        [] => true,
-        [first, ..] => *first == b'#',
     }
 }

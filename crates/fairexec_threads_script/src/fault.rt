@@ -16,7 +16,7 @@ pub enum ThreadsCause {
     NotForThreads,
     /// It is an order more to its core than one below the capacity.
     TooManyForCap,
-    /// With its job there are more than 4096 polls.
+    /// With its job there are more polls than all jobs together may have.
     TooManyPolls,
 }
 

@@ -4,7 +4,7 @@
 mod draft;
 pub mod fault;
 mod line;
-mod reader;
+pub mod refused;
 pub mod script;
 pub mod source;
 

@@ -3,6 +3,7 @@
 ghost use Rattle.std.specs.Prelude.{Some, length, ◌≤◌};
 ghost use Rattle.fairexec_script.specs.Limits.{IsSize, IsBurst, ArePlaced, HasFewQueues};
 ghost use Rattle.fairexec_threads_script.specs.Limits.{AreTold, HasSpare};
+ghost use Rattle.fairexec_script.specs.TextLimits.{most_lines};
 
 use rt_ids::{CoreNo, Order};
 use rt_jobs::ScriptJob;
@@ -27,5 +28,5 @@ pub struct ThreadsScript {
     ghost few: { HasFewQueues queues.items },
     ghost told: { AreTold (Some (cores, cap)) orders.items },
     ghost spare: { HasSpare (Some (cores, cap)) orders.items },
-    ghost short: { length orders.items ≤ 4096 },
+    ghost short: { length orders.items ≤ most_lines },
 }

@@ -11,6 +11,7 @@ ghost use Rattle.rt_text.specs.Faults.{IfRead, IfText, IfUnwritten};
 use crate::draft::Draft;
 use crate::fault::ThreadsCause;
 use crate::script::ThreadsScript;
+use fairexec_script::kind::Limited;
 use rt_lines::{Source, read_lines};
 use rt_text::Fault;
 use std::alloc::Global;
@@ -34,5 +35,5 @@ pub fn read_threads_script<S: Source>(
         IsToldByRead judge empty_draft S.remaining S.tries S.reads S.interrupts source.old source.new)) }
     ensures failed { IfErr result (IfRead (HasFailedSince S.tries S.interrupts S.fails source.old source.new)) }
 {
-    read_lines(Draft::new(alloc), source)
+    read_lines(Limited::of(Draft::new(alloc)), source)
 }

@@ -2,7 +2,8 @@ use Rattle.std.proofs.Common.{sym, ◌∙◌, Some, None, not}
 use Rattle.rt_words.specs.Words.{words}
 use Rattle.fairexec_script.specs.Limits.{MayFollow, IsSized}
 use Rattle.fairexec_threads_script.specs.Limits.{TellsNoPark}
-use Rattle.fairexec_threads_script.proofs.LimitLemmas.{size_told_ok, line_told_ok, IfOk-from_each}
+use Rattle.fairexec_script.proofs.LimitLemmas.{IfOk-from_each}
+use Rattle.fairexec_threads_script.proofs.LimitLemmas.{size_told_ok, line_told_ok}
 use Rattle.fairexec_threads_script.proofs.NoParks.{line_told_never, size_told_never}
 use Rattle.fairexec_threads_script.proofs.draft.Draft.line_at.Goals as goal
 

@@ -1,5 +1,6 @@
 use Rattle.std.proofs.Common.{◌+◌, ◌<◌, ap, sym, ◌∙◌}
-use Rattle.fairexec_threads_script.specs.Drafts.{polls_in, orders_to, cap_of}
+use Rattle.fairexec_threads_script.specs.Orders.{polls_in, orders_to}
+use Rattle.fairexec_threads_script.specs.Drafts.{cap_of}
 use Rattle.fairexec_threads_script.proofs.LimitLemmas.{order_more, polls_more, sent_counted, few_sent}
 use Rattle.fairexec_threads_script.proofs.draft.Draft.push_order.Goals as goal
 
