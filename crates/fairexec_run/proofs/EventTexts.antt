@@ -1,5 +1,5 @@
 -- The text of one event, and of events one after another.
-use Rattle.std.proofs.Common.{◌≡◌, ℕ, ◌+◌, ◌≤◌, ◌<◌, List, [], ◌∷◌, ◌++◌, length, Option, refl, sym, ap, ◌∙◌, subst, arith, append_assoc, append-nil, length-append, take, drop, reverse, suc, get_or}
+use Rattle.std.proofs.Common.{◌≡◌, ℕ, ◌+◌, ◌≤◌, ◌<◌, List, [], ◌∷◌, ◌++◌, length, Option, refl, sym, ap, ◌∙◌, subst, arith, append_assoc, append-nil, length-append, take, drop, reverse, suc, get_or, ◌-◌}
 use Rattle.std.specs.Prelude.{map}
 use Rattle.std.proofs.Math.Seq.{drop-append_seam, drop-cons}
 use Rattle.std.proofs.lemmas.List.{reverse-append, length-reverse, map-id, take-append-drop}
@@ -27,6 +27,7 @@ use Rattle.fairexec_run.specs.Transcripts.{ScriptWorld, Occurs, IsHeard, Prints,
 use Rattle.fairexec_run.specs.EventTexts.{event_text, note_lines, quiet_text}
 use Rattle.fairexec_run.proofs.EventLimits.{are_there, is_there}
 use Rattle.fairexec_run.proofs.WorldSteps.{event_grows, event_short, is_heard, is_free}
+use Rattle.fairexec_script.specs.TextLimits.{most_lines}
 
 pub same_actor : (event : ScriptEvent) → (ends_of event).actor ≡ actor_of (event_of event)
 same_actor (Send sender core what) = refl
@@ -56,7 +57,7 @@ new_notes notes before =
     ∙ ap (λ count. drop count (reverse before ++ reverse notes)) (sym (length-reverse before))
     ∙ drop-append_seam (reverse before) (reverse notes)
 
-module _ (event : ScriptEvent) (old new : ScriptWorld) (answer : Reply Script) (occurs : Occurs (event_of event) old new answer) (roomy : IsRoomy old.cores old.cap old.burst 4095 old) (joined : AreJoined (assembly_of old)) (here : IsEventOf old.cores event) where
+module _ (event : ScriptEvent) (old new : ScriptWorld) (answer : Reply Script) (occurs : Occurs (event_of event) old new answer) (roomy : IsRoomy old.cores old.cap old.burst (most_lines - 1) old) (joined : AreJoined (assembly_of old)) (here : IsEventOf old.cores event) where
   heard : IsHeard answer
   heard = is_heard (event_of event) old new answer occurs (are_there old.cores event here) (is_free (actor_of (event_of event)) old (is_there old.cores event here) joined roomy)
 
@@ -126,7 +127,7 @@ module _ (event : ScriptEvent) (old new : ScriptWorld) (answer : Reply Script) (
       )
 
 -- the actor of an event is there after it too
-pub still_there : (event : ScriptEvent) (old new : ScriptWorld) (answer : Reply Script) → Occurs (event_of event) old new answer → IsRoomy old.cores old.cap old.burst 4095 old → IsEventOf old.cores event →
+pub still_there : (event : ScriptEvent) (old new : ScriptWorld) (answer : Reply Script) → Occurs (event_of event) old new answer → IsRoomy old.cores old.cap old.burst (most_lines - 1) old → IsEventOf old.cores event →
     (ends : Ends) → ends ≡ ends_of event → ends.actor ≤ new.cores
 still_there event old new answer occurs roomy here ends ends_are =
     let grows = event_grows (event_of event) old new answer roomy.bursts occurs in
@@ -156,7 +157,7 @@ roomy_more cores cap burst events more event old new text roomy prints next =
       delivered = λ actor. let before = roomy.delivered actor in let after = (grows.longer actor).delivered in omega arith;
     }
 
-pub roomy_here : (cores cap burst events : ℕ) (world : ScriptWorld) → IsRoomy cores cap burst events world → events ≤ 4095 → IsRoomy world.cores world.cap world.burst 4095 world
+pub roomy_here : (cores cap burst events : ℕ) (world : ScriptWorld) → IsRoomy cores cap burst events world → events ≤ most_lines - 1 → IsRoomy world.cores world.cap world.burst (most_lines - 1) world
 roomy_here cores cap burst events world roomy within = record {
   cores_are = refl;
   cap_is = refl;

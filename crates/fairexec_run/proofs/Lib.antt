@@ -14,3 +14,4 @@ pub mod CollectedCounts
 pub mod UpTo
 pub mod SentCounts
 pub mod CountLemmas
+pub mod OutputsRefused

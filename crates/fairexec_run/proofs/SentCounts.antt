@@ -1,5 +1,5 @@
 -- A lawful journal has few submissions, where its links agree: a core was sent at most as many as it was delivered, and as many more as its link holds.
-use Rattle.std.proofs.Common.{◌≡◌, ◌≤◌, ◌<◌, ◌⊎◌, inl, inr, ℕ, zero, suc, ◌+◌, ◌*◌, Bool, true, false, cond, [], ◌∷◌, ◌++◌, length, refl, sym, ap, subst, ◌∙◌, arith, zero-add}
+use Rattle.std.proofs.Common.{◌≡◌, ◌≤◌, ◌<◌, ◌⊎◌, inl, inr, ℕ, zero, suc, ◌+◌, ◌*◌, Bool, true, false, cond, [], ◌∷◌, ◌++◌, length, refl, sym, ap, subst, ◌∙◌, arith, zero-add, ◌-◌}
 use Rattle.std.specs.Prelude.{◌==◌, nat_lt, Option, Some, None, count_by}
 use Rattle.std.proofs.lemmas.Bool.{eqb-true, eqb-false, ltb-true, ltb-false, lt-ltb}
 use Rattle.std.proofs.lemmas.List.Sums.{sum_by-append}
@@ -18,6 +18,7 @@ use Rattle.rt_ids.proofs.Told.{length-with_last_if}
 use Rattle.fairexec_run.specs.Counts.{name_sent, sent_count, delivered_count}
 use Rattle.fairexec_run.proofs.Growing.{lt_or_le}
 use Rattle.fairexec_run.proofs.UpTo.{AreUpTo, up_to_front, up_to_parts, outstanding_past, given_up_to}
+use Rattle.fairexec_script.specs.TextLimits.{most_lines}
 
 -- of the orders that a core was sent, those under greater numbers have the property
 accepted_many : (terms : Terms) (core most : ℕ) (has : JobId → Bool) (journal : Journal ℕ) → EachNote (MayStand terms) journal → ((name : JobId) → name.to ≡ core → most < name.number → has name ≡ true) →
@@ -134,7 +135,7 @@ next_below core (note ∷ before) = by_note note (next_below core before)
         omega arith
     by_note _ few = omega arith
 
-few_below : (most count : ℕ) (journal : Journal ℕ) → most ≤ 5119 → ((core : ℕ) → core < count → length (accepted_orders core journal) ≤ most) → sent_below count journal ≤ 5119 * count
+few_below : (most count : ℕ) (journal : Journal ℕ) → most ≤ most_lines + 1023 → ((core : ℕ) → core < count → length (accepted_orders core journal) ≤ most) → sent_below count journal ≤ (most_lines + 1023) * count
 few_below most zero journal within each = let none = none_below journal in omega arith
 few_below most (suc count) journal within each =
     let rest = few_below most count journal within (λ core low. each core (omega arith)) in
@@ -153,10 +154,10 @@ all_below terms (note ∷ before) notes = by_note note (notes.0).may_follow (all
 
 -- an actor of a system within its limits, whose cores were delivered few orders, has few submissions
 pub sent_within : (assembly : Assembly ℕ) → AreJoined assembly → (sender : ℕ) → sender ≤ assembly.cores → assembly.cores ≤ 16 → assembly.cap ≤ 1024 →
-    ((core : ℕ) → delivered_count (journal_of core assembly) ≤ 4095) → sent_count (journal_of sender assembly) ≤ 81904
+    ((core : ℕ) → delivered_count (journal_of core assembly) ≤ most_lines - 1) → sent_count (journal_of sender assembly) ≤ 16 * (most_lines + 1023)
 sent_within assembly joined sender there cores cap each =
     let all = all_below (terms_of sender assembly) (journal_of sender assembly) (joined.lawful sender there).notes in
-    let few = few_below 5119 assembly.cores (journal_of sender assembly) (omega arith)
+    let few = few_below (most_lines + 1023) assembly.cores (journal_of sender assembly) (omega arith)
     (λ core low.
     let sent = sent_to assembly joined sender core there low in
     let some = delivered_few sender (journal_of core assembly) in

@@ -1,5 +1,5 @@
 -- A world after one event: its size stays, and each journal is a few notes longer.
-use Rattle.std.proofs.Common.{◌≡◌, inl, inr, ℕ, ◌+◌, ◌*◌, ◌≤◌, List, [], ◌∷◌, length, Bool, true, false, Option, Some, None, refl, sym, ap, subst, arith}
+use Rattle.std.proofs.Common.{◌≡◌, inl, inr, ℕ, ◌+◌, ◌*◌, ◌≤◌, List, [], ◌∷◌, length, Bool, true, false, Option, Some, None, refl, sym, ap, subst, arith, ◌-◌}
 use Rattle.rt_ids.specs.declared.names.JobId.{JobId}
 use Rattle.rt_ids.specs.declared.note.Note.{Note}
 use Rattle.rt_ids.specs.declared.note.Note.TheVariants as written
@@ -40,6 +40,7 @@ use Rattle.rt_world.specs.Runs.{Steps}
 use Rattle.fairexec_script.specs.Limits.{IsBurst}
 use Rattle.fairexec_run.specs.Rooms.{IsRoomy}
 use Rattle.fairexec_run.specs.Transcripts.{ScriptWorld, Occurs, IsHeard}
+use Rattle.fairexec_script.specs.TextLimits.{most_lines}
 
 few_effects : (effect : Option (Note ℕ)) (notes : List (Note ℕ)) → length (with_effect effect notes) ≤ length notes + 1
 few_effects None notes = omega arith
@@ -157,7 +158,7 @@ is_heard event old new (reply.NoRoom back) is here free = free is.2
 is_heard event old new answer is here free = tt
 
 -- a journal has room for an event, if it is lawful and its links agree
-pub is_free : (actor : ℕ) (world : ScriptWorld) → actor ≤ world.cores → AreJoined (assembly_of world) → IsRoomy world.cores world.cap world.burst 4095 world → IsNearlyFull actor world → ⊥
+pub is_free : (actor : ℕ) (world : ScriptWorld) → actor ≤ world.cores → AreJoined (assembly_of world) → IsRoomy world.cores world.cap world.burst (most_lines - 1) world → IsNearlyFull actor world → ⊥
 is_free actor world within joined roomy full = by_form (has_bursts world.burst) refl
   where
     same : (any : ℕ) → journal_of any (assembly_of world) ≡ journal_at any world
@@ -168,20 +169,20 @@ is_free actor world within joined roomy full = by_form (has_bursts world.burst) 
         subst (λ journal. collected_count journal ≤ sent_count journal) (same actor)
         (collected_at_most_sent (terms_of actor (assembly_of world)) (journal_of actor (assembly_of world)) (joined.lawful actor within).notes)
 
-    sent : sent_count (journal_at actor world) ≤ 81904
+    sent : sent_count (journal_at actor world) ≤ 16 * (most_lines + 1023)
     sent =
-        subst (λ journal. sent_count journal ≤ 81904) (same actor)
-        (sent_within (assembly_of world) joined actor within roomy.size.few_cores roomy.size.small_cap (λ core. subst (λ journal. delivered_count journal ≤ 4095) (sym (same core)) (roomy.delivered core)))
+        subst (λ journal. sent_count journal ≤ 16 * (most_lines + 1023)) (same actor)
+        (sent_within (assembly_of world) joined actor within roomy.size.few_cores roomy.size.small_cap (λ core. subst (λ journal. delivered_count journal ≤ most_lines - 1) (sym (same core)) (roomy.delivered core)))
 
     by_form : (form : Bool) → has_bursts world.burst ≡ form → ⊥
     by_form true form =
-        let room : world.room ≡ 1048576 + 3 * world.cores * world.cap + 2 * world.burst + 2 = rw form at roomy.room_is in
+        let room : world.room ≡ 256 * most_lines + 3 * world.cores * world.cap + 2 * world.burst + 2 = rw form at roomy.room_is in
         let paid = roomy.paid actor in
         let less = collected in
         let few = sent in
         absurd (omega arith)
     by_form false form =
-        let room : world.room ≡ 32768 + 3 * world.cores * world.cap + 4 = rw form at roomy.room_is in
+        let room : world.room ≡ 8 * most_lines + 3 * world.cores * world.cap + 4 = rw form at roomy.room_is in
         let short = roomy.short form actor in
         let less = collected in
         let one = ltb-false 1 world.burst form in

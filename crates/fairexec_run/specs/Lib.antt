@@ -7,3 +7,4 @@ pub mod Rooms
 pub mod Counts
 pub mod Outputs
 pub mod OneOutput
+pub mod BadOutputs

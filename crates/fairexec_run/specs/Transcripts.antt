@@ -20,6 +20,7 @@ use Rattle.rt_jobs.specs.ScriptMeaning.{script_meaning}
 use Rattle.fairexec_script.specs.Drafts.{Drafted}
 use Rattle.fairexec_run.specs.Replies.{event_of, ends_of, quiet_of}
 use Rattle.fairexec_run.specs.EventTexts.{event_text}
+use Rattle.fairexec_script.specs.TextLimits.{most_lines}
 
 -- a world of script jobs
 abbrev pub ScriptWorld : Type 0
@@ -67,11 +68,12 @@ abbrev pub with_queues : List (ℕ × ℕ) → ScriptWorld → ScriptWorld
 with_queues [] world = world
 with_queues (queue ∷ queues) world = with_queues queues (with_queue queue world)
 
--- the room of a journal in a system of this size, with such turns: more than 4096 lines fill
+-- The room of a journal in a system of this size, with such turns: more than all lines of a script fill. Each line has room for 8 notes, or for 256 if
+-- a turn may have many polls, and the places of the links and a turn have their own (`IsRoomy`).
 abbrev pub script_room : ℕ → ℕ → ℕ → ℕ
 script_room cores cap burst =
-    if has_bursts burst then 1048576 + 3 * cores * cap + 2 * burst + 2
-    else 32768 + 3 * cores * cap + 4
+    if has_bursts burst then 256 * most_lines + 3 * cores * cap + 2 * burst + 2
+    else 8 * most_lines + 3 * cores * cap + 4
 
 -- what is printed of a whole script; behind it stands a journal for each actor, lawful and joined, and they are sound together
 pub record IsOutput (script : Drafted) (output : List ℕ) : Type 0 where

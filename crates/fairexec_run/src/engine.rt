@@ -1,6 +1,6 @@
 //! Runs a script on the model.
 
-ghost use Rattle.std.specs.Prelude.{◌≡◌, ◌<◌, ◌≤◌, ◌+◌, [], ℕ, List, length, IfOk, IfErr, OnOk, OnErr, IfSome, Err, Some, true, false};
+ghost use Rattle.std.specs.Prelude.{◌≡◌, ◌<◌, ◌≤◌, ◌+◌, ◌*◌, [], ℕ, List, length, IfOk, IfErr, OnOk, OnErr, IfSome, Err, Some, true, false};
 ghost use Rattle.std.specs.Io.KnownBytes.{Keeps, Appends};
 ghost use Rattle.rt_ids.specs.Commands.{created_count};
 ghost use Rattle.rt_world.specs.Opening.{IsFresh, IsUnbegun};
@@ -18,9 +18,11 @@ ghost use Rattle.fairexec_run.specs.Rooms.{MayMake, IsOpened};
 ghost use Rattle.fairexec_run.specs.Printed.{IsPrinted};
 ghost use Rattle.fairexec_run.specs.Transcripts.{with_queue, with_queues};
 ghost use Rattle.fairexec_run.specs.Transcripts as spec;
+ghost use Rattle.fairexec_script.specs.TextLimits.{most_lines};
 
 use crate::journal::{events_of, print_journal, print_journal_rear, print_rear};
 use crate::print::{FULL_PAGE, LONGEST_PRINT, Model, print_events};
+use fairexec_script::limits::MOST_LINES;
 use fairexec_script::{Script, read_script};
 use rt_ids::CoreNo;
 use rt_lines::Source;
@@ -180,19 +182,19 @@ fn empty_model(alloc: Global, cores: u8, cap: u16, burst: u8) -> Result<Model, F
     }
 }
 
-/// The room of a journal: more than 4096 lines fill.
+/// The room of a journal: more than all lines of a script fill.
 fn script_room(cores: u8, cap: u16, burst: u8) -> u32
     requires sized { IsSize cores cap }
     requires bursts { IsBurst burst }
     ensures room { result ≡ spec.script_room cores cap burst }
-    ensures low { result ≤ 1097858 }
+    ensures low { result ≤ 256 * most_lines + 49282 }
 {
-    // 3 * 16 * 1024 places are 49152, so the sum is at most 1048576 + 49152 + 2 * 64 + 2.
+    // 3 * 16 * 1024 places are 49152, so the sum is at most 256 * MOST_LINES + 49152 + 2 * 64 + 2.
     let places = 3 * u32::from(cores) * u32::from(cap);
     if burst > 1 {
-        1048576 + places + 2 * u32::from(burst) + 2
+        256 * MOST_LINES + places + 2 * u32::from(burst) + 2
     } else {
-        32768 + places + 4
+        8 * MOST_LINES + places + 4
     }
 }
 

@@ -5,6 +5,7 @@ pub mod engine;
 mod journal;
 pub mod laws;
 mod print;
+pub mod refused;
 pub mod reply;
 
 pub use engine::run_script;
