@@ -17,7 +17,7 @@ use Rattle.rt_runtime.specs.Calls.{IsStarted, HasFinished, MayActWhole, orders_t
 use Rattle.rt_runtime.specs.Sends.{SendsTo, accepted}
 use Rattle.rt_runtime.specs.State.{RuntimeView, submitted, submitted_under}
 use Rattle.rt_runtime_config.specs.Configs.{Entry}
-use Rattle.fairexec_threads_script.specs.Drafts.{Told}
+use Rattle.fairexec_threads_script.specs.Orders.{Told}
 use Rattle.fairexec_threads.specs.Offers.{OffersAll}
 use Rattle.rt_runtime.specs.Laws.{IsToldOf}
 use Rattle.rt_runtime.proofs.Outcomes.{submitted_told}

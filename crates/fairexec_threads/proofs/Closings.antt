@@ -10,13 +10,14 @@ use Rattle.rt_ids.specs.declared.order.SendError.TheVariants.{Closed, Full, Spen
 use Rattle.rt_jobs.specs.Scripts.{Script}
 use Rattle.rt_runtime.specs.Sends.{tells_closing}
 use Rattle.rt_runtime.specs.State.{closing_at}
-use Rattle.fairexec_threads_script.specs.Drafts.{Told, orders_to}
+use Rattle.fairexec_threads_script.specs.Orders.{Told, orders_to}
 use Rattle.fairexec_threads.specs.Counting.{sent_to, IsOfScript, HasPlace, CanClose, AreClosedBelow}
 use Rattle.fairexec_threads.specs.Offers.{IsTaken, Offers, OffersAll, closings}
 use Rattle.fairexec_threads.proofs.Sending.{View, grows, script_kept}
+use Rattle.fairexec_script.specs.TextLimits.{most_lines}
 
 -- behind all orders of a script there is room to close each core
-pub can_close : (all : List Told) (cap : ℕ) (old view : View) → length all ≤ 4096 → ((core : ℕ) → orders_to core all < cap) →
+pub can_close : (all : List Told) (cap : ℕ) (old view : View) → length all ≤ most_lines → ((core : ℕ) → orders_to core all < cap) →
     IsOfScript old × (length old.desk.journal.notes ≡ 0) × ((core : ℕ) → sent_to core old ≡ 0) × (old.desk.cap ≡ cap) → OffersAll all old view → CanClose view
 can_close all cap old view short spare (script, no_notes, none_sent, cap_is) offers =
     let more = grows all old view offers in

@@ -11,3 +11,4 @@ pub mod Suffixes
 pub mod Heard
 pub mod Walked
 pub mod OpenCores
+pub mod RunsRefused

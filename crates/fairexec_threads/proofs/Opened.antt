@@ -6,7 +6,7 @@ use Rattle.rt_jobs.specs.Scripts.{Script}
 use Rattle.rt_runtime.specs.Calls.{IsStarted, HasFinished}
 use Rattle.rt_runtime.specs.State.{RuntimeView}
 use Rattle.rt_runtime_config.specs.Configs.{Entry}
-use Rattle.fairexec_threads_script.specs.Drafts.{Told}
+use Rattle.fairexec_threads_script.specs.Orders.{Told}
 use Rattle.rt_runtime_worker.proofs.Openings.{opening_creations}
 use Rattle.rt_runtime_worker.specs.Linked.{LinkedView}
 use Rattle.rt_runtime_worker.specs.Queues.{creations, opening_of}

@@ -11,6 +11,8 @@ use Rattle.rt_runtime.specs.Sends.{outstanding_upto, room_left}
 use Rattle.rt_runtime.specs.State.{RuntimeView}
 use Rattle.fairexec_threads.specs.Counting.{HasPlace}
 use Rattle.fairexec_threads.specs.Rooms.{room_of}
+use Rattle.fairexec_script.specs.TextLimits.{most_lines}
+use Rattle.rt_ids.specs.Limits.{most_cores}
 
 -- no more submissions are outstanding than were sent
 pub outstanding_few : (core : ℕ) (notes : Journal ℕ) → outstanding_count core notes ≤ length (accepted_orders core notes)
@@ -28,7 +30,7 @@ places_few : (cores cap sum : ℕ) → cores ≤ 16 → cap ≤ 1024 → sum ≤
 places_few cores cap sum few small sum_few = let most = mul-le-mul few small in omega (arith, most, sum_few)
 
 -- the journal is long enough
-room_enough : (each cores cap burst notes outstanding room : ℕ) → each ≤ 3 → cores ≤ 16 → notes ≤ 4111 → outstanding ≤ 16384 → room ≡ room_of cores cap burst → 3 * (outstanding + 1) + each * cores ≤ room - notes
+room_enough : (each cores cap burst notes outstanding room : ℕ) → each ≤ 3 → cores ≤ 16 → notes ≤ most_lines + most_cores - 1 → outstanding ≤ 16384 → room ≡ room_of cores cap burst → 3 * (outstanding + 1) + each * cores ≤ room - notes
 room_enough each cores cap burst notes outstanding room some few short less is = let most = mul-le-mul some few in omega (arith, most, short, less, is)
 
 pub has_room : (each core : ℕ) (view : RuntimeView Script ℕ) → each ≤ 3 → HasPlace core view → room_left each view ≤ free_notes view.desk.journal

@@ -6,7 +6,7 @@ use Rattle.fairexec_report.specs.Writing.{IsTold}
 use Rattle.fairexec_report.specs.VerdictTexts.{is_sound}
 use Rattle.rt_runtime_config.specs.Configs.{Entry}
 use Rattle.fairexec_threads_script.specs.declared.script.ThreadsScript.{ThreadsScript}
-use Rattle.fairexec_threads_script.specs.Drafts.{Told}
+use Rattle.fairexec_threads_script.specs.Orders.{Told}
 use Rattle.fairexec_threads_script.specs.Scripts.{threads_script_of}
 use Rattle.fairexec_threads_script.specs.Whole.{drafted}
 use Rattle.fairexec_threads.specs.Runs.{RunsOrders, TellsRun}

@@ -22,10 +22,11 @@ use Rattle.rt_runtime.specs.declared.error.SubmitError.{SubmitError}
 use Rattle.rt_runtime.specs.declared.error.SubmitError.TheVariants.{JournalFull, Send}
 use Rattle.rt_runtime.specs.Sends.{MakesRoom, Sends, SendsTo, SubmitsTo}
 use Rattle.rt_runtime.specs.State.{RuntimeView}
-use Rattle.fairexec_threads_script.specs.Drafts.{Told, orders_to}
+use Rattle.fairexec_threads_script.specs.Orders.{Told, orders_to}
 use Rattle.fairexec_threads.specs.Counting.{sent_to, IsOfScript, HasPlace}
 use Rattle.fairexec_threads.specs.Offers.{Offers, OffersAll, closings}
 use Rattle.fairexec_threads.proofs.Rooming.{outstanding_few, has_room}
+use Rattle.fairexec_script.specs.TextLimits.{most_lines}
 
 abbrev pub View : Type 0
 View = RuntimeView Script ℕ
@@ -176,7 +177,7 @@ one_self : (core : ℕ) → ◌≡◌ {A = ℕ} (cond (eqb core core) 1 0) 1
 one_self core = let same : eqb core core ≡ true = grind (arith, nat_tests) in rw same refl
 
 -- an order of a script has a place, wherever it stands among the others
-pub place_of_order : (all done rest : List Told) (told : Told) (cap : ℕ) (old view : View) → all ≡ done ++ told ∷ rest → length all ≤ 4096 → ((core : ℕ) → orders_to core all < cap) →
+pub place_of_order : (all done rest : List Told) (told : Told) (cap : ℕ) (old view : View) → all ≡ done ++ told ∷ rest → length all ≤ most_lines → ((core : ℕ) → orders_to core all < cap) →
     IsOfScript old × (length old.desk.journal.notes ≡ 0) × ((core : ℕ) → sent_to core old ≡ 0) × (old.desk.cap ≡ cap) → OffersAll done old view → HasPlace told.0 view
 place_of_order all done rest told cap old view parts short spare (script, no_notes, none_sent, cap_is) offers =
     let more = grows done old view offers in

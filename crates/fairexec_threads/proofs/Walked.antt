@@ -23,7 +23,7 @@ use Rattle.rt_runtime.specs.Laws.{ClosedStaysClosed, IsClosed}
 use Rattle.rt_runtime.specs.Sends.{SendsTo}
 use Rattle.rt_runtime.specs.State.{RuntimeView, is_told_shut}
 use Rattle.rt_runtime_config.specs.Configs.{Entry}
-use Rattle.fairexec_threads_script.specs.Drafts.{Told}
+use Rattle.fairexec_threads_script.specs.Orders.{Told}
 use Rattle.fairexec_threads.specs.Accepted.{AreHeard, IsHeard}
 use Rattle.fairexec_threads.specs.Offers.{IsTaken, Offers, OffersAll}
 use Rattle.fairexec_threads.specs.Rooms.{room_of}

@@ -7,7 +7,7 @@ use Rattle.rt_ids.specs.declared.order.Mode.TheVariants.{Finish}
 use Rattle.rt_ids.specs.declared.order.Order.TheVariants.{CloseCore}
 use Rattle.rt_jobs.specs.Scripts.{Script}
 use Rattle.rt_runtime.specs.State.{RuntimeView}
-use Rattle.fairexec_threads_script.specs.Drafts.{Told}
+use Rattle.fairexec_threads_script.specs.Orders.{Told}
 use Rattle.fairexec_threads.specs.Offers.{Offers, OffersAll, closings}
 use Rattle.fairexec_threads.proofs.Sending.{offers_more}
 

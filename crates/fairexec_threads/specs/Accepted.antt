@@ -14,7 +14,7 @@ use Rattle.rt_ids.specs.Orders.{without_job}
 use Rattle.rt_jobs.specs.Scripts.{Script}
 use Rattle.rt_runtime.specs.State.{RuntimeView}
 use Rattle.rt_runtime_worker.specs.Rooms.{least_free}
-use Rattle.fairexec_threads_script.specs.Drafts.{Told}
+use Rattle.fairexec_threads_script.specs.Orders.{Told}
 use Rattle.fairexec_threads.specs.Offers.{OffersAll}
 use Rattle.fairexec_threads.specs.Rooms.{room_of}
 

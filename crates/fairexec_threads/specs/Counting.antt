@@ -1,10 +1,11 @@
 -- Whether there is room for a script's orders, as the outside journal counts them.
-use Rattle.std.specs.Prelude.{◌≡◌, ℕ, ◌<◌, ◌≤◌, true, length}
+use Rattle.std.specs.Prelude.{◌≡◌, ℕ, ◌+◌, ◌-◌, ◌<◌, ◌≤◌, true, length}
 use Rattle.rt_ids.specs.Filters.{accepted_orders}
 use Rattle.rt_ids.specs.Limits.{most_capacity, most_cores}
 use Rattle.rt_jobs.specs.Scripts.{Script}
 use Rattle.rt_runtime.specs.State.{RuntimeView, closing_at}
 use Rattle.fairexec_threads.specs.Rooms.{room_of}
+use Rattle.fairexec_script.specs.TextLimits.{most_lines}
 
 -- how many submissions were sent to a core
 abbrev pub sent_to : ℕ → RuntimeView Script ℕ → ℕ
@@ -18,17 +19,18 @@ pub record IsOfScript (view : RuntimeView Script ℕ) : Type 0 where
   pub room : view.desk.journal.room ≡ room_of view.desk.cores view.desk.cap view.desk.burst
   pub closings : length view.closing ≡ view.desk.cores
 
--- there is room for one order more to this core, whatever became of those before: no outcome is ever collected
+-- There is room for one order more to this core, whatever became of those before: no outcome is ever collected. A note stands of each line of the script
+-- and of each closing but this one, at most.
 pub record HasPlace (core : ℕ) (view : RuntimeView Script ℕ) : Type 0 where
   pub of_script : IsOfScript view
-  pub notes : length view.desk.journal.notes ≤ 4111
+  pub notes : length view.desk.journal.notes ≤ most_lines + most_cores - 1
   pub each : (other : ℕ) → sent_to other view ≤ view.desk.cap
   pub here : sent_to core view < view.desk.cap
 
--- there is room for the order that closes each core
+-- there is room for the order that closes each core, behind a note of each line of the script at most
 pub record CanClose (view : RuntimeView Script ℕ) : Type 0 where
   pub of_script : IsOfScript view
-  pub notes : length view.desk.journal.notes ≤ 4096
+  pub notes : length view.desk.journal.notes ≤ most_lines
   pub each : (core : ℕ) → sent_to core view < view.desk.cap
 
 -- the first cores are closed

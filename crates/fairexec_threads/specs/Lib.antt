@@ -6,3 +6,4 @@ pub mod Outcomes
 pub mod Accepted
 pub mod Runs
 pub mod Laws
+pub mod BadRuns

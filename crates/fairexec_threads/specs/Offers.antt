@@ -8,7 +8,7 @@ use Rattle.rt_ids.specs.declared.order.SendError.TheVariants.{Closed}
 use Rattle.rt_jobs.specs.Scripts.{Script}
 use Rattle.rt_runtime.specs.Sends.{SendsTo}
 use Rattle.rt_runtime.specs.State.{RuntimeView}
-use Rattle.fairexec_threads_script.specs.Drafts.{Told}
+use Rattle.fairexec_threads_script.specs.Orders.{Told}
 
 -- a send is accepted, or the core is closed already
 abbrev pub IsTaken : Result JobId (SendError Script) → Type 0

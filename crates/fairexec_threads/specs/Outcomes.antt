@@ -5,7 +5,7 @@ use Rattle.rt_jobs.specs.ScriptMeaning.{script_meaning}
 use Rattle.rt_jobs.specs.Scripts.{Script}
 use Rattle.rt_runtime.specs.Laws.{IsToldOf}
 use Rattle.rt_runtime.specs.State.{RuntimeView}
-use Rattle.fairexec_threads_script.specs.Drafts.{Told}
+use Rattle.fairexec_threads_script.specs.Orders.{Told}
 use Rattle.fairexec_threads.specs.Offers.{OffersAll}
 
 -- The journals tell an outcome of each order that was accepted, and it fits the order: a job is finished with the value of its last poll, or comes

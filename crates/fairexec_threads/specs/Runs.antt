@@ -11,7 +11,8 @@ use Rattle.rt_runtime_config.specs.Configs.{Entry}
 use Rattle.fairexec_threads_script.specs.declared.fault.ThreadsFault.{ThreadsFault}
 use Rattle.fairexec_threads_script.specs.declared.fault.ThreadsFault.TheVariants.{Of, Thread}
 use Rattle.rt_text.specs.Faults.{IfUnjudged}
-use Rattle.fairexec_threads_script.specs.Drafts.{Drafted, Told}
+use Rattle.fairexec_threads_script.specs.Orders.{Told}
+use Rattle.fairexec_threads_script.specs.Drafts.{Drafted}
 use Rattle.fairexec_threads_script.specs.Scripts.{threads_script_of}
 use Rattle.fairexec_threads.specs.Accepted.{AreHeard}
 use Rattle.fairexec_threads.specs.Offers.{OffersAll, closings}

@@ -6,6 +6,7 @@ ghost use Rattle.rt_ids.specs.declared.order.Order.TheVariants as order;
 ghost use Rattle.fairexec_threads_script.specs.Limits.{IsToldOf, AreTold, HasSpare};
 ghost use Rattle.fairexec_threads.specs.Counting.{IsOfScript, HasPlace, CanClose, AreClosedBelow};
 ghost use Rattle.fairexec_threads.specs.Offers.{Offers, OffersAll, closings};
+ghost use Rattle.fairexec_script.specs.TextLimits.{most_lines};
 
 use crate::house::House;
 use rt_ids::{CoreNo, Mode, Order};
@@ -26,7 +27,7 @@ pub(crate) fn offer_all(house: &mut House, orders: Vec<(CoreNo, Order<ScriptJob>
     requires none { house.old.desk.journal.notes ≡ [] }
     requires told { AreTold (Some (house.old.desk.cores, house.old.desk.cap)) orders.items }
     requires spare { HasSpare (Some (house.old.desk.cores, house.old.desk.cap)) orders.items }
-    requires short { length orders.items ≤ 4096 }
+    requires short { length orders.items ≤ most_lines }
     ensures offers { OffersAll orders.items house.old house.new }
     ensures ready { CanClose house.new }
 {
