@@ -25,7 +25,7 @@ near = record { turn = 2; first = 2; second = 1; bound = 3 }
 abbrev pub both_work : Journal ℕ
 both_work = Took (submission 2) 2 ∷ Took (submission 1) 1 ∷ []
 
--- what lies beyond its bound is refused, and so are a stretch without work, one that begins too late, a lead that isn't the greatest, and none where there is one
+-- what lies beyond its bound is refused, and so are a stretch without work, one that begins too late, a lead that isn't the greatest, and no lead if there is one
 pub record BadLagsAreRefused : Type 0 where
   pub ahead : IsWithinBound far → ⊥
   pub behind : IsWithinBound far_behind → ⊥

@@ -6,6 +6,7 @@ pub mod Pairs
 pub mod PairWalks
 pub mod Lines
 pub mod Columns
+pub mod ColumnPlaces
 pub mod ColumnTexts
 pub mod Panels
 pub mod Pictures

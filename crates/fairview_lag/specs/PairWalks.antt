@@ -26,7 +26,7 @@ idle names = record { first = names.0; second = names.1; begun = None; greatest 
 abbrev pub idle_with : ℕ → List PairWalk
 idle_with second = lists_below (λ first. idle (first, second) ∷ []) second
 
--- two queues as these notes tell of them, where a turn may have so many polls
+-- two queues as these notes tell of them, if a turn may have so many polls
 abbrev pub pair_known : {T : Type 0} → ℕ → Journal T → ℕ × ℕ → PairWalk
 pair_known burst journal names =
     record { first = names.0; second = names.1; begun = begun burst names.0 names.1 journal; greatest = greatest_lag burst names.0 names.1 journal }
@@ -43,7 +43,7 @@ pair_lag core pair = pair_of core pair.first pair.second pair.greatest
 abbrev pub lags_of : ℕ → PairWalk → List PairLag
 lags_of core pair = one_of (pair_lag core pair)
 
--- the queues, and each two of them up to the last one that a job entered, are known as these notes tell of them, where a turn may have so many polls
+-- the queues, and each two of them up to the last one that a job entered, are known as these notes tell of them, if a turn may have so many polls
 pub record KnowsLags {T : Type 0} (burst : ℕ) (lags : CoreLags) (journal : Journal T) : Type 0 where
   pub standing : KnowsStanding burst lags.standing journal
   pub count : lags.count ≡ queue_count journal

@@ -27,7 +27,7 @@ module _ {T : Type 0} (burst first second : ℕ) where
   abbrev pub charged_of : Journal T → Begun
   charged_of journal = record { first = charges burst first journal; second = charges burst second journal }
 
-  -- the same where both began to have work
+  -- the same when both began to have work
   abbrev pub begun_of : Journal T → Begun
   begun_of journal = charged_of (earlier_notes first second journal)
 
@@ -35,7 +35,7 @@ module _ {T : Type 0} (burst first second : ℕ) where
   abbrev pub begun : Journal T → Option Begun
   begun journal = if are_together first second journal then Some (begun_of journal) else None
 
-  -- what is known of all queues, where a turn may have so many polls, and where the stretch of these two began
+  -- what is known of all queues, if a turn may have so many polls, and the beginning of the stretch of these two
   pub record KnowsStretch (stretch : Stretch) (journal : Journal T) : Type 0 where
     pub standing : KnowsStanding burst stretch.standing journal
     pub begun : stretch.begun ≡ begun journal

@@ -2,6 +2,7 @@
 
 ghost use Rattle.std.specs.Prelude.{◌≡◌, Some};
 ghost use Rattle.fairview_svg.specs.Shapes.{box_text};
+ghost use Rattle.fairview_lag.specs.ColumnPlaces as places;
 ghost use Rattle.fairview_lag.specs.ColumnTexts as spec;
 
 use crate::columns::{Column, Panel};
@@ -16,7 +17,7 @@ pub struct Strip {
     pub width: u128,
 }
 
-/// What is told of a column where the pointer stands on it.
+/// The title of a column. It is told when the pointer stands on the column.
 #[derive(Clone, Copy)]
 struct TitleText(Panel, Column);
 
@@ -28,7 +29,7 @@ struct ShapesText(Panel, Column);
 #[derive(Clone, Copy)]
 struct BoundText(Strip);
 
-/// Where the pointer finds the column.
+/// The ground of a column. The pointer finds the column on it.
 #[derive(Clone, Copy)]
 struct GroundText(Strip);
 
@@ -54,29 +55,29 @@ pub struct ColumnText(pub Panel, pub Column);
 
 /// How high a lead stands: the bound at the last turn has 60 points.
 fn height(panel: &Panel, lead: u128) -> u32
-    ensures { result ≡ spec.height panel.now lead }
+    ensures { result ≡ places.height panel.now lead }
 {
     let points = lead.min(panel.bound).saturating_mul(60) / panel.bound.max(1);
     points.min(60) as u32
 }
 
-/// Where no queue is ahead.
+/// The line on which a column stands when no queue is ahead.
 fn middle(panel: &Panel) -> u32
-    ensures { result ≡ spec.middle panel.now }
+    ensures { result ≡ places.middle panel.now }
 {
     panel.top.saturating_add(60)
 }
 
 /// The left end of a column.
 fn left(panel: &Panel, column: &Column) -> u128
-    ensures { result ≡ spec.left panel.now column.now }
+    ensures { result ≡ places.left panel.now column.now }
 {
     panel.cell(column.from) as u128 * 2 + 300
 }
 
 /// Its width, at least that of one column.
 fn width(panel: &Panel, column: &Column) -> u128
-    ensures { result ≡ spec.width panel.now column.now }
+    ensures { result ≡ places.width panel.now column.now }
 {
     let right = panel.edge(column.to) * 2;
     right
@@ -86,7 +87,7 @@ fn width(panel: &Panel, column: &Column) -> u128
 
 /// The box of the first queue's lead.
 fn ahead_box(panel: &Panel, column: &Column) -> BoxText
-    ensures { result ≡ spec.ahead_box panel.now column.now }
+    ensures { result ≡ places.ahead_box panel.now column.now }
 {
     let height = height(panel, column.ahead);
     BoxText {
@@ -100,7 +101,7 @@ fn ahead_box(panel: &Panel, column: &Column) -> BoxText
 
 /// The box of the second queue's lead.
 fn behind_box(panel: &Panel, column: &Column) -> BoxText
-    ensures { result ≡ spec.behind_box panel.now column.now }
+    ensures { result ≡ places.behind_box panel.now column.now }
 {
     BoxText {
         queue: Some(panel.second),
@@ -113,7 +114,7 @@ fn behind_box(panel: &Panel, column: &Column) -> BoxText
 
 /// The part of a column from a line on.
 fn strip_at(panel: &Panel, column: &Column, y: u32) -> Strip
-    ensures { result ≡ spec.strip_at panel.now column.now y }
+    ensures { result ≡ places.strip_at panel.now column.now y }
 {
     Strip {
         x: left(panel, column),
@@ -124,7 +125,7 @@ fn strip_at(panel: &Panel, column: &Column, y: u32) -> Strip
 
 /// The bound above the middle.
 fn above_strip(panel: &Panel, column: &Column) -> Strip
-    ensures { result ≡ spec.above_strip panel.now column.now }
+    ensures { result ≡ places.above_strip panel.now column.now }
 {
     let reach = height(panel, column.bound);
     strip_at(panel, column, middle(panel).saturating_sub(reach))
@@ -132,7 +133,7 @@ fn above_strip(panel: &Panel, column: &Column) -> Strip
 
 /// The bound below the middle.
 fn below_strip(panel: &Panel, column: &Column) -> Strip
-    ensures { result ≡ spec.below_strip panel.now column.now }
+    ensures { result ≡ places.below_strip panel.now column.now }
 {
     let reach = height(panel, column.bound);
     strip_at(panel, column, middle(panel).saturating_add(reach))
@@ -186,7 +187,7 @@ impl fmt::Display for TitleText {
 }
 
 impl fmt::Display for AheadText {
-    ghost output = { λ text. Some (box_text (spec.ahead_box text.0 text.1)) };
+    ghost output = { λ text. Some (box_text (places.ahead_box text.0 text.1)) };
 
     fn fmt<W: fmt::Write>(&self, f: &mut fmt::Formatter<W>) -> fmt::Result {
         ahead_box(&self.0, &self.1).fmt(f)
@@ -194,7 +195,7 @@ impl fmt::Display for AheadText {
 }
 
 impl fmt::Display for BehindText {
-    ghost output = { λ text. Some (box_text (spec.behind_box text.0 text.1)) };
+    ghost output = { λ text. Some (box_text (places.behind_box text.0 text.1)) };
 
     fn fmt<W: fmt::Write>(&self, f: &mut fmt::Formatter<W>) -> fmt::Result {
         behind_box(&self.0, &self.1).fmt(f)
@@ -202,7 +203,7 @@ impl fmt::Display for BehindText {
 }
 
 impl fmt::Display for AboveText {
-    ghost output = { λ text. Some (spec.bound_text (spec.above_strip text.0 text.1)) };
+    ghost output = { λ text. Some (spec.bound_text (places.above_strip text.0 text.1)) };
 
     fn fmt<W: fmt::Write>(&self, f: &mut fmt::Formatter<W>) -> fmt::Result {
         BoundText(above_strip(&self.0, &self.1)).fmt(f)
@@ -210,7 +211,7 @@ impl fmt::Display for AboveText {
 }
 
 impl fmt::Display for BelowText {
-    ghost output = { λ text. Some (spec.bound_text (spec.below_strip text.0 text.1)) };
+    ghost output = { λ text. Some (spec.bound_text (places.below_strip text.0 text.1)) };
 
     fn fmt<W: fmt::Write>(&self, f: &mut fmt::Formatter<W>) -> fmt::Result {
         BoundText(below_strip(&self.0, &self.1)).fmt(f)

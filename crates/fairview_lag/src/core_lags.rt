@@ -105,7 +105,7 @@ impl CoreLags {
         Ok(())
     }
 
-    /// Reads the journal of a core, where a turn may have so many polls.
+    /// Reads the journal of a core whose turns may have so many polls.
     ///
     /// # Errors
     ///

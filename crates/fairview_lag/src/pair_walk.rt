@@ -11,7 +11,7 @@ use crate::stretch::{Begun, Lag, begun_after, lag_told};
 use fairview_bars::standing::Standing;
 use rt_ids::{CoreNo, Note, QueueNo};
 
-/// Of the notes that were read: where the stretch of two queues began, if both have work, and the first lag in which they were the furthest apart.
+/// Of the notes that were read: the beginning of the stretch of two queues, if both have work, and the first lag in which they were the furthest apart.
 /// The first queue has the lower number.
 #[derive(Clone, Copy)]
 pub struct PairWalk {

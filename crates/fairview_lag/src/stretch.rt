@@ -46,21 +46,21 @@ impl Lag {
     }
 }
 
-/// All charges of two queues where both began to have work.
+/// All charges of two queues when both began to have work.
 #[derive(Clone, Copy)]
 pub struct Begun {
     first: u128,
     second: u128,
 }
 
-/// Of the notes that were read: what is known of all queues, and where the stretch of two of them began, if both have work.
+/// Of the notes that were read: what is known of all queues, and the beginning of the stretch of two of them, if both have work.
 #[derive(Drop)]
 pub struct Stretch {
     standing: Standing,
     begun: Option<Begun>,
 }
 
-/// Where a stretch began, of which both queues have work: where it was known to begin, else here.
+/// The beginning of a stretch in which both queues have work. It is this place, unless it was known before.
 fn begun_by(standing: &Standing, begun: Option<Begun>, first: QueueNo, second: QueueNo) -> Begun
     ensures { (burst : ℕ) → (note : NoteSeen ℕ) → (before : Notes ℕ) → KnowsStanding burst standing.now (note ∷ before) → begun ≡ spec.begun burst first second before → result ≡ spec.begun_of burst first second (note ∷ before) }
 {
@@ -73,7 +73,7 @@ fn begun_by(standing: &Standing, begun: Option<Begun>, first: QueueNo, second: Q
     }
 }
 
-/// Where the stretch of two queues began, if both have work.
+/// The beginning of the stretch of two queues, if both have work.
 pub(crate) fn begun_after(
     standing: &Standing,
     begun: Option<Begun>,
