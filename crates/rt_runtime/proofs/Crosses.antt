@@ -5,6 +5,7 @@ use denote.Param.{param}
 use denote.Param.Send.{IsSend, sendable}
 use denote.Struct.Field.{u64-field}
 use Rattle.rt_jobs.specs.declared.job.Task.{Ghosts}
+use Rattle.rt_jobs.specs.declared.state.CoreState.{Ghosts as Begins}
 use Rattle.std.proofs.Crossing.{crosses}
 use Rattle.std.specs.contracts.alloc.Global.{the_row as global}
 use Rattle.std.specs.contracts.impls.GlobalAllocator.TheImpl.{ghosts as its_alloc}
@@ -25,7 +26,7 @@ use Rattle.rt_runtime_worker.specs.contracts.ended.Ended.{the_row as ended}
 use Rattle.rt_runtime_worker.specs.contracts.worker.Worker.{the_row as worker}
 
 -- The state that jobs share is the type at this place of the function that starts them.
-module _ (T L : RattleType) (n : ℕ) (t : Ghosts (param 0 T).Denot ℕ (param n L).Denot) (j : IsSend (param 0 T)) (l : IsSend (param n L)) where
+module _ (T L : RattleType) (n : ℕ) (t : Ghosts (param 0 T).Denot ℕ (param n L).Denot) (b : Begins (param n L).Denot) (j : IsSend (param 0 T)) (l : IsSend (param n L)) where
   core_send : IsSend (core (param 0 T) global u64-field.row (param n L) t its_alloc (copied global))
   core_send = search (crosses, tree.crosses, sendable) depth 60 fits 20000
 
@@ -38,12 +39,12 @@ module _ (T L : RattleType) (n : ℕ) (t : Ghosts (param 0 T).Denot ℕ (param n
   recorded_send : IsSend (recorded (param 0 T) global (param n L) t its_alloc (copied global))
   recorded_send = search (core_send, desk_send, crosses, sendable) depth 60 fits 20000
 
-  linked_send : IsSend (linked (param 0 T) (param n L) t)
+  linked_send : IsSend (linked (param 0 T) (param n L) t b)
   linked_send = search (recorded_send, ends.the_send, crosses, sendable) depth 60 fits 20000
 
   module _ (S : RattleType) (sink : Passes (param 3 S).Denot) (s : IsSend (param 3 S)) where
-    pub ended_send : IsSend (ended (param 0 T) (param 3 S) (param n L) t sink)
+    pub ended_send : IsSend (ended (param 0 T) (param 3 S) (param n L) t b sink)
     ended_send = search (linked_send, publisher.the_send, crosses, sendable) depth 60 fits 20000
 
-    pub worker_send : (C G : RattleType) → IsSend (param 1 C) → IsSend (param 2 G) → IsSend (worker (param 0 T) (param 1 C) (param 2 G) (param 3 S) (param n L) t sink)
+    pub worker_send : (C G : RattleType) → IsSend (param 1 C) → IsSend (param 2 G) → IsSend (worker (param 0 T) (param 1 C) (param 2 G) (param 3 S) (param n L) t b sink)
     worker_send C G c g = search (linked_send, bell.the_send, publisher.the_send, crosses, sendable) depth 60 fits 20000

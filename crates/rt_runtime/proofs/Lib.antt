@@ -7,6 +7,11 @@ pub mod Vain
 pub mod WaitedOnce
 mod WaitsRefused
 mod LocalsRefused
+mod StartsRefused
+mod SendsRefused
+mod TicketsRefused
+mod FinishesRefused
+mod WatchesRefused
 pub mod Polled
 pub mod PollsOwed
 mod PollsRefused

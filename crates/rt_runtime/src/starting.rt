@@ -52,6 +52,7 @@ fn deal<J: Task<Out = u64>, C: Drop, G: Drop, S: Sink>(
     ensures clocks { IfOk result (λ seats. map (λ seat. seat.clock) seats.items ≡ clocks.items) }
     ensures gates { IfOk result (λ seats. map (λ seat. seat.gate) seats.items ≡ gates.items) }
     ensures sinks { IfOk result (λ seats. map (λ seat. seat.sink) seats.items ≡ sinks.items) }
+    ensures locals { IfOk result (λ seats. map (λ seat. seat.local) seats.items ≡ locals.items) }
 {
     let mut seats = Vec::with_capacity(alloc, all.len())?;
     let (mut clocks, mut gates, mut sinks) = (clocks, gates, sinks);

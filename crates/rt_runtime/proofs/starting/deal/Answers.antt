@@ -13,6 +13,7 @@ loop-ends-init g c =
       clocks = rw c.in_ok-seats.ensures.items refl;
       gates = rw c.in_ok-seats.ensures.items refl;
       sinks = rw c.in_ok-seats.ensures.items refl;
+      locals = rw c.in_ok-seats.ensures.items refl;
       some_clocks = c.requires.clocks ∙ sym left;
       some_gates = c.requires.gates ∙ sym left;
       some_sinks = c.requires.sinks ∙ sym left;
@@ -31,6 +32,8 @@ loop-ends-preserved g c =
           (first_of loop.gates.items c.remove-gate.new.self.items c.remove-gate.result (omega (arith, loop.invariant.some_gates, steps.1)) c.remove-gate.ensures.value c.remove-gate.ensures.items));
       sinks = rw c.push_reserved.ensures.items (dealt_more (λ seat. seat.sink) loop.seats.items _ c.args.sinks.items loop.sinks.items c.remove-sink.new.self.items loop.invariant.sinks
           (first_of loop.sinks.items c.remove-sink.new.self.items c.remove-sink.result (omega (arith, loop.invariant.some_sinks, steps.1)) c.remove-sink.ensures.value c.remove-sink.ensures.items));
+      locals = rw c.push_reserved.ensures.items (dealt_more (λ seat. seat.local) loop.seats.items _ c.args.locals.items loop.locals.items c.remove-local.new.self.items loop.invariant.locals
+          (first_of loop.locals.items c.remove-local.new.self.items c.remove-local.result (omega (arith, loop.invariant.some_locals, steps.1)) c.remove-local.ensures.value c.remove-local.ensures.items));
       some_clocks = omega (arith, loop.invariant.some_clocks, c.remove-clock.ensures.len, steps.1, loop.clocks.ok.0, c.remove-clock.new.self.ok.0);
       some_gates = omega (arith, loop.invariant.some_gates, c.remove-gate.ensures.len, steps.1, loop.gates.ok.0, c.remove-gate.new.self.ok.0);
       some_sinks = omega (arith, loop.invariant.some_sinks, c.remove-sink.ensures.len, steps.1, loop.sinks.ok.0, c.remove-sink.new.self.ok.0);

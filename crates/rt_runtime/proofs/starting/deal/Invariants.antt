@@ -9,6 +9,7 @@ invariant-loop-ends g l = record {
   clocks : map (λ seat. seat.clock) l.seats.items ++ l.clocks.items ≡ l.fn.clocks.items;
   gates : map (λ seat. seat.gate) l.seats.items ++ l.gates.items ≡ l.fn.gates.items;
   sinks : map (λ seat. seat.sink) l.seats.items ++ l.sinks.items ≡ l.fn.sinks.items;
+  locals : map (λ seat. seat.local) l.seats.items ++ l.locals.items ≡ l.fn.locals.items;
   some_clocks : length l.clocks.items ≡ into_iter_len l.ends-iterator;
   some_gates : length l.gates.items ≡ into_iter_len l.ends-iterator;
   some_sinks : length l.sinks.items ≡ into_iter_len l.ends-iterator;

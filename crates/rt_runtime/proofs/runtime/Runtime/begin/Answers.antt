@@ -20,15 +20,15 @@ start-requires-send-W g c κs within =
     let k : IsSend (param 1 g.row.C) = search rules parts 8 in
     let l : IsSend (param 2 g.row.G) = search rules parts 8 in
     let m : IsSend (param 3 g.row.S) = search rules parts 8 in
-    let n : IsSend (param 5 g.row.J-Local) = search rules parts 8 in
-    param_send 0 _ (arg_send _ no _ (worker_send g.row.J g.row.J-Local 5 g.J.Task j n g.row.S g.S.Sink m g.row.C g.row.G k l))
+    let n : IsSend (param 4 g.row.J-Local) = search rules parts 8 in
+    param_send 0 _ (arg_send _ no _ (worker_send g.row.J g.row.J-Local 4 g.J.Task g.J.Local.CoreState j n g.row.S g.S.Sink m g.row.C g.row.G k l))
 
 pub start-requires-send-W-Ended : goal.start-requires-send-W-Ended
 start-requires-send-W-Ended g c κs within =
     let j : IsSend (param 0 g.row.J) = search rules parts 8 in
     let m : IsSend (param 3 g.row.S) = search rules parts 8 in
-    let n : IsSend (param 5 g.row.J-Local) = search rules parts 8 in
-    param_send 1 _ (arg_send _ no _ (ended_send g.row.J g.row.J-Local 5 g.J.Task j n g.row.S g.S.Sink m))
+    let n : IsSend (param 4 g.row.J-Local) = search rules parts 8 in
+    param_send 1 _ (arg_send _ no _ (ended_send g.row.J g.row.J-Local 4 g.J.Task g.J.Local.CoreState j n g.row.S g.S.Sink m))
 
 pub invariant_of-result : goal.invariant_of-result
 invariant_of-result g c =

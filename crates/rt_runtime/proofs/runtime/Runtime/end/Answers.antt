@@ -27,7 +27,7 @@ part_all-all-requires-clause-room_actors g c =
 
 pub part_all-all-requires-clause-room_locals : goal.part_all-all-requires-clause-room_locals
 part_all-all-requires-clause-room_locals g c =
-    omega (arith, all_ended g.J.Task.meaning _ c.self.invariant.0 c.compare_all.new.ended.items (all_run_on c.self.inside.team c.compare_all.new.ended.items (kept g c)), c.self.invariant.8, c.self.invariant.1.cores_are)
+    omega (arith, all_ended g.J.Task.meaning _ c.self.invariant.0 c.compare_all.new.ended.items (all_run_on c.self.inside.team c.compare_all.new.ended.items (subst (Together KeepsOn c.self.inside.team) (sym c.compare_all.ensures.ended) c.join-ended.ensures)), c.self.invariant.8, c.self.invariant.1.cores_are)
 
 pub push_reserved-requires : goal.push_reserved-requires
 push_reserved-requires g c =
@@ -93,5 +93,5 @@ returns-clause-room g c =
 pub returns-clause-locals : goal.returns-clause-locals
 returns-clause-locals g c =
     c.part_all-all.ensures.locals
-    ∙ (all_ended g.J.Task.meaning _ c.self.invariant.0 c.compare_all.new.ended.items (all_run_on c.self.inside.team c.compare_all.new.ended.items (kept g c))
+    ∙ (all_ended g.J.Task.meaning _ c.self.invariant.0 c.compare_all.new.ended.items (all_run_on c.self.inside.team c.compare_all.new.ended.items (subst (Together KeepsOn c.self.inside.team) (sym c.compare_all.ensures.ended) c.join-ended.ensures))
     ∙ ap (λ view. view.desk.cores) c.self.view_is)

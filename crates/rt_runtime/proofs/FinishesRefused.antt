@@ -1,0 +1,47 @@
+-- Finishes that are refused: of a core that isn't closed, without a note of the caller, without an outcome, and with a note that is kept and was never refused.
+use Rattle.std.proofs.Common.{◌≡◌, ℕ, ◌<◌, ◌≤◌, [], ◌∷◌, sym, ◌∙◌, inl, inr, subst, arith}
+use Rattle.std.specs.Prelude.{true, false, Some, None, Ok, Err, IfSome, length}
+use Rattle.std.specs.Option.{IsSome}
+use Rattle.rt_ids.specs.declared.names.JobId.{JobId}
+use Rattle.rt_ids.specs.declared.note.Note.{Note}
+use Rattle.rt_ids.specs.declared.order.Order.{Order}
+use Rattle.rt_ids.specs.Assembly.{Assembly, journal_of, outcome_of}
+use Rattle.rt_ids.specs.Journal.{Journal}
+use Rattle.rt_jobs.specs.Meanings.{Meaning}
+use Rattle.rt_runtime.specs.declared.error.FinishError.TheVariants.{NotClosed}
+use Rattle.rt_runtime.specs.declared.passed.ActorNotes.{ActorNotes}
+use Rattle.rt_runtime.specs.Calls.{Finishes, HasFinishedBy}
+use Rattle.rt_runtime.specs.Outcomes.{AllHaveOutcomes, Orders}
+use Rattle.rt_runtime.specs.State.{RuntimeView, closing_at}
+use Rattle.rt_runtime.specs.WithSinks.{KeepsRefused}
+
+module _ {J : Type 0} (meaning : Meaning J ℕ) (view : RuntimeView J ℕ) where
+  -- a core that was closed is told as open
+  closed_refused : (core : ℕ) (same : RuntimeView J ℕ) → closing_at core view ≡ true → Finishes meaning view (Err (NotClosed core same)) → ⊥
+  closed_refused core same closed finishes = let not_closed = finishes.0.not_closed in absurd cc
+
+  -- the second core is told as open, and the first one is open, too
+  second_refused : (same : RuntimeView J ℕ) → closing_at 0 view ≡ false → Finishes meaning view (Err (NotClosed 1 same)) → ⊥
+  second_refused same not_closed finishes = let closed = finishes.0.before 0 (omega arith) in absurd cc
+
+  -- a core is open, and the journals are answered
+  open_refused : (core : ℕ) (assembly : Assembly ℕ) → core < view.desk.cores → closing_at core view ≡ false → Finishes meaning view (Ok assembly) → ⊥
+  open_refused core assembly there not_closed finishes = let closed = finishes.closed core there in absurd cc
+
+  -- a note of the caller is lost
+  lost_note_refused : (may : ℕ → Journal ℕ → Type 0) (assembly : Assembly ℕ) (note : Note ℕ) → view.desk.journal.notes ≡ note ∷ [] → journal_of view.desk.cores assembly ≡ [] →
+      HasFinishedBy meaning may view assembly → ⊥
+  lost_note_refused may assembly note noted lost finished = let outside = finished.outside in absurd cc
+
+  -- an order was sent, and no outcome of it is told
+  no_outcome_refused : (assembly : Assembly ℕ) (orders : Orders J) (name : JobId) (order : Order J) → name.from ≤ view.desk.cores → name.to < view.desk.cores → orders name ≡ Some order →
+      outcome_of name assembly ≡ None → AllHaveOutcomes view assembly orders → ⊥
+  no_outcome_refused assembly orders name order known there sent none outcomes =
+      let told = subst (λ found. IfSome found (λ order. IsSome (outcome_of name assembly))) sent (outcomes name known there) in
+      absurd cc
+
+-- a note is kept, and its sink never refused
+kept_refused : {S : Type 0} (has : S → Journal ℕ) (refused : S → ℕ → Type 0) (actor : ActorNotes S) (note : Note ℕ) → actor.kept.notes ≡ note ∷ [] → (refused actor.sink (length (has actor.sink)) → ⊥) →
+    KeepsRefused has refused actor → ⊥
+kept_refused has refused actor note kept never (inl nothing) = absurd cc
+kept_refused has refused actor note kept never (inr did) = never did

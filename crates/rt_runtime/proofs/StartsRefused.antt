@@ -1,0 +1,37 @@
+-- Starts that are refused: over a bad configuration, with a core that is closed already, with bells that the caller hasn't, and with a sink too few.
+use Rattle.std.proofs.Common.{◌≡◌, ℕ, ◌<◌, List, [], ◌∷◌, arith}
+use Rattle.std.specs.Prelude.{true, Ok, Err}
+use Rattle.rt_runtime_config.specs.Configs.{Entry, IsGood}
+use Rattle.rt_runtime.specs.declared.error.StartError.TheVariants.{BadConfig, Memory}
+use Rattle.rt_runtime.specs.Calls.{Begins, IsStarted, Starts}
+use Rattle.rt_runtime.specs.State.{RuntimeView}
+use Rattle.rt_runtime.specs.WithSinks.{StartsWithSinks}
+
+module _ {J T : Type 0} (cap burst room : ℕ) (queues : List Entry) (clocks gates : ℕ) (view : RuntimeView J T) where
+  -- a runtime without cores is started
+  no_cores_refused : Starts 0 cap burst room queues clocks gates (Ok view) → ⊥
+  no_cores_refused starts = omega (arith, starts.0.numbers.some_core)
+
+  -- there are no cores, and want of memory is told
+  memory_refused : Starts {J} {T} 0 cap burst room queues clocks gates (Err Memory) → ⊥
+  memory_refused good = omega (arith, good.numbers.some_core)
+
+  -- a clock is wanting
+  clock_refused : (cores : ℕ) → clocks < cores → Starts cores cap burst room queues clocks gates (Ok view) → ⊥
+  clock_refused cores few starts = omega (arith, few, starts.0.clocks_are)
+
+  -- a good configuration is told as a bad one
+  good_refused : (cores : ℕ) → IsGood cores cap burst room queues clocks gates → Starts {J} {T} cores cap burst room queues clocks gates (Err BadConfig) → ⊥
+  good_refused cores good starts = starts good
+
+  -- a sink is wanting: the outside actor has none
+  sink_refused : (cores : ℕ) → StartsWithSinks cores cap burst room queues clocks gates cores (Ok view) → ⊥
+  sink_refused cores starts = omega (arith, starts.0)
+
+  -- the one core is closed already
+  closed_refused : IsStarted 1 cap burst room queues view → view.closing ≡ true ∷ [] → ⊥
+  closed_refused started closed = let open_core = started.closing in absurd cc
+
+  -- the worker rings other bells than the caller
+  bells_refused : IsStarted 1 cap burst room queues view → view.rung.names ≡ 3 ∷ 4 ∷ [] → view.bells ≡ (4 ∷ 3 ∷ []) ∷ [] → ⊥
+  bells_refused started names others = let same = started.bells in absurd cc
