@@ -1,5 +1,5 @@
 -- How the seats of a house end, and hand their journals in.
-use Rattle.std.specs.Prelude.{◌≡◌, ◌≢◌, ◌⊎◌, ℕ, ◌+◌, [], ◌∷◌, ◌++◌, length, map}
+use Rattle.std.specs.Prelude.{◌≡◌, ◌≢◌, ◌⊎◌, ◌↔◌, ℕ, ◌+◌, IsTrue, [], ◌∷◌, ◌++◌, length, map}
 use Rattle.rt_ids.specs.Assembly.{Assembly}
 use Rattle.rt_journal_notes.specs.Journals.{JournalView}
 use Rattle.rt_hosted_calls.specs.declared.code.Code.{Code}
@@ -43,9 +43,18 @@ IsJournalOf (member.Core view) journal = IsKept view.recorded.journal journal
 IsJournalOf (member.Outside view) journal = IsKept view.desk.journal journal
 IsJournalOf (member.Ended view) journal = ⊥
 
--- it is handed in behind the others
+-- notes of it were passed on
+abbrev pub HasPassed : Member → Type 0
+HasPassed (member.House view) = ⊥
+HasPassed (member.Core view) = view.recorded.journal.passed ≢ []
+HasPassed (member.Outside view) = view.desk.journal.passed ≢ []
+HasPassed (member.Ended view) = ⊥
+
+-- it is handed in behind the others, and it is known whether notes of any of them were passed on
 abbrev pub TakesIn : KeptView → Member → KeptView → Type 0
-TakesIn old seat new = (journal : JournalView ℕ) × IsJournalOf seat journal × (new ≡ record old { journals = old.journals ++ journal ∷ [] })
+TakesIn old seat new =
+    (journal : JournalView ℕ) × IsJournalOf seat journal × (IsTrue new.parted ↔ (IsTrue old.parted ⊎ HasPassed seat))
+    × (new ≡ record old { journals = old.journals ++ journal ∷ []; parted = new.parted })
 
 -- all were handed in, and make an assembly
 abbrev pub IsWhole : KeptView → Assembly ℕ → Type 0
@@ -58,7 +67,7 @@ abbrev pub Becomes : KeptView → Member → Type 0
 Becomes house (member.House new) = (new ≡ house) × (length house.journals ≢ house.cores + 1)
 Becomes house (member.Core new) = ⊥
 Becomes house (member.Outside new) = ⊥
-Becomes house (member.Ended new) = IsWhole house new
+Becomes house (member.Ended new) = IsWhole house new.assembly × (new.parted ≡ house.parted)
 
 -- a seat ends, and hands its journal to the house
 abbrev pub EndsSeat : Member → Member → Member → Type 0

@@ -9,6 +9,7 @@ pub mod Members
 pub mod Names
 pub mod Orders
 pub mod Outcomes
+pub mod Passing
 pub mod Stats
 pub mod Submissions
 pub mod Tickets

@@ -1,9 +1,9 @@
 //! How a house is opened, gives its seats and takes their journals in.
 
-ghost use Rattle.std.specs.Prelude.{◌≡◌, ◌≢◌, ◌⊎◌, ◌+◌, None, Some, IfErr, IfOk, IfSome, length};
+ghost use Rattle.std.specs.Prelude.{◌≡◌, ◌≢◌, ◌⊎◌, ◌↔◌, ◌+◌, None, Some, IfErr, IfOk, IfSome, IsTrue, length};
 ghost use Rattle.rt_hosted_calls.specs.declared.code.Code.TheVariants as code;
 ghost use Rattle.rt_hosted_calls.specs.declared.member.Member.TheVariants.{Outside as ItsOutside};
-ghost use Rattle.rt_hosted_calls.specs.Ending.{Awaits, HasEndedSeat, IsJournalOf, IsWhole, TakesIn};
+ghost use Rattle.rt_hosted_calls.specs.Ending.{Awaits, HasEndedSeat, HasPassed, IsJournalOf, IsWhole, TakesIn};
 ghost use Rattle.rt_hosted_calls.specs.Houses.{IsKeptOf, OpensKept, TakesCore, TakesNoCore, TakesNone, TakesOut, core_in, outside_in};
 
 use crate::code::Code;
@@ -132,6 +132,9 @@ impl House {
         if self.journals.reserve(1).is_err() {
             return Err((Code::NoMemory, seat));
         }
+        if has_passed(&seat) {
+            self.parted = true;
+        }
         self.journals
             .push_reserved(journal_of(Box::into_inner(seat)));
         Ok(())
@@ -140,6 +143,7 @@ impl House {
     /// Gives the journals up, if all were handed in.
     pub(crate) fn whole(&mut self, alloc: Global) -> Option<Assembly>
         ensures whole { IfSome result (λ assembly. IsWhole self.old assembly) }
+        ensures parted { self.new.parted ≡ self.old.parted }
         ensures missing { result ≡ None → (self.new ≡ self.old) × (length self.old.journals ≢ self.old.cores + 1) }
     {
         if self.journals.len() != usize::from(self.cores) + 1 {
@@ -171,6 +175,17 @@ fn core_of(member: Member) -> Option<Hosted>
         Member::House(_house) => None,
         Member::Outside(_outside) => None,
         Member::Ended(_ended) => None,
+    }
+}
+
+/// Whether notes of a seat were passed on.
+fn has_passed(seat: &Member) -> bool
+    ensures { IsTrue result ↔ HasPassed seat.now }
+{
+    match seat {
+        Member::Core(core) => core.has_passed(),
+        Member::Outside(outside) => outside.has_passed(),
+        Member::House(_) | Member::Ended(_) => false,
     }
 }
 
@@ -220,5 +235,6 @@ fn keep(
         left,
         outside: Some(outside),
         journals,
+        parted: false,
     })
 }

@@ -2,6 +2,7 @@
 
 ghost use Rattle.std.specs.Prelude.{◌≡◌, ◌↔◌, None, IfErr, IfOk, IfSome, IsTrue};
 ghost use Rattle.rt_hosted_calls.specs.declared.member.Member.TheVariants.{Ended as ItsEnded};
+ghost use Rattle.rt_hosted_audit.specs.Ended.{ended_of};
 ghost use Rattle.rt_hosted_calls.specs.Ending.{EndsNoSeat, EndsSeat};
 ghost use Rattle.rt_hosted_calls.specs.Houses.{TakesNoSeat, TakesSeat};
 ghost use Rattle.rt_hosted_calls.specs.Members.{IsHouse};
@@ -52,7 +53,8 @@ impl Member {
             Member::House(house) => {
                 house.take_in(seat)?;
                 let whole = house.whole(alloc);
-                self.become_ended(whole);
+                let parted = house.parted;
+                self.become_ended(whole, parted);
                 Ok(())
             }
             _ => Err((Code::Empty, seat)),
@@ -60,12 +62,12 @@ impl Member {
     }
 
     /// Becomes these journals, if there are any.
-    fn become_ended(&mut self, whole: Option<Assembly>)
-        ensures ended { IfSome whole (λ assembly. self.new ≡ ItsEnded assembly) }
+    fn become_ended(&mut self, whole: Option<Assembly>, parted: bool)
+        ensures ended { IfSome whole (λ assembly. self.new ≡ ItsEnded (ended_of assembly parted)) }
         ensures same { whole ≡ None → self.new ≡ self.old }
     {
         if let Some(assembly) = whole {
-            self.put(Ended::of(assembly));
+            self.put(Ended::of(assembly, parted));
         }
     }
 
