@@ -232,7 +232,7 @@ static void passing(void) {
     is("while a job runs", (uint32_t)out.count == LONG - 16 && memcmp(bytes, wanted, LONG) == 0 && bytes[LONG] == POISON, 1);
     IS(fx_seat_settle(core, FX_STEP_DONE, 1, 1), FX_DONE);
     IS(fx_seat_pass_on(outside, bytes, sizeof bytes, &out.count), FX_OK);
-    is("the outside actor hands on, too", (uint32_t)out.count == 22 && memcmp(bytes, "2 sent 2>0#1 job q0\n2 ", 20) == 0, 1);
+    is("the outside actor hands on, too", (uint32_t)out.count == 20 && memcmp(bytes, "2 sent 2>0#1 job q0\n", 20) == 0, 1);
     freed(&of);
 }
 
