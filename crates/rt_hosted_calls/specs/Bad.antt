@@ -71,11 +71,11 @@ audit_is_busy ended before after told = told
 
 -- journals that lack notes are judged
 pub parted_is_judged : (assembly : Assembly ℕ) (before after : VerdictTold) → JudgesTold (ended_of assembly true) before code.Ok after → ⊥
-parted_is_judged assembly before after told = cc told.1.1.0.whole
+parted_is_judged assembly before after told = cc told.2.whole
 
 -- journals that lack nothing are told as passed on
 pub whole_is_passed_on : (assembly : Assembly ℕ) (before after : VerdictTold) → JudgesTold (ended_of assembly false) before code.PassedOn after → ⊥
-whole_is_passed_on assembly before after told = cc told.1.0
+whole_is_passed_on assembly before after told = cc told.1
 
 -- a house hands on notes
 pub house_hands_on : (house : KeptView) (new : Member) (before after : List ℕ) (count counted : ℕ) → PassesTold (member.House house) before count code.Ok new after counted → ⊥

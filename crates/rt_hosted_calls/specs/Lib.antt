@@ -1,4 +1,5 @@
 pub mod Bad
+pub mod BadTold
 pub mod Codes
 pub mod Ending
 pub mod Figures
