@@ -9,9 +9,7 @@ use std::alloc::Global;
 fn is_short(alloc: Global, seat: &mut Member) -> bool {
     let mut bytes = [7u8; 3];
     let mut count = 0;
-    seat.pass_on(alloc, &mut bytes, &mut count) == Code::Short
-        && count == 67
-        && bytes[0] == 7
+    seat.pass_on(alloc, &mut bytes, &mut count) == Code::Short && count == 67 && bytes[0] == 7
 }
 
 /// Whether the core hands on all that it noted, into exact room.
@@ -20,8 +18,7 @@ fn core_hands_on(alloc: Global, core: &mut Member) -> bool {
     let mut count = 0;
     core.pass_on(alloc, &mut bytes, &mut count) == Code::Ok
         && count == 67
-        && &bytes
-            == b"0 coreclosed return\n0 shut 0 0\n0 shut 1 1\n0 back 1>0#1 coreclosing\n"
+        && &bytes == b"0 coreclosed return\n0 shut 0 0\n0 shut 1 1\n0 back 1>0#1 coreclosing\n"
 }
 
 /// Whether the outside actor hands on its three notes, and leaves the last byte as it is.
@@ -39,9 +36,7 @@ fn outside_hands_on(alloc: Global, outside: &mut Member) -> bool {
 fn has_none(alloc: Global, seat: &mut Member) -> bool {
     let mut bytes = [7u8; 3];
     let mut count = 9;
-    seat.pass_on(alloc, &mut bytes, &mut count) == Code::Ok
-        && count == 0
-        && bytes[0] == 7
+    seat.pass_on(alloc, &mut bytes, &mut count) == Code::Ok && count == 0 && bytes[0] == 7
 }
 
 /// Whether the core and the outside actor hand on all that they noted until the core came to its end.

@@ -84,7 +84,6 @@ fn closes_are_answered(room: &mut Room) -> bool {
         && told(room, core_order(1)) == Some((6, 0))
 }
 
-
 /// Whether the job that came in parks.
 fn parks(room: &mut Room) -> bool {
     let mut turn = no_turn();
@@ -106,7 +105,6 @@ fn parks_and_wakes(room: &mut Room) -> bool {
         None => false,
     }
 }
-
 
 /// Whether a job of a queue that isn't there comes back.
 fn comes_back(room: &mut Room) -> bool {

@@ -29,7 +29,7 @@ pub joined : PartsAreJoined
 joined actor count old new parts before after are passes =
     let copies = passes.0 in (
       ap (λ front. front ++ take count after) are ∙
-      (ap (λ part. text_of (actor_lines actor old.passed) ++ part) (front_is copies.0 (drop count before) after count copies.2.0 copies.2.2) ∙
-      (part_behind actor old copies.0 copies.1 ∙ ap (λ (journal : JournalView ℕ). text_of (actor_lines actor journal.notes)) (sym passes.1))),
+          (ap (λ part. text_of (actor_lines actor old.passed) ++ part) (front_is copies.0 (drop count before) after count copies.2.0 copies.2.2) ∙
+          (part_behind actor old copies.0 copies.1 ∙ ap (λ (journal : JournalView ℕ). text_of (actor_lines actor journal.notes)) (sym passes.1))),
       ap (λ (journal : JournalView ℕ). journal.passed) passes.1 ∙ sym (ap (λ (journal : JournalView ℕ). journal.notes) passes.1),
     )
