@@ -1,10 +1,9 @@
 -- What it changes of a core to hand on notes: nothing but what is kept, and how many notes there may be.
-use Rattle.std.proofs.Common.{◌≡◌, ℕ, ◌+◌, ◌≤◌, ◌++◌, List, length, sym, ap, ◌∙◌, subst, arith}
-use Rattle.std.specs.Prelude.{Option, is_some}
+use Rattle.std.proofs.Common.{◌≡◌, ℕ, ◌+◌, List, length, sym, ap, ◌∙◌, subst, arith}
+use Rattle.std.specs.Prelude.{Option, Result, Ok, Err}
 use Rattle.std.proofs.lemmas.List.{length-append}
-use Rattle.rt_ids.specs.Work.{number_if}
 use Rattle.rt_journal_desk.specs.Ends.{IsOutOf}
-use Rattle.rt_journal_notes.specs.Journals.{passed_all}
+use Rattle.rt_journal_notes.specs.Journals.{JournalView, passed_all}
 use Rattle.rt_journal.specs.Ends.{IsInOf}
 use Rattle.rt_journal.specs.Recorded.{IsRecorded, RecordedView, desk_of}
 use Rattle.rt_link.specs.Fits.{Fits}
@@ -12,10 +11,11 @@ use Rattle.rt_link.specs.declared.ends.Inward.{Inward}
 use Rattle.rt_link.specs.declared.ends.Outward.{Outward}
 use Rattle.rt_ring_mesh.specs.Ends.{EndsView}
 use Rattle.rt_runtime_worker.specs.Linked.{AreBeside}
-use Rattle.rt_hosted_parts.specs.Parts.{IsPart}
+use Rattle.rt_hosted_parts.specs.declared.part.PassError.{PassError}
+use Rattle.rt_hosted_parts.specs.Parts.{IsPart, PassesPart}
 use Rattle.rt_hosted.specs.declared.job.HostJob.{HostJob}
 use Rattle.rt_hosted.specs.declared.turns.Run.{Run}
-use Rattle.rt_hosted.specs.Hosted.{HasRoom, IsHosted, IsRunOf, kept_free}
+use Rattle.rt_hosted.specs.Hosted.{HasRoom, IsHosted, IsRunOf}
 use Rattle.rt_hosted.specs.Jobs.{host_meaning}
 
 abbrev View : Type 0
@@ -72,7 +72,7 @@ room_again actor text view part room =
     omega (arith, longer, room)
 
 -- a core that hands on its notes is hosted as before
-pub forgotten_hosted : (actor : ℕ) (text : List ℕ) (old new : View) (ends : EndsView HostJob ℕ) → new ≡ forgotten old → IsRecorded host_meaning new → IsPart actor old.journal text →
+forgotten_hosted : (actor : ℕ) (text : List ℕ) (old new : View) (ends : EndsView HostJob ℕ) → new ≡ forgotten old → IsRecorded host_meaning new → IsPart actor old.journal text →
     IsHosted (record { recorded = old; ends = ends }) → IsHosted (record { recorded = new; ends = ends })
 forgotten_hosted actor text old new ends is sound part hosted = record {
   recorded = sound;
@@ -80,11 +80,17 @@ forgotten_hosted actor text old new ends is sound part hosted = record {
   room = subst (λ (view : View). HasRoom 0 view) (sym is) (room_again actor text old part hosted.room);
 }
 
-pub forgotten_runs : (old new : View) (run : Option Run) → new ≡ forgotten old → IsRunOf old.core.out run → IsRunOf new.core.out run
-forgotten_runs old new run is runs = subst (λ (view : View). IsRunOf view.core.out run) (sym is) runs
+-- whatever came of it, the core is hosted as before
+pub handed_hosted : (actor : ℕ) (before after : List ℕ) (answer : Result ℕ PassError) (old new : View) (ends : EndsView HostJob ℕ) → PassesPart actor old.journal before answer after new.journal → new ≡ record old { journal = new.journal } →
+    IsRecorded host_meaning new → IsHosted (record { recorded = old; ends = ends }) → IsHosted (record { recorded = new; ends = ends })
+handed_hosted actor before after (Ok count) old new ends passes rest sound hosted =
+    let copies = passes.0 in
+    forgotten_hosted actor copies.0 old new ends (rest ∙ ap (λ (journal : JournalView ℕ). record old { journal = journal }) passes.1) sound copies.1 hosted
+handed_hosted actor before after (Err error) old new ends passes rest sound hosted =
+    subst (λ (view : View). IsHosted (record { recorded = view; ends = ends })) (sym (rest ∙ ap (λ (journal : JournalView ℕ). record old { journal = journal }) passes.1)) hosted
 
-pub forgotten_cores : (old new : View) → new ≡ forgotten old → old.core.cores ≡ new.core.cores
-forgotten_cores old new is = ap (λ (view : View). view.core.cores) (sym is)
+pub handed_runs : (old new : View) (run : Option Run) → new ≡ record old { journal = new.journal } → IsRunOf old.core.out run → IsRunOf new.core.out run
+handed_runs old new run rest runs = subst (λ out. IsRunOf out run) (sym (ap (λ (view : View). view.core.out) rest)) runs
 
-pub forgotten_rest : (old new : View) → new ≡ forgotten old → new ≡ record old { journal = new.journal }
-forgotten_rest old new is = is ∙ ap (λ (view : View). record old { journal = view.journal }) (sym is)
+pub handed_cores : (old new : View) → new ≡ record old { journal = new.journal } → old.core.cores ≡ new.core.cores
+handed_cores old new rest = ap (λ (view : View). view.core.cores) (sym rest)

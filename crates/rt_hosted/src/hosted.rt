@@ -16,13 +16,13 @@ use crate::answers::{Picked, Refusal};
 use crate::job::HostJob;
 use crate::lent::{collect_on, deliver_on, shut_on};
 use crate::outs::{detach_on, redeem_on, submit_on};
-use crate::passing::forget;
+use crate::passing::hand_on;
 use crate::told::host_order;
 use crate::turns::{Run, go_on, settle_on};
 use crate::word::poll_told;
 use arrayvec::ArrayVec;
 use rt_core::Settled;
-use rt_hosted_parts::{PassError, copy_kept};
+use rt_hosted_parts::PassError;
 use rt_ids::{ActorNo, CoreNo, CoreStats, Mode, Order, Outcome, QueueStats, Ticket};
 use rt_jobs::Step;
 use rt_journal::{Recorded, RunningJournal, told_stats};
@@ -337,9 +337,8 @@ impl Hosted {
         ensures hands { HandsOn self.old bytes.old result bytes.new self.new }
         ensures hosted { IsHosted self.new }
     {
-        let count = copy_kept(alloc, self.ends.number, self.recorded.journal(), bytes)?;
-        forget(&mut self.recorded, &mut self.passed);
-        Ok(count)
+        let number = self.ends.number;
+        hand_on(alloc, number, &mut self.recorded, &mut self.passed, bytes)
     }
 
     /// Whether a note was passed on.

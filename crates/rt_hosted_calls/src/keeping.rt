@@ -116,6 +116,16 @@ impl House {
         }
     }
 
+    /// Looks whether notes of this seat were passed on.
+    fn look_at(&mut self, seat: &Member)
+        ensures parted { IsTrue self.new.parted ↔ (IsTrue self.old.parted ⊎ HasPassed seat.now) }
+        ensures rest { self.new ≡ record self.old { parted = self.new.parted } }
+    {
+        if has_passed(seat) {
+            self.parted = true;
+        }
+    }
+
     /// Takes the journal of a seat in, which is gone from then on.
     ///
     /// # Errors
@@ -132,9 +142,7 @@ impl House {
         if self.journals.reserve(1).is_err() {
             return Err((Code::NoMemory, seat));
         }
-        if has_passed(&seat) {
-            self.parted = true;
-        }
+        self.look_at(&seat);
         self.journals
             .push_reserved(journal_of(Box::into_inner(seat)));
         Ok(())

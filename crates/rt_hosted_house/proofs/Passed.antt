@@ -1,10 +1,13 @@
 -- What it changes of the outside actor to hand on notes: nothing but what is kept, and how many notes there may be.
-use Rattle.std.proofs.Common.{◌≡◌, ℕ, sym, ap, subst}
+use Rattle.std.proofs.Common.{◌≡◌, ℕ, List, sym, ap, ◌∙◌, subst}
+use Rattle.std.specs.Prelude.{Result, Ok, Err}
 use Rattle.rt_journal_desk.specs.Ends.{IsOutOf}
 use Rattle.rt_journal_desk.specs.Submissions.{DeskView}
-use Rattle.rt_journal_notes.specs.Journals.{passed_all}
+use Rattle.rt_journal_notes.specs.Journals.{JournalView, passed_all}
 use Rattle.rt_link.specs.declared.ends.Outward.{Outward}
 use Rattle.rt_ring_mesh.specs.Ends.{EndsView}
+use Rattle.rt_hosted_parts.specs.declared.part.PassError.{PassError}
+use Rattle.rt_hosted_parts.specs.Parts.{PassesPart}
 use Rattle.rt_hosted.specs.declared.job.HostJob.{HostJob}
 use Rattle.rt_hosted_house.specs.Outside.{SendsFrom}
 
@@ -35,8 +38,13 @@ sends_again desk ends are = record {
   lanes = λ core end there. let had = are.lanes core end there in record { lane = had.lane; is = had.is; lane_of = had.lane_of };
 }
 
-pub forgotten_sends : (old new : Desk) (ends : EndsView HostJob ℕ) → new ≡ forgotten old → SendsFrom (record { desk = old; ends = ends }) → SendsFrom (record { desk = new; ends = ends })
-forgotten_sends old new ends is sends = subst (λ desk. SendsFrom (record { desk = desk; ends = ends })) (sym is) (sends_again old ends sends)
+-- whatever came of it, the desk is beside its ends as before
+pub handed_sends : (actor : ℕ) (before after : List ℕ) (answer : Result ℕ PassError) (old new : Desk) (ends : EndsView HostJob ℕ) → PassesPart actor old.journal before answer after new.journal → new ≡ record old { journal = new.journal } →
+    SendsFrom (record { desk = old; ends = ends }) → SendsFrom (record { desk = new; ends = ends })
+handed_sends actor before after (Ok count) old new ends passes rest sends =
+    subst (λ (desk : Desk). SendsFrom (record { desk = desk; ends = ends })) (sym (rest ∙ ap (λ (journal : JournalView ℕ). record old { journal = journal }) passes.1)) (sends_again old ends sends)
+handed_sends actor before after (Err error) old new ends passes rest sends =
+    subst (λ (desk : Desk). SendsFrom (record { desk = desk; ends = ends })) (sym (rest ∙ ap (λ (journal : JournalView ℕ). record old { journal = journal }) passes.1)) sends
 
-pub forgotten_cores : (old new : Desk) → new ≡ forgotten old → old.cores ≡ new.cores
-forgotten_cores old new is = ap (λ (desk : Desk). desk.cores) (sym is)
+pub handed_cores : (old new : Desk) → new ≡ record old { journal = new.journal } → old.cores ≡ new.cores
+handed_cores old new rest = ap (λ (desk : Desk). desk.cores) (sym rest)

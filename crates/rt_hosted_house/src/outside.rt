@@ -7,11 +7,11 @@ ghost use Rattle.rt_hosted.specs.Submissions.{order_of_host};
 ghost use Rattle.rt_hosted_house.specs.Outside.{Collects, Detaches, HasRoom, Posts, Redeems, StaysOutside};
 ghost use Rattle.rt_hosted_house.specs.Passing.{HandsOn};
 
-use crate::passing::forget;
+use crate::passing::hand_on;
 use crate::sent::{collect_on, detach_on, redeem_on, submit_on};
 use rt_hosted::told::host_order;
 use rt_hosted::{HostJob, Refusal};
-use rt_hosted_parts::{PassError, copy_kept};
+use rt_hosted_parts::PassError;
 use rt_ids::{ActorNo, CoreNo, Order, Outcome, Ticket};
 use rt_journal_desk::RecordedDesk;
 use rt_journal_notes::RunningJournal;
@@ -160,9 +160,8 @@ impl Outside {
     pub fn pass_on(&mut self, alloc: Global, bytes: &mut [u8]) -> Result<u64, PassError>
         ensures { HandsOn self.old bytes.old result bytes.new self.new }
     {
-        let count = copy_kept(alloc, ActorNo(self.cores), self.desk.journal(), bytes)?;
-        forget(&mut self.desk, &mut self.passed);
-        Ok(count)
+        let number = ActorNo(self.cores);
+        hand_on(alloc, number, &mut self.desk, &mut self.passed, bytes)
     }
 
     /// Whether a note was passed on.
