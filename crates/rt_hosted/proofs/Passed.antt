@@ -15,11 +15,18 @@ use Rattle.rt_hosted_parts.specs.declared.part.PassError.{PassError}
 use Rattle.rt_hosted_parts.specs.Parts.{IsPart, PassesPart}
 use Rattle.rt_hosted.specs.declared.job.HostJob.{HostJob}
 use Rattle.rt_hosted.specs.declared.turns.Run.{Run}
-use Rattle.rt_hosted.specs.Hosted.{HasRoom, IsHosted, IsRunOf}
+use Rattle.rt_hosted.specs.Hosted.{HasRoom, HostedView, IsHosted, IsRunOf}
 use Rattle.rt_hosted.specs.Jobs.{host_meaning}
 
 abbrev View : Type 0
 View = RecordedView HostJob ℕ
+
+abbrev pub the_hosted : View → EndsView HostJob ℕ → HostedView
+the_hosted view ends = record { recorded = view; ends = ends }
+
+-- the core with these ends is the same but for its journal
+abbrev pub HandedView : View → View → EndsView HostJob ℕ → Type 0
+HandedView old new ends = the_hosted new ends ≡ the_hosted (record old { journal = new.journal }) ends
 
 -- the same core, whose journal passed all notes on
 abbrev pub forgotten : View → View
@@ -94,3 +101,7 @@ handed_runs old new run rest runs = subst (λ out. IsRunOf out run) (sym (ap (λ
 
 pub handed_cores : (old new : View) → new ≡ record old { journal = new.journal } → old.core.cores ≡ new.core.cores
 handed_cores old new rest = ap (λ (view : View). view.core.cores) (sym rest)
+
+-- nothing but the core's journal changed
+pub handed_view : (old new : View) (ends : EndsView HostJob ℕ) → new ≡ record old { journal = new.journal } → HandedView old new ends
+handed_view old new ends rest = ap (λ (view : View). record { recorded = view; ends = ends }) rest

@@ -91,6 +91,13 @@ impl Hosted {
         CoreNo(self.ends.number.0)
     }
 
+    /// The number of the core, as that of an actor.
+    fn actor(&self) -> ActorNo
+        ensures { result ≡ self.now.recorded.core.core }
+    {
+        self.ends.number
+    }
+
     /// Whether there is room for so many notes, beside the one that settles the job that is out.
     fn has_room(&self, count: u16) -> bool
         ensures { IsTrue result ↔ HasRoom count self.now.recorded }
@@ -337,7 +344,7 @@ impl Hosted {
         ensures hands { HandsOn self.old bytes.old result bytes.new self.new }
         ensures hosted { IsHosted self.new }
     {
-        let number = self.ends.number;
+        let number = self.actor();
         hand_on(alloc, number, &mut self.recorded, &mut self.passed, bytes)
     }
 

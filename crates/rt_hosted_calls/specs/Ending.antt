@@ -1,6 +1,7 @@
 -- How the seats of a house end, and hand their journals in.
 use Rattle.std.specs.Prelude.{◌≡◌, ◌≢◌, ◌⊎◌, ◌↔◌, ℕ, ◌+◌, IsTrue, [], ◌∷◌, ◌++◌, length, map}
 use Rattle.rt_ids.specs.Assembly.{Assembly}
+use Rattle.rt_hosted_audit.specs.Ended.{EndedView, ended_of}
 use Rattle.rt_journal_notes.specs.Journals.{JournalView}
 use Rattle.rt_hosted_calls.specs.declared.code.Code.{Code}
 use Rattle.rt_hosted_calls.specs.declared.code.Code.TheVariants as code
@@ -56,18 +57,20 @@ TakesIn old seat new =
     (journal : JournalView ℕ) × IsJournalOf seat journal × (IsTrue new.parted ↔ (IsTrue old.parted ⊎ HasPassed seat))
     × (new ≡ record old { journals = old.journals ++ journal ∷ []; parted = new.parted })
 
--- all were handed in, and make an assembly
-abbrev pub IsWhole : KeptView → Assembly ℕ → Type 0
-IsWhole house assembly =
-    (length house.journals ≡ house.cores + 1)
-    × (assembly ≡ record { cores = house.cores; cap = house.cap; burst = house.burst; journals = map (λ journal. journal.notes) house.journals })
+-- the journals of the house make an assembly
+abbrev pub assembly_of : KeptView → Assembly ℕ
+assembly_of house = record { cores = house.cores; cap = house.cap; burst = house.burst; journals = map (λ journal. journal.notes) house.journals }
+
+-- all were handed in, and are what the house left behind; it is known whether notes of them were passed on
+abbrev pub IsWhole : KeptView → EndedView → Type 0
+IsWhole house ended = (length house.journals ≡ house.cores + 1) × (ended ≡ ended_of (assembly_of house) house.parted)
 
 -- a house stays one until all journals are in
 abbrev pub Becomes : KeptView → Member → Type 0
 Becomes house (member.House new) = (new ≡ house) × (length house.journals ≢ house.cores + 1)
 Becomes house (member.Core new) = ⊥
 Becomes house (member.Outside new) = ⊥
-Becomes house (member.Ended new) = IsWhole house new.assembly × (new.parted ≡ house.parted)
+Becomes house (member.Ended new) = IsWhole house new
 
 -- a seat ends, and hands its journal to the house
 abbrev pub EndsSeat : Member → Member → Member → Type 0

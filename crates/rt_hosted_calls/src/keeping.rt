@@ -11,6 +11,7 @@ use crate::house::{CONFIG_SIZE, Config, House};
 use crate::links::drained;
 use crate::member::Member;
 use rt_hosted::Hosted;
+use rt_hosted_audit::Ended;
 use rt_hosted_house::{OpenError, Outside, open_house};
 use rt_journal_notes::{Assembly, Journal};
 use std::alloc::Global;
@@ -149,16 +150,16 @@ impl House {
     }
 
     /// Gives the journals up, if all were handed in.
-    pub(crate) fn whole(&mut self, alloc: Global) -> Option<Assembly>
-        ensures whole { IfSome result (λ assembly. IsWhole self.old assembly) }
-        ensures parted { self.new.parted ≡ self.old.parted }
+    pub(crate) fn whole(&mut self, alloc: Global) -> Option<Ended>
+        ensures whole { IfSome result (λ ended. IsWhole self.old ended) }
         ensures missing { result ≡ None → (self.new ≡ self.old) × (length self.old.journals ≢ self.old.cores + 1) }
     {
         if self.journals.len() != usize::from(self.cores) + 1 {
             return None;
         }
         let journals = std::mem::replace(&mut self.journals, Vec::new(alloc));
-        Some(Assembly::of_burst(self.cores, self.cap, self.burst, journals))
+        let assembly = Assembly::of_burst(self.cores, self.cap, self.burst, journals);
+        Some(Ended::of(assembly, self.parted))
     }
 }
 

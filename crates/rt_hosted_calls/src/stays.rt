@@ -2,7 +2,6 @@
 
 ghost use Rattle.std.specs.Prelude.{◌≡◌, ◌↔◌, None, IfErr, IfOk, IfSome, IsTrue};
 ghost use Rattle.rt_hosted_calls.specs.declared.member.Member.TheVariants.{Ended as ItsEnded};
-ghost use Rattle.rt_hosted_audit.specs.Ended.{ended_of};
 ghost use Rattle.rt_hosted_calls.specs.Ending.{EndsNoSeat, EndsSeat};
 ghost use Rattle.rt_hosted_calls.specs.Houses.{TakesNoSeat, TakesSeat};
 ghost use Rattle.rt_hosted_calls.specs.Members.{IsHouse};
@@ -10,7 +9,6 @@ ghost use Rattle.rt_hosted_calls.specs.Members.{IsHouse};
 use crate::code::Code;
 use crate::member::Member;
 use rt_hosted_audit::Ended;
-use rt_journal_notes::Assembly;
 use std::alloc::Global;
 
 impl Member {
@@ -53,8 +51,7 @@ impl Member {
             Member::House(house) => {
                 house.take_in(seat)?;
                 let whole = house.whole(alloc);
-                let parted = house.parted;
-                self.become_ended(whole, parted);
+                self.become_ended(whole);
                 Ok(())
             }
             _ => Err((Code::Empty, seat)),
@@ -62,12 +59,12 @@ impl Member {
     }
 
     /// Becomes these journals, if there are any.
-    fn become_ended(&mut self, whole: Option<Assembly>, parted: bool)
-        ensures ended { IfSome whole (λ assembly. self.new ≡ ItsEnded (ended_of assembly parted)) }
+    fn become_ended(&mut self, whole: Option<Ended>)
+        ensures ended { IfSome whole (λ ended. self.new ≡ ItsEnded ended) }
         ensures same { whole ≡ None → self.new ≡ self.old }
     {
-        if let Some(assembly) = whole {
-            self.put(Ended::of(assembly, parted));
+        if let Some(ended) = whole {
+            self.put(ended);
         }
     }
 

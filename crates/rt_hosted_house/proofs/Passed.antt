@@ -9,10 +9,17 @@ use Rattle.rt_ring_mesh.specs.Ends.{EndsView}
 use Rattle.rt_hosted_parts.specs.declared.part.PassError.{PassError}
 use Rattle.rt_hosted_parts.specs.Parts.{PassesPart}
 use Rattle.rt_hosted.specs.declared.job.HostJob.{HostJob}
-use Rattle.rt_hosted_house.specs.Outside.{SendsFrom}
+use Rattle.rt_hosted_house.specs.Outside.{CallerView, SendsFrom}
 
 abbrev Desk : Type 0
 Desk = DeskView HostJob ℕ
+
+abbrev pub the_caller : Desk → EndsView HostJob ℕ → CallerView
+the_caller desk ends = record { desk = desk; ends = ends }
+
+-- the actor with these ends is the same but for its journal
+abbrev pub HandedView : Desk → Desk → EndsView HostJob ℕ → Type 0
+HandedView old new ends = the_caller new ends ≡ the_caller (record old { journal = new.journal }) ends
 
 -- the same desk, whose journal passed all notes on
 abbrev pub forgotten : Desk → Desk
@@ -48,3 +55,7 @@ handed_sends actor before after (Err error) old new ends passes rest sends =
 
 pub handed_cores : (old new : Desk) → new ≡ record old { journal = new.journal } → old.cores ≡ new.cores
 handed_cores old new rest = ap (λ (desk : Desk). desk.cores) (sym rest)
+
+-- nothing but the journal changed
+pub handed_view : (old new : Desk) (ends : EndsView HostJob ℕ) → new ≡ record old { journal = new.journal } → HandedView old new ends
+handed_view old new ends rest = ap (λ (desk : Desk). record { desk = desk; ends = ends }) rest

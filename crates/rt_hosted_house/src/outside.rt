@@ -66,6 +66,13 @@ impl Outside {
         })
     }
 
+    /// The number of this actor, which is the count of the cores.
+    fn number(&self) -> ActorNo
+        ensures { result ≡ self.now.desk.cores }
+    {
+        ActorNo(self.cores)
+    }
+
     /// Whether there is room for so many notes.
     fn has_room(&self, count: u16) -> bool
         ensures { IsTrue result ↔ HasRoom count self.now }
@@ -160,7 +167,7 @@ impl Outside {
     pub fn pass_on(&mut self, alloc: Global, bytes: &mut [u8]) -> Result<u64, PassError>
         ensures { HandsOn self.old bytes.old result bytes.new self.new }
     {
-        let number = ActorNo(self.cores);
+        let number = self.number();
         hand_on(alloc, number, &mut self.desk, &mut self.passed, bytes)
     }
 

@@ -11,6 +11,6 @@ returns-in_ok-take_in-in-House-clause-ok c =
       (
         c.take_in.new.self,
         told.1,
-        becomes c.take_in.new.self c.whole-whole.new.self c.become_ended.new.self c.whole-whole.result c.whole-whole.new.self.parted c.whole-whole.ensures.parted c.whole-whole.ensures.whole c.whole-whole.ensures.missing c.become_ended.ensures.ended c.become_ended.ensures.same,
+        becomes c.take_in.new.self c.whole-whole.new.self c.become_ended.new.self c.whole-whole.result c.whole-whole.ensures.whole c.whole-whole.ensures.missing c.become_ended.ensures.ended c.become_ended.ensures.same,
       ),
     )
