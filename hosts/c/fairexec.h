@@ -18,15 +18,16 @@
  *
  * Each function but fx_version and fx_text answers an fx_code. Where more than one code could be answered, the one that its comment
  * names first is. A call that answers FX_IDLE or a code above it, except FX_PARKED, changes nothing but the count for FX_SPENT, and writes
- * nothing to what its pointers point to.
+ * nothing to what its pointers point to, except the wanted count behind FX_SHORT.
  *
  * Threads: at most one call at a time runs on a handle. A handle may go to another thread between two calls. Between them stands a lock, the
  * start or the join of a thread, or a sequentially consistent atomic. Calls on different handles need no order, those on the seats of one
  * house neither. No call blocks, calls the host back, or knows a clock. No call may be made from a signal handler.
  *
  * Memory: of the calls on one core fx_open and fx_create alone ask for memory, by malloc, and fx_free gives it back, by free. Of those on a
- * house fx_house_open, fx_house_take, fx_house_audit and fx_house_text do, and fx_seat_deliver where an order makes a queue; fx_house_end,
- * fx_house_free and fx_seat_free give it back. The library is for x86-64-v2.
+ * house fx_house_open, fx_house_take, fx_house_audit and fx_house_text do, fx_seat_deliver where an order makes a queue, and fx_seat_pass_on,
+ * which gives it back before it answers; fx_house_end, fx_house_free and fx_seat_free give back what the others took. The library is for
+ * x86-64-v2.
  *
  * C99 and C++11. docs/EMBEDDING.md tells how to build and link, and what is promised.
  */
@@ -82,7 +83,9 @@ enum fx_code {
     FX_OPEN = 26,         /* the core isn't closed */
     FX_SHUT = 27,         /* the gate was shut before */
     FX_NOT_DRAINED = 28,  /* the core isn't drained, or a job of it runs, or a turn of it is open */
-    FX_MIXED = 29         /* the journals can't be those of one house, and have no text */
+    FX_MIXED = 29,        /* the journals can't be those of one house, and have no text */
+    FX_SHORT = 30,        /* the text has more bytes than there is room for */
+    FX_PASSED_ON = 31     /* notes were passed on: the house can't judge journals that lack them */
 };
 
 /* What the run of a job came to. */
@@ -349,14 +352,17 @@ uint32_t fx_house_take(fx_house *house, fx_seat *seat, uint32_t *actor) FX_NOT_N
 uint32_t fx_house_end(fx_house *house, fx_seat *seat) FX_NOT_NULL;
 
 /*
- * Audits the journals, once all are handed in.
- * FX_EMPTY; FX_BAD_NUMBER: size; FX_PENDING; FX_NO_MEMORY; FX_OK.
+ * Audits the journals, once all are handed in. An audit needs all notes of all actors: if fx_seat_pass_on handed notes on, the house doesn't
+ * have them, and nothing is judged. The command `fairexec audit` judges the joined text then.
+ * FX_EMPTY; FX_BAD_NUMBER: size; FX_PENDING; FX_PASSED_ON; FX_NO_MEMORY; FX_OK.
  */
 uint32_t fx_house_audit(fx_house *house, fx_verdict *verdict) FX_NOT_NULL;
 
 /*
  * Writes the text of the journals to `bytes`, which has room for `room`, from the byte `from` on, and to `count` how many bytes were written:
  * fewer than `room` at the end of the text. It is of form 2 if the burst is above 1, else of form 1. The house makes the text at the first call.
+ * It has the notes that the journals kept: two lines before the notes of core 0, those of each actor by its number, and the line `end`. If each
+ * seat passed its notes on just before it ended, the text is those three lines alone.
  * FX_EMPTY; FX_PENDING; FX_MIXED; FX_NO_MEMORY; FX_OK.
  */
 uint32_t fx_house_text(fx_house *house, uint64_t from, uint8_t *bytes, size_t room, uint64_t *count) FX_NOT_NULL;
@@ -433,6 +439,18 @@ uint32_t fx_seat_redeem(fx_seat *seat, const fx_name *name, fx_outcome *outcome)
 uint32_t fx_seat_detach(fx_seat *seat, const fx_name *name) FX_NOT_NULL;
 
 /*
+ * Hands on the notes that the journal of the actor keeps: their text goes to `bytes`, which has room for `room`, and `count` tells how many bytes
+ * it has. The journal keeps none of them from then on, and all its notes are free. The host may do so at any time, also while it runs a job of the
+ * core; a host whose house runs on does so before a call is told FX_JOURNAL_FULL, or behind that. Each line has at most 128 bytes.
+ * The text is the next part of this journal, as fx_house_text has it. All parts of an actor in their order are its notes. The first two lines of
+ * fx_house_text, the parts of core 0, those of each further actor by its number, each with what fx_house_text has of that actor behind them, and
+ * the line `end` are the text of the whole journals, which `fairexec audit` judges.
+ * Behind FX_SHORT `count` tells how many bytes are wanted, and nothing else changed.
+ * FX_EMPTY; FX_NO_MEMORY; FX_SHORT; FX_OK.
+ */
+uint32_t fx_seat_pass_on(fx_seat *seat, uint8_t *bytes, size_t room, uint64_t *count) FX_NOT_NULL;
+
+/*
  * Closes the core by itself, by an fx_mode. A core that finishes may be closed once more, with FX_MODE_RETURN.
  * FX_EMPTY: no core; FX_BAD_NUMBER: mode; FX_JOURNAL_FULL; FX_CLOSED: so, or more strictly, before; FX_OK.
  */
@@ -498,6 +516,8 @@ static inline const char *fx_text(uint32_t code) {
     case FX_SHUT: return "the gate was shut before";
     case FX_NOT_DRAINED: return "the core isn't drained";
     case FX_MIXED: return "the journals can't be those of one house";
+    case FX_SHORT: return "there is too little room for the text";
+    case FX_PASSED_ON: return "notes were passed on";
     default: return "no code of this library";
     }
 }

@@ -3,12 +3,14 @@
 #define FAIREXEC_ACTOR_HPP
 
 #include "fairexec.hpp"
+#include <algorithm>
 #include <atomic>
 #include <condition_variable>
 #include <functional>
 #include <list>
 #include <memory>
 #include <mutex>
+#include <string>
 
 namespace fairexec::linked {
 
@@ -128,14 +130,31 @@ template <class Job> class actor {
     // Jobs for whose outcome nobody asks. They are redeemed once they are collected, since a job that comes back has a place.
     std::vector<ticket> loose;
     std::list<waiting> waits;
+    // Whether outcomes were collected for which nobody asked yet.
+    bool are_new = false;
+    // Who takes the notes if the journal is full, and where their text stands meanwhile.
+    std::function<void(const std::string &)> keeper;
+    std::string notes;
 
-    // Wakes the jobs whose outcomes have come. A wake that the link doesn't take waits for the next time.
-    void wake_waiting(bool are_new) {
+    // Asks for all outcomes that may have come. What a full journal refuses is asked for the next time.
+    void ask() {
+        if (!std::exchange(are_new, false)) return;
+        for (std::size_t each = 0; each < loose.size();) {
+            fx_code code = redeem(loose[each]).first;
+            are_new = are_new || code == FX_JOURNAL_FULL;
+            if (code == FX_PENDING || code == FX_JOURNAL_FULL) each++;
+            else loose[each] = loose.back(), loose.pop_back();
+        }
         for (auto &each : waits) {
-            if (!each.told && are_new) {
-                auto told = redeem(each.of);
-                if (told.first != FX_PENDING && told.first != FX_JOURNAL_FULL) each.told.emplace(std::move(told));
-            }
+            if (each.told) continue;
+            auto told = redeem(each.of);
+            are_new = are_new || told.first == FX_JOURNAL_FULL;
+            if (told.first != FX_PENDING && told.first != FX_JOURNAL_FULL) each.told.emplace(std::move(told));
+        }
+    }
+    // Wakes the jobs whose outcomes have come. A wake that the link doesn't take waits for the next time.
+    void wake_waiting() {
+        for (auto &each : waits) {
             if (!each.told || each.is_woken) continue;
             auto sent = wake(each.job);
             each.is_woken = sent.code == FX_OK;
@@ -143,7 +162,22 @@ template <class Job> class actor {
         }
     }
 
+    // Hands the notes to whoever takes them. Whether anybody did.
+    bool hand_on() {
+        if (!keeper) return false;
+        notes.clear();
+        if (pass_on(notes) != FX_OK) return false;
+        keeper(notes);
+        return true;
+    }
+
 protected:
+    // Makes a call, and makes it again if the journal is full and somebody takes its notes.
+    template <class Call> uint32_t called(Call call) {
+        uint32_t code = call();
+        return code == FX_JOURNAL_FULL && hand_on() ? call() : code;
+    }
+
     fx_seat seat = FX_NO_SEAT;
     uint32_t own = 0;
     std::shared_ptr<lanes<Job>> shared;
@@ -160,7 +194,10 @@ public:
         if (code == FX_NO_MEMORY) throw std::bad_alloc();
         if (code != FX_OK) throw error(code);
     }
-    actor(actor &&other) noexcept : loose(std::move(other.loose)), waits(std::move(other.waits)), own(other.own), shared(std::move(other.shared)) { std::swap(seat, other.seat); }
+    actor(actor &&other) noexcept
+        : loose(std::move(other.loose)), waits(std::move(other.waits)), are_new(other.are_new), keeper(std::move(other.keeper)), own(other.own), shared(std::move(other.shared)) {
+        std::swap(seat, other.seat);
+    }
     actor(const actor &) = delete;
     actor &operator=(actor &&) = delete;
     ~actor() { fx_seat_free(&seat); }
@@ -172,7 +209,7 @@ public:
         std::optional<uint32_t> place = shared->put(own, to, job);
         if (!place) return {FX_FULL, std::nullopt, std::move(job)};
         fx_name name;
-        uint32_t code = fx_seat_submit(&seat, to, queue, *place, &name);
+        uint32_t code = called([&] { return fx_seat_submit(&seat, to, queue, *place, &name); });
         if (code != FX_OK) return {static_cast<fx_code>(code), std::nullopt, shared->take(own, to, *place, true)};
         shared->ring(to);
         return {FX_OK, ticket{name, true}, std::nullopt};
@@ -180,23 +217,23 @@ public:
     // Orders that are no jobs: each is answered with an fx_answer.
     submitted<Job> create(uint32_t to, uint32_t shares) {
         fx_name name{};
-        return ordered(fx_seat_create(&seat, to, shares, &name), name);
+        return ordered(called([&] { return fx_seat_create(&seat, to, shares, &name); }), name);
     }
     submitted<Job> set_shares(uint32_t to, uint32_t queue, uint32_t shares) {
         fx_name name{};
-        return ordered(fx_seat_set_shares(&seat, to, queue, shares, &name), name);
+        return ordered(called([&] { return fx_seat_set_shares(&seat, to, queue, shares, &name); }), name);
     }
     submitted<Job> close_queue(uint32_t to, uint32_t queue, mode mode) {
         fx_name name{};
-        return ordered(fx_seat_close_queue(&seat, to, queue, static_cast<uint32_t>(mode), &name), name);
+        return ordered(called([&] { return fx_seat_close_queue(&seat, to, queue, static_cast<uint32_t>(mode), &name); }), name);
     }
     submitted<Job> close_core(uint32_t to, mode mode) {
         fx_name name{};
-        return ordered(fx_seat_close_core(&seat, to, static_cast<uint32_t>(mode), &name), name);
+        return ordered(called([&] { return fx_seat_close_core(&seat, to, static_cast<uint32_t>(mode), &name); }), name);
     }
     submitted<Job> wake(const fx_name &job) {
         fx_name name{};
-        return ordered(fx_seat_wake(&seat, &job, &name), name);
+        return ordered(called([&] { return fx_seat_wake(&seat, &job, &name); }), name);
     }
 
     // Collects what all links show, and writes how many outcomes there were.
@@ -204,16 +241,13 @@ public:
         count = 0;
         for (uint32_t core = 0; core < shared->cores(); core++) {
             uint64_t some = 0;
-            uint32_t code = fx_seat_collect(&seat, core, &some);
+            uint32_t code = called([&] { return fx_seat_collect(&seat, core, &some); });
             if (code != FX_OK) return static_cast<fx_code>(code);
+            are_new = are_new || some > 0;
             count += some;
         }
-        for (std::size_t each = 0; count > 0 && each < loose.size();) {
-            fx_code code = redeem(loose[each]).first;
-            if (code == FX_PENDING || code == FX_JOURNAL_FULL) each++;
-            else loose[each] = loose.back(), loose.pop_back();
-        }
-        wake_waiting(count > 0);
+        ask();
+        wake_waiting();
         return FX_OK;
     }
     // The outcome of a submission wakes this job of the own core, and is kept for it.
@@ -232,7 +266,7 @@ public:
     std::pair<fx_code, std::optional<outcome<Job>>> redeem(const ticket &of) {
         fx_outcome told{};
         told.size = sizeof told;
-        uint32_t code = fx_seat_redeem(&seat, &of.name, &told);
+        uint32_t code = called([&] { return fx_seat_redeem(&seat, &of.name, &told); });
         if (code != FX_OK) return {static_cast<fx_code>(code), std::nullopt};
         outcome<Job> is{static_cast<fx_kind>(told.kind), told.why, told.queue, told.answer, std::nullopt};
         if (told.kind == FX_KIND_BACK) is.back.emplace(std::move(*shared->take(of.name.from, of.name.to, told.job, true)));
@@ -240,12 +274,30 @@ public:
     }
     // Nobody will ask for the outcome. A job that comes back is destroyed.
     fx_code detach(const ticket &of) {
-        if (!of.is_job) return static_cast<fx_code>(fx_seat_detach(&seat, &of.name));
+        if (!of.is_job) return static_cast<fx_code>(called([&] { return fx_seat_detach(&seat, &of.name); }));
         fx_code code = redeem(of).first;
         if (code != FX_PENDING) return code;
         loose.push_back(of);
         return FX_OK;
     }
+
+    // Puts the text of the notes that the journal keeps behind this text: FX_OK, or FX_NO_MEMORY. The journal keeps none of them then, and all its
+    // notes are free. All parts of an actor are its notes in the text of the journals. An exception of the string leaves all as it was.
+    fx_code pass_on(std::string &text) {
+        std::size_t had = text.size();
+        uint64_t count = 0;
+        uint32_t code;
+        text.resize(std::max(text.capacity(), had + 1));
+        while ((code = fx_seat_pass_on(&seat, reinterpret_cast<uint8_t *>(&text[had]), text.size() - had, &count)) == FX_SHORT) {
+            text.resize(had);
+            text.resize(had + static_cast<std::size_t>(count));
+        }
+        text.resize(code == FX_OK ? had + static_cast<std::size_t>(count) : had);
+        return static_cast<fx_code>(code);
+    }
+    // Whenever the journal is full from now on, the text of its notes goes to `takes`, and the call that needs room is made again. So
+    // FX_JOURNAL_FULL comes only if the journal has room for fewer notes than one call may need. What is kept at the end goes out by `pass_on`.
+    void keep_notes_by(std::function<void(const std::string &)> takes) { keeper = std::move(takes); }
 
     // A thread that sleeps by its own means, as by epoll, lets `calls` be called where there is something to do: it says so before the threads
     // of the house start. It asks may_sleep, sleeps if that says so, and then calls is_awake.

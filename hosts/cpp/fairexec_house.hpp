@@ -68,7 +68,7 @@ public:
     template <class Run> fx_code run_turn(Run &&run) {
         fx_turn turn{};
         turn.size = sizeof turn;
-        fx_code code = static_cast<fx_code>(fx_seat_next(&this->seat, &turn));
+        fx_code code = static_cast<fx_code>(this->called([&] { return fx_seat_next(&this->seat, &turn); }));
         if (code == FX_BACK) this->shared->ring(turn.name.from);
         if (code != FX_START && code != FX_RESUME) return code;
         {
@@ -83,13 +83,13 @@ public:
     fx_code deliver(bool &did) {
         for (uint32_t sender = this->shared->cores() + 1; sender-- > 0;) {
             if (sender == this->own && stats().held > 0) continue;
-            uint32_t code = fx_seat_shut(&this->seat, sender);
+            uint32_t code = this->called([&] { return fx_seat_shut(&this->seat, sender); });
             did = did || code == FX_OK;
             if (code == FX_OPEN) break;
             if (code == FX_JOURNAL_FULL) return FX_JOURNAL_FULL;
         }
         for (uint32_t sender = 0; sender <= this->shared->cores(); sender++) {
-            uint32_t code = fx_seat_deliver(&this->seat, sender);
+            uint32_t code = this->called([&] { return fx_seat_deliver(&this->seat, sender); });
             if (code == FX_JOURNAL_FULL) return FX_JOURNAL_FULL;
             did = did || code == FX_OK;
         }
@@ -127,7 +127,9 @@ public:
     fx_code round() { return round(call); }
     fx_code run() { return run(call); }
 
-    fx_code close(mode mode) noexcept { return static_cast<fx_code>(fx_seat_close(&this->seat, static_cast<uint32_t>(mode))); }
+    fx_code close(mode mode) {
+        return static_cast<fx_code>(this->called([&] { return fx_seat_close(&this->seat, static_cast<uint32_t>(mode)); }));
+    }
     bool is_drained() noexcept { return fx_seat_drained(&this->seat) == FX_OK; }
     fx_core_stats stats() noexcept {
         fx_core_stats stats{};
@@ -216,7 +218,8 @@ public:
         for (auto &each : cores) each.end(handle.at);
         return outside.end(handle.at);
     }
-    // After the end: the verdict over the journals of all actors, and their text.
+    // After the end: the verdict over the journals of all actors, and the text of the notes that they kept. If an actor passed notes on, the
+    // house can't judge, and audit throws `error` with FX_PASSED_ON.
     fx_verdict audit() {
         fx_verdict verdict{};
         verdict.size = sizeof verdict;

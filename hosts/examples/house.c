@@ -4,6 +4,11 @@
  * The main thread is the outside actor: it makes the queues, submits the jobs, asks for their outcomes, and closes the cores. At the end it
  * tells what each queue got and how long its jobs waited, and whether the journals of all actors are sound.
  *
+ * With the name of a folder, journals have room for few notes, as in a house that runs without end: each actor passes its notes on, to the file
+ * part0, part1 or part2 there. At the end the file rest has the first two lines of the journals, and the last one. `fairexec audit` judges them:
+ *
+ *   (head -n 2 rest; cat part0 part1 part2; tail -n 1 rest) > journal && fairexec audit journal
+ *
  *   gcc -std=c11 -O2 -Ihosts/c hosts/examples/house.c hosts/out/libfairexec.a -pthread
  */
 #define _POSIX_C_SOURCE 200809L
@@ -15,7 +20,7 @@
 #include <stdlib.h>
 #include <time.h>
 
-enum { CORES = 2, OUTSIDE = CORES, PLACES = 64, NOTES = 1 << 20, FOREGROUND = 0, BACKGROUND = 1, REQUESTS = 1000, WINDOW = 96, COMPACTIONS = 4 };
+enum { CORES = 2, OUTSIDE = CORES, PLACES = 64, NOTES = 1 << 20, FEW_NOTES = 1 << 12, LONGEST = 128, FOREGROUND = 0, BACKGROUND = 1, REQUESTS = 1000, WINDOW = 96, COMPACTIONS = 4 };
 
 typedef enum { REQUEST, SUM, COMPACT } kind;
 
@@ -53,6 +58,8 @@ static bell bells[CORES + 1] = {{PTHREAD_MUTEX_INITIALIZER, PTHREAD_COND_INITIAL
                                 {PTHREAD_MUTEX_INITIALIZER, PTHREAD_COND_INITIALIZER, false},
                                 {PTHREAD_MUTEX_INITIALIZER, PTHREAD_COND_INITIALIZER, false}};
 static atomic_bool stops;
+/* Where the notes of each actor go, if they go anywhere. */
+static FILE *parts[CORES + 1];
 
 static uint64_t read_clock(clockid_t clock) {
     struct timespec time;
@@ -84,6 +91,15 @@ static void sleep_until_rung(uint32_t actor) {
     while (!bells[actor].rung) pthread_cond_wait(&bells[actor].rings, &bells[actor].lock);
     bells[actor].rung = false;
     pthread_mutex_unlock(&bells[actor].lock);
+}
+
+/* The notes of an actor go to its file. A journal has room for FEW_NOTES notes, each of which is a line of LONGEST bytes at most. */
+static void pass_on(fx_seat *seat, uint32_t actor) {
+    static _Thread_local uint8_t bytes[FEW_NOTES * LONGEST];
+    uint64_t count;
+    if (parts[actor] == NULL) return;
+    must(fx_seat_pass_on(seat, bytes, sizeof bytes, &count), FX_OK, "pass on");
+    if (fwrite(bytes, 1, (size_t)count, parts[actor]) != count) must(FX_SHORT, FX_OK, "write");
 }
 
 static void work(job *it, uint32_t steps) {
@@ -175,8 +191,11 @@ static bool make_round(place *p) {
 /* A core's thread: rounds until the core is drained. It sleeps only if nothing happened, and no link shows anything. */
 static void *serve(void *given) {
     place *p = given;
-    while (fx_seat_drained(&p->seat) != FX_OK)
+    for (uint32_t round = 1; fx_seat_drained(&p->seat) != FX_OK; round++) {
+        /* A round takes below 400 notes: a turn, an order of each actor, and what the links hold, each collected, redeemed, woken and detached. */
+        if (round % 8 == 0) pass_on(&p->seat, p->number);
         if (!make_round(p) && fx_seat_shows(&p->seat) == FX_IDLE) sleep_until_rung(p->number);
+    }
     return NULL;
 }
 
@@ -228,6 +247,7 @@ static uint32_t drive(fx_seat *outside) {
             fx_outcome outcome = wait_for(outside, &names[number - WINDOW]);
             done += outcome.kind == FX_KIND_DONE && outcome.answer == number - WINDOW;
         }
+        if (number % WINDOW == 0) pass_on(outside, OUTSIDE);
         if (number >= CORES * REQUESTS) continue;
         jobs[number] = (job){.kind = REQUEST, .queue = FOREGROUND, .queued_at = now()};
         must(fx_seat_submit(outside, number % CORES, FOREGROUND, number, &names[number]), FX_OK, "submit");
@@ -251,15 +271,48 @@ static void tell(place *p) {
     }
 }
 
-int main(void) {
+/* Opens the files of the parts. */
+static void keep_in(const char *folder) {
+    char path[4096];
+    for (uint32_t actor = 0; actor <= CORES; actor++) {
+        snprintf(path, sizeof path, "%s/part%u", folder, actor);
+        if ((parts[actor] = fopen(path, "w")) == NULL) must(FX_ABSENT, FX_OK, path);
+    }
+}
+
+/* The last notes of an actor go on, and its seat ends. */
+static void end(fx_house *house, fx_seat *seat, uint32_t actor) {
+    pass_on(seat, actor);
+    must(fx_house_end(house, seat), FX_OK, "end");
+    if (parts[actor] != NULL && fclose(parts[actor]) != 0) must(FX_SHORT, FX_OK, "write");
+}
+
+/* What the house knows of its journals: a verdict, or, if it passed them on, the lines around them. Whether nothing is wrong. */
+static bool judge(fx_house *house, const char *folder) {
+    fx_verdict verdict = {.size = sizeof verdict};
+    char path[4096];
+    uint8_t bytes[LONGEST];
+    uint64_t count;
+    if (folder == NULL) {
+        must(fx_house_audit(house, &verdict), FX_OK, "audit");
+        return verdict.sound;
+    }
+    must(fx_house_text(house, 0, bytes, sizeof bytes, &count), FX_OK, "text");
+    snprintf(path, sizeof path, "%s/rest", folder);
+    FILE *rest = fopen(path, "w");
+    return rest != NULL && fwrite(bytes, 1, (size_t)count, rest) == count && fclose(rest) == 0;
+}
+
+int main(int count, char **words) {
+    const char *folder = count > 1 ? words[1] : NULL;
     fx_house house = FX_NO_HOUSE;
     fx_seat outside = FX_NO_SEAT;
-    fx_config config = {.size = sizeof config, .cores = CORES, .places = PLACES, .burst = 1, .notes = NOTES};
-    fx_verdict verdict = {.size = sizeof verdict};
+    fx_config config = {.size = sizeof config, .cores = CORES, .places = PLACES, .burst = 1, .notes = folder ? FEW_NOTES : NOTES};
     fx_name name;
     uint32_t actor;
     pthread_t threads[CORES];
     if (fx_version() != FX_VERSION) return 1;
+    if (folder) keep_in(folder);
     must(fx_house_open(&house, &config), FX_OK, "open");
     must(fx_house_take(&house, &outside, &actor), FX_OK, "take");
     for (uint32_t each = CORES; each-- > 0;) must(fx_house_take(&house, &places[each].seat, &places[each].number), FX_OK, "take");
@@ -272,11 +325,11 @@ int main(void) {
     for (uint32_t core = 0; core < CORES; core++) pthread_join(threads[core], NULL);
     for (uint32_t core = 0; core < CORES; core++) {
         tell(&places[core]);
-        must(fx_house_end(&house, &places[core].seat), FX_OK, "end");
+        end(&house, &places[core].seat, core);
     }
-    must(fx_house_end(&house, &outside), FX_OK, "end");
-    must(fx_house_audit(&house, &verdict), FX_OK, "audit");
-    printf("%u of %u requests are done, and the journals are %s\n", done, CORES * REQUESTS, verdict.sound ? "sound" : "not sound");
+    end(&house, &outside, OUTSIDE);
+    bool is_well = judge(&house, folder);
+    printf("%u of %u requests are done, and the journals are %s\n", done, CORES * REQUESTS, !is_well ? "not sound" : folder ? "passed on" : "sound");
     must(fx_house_free(&house), FX_OK, "free");
-    return done == CORES * REQUESTS && verdict.sound ? 0 : 1;
+    return done == CORES * REQUESTS && is_well ? 0 : 1;
 }

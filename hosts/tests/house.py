@@ -44,11 +44,20 @@ class Actor:
     """The outside actor, and what a core is beside its queues: its journal, and its submissions."""
 
     def __init__(self, house, number):
-        self.house, self.number, self.notes = house, number, []
+        self.house, self.number, self.notes, self.passed = house, number, [], 0
         self.links = [Link() for _ in range(house.cores)]
 
     def note(self, text):
         self.notes.append(f"{self.number} {text}")
+
+    def pass_on(self, room):
+        """The notes go out as text, if there is room for it. What is written, and the lines."""
+        lines = self.notes
+        wanted = sum(len(line) + 1 for line in lines)
+        if wanted > room:
+            return "FX_SHORT", [wanted], []
+        self.notes, self.passed = [], self.passed + len(lines)
+        return "FX_OK", [wanted], lines
 
     def kept(self):
         return 0

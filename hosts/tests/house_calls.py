@@ -4,7 +4,7 @@
   house_calls.py HEADER < CALLS
 
 A line of CALLS is `CALL NUMBERS = CODE WRITTEN`: what a call was answered, and what it wrote. A line that begins with `|` is the next line of
-the text of the journals, which has to be the model's, too. It stops at the first difference. The last line is 'N passed, M failed', and the
+the text that the call before wrote, which has to be the model's, too. It stops at the first difference. The last line is 'N passed, M failed', and the
 status is 0 if nothing failed.
 """
 import re
@@ -19,7 +19,7 @@ class Caller:
     """Makes the calls of the lines. Each answers the name of a code, and what is written."""
 
     def __init__(self):
-        self.house, self.left, self.seats, self.ended, self.lines = None, [], set(), [], None
+        self.house, self.left, self.seats, self.ended, self.lines = None, [], set(), [], iter(())
 
     def open(self, wrong_size, cores, places, burst, notes):
         if wrong_size or not (1 <= cores <= 16 and 1 <= places <= 1024 and 1 <= burst <= 64 and notes <= MOST_NOTES):
@@ -45,7 +45,14 @@ class Caller:
         self.in_size(wrong_size)
         if len(self.ended) <= self.house.cores:
             raise Refused("FX_PENDING")
+        if any(actor.passed for actor in self.house.actors):
+            raise Refused("FX_PASSED_ON")
         return "FX_OK", [1, 0]
+
+    def passon(self, actor, room):
+        code, written, lines = self.actor(actor).pass_on(room)
+        self.lines = iter(lines)
+        return code, written
 
     def text(self):
         self.lines = iter(self.house.text())
@@ -55,8 +62,6 @@ class Caller:
         self.seats.remove(actor)
 
     def free(self):
-        if self.lines and next(self.lines, None) is not None:
-            raise ValueError("the text of the journals ends early")
         self.house = None
 
     def seated(self, actor):
@@ -179,6 +184,9 @@ def main():
     for line in sys.stdin:
         if line.startswith("|"):
             found, wanted = line[1:].rstrip("\n"), next(caller.lines, None)
+        elif next(caller.lines, None) is not None:
+            print(f"FAILED: call {passed}, {line.strip()}: the text before it ends early\n{passed} passed, 1 failed")
+            return 1
         else:
             asked, _, found = line.partition(" = ")
             code, numbers = caller.made(asked, codes)
@@ -198,6 +206,6 @@ def main():
 # Each of these has to come up.
 WANTED = set("""FX_OK FX_START FX_RESUME FX_DONE FX_BACK FX_IDLE FX_BUSY FX_NO_JOB FX_FULL FX_BAD_SHARES FX_NO_QUEUE FX_CLOSED FX_BAD_NUMBER FX_PARKED
     FX_JOURNAL_FULL FX_UNKNOWN_CORE FX_NO_ACTOR FX_UNKNOWN FX_GONE FX_PENDING FX_OPEN FX_SHUT
-    FX_NOT_DRAINED FX_EMPTY FX_ABSENT""".split())
+    FX_NOT_DRAINED FX_EMPTY FX_ABSENT FX_SHORT FX_PASSED_ON""".split())
 
 sys.exit(main())

@@ -128,6 +128,7 @@ static void empty(fx_seat *seat) {
     IS(fx_seat_redeem(seat, &first_of_outside, &out.outcome), FX_EMPTY);
     IS(fx_seat_detach(seat, &first_of_outside), FX_EMPTY);
     IS(fx_seat_shows(seat), FX_EMPTY);
+    IS(fx_seat_pass_on(seat, (uint8_t *)&out.turn, sizeof out.turn, &out.count), FX_EMPTY);
     is_poisoned();
 }
 

@@ -1,6 +1,6 @@
 /*
- * Calls on a house for memory that fail: linked with --wrap for malloc, realloc and free. An opening, a taking, an audit or a text that finds
- * no memory answers FX_NO_MEMORY, changes nothing and keeps nothing, and an order that makes a queue is answered so. No other call asks for
+ * Calls on a house for memory that fail: linked with --wrap for malloc, realloc and free. An opening, a taking, an audit, a text or a passing
+ * on that finds no memory answers FX_NO_MEMORY, changes nothing and keeps nothing, and an order that makes a queue is answered so. No other call asks for
  * memory, and the ends of all handles give all of it back.
  * The last line is 'N passed, M failed', and the status is 0 if nothing failed.
  */
@@ -119,12 +119,34 @@ static void judging(void) {
     is("the text", fx_house_text(&house, 0, bytes, sizeof bytes, &count) == FX_OK && count == sizeof bytes, 1);
 }
 
+/* What is passed on is kept where there is no memory for its text, and the text is kept nowhere. */
+static void passing(void) {
+    static uint8_t bytes[100000];
+    uint64_t count = 0, whole = 0;
+    long before = 0;
+    left = 0;
+    for (uint32_t each = 0; each < 100; each++) is("a round", round_of(each), 0);
+    is("without memory nothing is told", fx_seat_pass_on(&seats[0], bytes, 0, &whole), FX_NO_MEMORY);
+    for (int seat = 0; seat <= CORES; seat++) {
+        before = used;
+        left = 100000;
+        is("with memory", fx_seat_pass_on(&seats[seat], bytes, 0, &whole), FX_SHORT);
+        WITH_LITTLE(fx_seat_pass_on(&seats[seat], bytes, sizeof bytes, &count), FX_OK);
+        is("all of it went on", count == whole && whole > 100, 1);
+        is("and its text is kept nowhere", (unsigned long)used, (unsigned long)before);
+        is("a seat is freed", fx_seat_free(&seats[seat]), FX_OK);
+    }
+}
+
 int main(void) {
     opening();
     creations();
     others();
     judging();
     is("the house is freed", fx_house_free(&house), FX_OK);
+    opening();
+    passing();
+    is("the second house is freed", fx_house_free(&house), FX_OK);
     is("with all of its memory", (unsigned long)used, 0);
     printf("%lu calls found no memory\n%u passed, %u failed\n", refused, passed, failed);
     return failed != 0;

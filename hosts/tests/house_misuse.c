@@ -204,6 +204,38 @@ static void full_journals(void) {
     freed(&of);
 }
 
+/* Notes go on as a whole or not at all, at any time: then all places of the journal are free. */
+static void passing(void) {
+    static const char wanted[] = "0 took 2>0#1 q0\n0 pick q0 at 0\n0 start 2>0#1\n";
+    enum { LONG = sizeof wanted - 1 };
+    all of = opened(2, 1, 4);
+    fx_seat *core = &of.seats[0], *outside = &of.seats[OUTSIDE];
+    uint8_t bytes[200];
+    fx_name name;
+    poison();
+    memset(bytes, POISON, sizeof bytes);
+    IS(fx_seat_pass_on(core, bytes, 0, &out.count), FX_OK);
+    is("no note has no text", (uint32_t)out.count, 0);
+    IS(fx_seat_submit(outside, 0, 0, 7, &name), FX_OK);
+    IS(fx_seat_deliver(core, OUTSIDE), FX_OK);
+    REFUSES(&of, fx_seat_next(core, &out.turn), FX_JOURNAL_FULL);
+    IS(fx_seat_pass_on(core, bytes, sizeof bytes, &out.count), FX_OK);
+    is("a journal that was full has room", (uint32_t)out.count, 16);
+    IS(fx_seat_next(core, &out.turn), FX_START);
+    REFUSES(&of, fx_seat_pass_on(core, bytes + 16, LONG - 17, &out.count), FX_SHORT);
+    is("the wanted room is told", (uint32_t)out.count, LONG - 16);
+    is("and nothing else is written", bytes[16] == POISON && bytes[LONG - 1] == POISON, 1);
+    out.count = 7;
+    REFUSES(&of, fx_seat_pass_on(core, bytes + 16, 0, &out.count), FX_SHORT);
+    is("also of no room", (uint32_t)out.count, LONG - 16);
+    IS(fx_seat_pass_on(core, bytes + 16, LONG - 16, &out.count), FX_OK);
+    is("while a job runs", (uint32_t)out.count == LONG - 16 && memcmp(bytes, wanted, LONG) == 0 && bytes[LONG] == POISON, 1);
+    IS(fx_seat_settle(core, FX_STEP_DONE, 1, 1), FX_DONE);
+    IS(fx_seat_pass_on(outside, bytes, sizeof bytes, &out.count), FX_OK);
+    is("the outside actor hands on, too", (uint32_t)out.count == 20 && memcmp(bytes, "2 sent 2>0#1 job q0\n", 20) == 0, 1);
+    freed(&of);
+}
+
 static void drain(all *of) {
     for (int each = 0; each < 2; each++) {
         IS(fx_seat_close(&of->seats[each], FX_MODE_RETURN), FX_OK);
@@ -260,6 +292,26 @@ static void ending(void) {
     empty_house(&of.house);
 }
 
+/* A house whose journals lack notes isn't judged, and its text has what they kept. */
+static void ending_with_less(void) {
+    static const char wanted[] = "journal 1\ncores 2 cap 2\n0 coreclosed return\n0 shut 0 0\n0 shut 1 0\n0 shut 2 0\nend\n";
+    all of = opened(2, 1, 100);
+    fx_verdict verdict = {sizeof verdict, 7, 7, 7, 7};
+    uint8_t bytes[200];
+    uint64_t count = 7;
+    drain(&of);
+    for (int each = 1; each < 3; each++) IS(fx_seat_pass_on(&of.seats[each], bytes, sizeof bytes, &count), FX_OK);
+    for (int each = 0; each < 3; each++) IS(fx_house_end(&of.house, &of.seats[each]), FX_OK);
+    verdict.size++;
+    IS(fx_house_audit(&of.house, &verdict), FX_BAD_NUMBER);
+    verdict.size--;
+    IS(fx_house_audit(&of.house, &verdict), FX_PASSED_ON);
+    is("nothing is judged", verdict.sound == 7 && verdict.rule == 7, 1);
+    IS(fx_house_text(&of.house, 0, bytes, sizeof bytes, &count), FX_OK);
+    is("the text has what is left", count == sizeof wanted - 1 && memcmp(bytes, wanted, sizeof wanted - 1) == 0, 1);
+    IS(fx_house_free(&of.house), FX_OK);
+}
+
 /* A seat may be moved. What it was moved from is no seat any more. */
 static void moving(void) {
     all of = opened(2, 1, 100);
@@ -285,9 +337,11 @@ int main(void) {
     numbers();
     submissions();
     full_journals();
+    passing();
     ending();
+    ending_with_less();
     moving();
-    for (uint32_t code = FX_OK; code <= FX_MIXED; code++) is("each code has a text of its own", strcmp(fx_text(code), fx_text(FX_MIXED + 1)) != 0, 1);
+    for (uint32_t code = FX_OK; code <= FX_PASSED_ON; code++) is("each code has a text of its own", strcmp(fx_text(code), fx_text(FX_PASSED_ON + 1)) != 0, 1);
     printf("%u passed, %u failed\n", passed, failed);
     return failed != 0;
 }

@@ -1,7 +1,8 @@
 /*
  * A caller that picks its calls on houses and their numbers at random: house_random CALLS SEED. Often a call is one that is refused. It
  * prints each call with its numbers, what it was answered, and what it wrote; house_calls.py makes the same calls, and compares. Most houses have
- * two cores. Some have a journal that runs full. A house that is drained is ended, and its verdict and the text of its journals are printed.
+ * two cores. Some have a journal that runs full, and in some notes are passed on, and their text is printed. A house that is drained is ended, and
+ * its verdict and the text of its journals are printed.
  * A call that is refused and writes something all the same is printed as `wrote`, which no model answers.
  */
 #include "fairexec.h"
@@ -35,6 +36,9 @@ static fx_name names[MOST + 1][KEPT];
 static uint32_t given[MOST + 1];
 /* Whether a job of a core runs, and whether somebody closes cores of this house early. */
 static bool runs[MOST + 1], closes;
+/* Whether notes of this house are passed on, and where their text goes. */
+static bool passes;
+static uint8_t text_bytes[1 << 24];
 
 /* A number that is mostly in its range. */
 static uint32_t about(uint32_t limit) {
@@ -197,9 +201,36 @@ static void shut(uint32_t core, uint32_t sender) { PRINT("shut %" PRIu32 " %" PR
 
 static void close_by_itself(uint32_t core, uint32_t mode) { PRINT("close %" PRIu32 " %" PRIu32 " = %" PRIu32 "\n", core, mode, fx_seat_close(&seats[core], mode)); }
 
+static void print_text(const uint8_t *bytes, uint64_t count, bool *begins) {
+    for (uint64_t each = 0; each < count; each++) {
+        if (*begins) putchar('|');
+        *begins = bytes[each] == '\n';
+        putchar(bytes[each]);
+    }
+}
+
+/* The notes of an actor go on, to a buffer of any room, or of the room that a call told, or of one byte less. */
+static void pass_on(uint32_t actor) {
+    uint64_t count = 0;
+    size_t room = below(3000), checked;
+    bool begins = true;
+    if (rarely(2)) {
+        room = fx_seat_pass_on(&seats[actor], text_bytes, 0, &count) == FX_SHORT ? (size_t)count - (size_t)rarely(4) : 0;
+        PRINT("passon %" PRIu32 " 0 = %d %" PRIu64 "\n", actor, count > 0 ? FX_SHORT : FX_OK, count);
+    }
+    checked = room < sizeof text_bytes - 100 ? room + 100 : room;
+    poison(text_bytes, checked);
+    count = 0x5a5a5a5a5a5a5a5a;
+    uint32_t code = fx_seat_pass_on(&seats[actor], text_bytes, room, &count);
+    size_t from = code == FX_OK ? (size_t)count : 0;
+    PRINT("passon %" PRIu32 " %zu = %" PRIu32 "%s %" PRIu64 "\n", actor, room, code, wrote(text_bytes + from, checked - from, false), count);
+    if (code == FX_OK) print_text(text_bytes, count, &begins);
+}
+
 static void any_call(void) {
     uint32_t actor = below(config.cores + 1), core = below(config.cores), kind = below(1000);
     if (rarely(100)) core = config.cores; /* the outside actor has no core */
+    if (passes && rarely(config.notes < 400 ? 30 : 300)) pass_on(actor);
     if (kind < 300) runs[core] == !rarely(40) ? settle(core, rarely(50) ? 3 + below(9) : rarely(3) ? below(3) : FX_STEP_DONE) : (void)next(core);
     else if (kind < 500) deliver(core, about(config.cores + 1));
     else if (kind < 580) collect(actor, about(config.cores));
@@ -233,8 +264,10 @@ static void drain(void) {
             settle(core, FX_STEP_DONE);
             if (code == FX_JOURNAL_FULL && round > 4) return;
         }
-        for (uint32_t actor = 0; actor <= config.cores; actor++)
+        for (uint32_t actor = 0; actor <= config.cores; actor++) {
+            if (passes && config.notes < 400) pass_on(actor);
             for (uint32_t core = 0; core < config.cores; core++) collect(actor, core);
+        }
         bool ended = round > 20;
         for (uint32_t core = 0; core < config.cores; core++) ended = fx_seat_drained(&seats[core]) == FX_OK && ended;
         if (ended) return;
@@ -251,11 +284,7 @@ static void text(void) {
     do {
         room = 1 + below(sizeof bytes);
         if (fx_house_text(&house, from, bytes, room, &count) != FX_OK) return;
-        for (uint64_t each = 0; each < count; each++) {
-            if (begins) putchar('|');
-            begins = bytes[each] == '\n';
-            putchar(bytes[each]);
-        }
+        print_text(bytes, count, &begins);
         from += count;
     } while (count == room);
 }
@@ -264,6 +293,7 @@ static void text(void) {
 static void end(void) {
     fx_verdict verdict;
     bool all_ended = true;
+    for (uint32_t actor = 0; passes && rarely(2) && actor <= config.cores; actor++) pass_on(actor);
     for (uint32_t actor = 0; actor <= config.cores; actor++) {
         uint32_t other = rarely(4) ? below(config.cores + 1) : actor;
         if (other != actor) PRINT("end %" PRIu32 " = %" PRIu32 "\n", other, fx_house_end(&house, &seats[other]));
@@ -313,6 +343,7 @@ static void take(void) {
     memset(given, 0, sizeof given);
     memset(runs, 0, sizeof runs);
     closes = rarely(3);
+    passes = rarely(2);
 }
 
 int main(int count, char **words) {

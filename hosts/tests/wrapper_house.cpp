@@ -220,9 +220,46 @@ static void coroutines_that_ask() {
 }
 #endif
 
+// Two cores run on over journals of few notes: the parts of each actor hold all that happened.
+static void notes_go_on() {
+    linked::house<counted> house({2, 4, 1, 40});
+    std::string parts[3];
+    for (uint32_t core = 0; core < 2; core++) house.cores[core].keep_notes_by([&parts, core](const std::string &text) { parts[core] += text; });
+    house.outside.keep_notes_by([&parts](const std::string &text) { parts[2] += text; });
+    std::vector<std::thread> threads;
+    unsigned long right = 0;
+    for (auto &core : house.cores) threads.emplace_back([&core] { core.run(twice); });
+    for (unsigned long number = 0; number < 500; number++) {
+        auto sent = house.outside.submit(number % 2, 0, counted(number));
+        right += sent.ticket && house.outside.wait_for(*sent.ticket).answer == 2 * number;
+    }
+    is("a house runs on once its journals were full", right, 500);
+    house.outside.close_all(mode::finish);
+    for (auto &each : threads) each.join();
+    for (uint32_t core = 0; core < 2; core++) is("what is kept goes out", house.cores[core].pass_on(parts[core]), FX_OK);
+    is("of the outside actor, too", house.outside.pass_on(parts[2]), FX_OK);
+    std::size_t had = parts[2].size();
+    is("and no note goes out twice", house.outside.pass_on(parts[2]) == FX_OK && parts[2].size() == had, 1);
+    unsigned long lines[3] = {};
+    for (int each = 0; each < 3; each++)
+        for (char letter : parts[each]) lines[each] += letter == '\n';
+    // A job takes three notes of its sender, and of its core it is delivered, picked, started and done.
+    is("all notes went on", lines[2] >= 1500 && lines[0] + lines[1] >= 2000, 1);
+    is("it ends", house.end(), FX_OK);
+    fx_code told = FX_OK;
+    try {
+        house.audit();
+    } catch (const fairexec::error &error) {
+        told = error.code();
+    }
+    is("the house can't judge", told, FX_PASSED_ON);
+    is("and has nothing left", house.text() == "journal 1\ncores 2 cap 4\nend\n", 1);
+}
+
 int main() {
     one_core();
     what_comes_back();
+    notes_go_on();
     exceptions();
     two_cores();
 #if defined(__cpp_impl_coroutine)

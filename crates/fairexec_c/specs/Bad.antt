@@ -1,15 +1,19 @@
 -- Answers that no call may give, each refused by the definition that judges it.
-use Rattle.std.specs.Prelude.{◌≡◌, ℕ, Some, None}
+use Rattle.std.proofs.Common.{refl}
+use Rattle.std.specs.Prelude.{◌≡◌, ℕ, Some, None, Result}
+use Rattle.rt_ids.specs.declared.order.Order.{Order}
 use Rattle.rt_core.specs.State.{CoreView}
 use Rattle.rt_hosted_calls.specs.declared.code.Code.{Code}
 use Rattle.rt_hosted_calls.specs.declared.code.Code.TheVariants as code
 use Rattle.rt_hosted.specs.declared.job.HostJob.{HostJob}
 use Rattle.rt_hosted_calls.specs.declared.house.Config.{Config}
 use Rattle.rt_hosted_calls.specs.declared.member.Member.{Member}
+use Rattle.rt_hosted_calls.specs.declared.names.Name.{Name}
 use Rattle.fairexec_c.specs.Handles.{OnCore}
 use Rattle.fairexec_c.specs.Houses.{EndsInto, OpensOn, TakesFrom}
 use Rattle.fairexec_c.specs.Opening.{Opens, OpensCore}
 use Rattle.fairexec_c.specs.Running.{SettlesStep, step_of}
+use Rattle.fairexec_c.specs.Seats.{Submits}
 use Rattle.fairexec_c.specs.Waking.{WakesNumber}
 
 -- an empty handle is told that all went well
@@ -47,3 +51,11 @@ empty_handle_ends house new told = cc told.0
 -- a house is opened, and the handle stays empty
 pub opened_is_empty : (config : Config) → OpensOn config code.Ok None → ⊥
 opened_is_empty config told = told
+
+-- an empty handle tells the name of a submission
+pub empty_handle_names : (order : Result (Order ℕ) Code) → Submits None 0 order (record { number = 0; from = 0; to = 0 }) 12 (record { number = 1; from = 0; to = 0 }) None → ⊥
+empty_handle_names order told = cc (told.1 refl)
+
+-- a submission loses the seat
+pub seat_is_lost : (old : Member) (order : Result (Order ℕ) Code) (before after : Name) → Submits (Some old) 0 order before 0 after None → ⊥
+seat_is_lost old order before after told = told.0

@@ -4,6 +4,7 @@ ghost use Rattle.std.specs.Prelude.{◌≡◌, None};
 ghost use Rattle.rt_hosted_calls.specs.Links.{ClosesTold, DeliversTold, IsTold, ShutsTold};
 ghost use Rattle.rt_hosted_calls.specs.Members as members;
 ghost use Rattle.rt_hosted_calls.specs.Orders.{mode_of_number};
+ghost use Rattle.rt_hosted_calls.specs.Passing.{PassesTold};
 ghost use Rattle.rt_hosted_calls.specs.Stats.{SeatTells, SeatTellsQueue};
 ghost use Rattle.rt_hosted_calls.specs.Submissions.{CollectsTold, ShowsTold};
 ghost use Rattle.rt_hosted_calls.specs.Tickets.{DetachesTold, RedeemsTold};
@@ -151,6 +152,25 @@ pub extern "C" fn fx_seat_detach(alloc: Global, seat: &mut Seat, name: &Name) ->
         return number(Code::Empty);
     };
     let code = member.detach(name);
+    put(seat, member);
+    number(code)
+}
+
+/// Hands on the text of the notes that the journal keeps, and tells how many bytes it has.
+#[unsafe(no_mangle)]
+pub extern "C" fn fx_seat_pass_on(
+    alloc: Global,
+    seat: &mut Seat,
+    bytes: &mut [u8],
+    count: &mut u64,
+) -> u32
+    ensures seat { OnCore seat.old.value seat.new.value result (λ old told new. PassesTold old bytes.old count.old told new bytes.new count.new) }
+    ensures empty { seat.old.value ≡ None → (bytes.new ≡ bytes.old) × (count.new ≡ count.old) }
+{
+    let Some(mut member) = take(alloc, seat) else {
+        return number(Code::Empty);
+    };
+    let code = member.pass_on(alloc, bytes, count);
     put(seat, member);
     number(code)
 }

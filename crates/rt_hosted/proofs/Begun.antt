@@ -1,6 +1,6 @@
 -- A core that was just opened, over fresh ends.
 use Rattle.std.proofs.Common.{◌≡◌, ℕ, sym, ap, subst, arith}
-use Rattle.std.specs.Prelude.{None}
+use Rattle.std.specs.Prelude.{None, []}
 use Rattle.rt_journal.specs.Recorded.{RecordedView, IsRecorded}
 use Rattle.rt_journal.specs.Steps.{opened_beside}
 use Rattle.rt_ring_mesh.specs.Ends.{EndsView}
@@ -29,6 +29,9 @@ module _ (core cores cap burst room : ℕ) (recorded : RecordedView HostJob ℕ)
 
   pub begun_cores : cores ≡ recorded.core.cores
   begun_cores = ap (λ (view : RecordedView HostJob ℕ). view.core.cores) (sym is)
+
+  pub begun_passed : [] ≡ recorded.journal.passed
+  begun_passed = ap (λ (view : RecordedView HostJob ℕ). view.journal.passed) (sym is)
 
   pub begun_over : IsOpenedOver cores cap burst room ends (record { recorded = recorded; ends = ends })
   begun_over = opened_over core cores cap burst room 0 recorded ends created are number

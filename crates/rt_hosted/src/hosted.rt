@@ -1,6 +1,6 @@
 //! A core whose jobs the host runs, over its actor's ends of the links.
 
-ghost use Rattle.std.specs.Prelude.{◌≡◌, ◌≢◌, ◌+◌, ◌*◌, ◌^◌, ◌<◌, ◌↔◌, IfErr, IfOk, IsSome, IsTrue, length};
+ghost use Rattle.std.specs.Prelude.{◌≡◌, ◌≢◌, ◌+◌, ◌*◌, ◌^◌, ◌<◌, ◌↔◌, [], IfErr, IfOk, IsSome, IsTrue, length};
 ghost use Rattle.arrayvec.specs.ArrayVec.{array_vec_len};
 ghost use Rattle.rt_ids.specs.Closing.{IsDrained};
 ghost use Rattle.rt_journal.specs.Stats.{TellsCore, TellsQueues};
@@ -8,6 +8,7 @@ ghost use Rattle.rt_runtime_worker.specs.Linked.{StaysLinked};
 ghost use Rattle.rt_runtime_worker.specs.Opening.{AreEndsOf, IsOpenedOver};
 ghost use Rattle.rt_hosted.specs.Hosted.{HasRoom, IsAtRest, IsHosted};
 ghost use Rattle.rt_hosted.specs.Links.{Closes, Collects, Hears, Shuts};
+ghost use Rattle.rt_hosted.specs.Passing.{HandsOn};
 ghost use Rattle.rt_hosted.specs.Submissions.{Detaches, Posts, Redeems, order_of_host};
 ghost use Rattle.rt_hosted.specs.Turns.{Nexts, SettlesStep};
 
@@ -15,15 +16,18 @@ use crate::answers::{Picked, Refusal};
 use crate::job::HostJob;
 use crate::lent::{collect_on, deliver_on, shut_on};
 use crate::outs::{detach_on, redeem_on, submit_on};
+use crate::passing::hand_on;
 use crate::told::host_order;
 use crate::turns::{Run, go_on, settle_on};
 use crate::word::poll_told;
 use arrayvec::ArrayVec;
 use rt_core::Settled;
+use rt_hosted_parts::PassError;
 use rt_ids::{ActorNo, CoreNo, CoreStats, Mode, Order, Outcome, QueueStats, Ticket};
 use rt_jobs::Step;
 use rt_journal::{Recorded, RunningJournal, told_stats};
 use rt_ring_mesh::Ends;
+use rt_sinks::Discard;
 use std::alloc::{AllocError, Global};
 use std::marker::Model;
 
@@ -37,6 +41,8 @@ pub struct Hosted {
     recorded: Recorded<HostJob>,
     ends: Ends<HostJob>,
     run: Option<Run>,
+    /// What was passed on.
+    passed: Discard,
 }
 
 impl Model for Hosted {
@@ -49,7 +55,8 @@ impl Model for Hosted {
     ghost view = { λ h. record { recorded = h.recorded; ends = h.ends } };
 
     ghost invariant = { λ h.
-        IsHosted (record { recorded = h.recorded; ends = h.ends }) × IsRunOf h.recorded.core.out h.run × (h.cores ≡ h.recorded.core.cores) };
+        IsHosted (record { recorded = h.recorded; ends = h.ends }) × IsRunOf h.recorded.core.out h.run × (h.cores ≡ h.recorded.core.cores)
+        × (h.passed ≡ h.recorded.journal.passed) };
 }
 
 impl Hosted {
@@ -73,6 +80,7 @@ impl Hosted {
             recorded,
             ends,
             run: None,
+            passed: Discard::new(),
         })
     }
 
@@ -81,6 +89,13 @@ impl Hosted {
         ensures { result ≡ self.now.recorded.core.core }
     {
         CoreNo(self.ends.number.0)
+    }
+
+    /// The number of the core, as that of an actor.
+    fn actor(&self) -> ActorNo
+        ensures { result ≡ self.now.recorded.core.core }
+    {
+        self.ends.number
     }
 
     /// Whether there is room for so many notes, beside the one that settles the job that is out.
@@ -317,6 +332,27 @@ impl Hosted {
         ensures { result.now ≡ self.now.recorded.journal }
     {
         self.recorded.journal()
+    }
+
+    /// Hands on the text of the notes that the journal keeps, in the form of the journal text. It keeps none of them from then on, and has as many
+    /// places free as it may keep. How many bytes the text has. The host may run a job meanwhile.
+    ///
+    /// # Errors
+    ///
+    /// `Memory` if there isn't enough for the text, else `Short` if there is room for fewer bytes. Then nothing changes.
+    pub fn pass_on(&mut self, alloc: Global, bytes: &mut [u8]) -> Result<u64, PassError>
+        ensures hands { HandsOn self.old bytes.old result bytes.new self.new }
+        ensures hosted { IsHosted self.new }
+    {
+        let number = self.actor();
+        hand_on(alloc, number, &mut self.recorded, &mut self.passed, bytes)
+    }
+
+    /// Whether a note was passed on.
+    pub fn has_passed(&self) -> bool
+        ensures { IsTrue result ↔ (self.now.recorded.journal.passed ≢ []) }
+    {
+        self.passed.count() > 0
     }
 
     /// The notes of this core and its ends, which are given up.

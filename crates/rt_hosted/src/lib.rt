@@ -6,6 +6,7 @@ pub mod hosted;
 pub mod job;
 mod lent;
 mod outs;
+mod passing;
 pub mod told;
 mod turns;
 pub mod word;

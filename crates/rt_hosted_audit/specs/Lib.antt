@@ -1,3 +1,4 @@
 pub mod Bad
+pub mod Ended
 pub mod Texts
 pub mod Verdicts

@@ -1,34 +1,44 @@
 //! The journals of all actors of a house that has ended.
 
 ghost use Rattle.std.specs.Prelude.{◌≡◌, ◌≤◌, IfErr, IfOk};
+ghost use Rattle.rt_hosted_audit.specs.Ended.{ended_of};
 ghost use Rattle.rt_hosted_audit.specs.Texts.{CopiesFrom, IsNoText, IsText, ReadsNone, ReadsPart};
-ghost use Rattle.rt_hosted_audit.specs.Verdicts.{IsFound};
+ghost use Rattle.rt_hosted_audit.specs.Verdicts.{IsUnjudged, Judges};
 
-use rt_audit::{AuditError, Verdict, audit};
+use rt_audit::{Verdict, audit};
 use rt_journal_notes::Assembly;
 use rt_journal_write::write_journal;
 use std::alloc::Global;
 use std::marker::Model;
 
-/// The journals, and their text once it was asked for.
+/// The journals, whether they lack notes that were passed on, and their text once it was asked for.
 #[derive(Drop)]
 pub struct Ended {
     assembly: Assembly,
+    parted: bool,
     text: Option<Vec<u8>>,
 }
 
 impl Model for Ended {
-    ghost use Rattle.std.specs.Prelude.{ℕ};
-    ghost use Rattle.rt_ids.specs.Assembly.{Assembly};
+    ghost use Rattle.rt_hosted_audit.specs.Ended.{EndedView};
 
-    ghost Value = { Assembly ℕ };
+    ghost Value = { EndedView };
 
     ghost use Rattle.std.specs.Prelude.{IfSome};
     ghost use Rattle.rt_hosted_audit.specs.Texts.{IsText};
 
-    ghost view = { λ e. e.assembly };
+    ghost view = { λ e. record { assembly = e.assembly; parted = e.parted } };
 
     ghost invariant = { λ e. IfSome e.text (λ text. IsText e.assembly text.items) };
+}
+
+/// Why journals aren't judged.
+#[derive(Clone, Copy, PartialEq, Eq, Debug)]
+pub enum JudgeError {
+    /// Notes of them were passed on, so they lack what an audit needs.
+    Parted,
+    /// There is no memory.
+    Memory,
 }
 
 /// Why journals have no text.
@@ -41,12 +51,13 @@ pub enum TextError {
 }
 
 impl Ended {
-    /// These journals, whose text nobody asked for yet.
-    pub fn of(assembly: Assembly) -> Self
-        ensures { result ≡ assembly }
+    /// These journals, whose text nobody asked for yet. If they are parted, notes of them were passed on.
+    pub fn of(assembly: Assembly, parted: bool) -> Self
+        ensures { result ≡ ended_of assembly parted }
     {
         Ended {
             assembly,
+            parted,
             text: None,
         }
     }
@@ -55,22 +66,30 @@ impl Ended {
     ///
     /// # Errors
     ///
-    /// `Memory` if there isn't enough.
-    pub fn audit(&self, alloc: Global) -> Result<Verdict, AuditError>
-        ensures { IfOk result (IsFound self.now) }
+    /// `Parted` if they lack notes, else `Memory` if there isn't enough.
+    pub fn audit(&self, alloc: Global) -> Result<Verdict, JudgeError>
+        ensures ok { IfOk result (Judges self.now) }
+        ensures err { IfErr result (IsUnjudged self.now) }
     {
-        audit(alloc, &self.assembly)
+        if self.parted {
+            return Err(JudgeError::Parted);
+        }
+        match audit(alloc, &self.assembly) {
+            Ok(verdict) => Ok(verdict),
+            Err(_) => Err(JudgeError::Memory),
+        }
     }
 
-    /// Copies the text from this byte on, as much as there is room for. How much that was. The first call makes the text.
+    /// Copies the text of the notes that the journals have, from this byte on, as much as there is room for. How much that was. The first call
+    /// makes the text.
     ///
     /// # Errors
     ///
     /// `Mixed` if the journals have no text, else `Memory`.
     pub fn read(&mut self, alloc: Global, from: u64, bytes: &mut [u8]) -> Result<u64, TextError>
         ensures same { self.new ≡ self.old }
-        ensures ok { IfOk result (λ count. ReadsPart self.old from bytes.old count bytes.new) }
-        ensures err { IfErr result (λ error. ReadsNone self.old error bytes.old bytes.new) }
+        ensures ok { IfOk result (λ count. ReadsPart self.old.assembly from bytes.old count bytes.new) }
+        ensures err { IfErr result (λ error. ReadsNone self.old.assembly error bytes.old bytes.new) }
     {
         if let Some(text) = &self.text {
             return Ok(copy_part(text.as_slice(), from, bytes));

@@ -3,4 +3,4 @@
 
 pub mod ended;
 
-pub use ended::{Ended, TextError};
+pub use ended::{Ended, JudgeError, TextError};

@@ -1,10 +1,11 @@
 -- Answers that no call may give, each refused by the definition that judges it.
-use Rattle.std.proofs.Common.{arith}
-use Rattle.std.specs.Prelude.{ℕ, Some, Ok, Err}
+use Rattle.std.proofs.Common.{arith, inl, inr}
+use Rattle.std.specs.Prelude.{ℕ, List, Some, Ok, Err, true, false}
 use Rattle.rt_ids.specs.declared.order.Mode.TheVariants.{Finish}
 use Rattle.rt_ids.specs.declared.order.Order.{Order}
 use Rattle.rt_ids.specs.Assembly.{Assembly}
 use Rattle.rt_hosted.specs.Hosted.{HostedView}
+use Rattle.rt_hosted_audit.specs.Ended.{EndedView, ended_of}
 use Rattle.rt_hosted_calls.specs.declared.code.Code.{Code}
 use Rattle.rt_hosted_calls.specs.declared.code.Code.TheVariants as code
 use Rattle.rt_hosted_calls.specs.declared.figures.CoreFigures.{CoreFigures}
@@ -18,6 +19,7 @@ use Rattle.rt_hosted_calls.specs.Kept.{KeptView}
 use Rattle.rt_hosted_calls.specs.Links.{IsTold}
 use Rattle.rt_hosted_calls.specs.Members.{OnCore}
 use Rattle.rt_hosted_calls.specs.Orders.{IsCoreOrder, IsJobOrder}
+use Rattle.rt_hosted_calls.specs.Passing.{PassesTold}
 use Rattle.rt_hosted_calls.specs.Stats.{SeatTells}
 use Rattle.rt_hosted_calls.specs.Turns.{SettlesTold, step_of}
 use Rattle.rt_hosted_calls.specs.Verdicts.{JudgesTold}
@@ -64,8 +66,21 @@ pub house_becomes_a_core : (house : KeptView) (core : HostedView) → Becomes ho
 house_becomes_a_core house core told = told
 
 -- an audit is told that the host runs a job
-pub audit_is_busy : (assembly : Assembly ℕ) (before after : VerdictTold) → JudgesTold assembly before code.Busy after → ⊥
-audit_is_busy assembly before after told = told
+pub audit_is_busy : (ended : EndedView) (before after : VerdictTold) → JudgesTold ended before code.Busy after → ⊥
+audit_is_busy ended before after told = told
+
+-- journals that lack notes are judged
+pub parted_is_judged : (assembly : Assembly ℕ) (before after : VerdictTold) → JudgesTold (ended_of assembly true) before code.Ok after → ⊥
+parted_is_judged assembly before after told = cc told.2.whole
+
+-- journals that lack nothing are told as passed on
+pub whole_is_passed_on : (assembly : Assembly ℕ) (before after : VerdictTold) → JudgesTold (ended_of assembly false) before code.PassedOn after → ⊥
+whole_is_passed_on assembly before after told = cc told.1
+
+-- a house hands on notes
+pub house_hands_on : (house : KeptView) (new : Member) (before after : List ℕ) (count counted : ℕ) → PassesTold (member.House house) before count code.Ok new after counted → ⊥
+house_hands_on house new before after count counted (inl told) = cc told.1
+house_hands_on house new before after count counted (inr told) = told.0
 
 -- statistics are told that the core is closed
 pub counts_are_closed : (view : HostedView) (before after : CoreFigures) → SeatTells view before code.CoreClosed after → ⊥

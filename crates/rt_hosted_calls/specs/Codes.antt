@@ -38,6 +38,8 @@ number_of code.Open = 26
 number_of code.Shut = 27
 number_of code.NotDrained = 28
 number_of code.Mixed = 29
+number_of code.Short = 30
+number_of code.PassedOn = 31
 
 -- the code of a refusal; the last number that a shut gate accepted isn't told
 abbrev pub code_of_refusal : Refusal → Code

@@ -1,6 +1,7 @@
 -- How the seats of a house end, and hand their journals in.
-use Rattle.std.specs.Prelude.{◌≡◌, ◌≢◌, ◌⊎◌, ℕ, ◌+◌, [], ◌∷◌, ◌++◌, length, map}
+use Rattle.std.specs.Prelude.{◌≡◌, ◌≢◌, ◌⊎◌, ◌↔◌, ℕ, ◌+◌, IsTrue, [], ◌∷◌, ◌++◌, length, map}
 use Rattle.rt_ids.specs.Assembly.{Assembly}
+use Rattle.rt_hosted_audit.specs.Ended.{EndedView, ended_of}
 use Rattle.rt_journal_notes.specs.Journals.{JournalView}
 use Rattle.rt_hosted_calls.specs.declared.code.Code.{Code}
 use Rattle.rt_hosted_calls.specs.declared.code.Code.TheVariants as code
@@ -43,15 +44,26 @@ IsJournalOf (member.Core view) journal = IsKept view.recorded.journal journal
 IsJournalOf (member.Outside view) journal = IsKept view.desk.journal journal
 IsJournalOf (member.Ended view) journal = ⊥
 
--- it is handed in behind the others
-abbrev pub TakesIn : KeptView → Member → KeptView → Type 0
-TakesIn old seat new = (journal : JournalView ℕ) × IsJournalOf seat journal × (new ≡ record old { journals = old.journals ++ journal ∷ [] })
+-- notes of it were passed on
+abbrev pub HasPassed : Member → Type 0
+HasPassed (member.House view) = ⊥
+HasPassed (member.Core view) = view.recorded.journal.passed ≢ []
+HasPassed (member.Outside view) = view.desk.journal.passed ≢ []
+HasPassed (member.Ended view) = ⊥
 
--- all were handed in, and make an assembly
-abbrev pub IsWhole : KeptView → Assembly ℕ → Type 0
-IsWhole house assembly =
-    (length house.journals ≡ house.cores + 1)
-    × (assembly ≡ record { cores = house.cores; cap = house.cap; burst = house.burst; journals = map (λ journal. journal.notes) house.journals })
+-- it is handed in behind the others, and it is known whether notes of any of them were passed on
+abbrev pub TakesIn : KeptView → Member → KeptView → Type 0
+TakesIn old seat new =
+    (journal : JournalView ℕ) × IsJournalOf seat journal × (IsTrue new.parted ↔ (IsTrue old.parted ⊎ HasPassed seat))
+    × (new ≡ record old { journals = old.journals ++ journal ∷ []; parted = new.parted })
+
+-- the journals of the house make an assembly
+abbrev pub assembly_of : KeptView → Assembly ℕ
+assembly_of house = record { cores = house.cores; cap = house.cap; burst = house.burst; journals = map (λ journal. journal.notes) house.journals }
+
+-- all were handed in, and are what the house left behind; it is known whether notes of them were passed on
+abbrev pub IsWhole : KeptView → EndedView → Type 0
+IsWhole house ended = (length house.journals ≡ house.cores + 1) × (ended ≡ ended_of (assembly_of house) house.parted)
 
 -- a house stays one until all journals are in
 abbrev pub Becomes : KeptView → Member → Type 0

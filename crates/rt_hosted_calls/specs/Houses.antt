@@ -1,5 +1,5 @@
 -- A house as the host keeps it.
-use Rattle.std.specs.Prelude.{◌≡◌, ℕ, ◌<◌, ◌≤◌, Option, Some, None, Result, Ok, Err, List, [], ◌∷◌, ◌++◌, length}
+use Rattle.std.specs.Prelude.{◌≡◌, ℕ, ◌<◌, ◌≤◌, false, Option, Some, None, Result, Ok, Err, List, [], ◌∷◌, ◌++◌, length}
 use Rattle.rt_hosted.specs.Hosted.{HostedView}
 use Rattle.rt_hosted_house.specs.Houses.{AreGood, HouseView, IsOpened}
 use Rattle.rt_hosted_house.specs.Outside.{CallerView}
@@ -12,7 +12,7 @@ use Rattle.rt_hosted_calls.specs.Kept.{KeptView}
 
 -- a house that was just opened, as it is kept
 abbrev pub kept_of : ℕ → ℕ → ℕ → HouseView → KeptView
-kept_of cores cap burst house = record { cores = cores; cap = cap; burst = burst; left = house.cores; outside = Some house.outside; journals = [] }
+kept_of cores cap burst house = record { cores = cores; cap = cap; burst = burst; left = house.cores; outside = Some house.outside; journals = []; parted = false }
 
 -- it is kept so, or there is no memory
 abbrev pub IsKeptOf : ℕ → ℕ → ℕ → HouseView → Result KeptView Code → Type 0

@@ -1,10 +1,10 @@
 -- What a house keeps.
-use Rattle.std.specs.Prelude.{ℕ, ◌≤◌, Option, List, length}
+use Rattle.std.specs.Prelude.{ℕ, ◌≤◌, Bool, Option, List, length}
 use Rattle.rt_journal_notes.specs.Journals.{JournalView}
 use Rattle.rt_hosted.specs.Hosted.{HostedView}
 use Rattle.rt_hosted_house.specs.Outside.{CallerView}
 
--- its numbers, the cores and the outside actor that nobody took yet, and the journals that were handed in
+-- its numbers, the cores and the outside actor that nobody took yet, the journals that were handed in, and whether notes of these were passed on before
 pub record KeptView : Type 0 where
   pub cores : ℕ
   pub cap : ℕ
@@ -12,6 +12,7 @@ pub record KeptView : Type 0 where
   pub left : List HostedView
   pub outside : Option CallerView
   pub journals : List (JournalView ℕ)
+  pub parted : Bool
 
 -- no more cores are left than there are
 abbrev pub IsWaiting : ℕ → List HostedView → Type 0

@@ -1,4 +1,5 @@
 pub mod Bad
+pub mod BadTold
 pub mod Codes
 pub mod Ending
 pub mod Figures
@@ -9,6 +10,7 @@ pub mod Members
 pub mod Names
 pub mod Orders
 pub mod Outcomes
+pub mod Passing
 pub mod Stats
 pub mod Submissions
 pub mod Tickets

@@ -1,12 +1,13 @@
 -- What the host is told of the journals of a house that has ended.
-use Rattle.std.specs.Prelude.{◌≡◌, ◌⊎◌, ℕ, Result, Ok, Err, List}
+use Rattle.std.specs.Prelude.{◌≡◌, ◌⊎◌, ℕ, true, false, Result, Ok, Err, List}
 use Rattle.rt_ids.specs.Assembly.{Assembly}
 use Rattle.rt_audit.specs.declared.judge.Verdict.{Verdict}
 use Rattle.rt_audit.specs.declared.judge.Verdict.TheVariants.{Sound, Fault}
 use Rattle.rt_hosted_audit.specs.declared.ended.TextError.{TextError}
 use Rattle.rt_hosted_audit.specs.declared.ended.TextError.TheVariants.{Mixed, Memory}
 use Rattle.rt_hosted_audit.specs.Texts.{ReadsNone, ReadsPart}
-use Rattle.rt_hosted_audit.specs.Verdicts.{IsFound}
+use Rattle.rt_hosted_audit.specs.Ended.{EndedView}
+use Rattle.rt_hosted_audit.specs.Verdicts.{Judges}
 use Rattle.rt_hosted_calls.specs.declared.code.Code.{Code}
 use Rattle.rt_hosted_calls.specs.declared.code.Code.TheVariants as code
 use Rattle.rt_hosted_calls.specs.declared.member.Member.{Member}
@@ -22,12 +23,13 @@ verdict_told (Fault actor line rule) = record { size = 24; sound = 0; rule = rul
 abbrev pub WaitsTold : VerdictTold → Code → Type 0
 WaitsTold verdict told = ((verdict.size ≡ 24 → ⊥) × (told ≡ code.BadNumber)) ⊎ ((verdict.size ≡ 24) × (told ≡ code.Pending))
 
--- journals are audited and the verdict is told, or there is no memory; a struct of another size comes first
-abbrev pub JudgesTold : Assembly ℕ → VerdictTold → Code → VerdictTold → Type 0
-JudgesTold assembly before code.Ok after = (before.size ≡ 24) × ((found : Verdict) × IsFound assembly found × (after ≡ verdict_told found))
-JudgesTold assembly before code.BadNumber after = (before.size ≡ 24 → ⊥) × (after ≡ before)
-JudgesTold assembly before code.NoMemory after = (before.size ≡ 24) × (after ≡ before)
-JudgesTold assembly before other after = ⊥
+-- journals are audited and the verdict is told, or notes of them were passed on, or there is no memory; a struct of another size comes first
+abbrev pub JudgesTold : EndedView → VerdictTold → Code → VerdictTold → Type 0
+JudgesTold ended before code.Ok after = (before.size ≡ 24) × ((found : Verdict) × Judges ended found × (after ≡ verdict_told found))
+JudgesTold ended before code.BadNumber after = (before.size ≡ 24 → ⊥) × (after ≡ before)
+JudgesTold ended before code.PassedOn after = (before.size ≡ 24) × (ended.parted ≡ true) × (after ≡ before)
+JudgesTold ended before code.NoMemory after = (before.size ≡ 24) × (ended.parted ≡ false) × (after ≡ before)
+JudgesTold ended before other after = ⊥
 
 -- the same of what a handle holds
 abbrev pub AuditsTold : Member → VerdictTold → Code → VerdictTold → Member → Type 0
@@ -58,7 +60,7 @@ ReadsTold (member.House house) from before count told new after counted =
     (told ≡ code.Pending) × (new ≡ member.House house) × (after ≡ before) × (counted ≡ count)
 ReadsTold (member.Ended ended) from before count told new after counted =
     (new ≡ member.Ended ended)
-    × ((read : Result ℕ TextError) × Reads ended from before read after × (told ≡ code_of_text read) × (counted ≡ count_read read count))
+    × ((read : Result ℕ TextError) × Reads ended.assembly from before read after × (told ≡ code_of_text read) × (counted ≡ count_read read count))
 ReadsTold (member.Core core) from before count told new after counted =
     (told ≡ code.Empty) × (new ≡ member.Core core) × (after ≡ before) × (counted ≡ count)
 ReadsTold (member.Outside actor) from before count told new after counted =

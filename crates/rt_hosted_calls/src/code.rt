@@ -43,6 +43,10 @@ pub enum Code {
     Shut,
     NotDrained,
     Mixed,
+    /// The buffer is too short for the text.
+    Short,
+    /// Notes were passed on, so the journals of the house lack them.
+    PassedOn,
 }
 
 /// The number of a code, as `enum fx_code` of the header has it.
@@ -80,6 +84,8 @@ pub fn number(code: Code) -> u32
         Code::Shut => 27,
         Code::NotDrained => 28,
         Code::Mixed => 29,
+        Code::Short => 30,
+        Code::PassedOn => 31,
     }
 }
 

@@ -29,6 +29,8 @@ pub struct House {
     pub(crate) left: Vec<Hosted>,
     pub(crate) outside: Option<Outside>,
     pub(crate) journals: Vec<Journal<u64>>,
+    /// Whether notes of these journals were passed on.
+    pub(crate) parted: bool,
 }
 
 impl Model for House {
@@ -36,7 +38,7 @@ impl Model for House {
 
     ghost Value = { KeptView };
 
-    ghost view = { λ h. record { cores = h.cores; cap = h.cap; burst = h.burst; left = h.left.items; outside = h.outside; journals = h.journals.items } };
+    ghost view = { λ h. record { cores = h.cores; cap = h.cap; burst = h.burst; left = h.left.items; outside = h.outside; journals = h.journals.items; parted = h.parted } };
 
     ghost invariant = { λ h. IsWaiting h.cores h.left.items };
 }

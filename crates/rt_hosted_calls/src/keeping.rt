@@ -1,9 +1,9 @@
 //! How a house is opened, gives its seats and takes their journals in.
 
-ghost use Rattle.std.specs.Prelude.{◌≡◌, ◌≢◌, ◌⊎◌, ◌+◌, None, Some, IfErr, IfOk, IfSome, length};
+ghost use Rattle.std.specs.Prelude.{◌≡◌, ◌≢◌, ◌⊎◌, ◌↔◌, ◌+◌, None, Some, IfErr, IfOk, IfSome, IsTrue, length};
 ghost use Rattle.rt_hosted_calls.specs.declared.code.Code.TheVariants as code;
 ghost use Rattle.rt_hosted_calls.specs.declared.member.Member.TheVariants.{Outside as ItsOutside};
-ghost use Rattle.rt_hosted_calls.specs.Ending.{Awaits, HasEndedSeat, IsJournalOf, IsWhole, TakesIn};
+ghost use Rattle.rt_hosted_calls.specs.Ending.{Awaits, HasEndedSeat, HasPassed, IsJournalOf, IsWhole, TakesIn};
 ghost use Rattle.rt_hosted_calls.specs.Houses.{IsKeptOf, OpensKept, TakesCore, TakesNoCore, TakesNone, TakesOut, core_in, outside_in};
 
 use crate::code::Code;
@@ -11,6 +11,7 @@ use crate::house::{CONFIG_SIZE, Config, House};
 use crate::links::drained;
 use crate::member::Member;
 use rt_hosted::Hosted;
+use rt_hosted_audit::Ended;
 use rt_hosted_house::{OpenError, Outside, open_house};
 use rt_journal_notes::{Assembly, Journal};
 use std::alloc::Global;
@@ -116,6 +117,16 @@ impl House {
         }
     }
 
+    /// Looks whether notes of this seat were passed on.
+    fn look_at(&mut self, seat: &Member)
+        ensures parted { IsTrue self.new.parted ↔ (IsTrue self.old.parted ⊎ HasPassed seat.now) }
+        ensures rest { self.new ≡ record self.old { parted = self.new.parted } }
+    {
+        if has_passed(seat) {
+            self.parted = true;
+        }
+    }
+
     /// Takes the journal of a seat in, which is gone from then on.
     ///
     /// # Errors
@@ -132,21 +143,23 @@ impl House {
         if self.journals.reserve(1).is_err() {
             return Err((Code::NoMemory, seat));
         }
+        self.look_at(&seat);
         self.journals
             .push_reserved(journal_of(Box::into_inner(seat)));
         Ok(())
     }
 
     /// Gives the journals up, if all were handed in.
-    pub(crate) fn whole(&mut self, alloc: Global) -> Option<Assembly>
-        ensures whole { IfSome result (λ assembly. IsWhole self.old assembly) }
+    pub(crate) fn whole(&mut self, alloc: Global) -> Option<Ended>
+        ensures whole { IfSome result (λ ended. IsWhole self.old ended) }
         ensures missing { result ≡ None → (self.new ≡ self.old) × (length self.old.journals ≢ self.old.cores + 1) }
     {
         if self.journals.len() != usize::from(self.cores) + 1 {
             return None;
         }
         let journals = std::mem::replace(&mut self.journals, Vec::new(alloc));
-        Some(Assembly::of_burst(self.cores, self.cap, self.burst, journals))
+        let assembly = Assembly::of_burst(self.cores, self.cap, self.burst, journals);
+        Some(Ended::of(assembly, self.parted))
     }
 }
 
@@ -171,6 +184,17 @@ fn core_of(member: Member) -> Option<Hosted>
         Member::House(_house) => None,
         Member::Outside(_outside) => None,
         Member::Ended(_ended) => None,
+    }
+}
+
+/// Whether notes of a seat were passed on.
+fn has_passed(seat: &Member) -> bool
+    ensures { IsTrue result ↔ HasPassed seat.now }
+{
+    match seat {
+        Member::Core(core) => core.has_passed(),
+        Member::Outside(outside) => outside.has_passed(),
+        Member::House(_) | Member::Ended(_) => false,
     }
 }
 
@@ -220,5 +244,6 @@ fn keep(
         left,
         outside: Some(outside),
         journals,
+        parted: false,
     })
 }

@@ -10,6 +10,7 @@ pub mod member;
 pub mod names;
 pub mod orders;
 pub mod outcomes;
+pub mod passing;
 pub mod stats;
 pub mod stays;
 pub mod submissions;

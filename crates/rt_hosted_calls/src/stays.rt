@@ -9,7 +9,6 @@ ghost use Rattle.rt_hosted_calls.specs.Members.{IsHouse};
 use crate::code::Code;
 use crate::member::Member;
 use rt_hosted_audit::Ended;
-use rt_journal_notes::Assembly;
 use std::alloc::Global;
 
 impl Member {
@@ -60,12 +59,12 @@ impl Member {
     }
 
     /// Becomes these journals, if there are any.
-    fn become_ended(&mut self, whole: Option<Assembly>)
-        ensures ended { IfSome whole (λ assembly. self.new ≡ ItsEnded assembly) }
+    fn become_ended(&mut self, whole: Option<Ended>)
+        ensures ended { IfSome whole (λ ended. self.new ≡ ItsEnded ended) }
         ensures same { whole ≡ None → self.new ≡ self.old }
     {
-        if let Some(assembly) = whole {
-            self.put(Ended::of(assembly));
+        if let Some(ended) = whole {
+            self.put(ended);
         }
     }
 

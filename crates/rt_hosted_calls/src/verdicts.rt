@@ -6,7 +6,7 @@ ghost use Rattle.rt_hosted_calls.specs.Verdicts.{AuditsTold, JudgesTold, ReadsTo
 use crate::code::Code;
 use crate::member::Member;
 use rt_audit::Verdict;
-use rt_hosted_audit::{Ended, TextError};
+use rt_hosted_audit::{Ended, JudgeError, TextError};
 use std::alloc::Global;
 
 /// A verdict, as `fx_verdict` of the header has it.
@@ -71,7 +71,8 @@ fn judge(alloc: Global, ended: &Ended, verdict: &mut VerdictTold) -> Code
             *verdict = told(found);
             Code::Ok
         }
-        Err(_) => Code::NoMemory,
+        Err(JudgeError::Parted) => Code::PassedOn,
+        Err(JudgeError::Memory) => Code::NoMemory,
     }
 }
 

@@ -6,7 +6,6 @@ use rt_hosted_calls::orders::job_order;
 use rt_hosted_calls::verdicts::VerdictTold;
 use rt_hosted_calls::{Code, Member};
 use std::alloc::Global;
-use std::test::Fail;
 
 /// A verdict that nothing was told of.
 fn no_verdict() -> VerdictTold {
@@ -39,7 +38,7 @@ fn is_back(room: &mut Room, name: &Name) -> bool {
 }
 
 /// Whether a job of the outside actor comes back from a core that closes, and the core comes to its end.
-fn drains(room: &mut Room) -> bool {
+pub(crate) fn drains(room: &mut Room) -> bool {
     let mut name = no_name();
     room.outside.send(0, job_order(0, 7), &mut name) == Code::Ok
         && closes(room)
@@ -50,7 +49,7 @@ fn drains(room: &mut Room) -> bool {
 }
 
 /// Whether a seat ends in the house.
-fn ends(alloc: Global, house: &mut Member, seat: Box<Member>) -> bool {
+pub(crate) fn ends(alloc: Global, house: &mut Member, seat: Box<Member>) -> bool {
     house.end_seat(alloc, seat).is_ok()
 }
 
@@ -65,7 +64,7 @@ fn tells(alloc: Global, house: &mut Member) -> bool {
 }
 
 /// What the audit of a house answers, and whether it tells that all is sound.
-fn judged(alloc: Global, house: &mut Member) -> (Code, u32) {
+pub(crate) fn judged(alloc: Global, house: &mut Member) -> (Code, u32) {
     let mut verdict = no_verdict();
     let code = house.audit(alloc, &mut verdict);
     (code, verdict.sound)
@@ -90,15 +89,17 @@ fn is_sound(alloc: Global, room: Room) -> bool {
     missing == Code::Pending && core_ends && outside_ends && is_judged(alloc, &mut house)
 }
 
+/// Whether a house comes to its end, and is sound.
+fn house_ends(alloc: Global) -> bool {
+    match open(alloc, 1) {
+        Some(mut room) => drains(&mut room) && is_sound(alloc, room),
+        None => false,
+    }
+}
+
 #[test]
-fn a_house_ends(rt: HostRuntime) -> Result<(), Fail> {
-    let Some(mut room) = open(rt.alloc(), 1) else {
-        assert!(rt; false, "no house");
-        return Ok(());
-    };
-    let drained = drains(&mut room);
-    assert!(rt; drained && is_sound(rt.alloc(), room));
-    Ok(())
+fn a_house_ends(rt: HostRuntime) {
+    assert!(rt; house_ends(rt.alloc()));
 }
 
 /// Whether seats that may not end come back.
@@ -120,12 +121,15 @@ fn come_back(alloc: Global, room: Room) -> bool {
     early && open
 }
 
+/// Whether the seats of a house that may not end come back.
+fn house_goes_on(alloc: Global) -> bool {
+    match open(alloc, 1) {
+        Some(room) => come_back(alloc, room),
+        None => false,
+    }
+}
+
 #[test]
-fn a_seat_ends_in_its_order(rt: HostRuntime) -> Result<(), Fail> {
-    let Some(room) = open(rt.alloc(), 1) else {
-        assert!(rt; false, "no house");
-        return Ok(());
-    };
-    assert!(rt; come_back(rt.alloc(), room));
-    Ok(())
+fn a_seat_ends_in_its_order(rt: HostRuntime) {
+    assert!(rt; house_goes_on(rt.alloc()));
 }

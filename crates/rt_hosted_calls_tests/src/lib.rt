@@ -4,6 +4,8 @@
 #[cfg(test)]
 mod ends;
 #[cfg(test)]
+mod parts;
+#[cfg(test)]
 mod refusals;
 #[cfg(test)]
 mod room;

@@ -1,39 +1,40 @@
 //! Calls with numbers that there aren't, out of order, and on a member that they aren't for.
 
-use crate::room::{Room, config, no_name, no_outcome, no_turn, open};
-use rt_hosted_calls::Code;
+use crate::room::{Room, no_name, no_outcome, no_turn, open};
 use rt_hosted_calls::house::{Config, House};
 use rt_hosted_calls::orders::{close_order, core_order, create_order, job_order, shares_order};
+use rt_hosted_calls::{Code, Member};
 use rt_ids::Order;
-use std::test::Fail;
+use std::alloc::Global;
+
+/// Numbers of configs of which one is out of its range: size, cores, places and burst.
+static WRONG: [[u32; 4]; 5] = [
+    [16, 1, 4, 1],
+    [20, 17, 4, 1],
+    [20, 256, 4, 1],
+    [20, 1, 65536, 1],
+    [20, 1, 4, 0],
+];
+
+/// Whether a config of these numbers opens no house.
+fn opens_none(alloc: Global, numbers: &[u32; 4]) -> bool {
+    let config = Config {
+        size: numbers[0],
+        cores: numbers[1],
+        places: numbers[2],
+        burst: numbers[3],
+        notes: 1000,
+    };
+    matches!(House::open(alloc, &config), Err(Code::BadNumber))
+}
 
 #[test]
 fn a_bad_config_opens_no_house(rt: HostRuntime) {
-    for wrong in [
-        Config {
-            size: 16,
-            ..config(1)
-        },
-        Config {
-            cores: 17,
-            ..config(1)
-        },
-        Config {
-            cores: 256,
-            ..config(1)
-        },
-        Config {
-            places: 65536,
-            ..config(1)
-        },
-        Config {
-            burst: 0,
-            ..config(1)
-        },
-    ] {
-        let refused = matches!(House::open(rt.alloc(), &wrong), Err(Code::BadNumber));
-        assert!(rt; refused);
+    let mut refused = true;
+    for numbers in &WRONG {
+        refused = refused && opens_none(rt.alloc(), numbers);
     }
+    assert!(rt; refused);
 }
 
 /// What the outside actor answers to an order for this core.
@@ -89,18 +90,30 @@ fn refuses_members(room: &mut Room) -> bool {
     next && settle && send && shows && house
 }
 
+/// Whether a house all of whose seats were taken has no more.
+fn has_no_seat(alloc: Global, house: &mut Member) -> bool {
+    matches!(house.take_seat(alloc), Err(Code::Absent))
+}
+
+/// Whether all of these are refused.
+fn refuses(alloc: Global, room: &mut Room) -> bool {
+    refuses_orders(room)
+        && refuses_numbers(room)
+        && refuses_order(room)
+        && refuses_structs(room)
+        && refuses_members(room)
+        && has_no_seat(alloc, &mut room.house)
+}
+
+/// Whether a house refuses them.
+fn house_refuses(alloc: Global) -> bool {
+    match open(alloc, 1) {
+        Some(mut room) => refuses(alloc, &mut room),
+        None => false,
+    }
+}
+
 #[test]
-fn calls_are_refused(rt: HostRuntime) -> Result<(), Fail> {
-    let Some(mut room) = open(rt.alloc(), 1) else {
-        assert!(rt; false, "no house");
-        return Ok(());
-    };
-    assert!(rt; refuses_orders(&mut room));
-    assert!(rt; refuses_numbers(&mut room));
-    assert!(rt; refuses_order(&mut room));
-    assert!(rt; refuses_structs(&mut room));
-    assert!(rt; refuses_members(&mut room));
-    let none = matches!(room.house.take_seat(rt.alloc()), Err(Code::Absent));
-    assert!(rt; none);
-    Ok(())
+fn calls_are_refused(rt: HostRuntime) {
+    assert!(rt; house_refuses(rt.alloc()));
 }

@@ -7,7 +7,7 @@ use rt_hosted_calls::orders::{
     close_order, core_order, create_order, job_order, shares_order, wake_order,
 };
 use rt_ids::Order;
-use std::test::Fail;
+use std::alloc::Global;
 
 /// Submits an order from outside, and lets the core take it in. Its name.
 fn hand_in(room: &mut Room, order: Result<Order<u64>, Code>) -> Option<Name> {
@@ -20,14 +20,14 @@ fn hand_in(room: &mut Room, order: Result<Order<u64>, Code>) -> Option<Name> {
     }
 }
 
-/// Whether job 7 of this queue runs twice, and is done with its answer.
-fn is_run(room: &mut Room, queue: u32) -> bool {
+/// Whether this job of this queue runs twice, and is done with its answer.
+fn is_run(room: &mut Room, queue: u32, job: u64) -> bool {
     let mut turn = no_turn();
     room.core.next(&mut turn) == Code::Start
         && room.core.settle(0, 0, 10) == Code::Ok
         && room.core.next(&mut turn) == Code::Resume
         && room.core.settle(1, 14, 10) == Code::Done
-        && turn.job == 7
+        && turn.job == job
         && turn.queue == queue
 }
 
@@ -40,21 +40,22 @@ fn is_answered(room: &mut Room, name: &Name) -> bool {
 /// Whether a job of this queue runs, and its answer comes back.
 fn runs(room: &mut Room, queue: u32) -> bool {
     match hand_in(room, job_order(queue, 7)) {
-        Some(name) => is_run(room, queue) && is_answered(room, &name),
+        Some(name) => is_run(room, queue, 7) && is_answered(room, &name),
+        None => false,
+    }
+}
+
+/// Whether a job runs in a house whose turns have so many runs.
+fn runs_in_a_house(alloc: Global, burst: u32) -> bool {
+    match open(alloc, burst) {
+        Some(mut room) => runs(&mut room, 0),
         None => false,
     }
 }
 
 #[test]
-fn a_job_runs(rt: HostRuntime) -> Result<(), Fail> {
-    for burst in [1, 4] {
-        let Some(mut room) = open(rt.alloc(), burst) else {
-            assert!(rt; false, "no house");
-            return Ok(());
-        };
-        assert!(rt; runs(&mut room, 0), "burst {burst}");
-    }
-    Ok(())
+fn a_job_runs(rt: HostRuntime) {
+    assert!(rt; runs_in_a_house(rt.alloc(), 1) && runs_in_a_house(rt.alloc(), 4));
 }
 
 /// The answer to an order that is no job, and the queue that it names.
@@ -83,17 +84,6 @@ fn closes_are_answered(room: &mut Room) -> bool {
         && told(room, core_order(1)) == Some((6, 0))
 }
 
-#[test]
-fn orders_run(rt: HostRuntime) -> Result<(), Fail> {
-    let Some(mut room) = open(rt.alloc(), 1) else {
-        assert!(rt; false, "no house");
-        return Ok(());
-    };
-    assert!(rt; queue_is_answered(&mut room));
-    assert!(rt; closes_are_answered(&mut room));
-    Ok(())
-}
-
 /// Whether the job that came in parks.
 fn parks(room: &mut Room) -> bool {
     let mut turn = no_turn();
@@ -114,16 +104,6 @@ fn parks_and_wakes(room: &mut Room) -> bool {
         Some(name) => parks(room) && wakes(room, &name),
         None => false,
     }
-}
-
-#[test]
-fn a_parked_job_is_woken(rt: HostRuntime) -> Result<(), Fail> {
-    let Some(mut room) = open(rt.alloc(), 1) else {
-        assert!(rt; false, "no house");
-        return Ok(());
-    };
-    assert!(rt; parks_and_wakes(&mut room));
-    Ok(())
 }
 
 /// Whether a job of a queue that isn't there comes back.
@@ -149,13 +129,22 @@ fn is_let_go(room: &mut Room) -> bool {
     room.outside.detach(&name) == Code::Ok && room.outside.detach(&name) == Code::Gone
 }
 
+/// Whether orders are answered, jobs park, come back and are let go, one after another.
+fn all_is_answered(alloc: Global) -> bool {
+    match open(alloc, 1) {
+        Some(mut room) => {
+            comes_back(&mut room)
+                && is_let_go(&mut room)
+                && is_run(&mut room, 0, 9)
+                && queue_is_answered(&mut room)
+                && parks_and_wakes(&mut room)
+                && closes_are_answered(&mut room)
+        }
+        None => false,
+    }
+}
+
 #[test]
-fn a_job_comes_back(rt: HostRuntime) -> Result<(), Fail> {
-    let Some(mut room) = open(rt.alloc(), 1) else {
-        assert!(rt; false, "no house");
-        return Ok(());
-    };
-    assert!(rt; comes_back(&mut room));
-    assert!(rt; is_let_go(&mut room));
-    Ok(())
+fn orders_run(rt: HostRuntime) {
+    assert!(rt; all_is_answered(rt.alloc()));
 }

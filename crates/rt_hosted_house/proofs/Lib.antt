@@ -1,1 +1,2 @@
 mod Opened
+pub mod Passed

@@ -1,3 +1,4 @@
 pub mod Bad
 pub mod Houses
 pub mod Outside
+pub mod Passing

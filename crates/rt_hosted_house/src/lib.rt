@@ -3,6 +3,7 @@
 
 pub mod house;
 pub mod outside;
+mod passing;
 mod sent;
 
 pub use house::{House, OpenError, open_house};

@@ -1,18 +1,22 @@
 //! The outside actor: the host's part of the house that belongs to no core.
 
-ghost use Rattle.std.specs.Prelude.{◌≡◌, ◌+◌, ◌≤◌, ◌↔◌, IfOk, IsTrue, length};
+ghost use Rattle.std.specs.Prelude.{◌≡◌, ◌≢◌, ◌+◌, ◌≤◌, ◌↔◌, [], IfOk, IsTrue, length};
 ghost use Rattle.rt_journal_desk.specs.Submissions.{opened_desk};
 ghost use Rattle.rt_ring_mesh.specs.Ends.{AreFresh};
 ghost use Rattle.rt_hosted.specs.Submissions.{order_of_host};
 ghost use Rattle.rt_hosted_house.specs.Outside.{Collects, Detaches, HasRoom, Posts, Redeems, StaysOutside};
+ghost use Rattle.rt_hosted_house.specs.Passing.{HandsOn};
 
+use crate::passing::hand_on;
 use crate::sent::{collect_on, detach_on, redeem_on, submit_on};
 use rt_hosted::told::host_order;
 use rt_hosted::{HostJob, Refusal};
+use rt_hosted_parts::PassError;
 use rt_ids::{ActorNo, CoreNo, Order, Outcome, Ticket};
 use rt_journal_desk::RecordedDesk;
 use rt_journal_notes::RunningJournal;
 use rt_ring_mesh::Ends;
+use rt_sinks::Discard;
 use std::alloc::{AllocError, Global};
 use std::marker::Model;
 
@@ -22,6 +26,8 @@ pub struct Outside {
     cores: u8,
     desk: RecordedDesk<HostJob>,
     ends: Ends<HostJob>,
+    /// What was passed on.
+    passed: Discard,
 }
 
 impl Model for Outside {
@@ -33,7 +39,7 @@ impl Model for Outside {
 
     ghost view = { λ o. record { desk = o.desk; ends = o.ends } };
 
-    ghost invariant = { λ o. SendsFrom (record { desk = o.desk; ends = o.ends }) × (o.cores ≡ o.desk.cores) };
+    ghost invariant = { λ o. SendsFrom (record { desk = o.desk; ends = o.ends }) × (o.cores ≡ o.desk.cores) × (o.passed ≡ o.desk.journal.passed) };
 }
 
 impl Outside {
@@ -52,7 +58,19 @@ impl Outside {
         ensures ends { IfOk result (λ outside. outside.ends ≡ ends) }
     {
         let desk = RecordedDesk::open_burst(alloc, ActorNo(cores), cores, cap, burst, room)?;
-        Ok(Outside { cores, desk, ends })
+        Ok(Outside {
+            cores,
+            desk,
+            ends,
+            passed: Discard::new(),
+        })
+    }
+
+    /// The number of this actor, which is the count of the cores.
+    fn number(&self) -> ActorNo
+        ensures { result ≡ self.now.desk.cores }
+    {
+        ActorNo(self.cores)
     }
 
     /// Whether there is room for so many notes.
@@ -139,6 +157,25 @@ impl Outside {
         ensures { result.now ≡ self.now.desk.journal }
     {
         self.desk.journal()
+    }
+
+    /// Hands on the text of the notes that the journal keeps, as a core does.
+    ///
+    /// # Errors
+    ///
+    /// `Memory` if there isn't enough for the text, else `Short` if there is room for fewer bytes. Then nothing changes.
+    pub fn pass_on(&mut self, alloc: Global, bytes: &mut [u8]) -> Result<u64, PassError>
+        ensures { HandsOn self.old bytes.old result bytes.new self.new }
+    {
+        let number = self.number();
+        hand_on(alloc, number, &mut self.desk, &mut self.passed, bytes)
+    }
+
+    /// Whether a note was passed on.
+    pub fn has_passed(&self) -> bool
+        ensures { IsTrue result ↔ (self.now.desk.journal.passed ≢ []) }
+    {
+        self.passed.count() > 0
     }
 
     /// The notes and the ends, which are given up.

@@ -48,6 +48,8 @@ pub enum Error {
     NotDrained,
     /// The journals can't be those of one house.
     Mixed,
+    /// Notes were passed on, so the house can't judge its journals.
+    PassedOn,
 }
 
 impl Error {
@@ -74,7 +76,8 @@ impl Error {
             raw::FX_SHUT => Error::Shut,
             raw::FX_NOT_DRAINED => Error::NotDrained,
             raw::FX_MIXED => Error::Mixed,
-            // Whoever has a `Core` has an open one, so FX_EMPTY and FX_OCCUPIED don't come here.
+            raw::FX_PASSED_ON => Error::PassedOn,
+            // Whoever has a `Core` has an open one, so FX_EMPTY and FX_OCCUPIED don't come here. FX_SHORT ends in a call with more room.
             _ => unreachable!("the library answered code {code}"),
         }
     }
@@ -104,6 +107,7 @@ impl fmt::Display for Error {
             Error::Shut => "the gate was shut before",
             Error::NotDrained => "the core isn't drained",
             Error::Mixed => "the journals can't be those of one house",
+            Error::PassedOn => "notes were passed on",
         })
     }
 }

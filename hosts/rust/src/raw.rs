@@ -36,6 +36,8 @@ pub const FX_OPEN: u32 = 26;
 pub const FX_SHUT: u32 = 27;
 pub const FX_NOT_DRAINED: u32 = 28;
 pub const FX_MIXED: u32 = 29;
+pub const FX_SHORT: u32 = 30;
+pub const FX_PASSED_ON: u32 = 31;
 
 pub const FX_STEP_YIELD: u32 = 0;
 pub const FX_STEP_DONE: u32 = 1;
@@ -194,6 +196,7 @@ extern "C" {
     pub fn fx_seat_wake(seat: *mut fx_seat, job: *const fx_name, name: *mut fx_name) -> u32;
     pub fn fx_seat_redeem(seat: *mut fx_seat, name: *const fx_name, outcome: *mut fx_outcome) -> u32;
     pub fn fx_seat_detach(seat: *mut fx_seat, name: *const fx_name) -> u32;
+    pub fn fx_seat_pass_on(seat: *mut fx_seat, bytes: *mut u8, room: usize, count: *mut u64) -> u32;
     pub fn fx_seat_close(seat: *mut fx_seat, mode: u32) -> u32;
     pub fn fx_seat_shut(seat: *mut fx_seat, sender: u32) -> u32;
     pub fn fx_seat_drained(seat: *mut fx_seat) -> u32;

@@ -4,7 +4,7 @@ use fairexec::linked::{spawn, yield_now, Answer, Cancelled, Config, Core, Cx, Ho
 use fairexec::{Error, Mode};
 use std::panic::{catch_unwind, AssertUnwindSafe};
 use std::sync::atomic::{AtomicUsize, Ordering};
-use std::sync::Arc;
+use std::sync::{Arc, Mutex};
 use std::thread::JoinHandle;
 
 /// A value that counts how many of it are alive.
@@ -359,5 +359,67 @@ fn what_a_task_spawned_runs_behind_its_end() -> Result<(), Error> {
 fn tasks_want_two_places() -> Result<(), Error> {
     let (_house, mut core, _outside) = single::<Task>(1)?;
     assert_eq!(core.run_tasks(), Err(Error::BadNumber));
+    Ok(())
+}
+
+/// The text that an actor passed on.
+#[derive(Clone, Default)]
+struct Part(Arc<Mutex<Vec<u8>>>);
+
+impl Part {
+    fn keeper(&self) -> impl FnMut(&[u8]) + Send + 'static {
+        let part = self.clone();
+        move |text| part.0.lock().expect("no panic").extend_from_slice(text)
+    }
+
+    fn lines(&self) -> usize {
+        self.0.lock().expect("no panic").iter().filter(|byte| **byte == b'\n').count()
+    }
+}
+
+#[test]
+fn a_house_runs_on_over_journals_of_few_notes() -> Result<(), Error> {
+    let (house, cores, mut outside): Opened<Task> = House::open(&Config { cores: 2, places: 8, notes: 48, ..Config::default() })?;
+    let parts: [Part; 3] = Default::default();
+    outside.keep_notes_by(parts[2].keeper());
+    let threads: Vec<_> = cores
+        .into_iter()
+        .map(|mut core| {
+            core.keep_notes_by(parts[core.number() as usize].keeper());
+            std::thread::spawn(move || core.run_tasks().map(|()| core))
+        })
+        .collect();
+    for number in 0..200 {
+        // Each task asks one of the other core.
+        let (ticket, join) = outside.spawn(number % 2, 0, async move { 2 * spawn(1 - number % 2, 0, async move { number }).await.unwrap_or(0) })?;
+        outside.wait_for(&ticket)?;
+        assert_eq!(join.take(), Some(Ok(2 * number)));
+    }
+    outside.close_all(Mode::Finish)?;
+    let mut cores = threads.into_iter().map(|it| it.join().expect("a core ends")).collect::<Result<Vec<_>, _>>()?;
+    for core in &mut cores {
+        core.pass_on(&mut parts[core.number() as usize].0.lock().expect("no panic"))?;
+    }
+    outside.pass_on(&mut parts[2].0.lock().expect("no panic"))?;
+    assert!(parts[0].lines() + parts[1].lines() >= 200 * 16 && parts[2].lines() >= 200 * 3);
+    let mut journals = house.end(cores, outside).map_err(|(error, ..)| error)?;
+    assert_eq!(journals.audit().err(), Some(Error::PassedOn));
+    assert_eq!(journals.text()?, "journal 1\ncores 2 cap 8\nend\n");
+    Ok(())
+}
+
+#[test]
+fn notes_are_passed_on_behind_what_a_text_has() -> Result<(), Error> {
+    let (house, mut core, mut outside) = single(4)?;
+    let mut text = b"before\n".to_vec();
+    core.pass_on(&mut text)?;
+    assert_eq!(text, b"before\n");
+    let ticket = sent(outside.submit(0, 0, 20u64))?;
+    assert!(core.round(|job, _| Step::Done(*job))?);
+    core.pass_on(&mut text)?;
+    assert_eq!(text, b"before\n0 took 1>0#1 q0\n0 pick q0 at 0\n0 start 1>0#1\n".iter().chain(&text[52..]).copied().collect::<Vec<_>>());
+    assert!(text[52..].starts_with(b"0 done 1>0#1 ") && text.ends_with(b" = 20\n"));
+    assert!(matches!(outside.wait_for(&ticket)?, Outcome::Done(20)));
+    drop((house, core, outside));
     Ok(())
 }

@@ -28,12 +28,14 @@ pub(super) struct Actor<J> {
     pub(super) lanes: Arc<Lanes<J>>,
     // Jobs for whose outcome nobody asks, by the core. They are redeemed once they are collected, since a job that comes back has a place.
     loose: Vec<Vec<Ticket>>,
+    // Whether the journal was too full to redeem one of them.
+    misses: bool,
 }
 
 impl<J> Actor<J> {
     pub(super) fn new(number: u32, seat: Seat, lanes: Arc<Lanes<J>>) -> Actor<J> {
         let loose = (0..lanes.cores()).map(|_| Vec::new()).collect();
-        Actor { seat, number, lanes, loose }
+        Actor { seat, number, lanes, loose, misses: false }
     }
 
     pub(super) fn submit(&mut self, to: u32, queue: u32, job: J) -> Result<Ticket, (Error, J)> {
@@ -64,16 +66,35 @@ impl<J> Actor<J> {
     /// Collects what the links show. How many outcomes there were.
     pub(super) fn collect(&mut self) -> Result<u64, Error> {
         let mut all = 0;
+        let missed = std::mem::take(&mut self.misses);
         for core in 0..self.lanes.cores() {
-            let count = self.seat.collect(core)?;
+            let count = match self.seat.collect(core) {
+                Ok(count) => count,
+                Err(error) => {
+                    self.misses |= missed;
+                    return Err(error);
+                }
+            };
             all += count;
-            if count > 0 && !self.loose[core as usize].is_empty() {
+            if (count > 0 || missed) && !self.loose[core as usize].is_empty() {
                 let mut loose = std::mem::take(&mut self.loose[core as usize]);
-                loose.retain(|ticket| matches!(self.redeem(ticket), Err(Error::Pending | Error::JournalFull)));
+                loose.retain(|ticket| self.stays_loose(ticket));
                 self.loose[core as usize] = loose;
             }
         }
         Ok(all)
+    }
+
+    /// Whether the outcome of this job is still to be asked for.
+    fn stays_loose(&mut self, ticket: &Ticket) -> bool {
+        match self.redeem(ticket) {
+            Err(Error::JournalFull) => {
+                self.misses = true;
+                true
+            }
+            Err(Error::Pending) => true,
+            _ => false,
+        }
     }
 
     pub(super) fn redeem(&mut self, ticket: &Ticket) -> Result<Outcome<J>, Error> {
@@ -192,6 +213,22 @@ macro_rules! submissions {
         /// `JournalFull`, `Unknown`, `Gone`.
         pub fn detach(&mut self, ticket: Ticket) -> Result<(), Error> {
             self.$actor.detach(ticket)
+        }
+
+        /// Puts the text of the notes that the journal keeps behind this text. The journal keeps none of them then, and all its notes are free.
+        /// All parts of an actor are its notes in the text of the journals.
+        ///
+        /// # Errors
+        ///
+        /// `NoMemory`. Then nothing changes.
+        pub fn pass_on(&mut self, text: &mut Vec<u8>) -> Result<(), Error> {
+            self.$actor.seat.pass_on(text)
+        }
+
+        /// Whenever the journal is full from now on, the text of its notes goes to `takes`, and the call that needs room is made again. So
+        /// `JournalFull` comes only if the journal has room for fewer notes than one call may need. What is kept at the end goes out by `pass_on`.
+        pub fn keep_notes_by(&mut self, takes: impl FnMut(&[u8]) + Send + 'static) {
+            self.$actor.seat.keep_notes_by(Box::new(takes));
         }
     };
 }

@@ -128,7 +128,7 @@ impl Journals {
     ///
     /// # Errors
     ///
-    /// `NoMemory`.
+    /// `PassedOn` if an actor passed notes on, so that they aren't here; `NoMemory`.
     pub fn audit(&mut self) -> Result<Verdict, Error> {
         let mut verdict = raw::fx_verdict { size: size_of::<raw::fx_verdict>() as u32, ..raw::fx_verdict::default() };
         // SAFETY: the handle is of this house alone, and the verdict is a local value.
@@ -136,7 +136,7 @@ impl Journals {
         Ok(Verdict { is_sound: verdict.sound == 1, rule: verdict.rule, actor: verdict.actor, line: verdict.line })
     }
 
-    /// Their text.
+    /// Their text: that of the notes that were kept.
     ///
     /// # Errors
     ///

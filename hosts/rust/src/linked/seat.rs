@@ -29,9 +29,17 @@ pub(super) enum Told {
     Answered(u32, u32),
 }
 
+/// Who takes the notes that a seat hands on, and where their text stands meanwhile.
+struct Keeper {
+    takes: Box<dyn FnMut(&[u8]) + Send>,
+    text: Vec<u8>,
+}
+
 /// A seat that was taken. It is freed as it is dropped.
 pub(super) struct Seat {
     handle: raw::fx_seat,
+    // Whoever takes the notes if the journal is full.
+    keeper: Option<Keeper>,
     // The library asks that a lock, the start or the join of a thread, or a sequentially consistent atomic stands between two calls on
     // different threads. A channel may hand a value over by less. So each call begins and ends with such an atomic of its seat.
     order: AtomicBool,
@@ -44,7 +52,7 @@ unsafe impl Send for Seat {}
 impl Seat {
     /// The next seat of a house, with its number.
     pub(super) fn take(house: &mut raw::fx_house) -> Result<(u32, Seat), Error> {
-        let mut seat = Seat { handle: raw::fx_seat { at: std::ptr::null_mut() }, order: AtomicBool::new(false) };
+        let mut seat = Seat { handle: raw::fx_seat { at: std::ptr::null_mut() }, keeper: None, order: AtomicBool::new(false) };
         let mut actor = 0;
         // SAFETY: the house is open, and the seat is empty.
         refused(seat.call(|it| unsafe { raw::fx_house_take(house, it, &mut actor) }))?;
@@ -57,15 +65,59 @@ impl Seat {
         refused(self.call(|it| unsafe { raw::fx_house_end(house, it) }))
     }
 
-    fn call(&mut self, call: impl FnOnce(&mut raw::fx_seat) -> u32) -> u32 {
+    fn call(&mut self, mut call: impl FnMut(&mut raw::fx_seat) -> u32) -> u32 {
+        let code = self.call_once(&mut call);
+        // If the notes are taken, the journal is as good as new.
+        if code == raw::FX_JOURNAL_FULL && self.hand_on().is_ok() {
+            return self.call_once(&mut call);
+        }
+        code
+    }
+
+    fn call_once(&mut self, call: impl FnOnce(&mut raw::fx_seat) -> u32) -> u32 {
         self.order.load(Ordering::SeqCst);
         let code = call(&mut self.handle);
         self.order.store(true, Ordering::SeqCst);
         code
     }
 
+    /// Whenever the journal is full, its notes go to whoever takes them.
+    pub(super) fn keep_notes_by(&mut self, takes: Box<dyn FnMut(&[u8]) + Send>) {
+        self.keeper = Some(Keeper { takes, text: Vec::new() });
+    }
+
+    /// Hands the notes to whoever takes them, if there is one.
+    fn hand_on(&mut self) -> Result<(), Error> {
+        let Some(mut keeper) = self.keeper.take() else { return Err(Error::JournalFull) };
+        let told = self.pass_on(&mut keeper.text);
+        if told.is_ok() {
+            (keeper.takes)(&keeper.text);
+        }
+        keeper.text.clear();
+        self.keeper = Some(keeper);
+        told
+    }
+
+    /// Puts the text of the notes that the journal keeps behind this text.
+    pub(super) fn pass_on(&mut self, text: &mut Vec<u8>) -> Result<(), Error> {
+        loop {
+            let (had, room) = (text.len(), text.capacity() - text.len());
+            let mut count = 0;
+            // SAFETY: as above; behind what it has the vector has room for as many bytes as the call is told.
+            match self.call_once(|it| unsafe { raw::fx_seat_pass_on(it, text.as_mut_ptr().add(had), room, &mut count) }) {
+                raw::FX_SHORT => text.reserve(count as usize),
+                code => {
+                    refused(code)?;
+                    // SAFETY: the call wrote so many bytes there.
+                    unsafe { text.set_len(had + count as usize) };
+                    return Ok(());
+                }
+            }
+        }
+    }
+
     /// A call that tells the name of a submission.
-    fn named(&mut self, call: impl FnOnce(&mut raw::fx_seat, &mut raw::fx_name) -> u32) -> Result<Name, Error> {
+    fn named(&mut self, mut call: impl FnMut(&mut raw::fx_seat, &mut raw::fx_name) -> u32) -> Result<Name, Error> {
         let mut name = raw::fx_name::default();
         refused(self.call(|it| call(it, &mut name)))?;
         Ok(Name::of(&name))

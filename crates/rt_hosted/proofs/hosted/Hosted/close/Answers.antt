@@ -14,6 +14,7 @@ invariant_of-self c =
       hosted_after 1 c.self.inside.recorded c.close.new.self c.self.inside.ends c.close.ensures.sound beside room adds.few keeps c.close.ensures.seat,
       keeps.runs _ c.self.invariant.1,
       c.self.invariant.2 ∙ sym c.close.ensures.seat.cores,
+      c.self.invariant.3 ∙ sym c.close.ensures.seat.passed,
     )
 
 pub returns-clause-stays : goal.returns-clause-stays

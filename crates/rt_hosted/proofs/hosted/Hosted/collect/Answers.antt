@@ -12,6 +12,7 @@ invariant_of-self c = (
       (let longer : length c.collect_on.new.recorded.journal.notes ≡ length c.collect_on.ensures.does.collects.0 + length c.self.inside.recorded.journal.notes = ap (λ journal. length journal.notes) c.collect_on.ensures.does.collects.3 ∙ length-append c.collect_on.ensures.does.collects.0 c.self.inside.recorded.journal.notes in omega (arith, longer, c.collect_on.ensures.does.collects.2, c.collect_on.ensures.does.few)) (rest_run c.self.inside.recorded c.collect_on.new.recorded c.collect_on.ensures.does.rest) c.collect_on.ensures.does.stays.seat,
   (rest_run c.self.inside.recorded c.collect_on.new.recorded c.collect_on.ensures.does.rest).runs _ c.self.invariant.1,
   c.self.invariant.2 ∙ sym c.collect_on.ensures.does.stays.seat.cores,
+  c.self.invariant.3 ∙ sym c.collect_on.ensures.does.stays.seat.passed,
 )
 
 pub returns-clause-hosted : goal.returns-clause-hosted

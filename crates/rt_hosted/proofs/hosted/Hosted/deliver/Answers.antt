@@ -12,6 +12,7 @@ invariant_of-self c = (
       (delivered_few c.args.sender c.deliver_on.result (record { recorded = c.self.inside.recorded; ends = c.self.inside.ends }) (record { recorded = c.deliver_on.new.recorded; ends = c.deliver_on.new.ends }) c.deliver_on.ensures.does) (delivered_run c.self.inside.recorded c.deliver_on.new.recorded _ _ c.deliver_on.result c.deliver_on.ensures.does.delivers) c.deliver_on.ensures.does.stays.seat,
   (delivered_run c.self.inside.recorded c.deliver_on.new.recorded _ _ c.deliver_on.result c.deliver_on.ensures.does.delivers).runs _ c.self.invariant.1,
   c.self.invariant.2 ∙ sym c.deliver_on.ensures.does.stays.seat.cores,
+  c.self.invariant.3 ∙ sym c.deliver_on.ensures.does.stays.seat.passed,
 )
 
 pub returns-clause-hosted : goal.returns-clause-hosted

@@ -11,6 +11,7 @@ invariant_of-self c = (
       (detached_few _ _ _ _ c.detach_on.ensures.does.detaches) (rest_run c.self.inside.recorded c.detach_on.new.recorded c.detach_on.ensures.does.rest) c.detach_on.ensures.stays.seat,
   (rest_run c.self.inside.recorded c.detach_on.new.recorded c.detach_on.ensures.does.rest).runs _ c.self.invariant.1,
   c.self.invariant.2 ∙ sym c.detach_on.ensures.stays.seat.cores,
+  c.self.invariant.3 ∙ sym c.detach_on.ensures.stays.seat.passed,
 )
 
 pub returns-clause-hosted : goal.returns-clause-hosted

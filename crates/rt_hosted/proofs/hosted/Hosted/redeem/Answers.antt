@@ -11,6 +11,7 @@ invariant_of-self c = (
       (redeemed_few _ _ _ _ c.redeem_on.ensures.does.redeems) (rest_run c.self.inside.recorded c.redeem_on.new.recorded c.redeem_on.ensures.does.rest) c.redeem_on.ensures.stays.seat,
   (rest_run c.self.inside.recorded c.redeem_on.new.recorded c.redeem_on.ensures.does.rest).runs _ c.self.invariant.1,
   c.self.invariant.2 ∙ sym c.redeem_on.ensures.stays.seat.cores,
+  c.self.invariant.3 ∙ sym c.redeem_on.ensures.stays.seat.passed,
 )
 
 pub returns-clause-hosted : goal.returns-clause-hosted

@@ -11,6 +11,7 @@ invariant_of-self c = (
       (let longer : length c.shut_on.new.recorded.journal.notes ≡ length c.self.inside.recorded.journal.notes + 1 = ap (λ journal. length journal.notes) c.shut_on.ensures.does.tells.journal ∙ omega arith in omega (arith, longer)) (same_run c.self.inside.recorded.core.out c.shut_on.new.recorded.core.out c.shut_on.ensures.does.tells.out) c.shut_on.ensures.does.stays.seat,
   (same_run c.self.inside.recorded.core.out c.shut_on.new.recorded.core.out c.shut_on.ensures.does.tells.out).runs _ c.self.invariant.1,
   c.self.invariant.2 ∙ sym c.shut_on.ensures.does.stays.seat.cores,
+  c.self.invariant.3 ∙ sym c.shut_on.ensures.does.stays.seat.passed,
 )
 
 pub returns-clause-hosted : goal.returns-clause-hosted

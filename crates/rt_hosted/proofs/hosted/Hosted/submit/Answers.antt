@@ -11,6 +11,7 @@ invariant_of-self c = (
       (submitted_few _ _ _ _ _ c.submit_on.ensures.does.submits) (rest_run c.self.inside.recorded c.submit_on.new.recorded c.submit_on.ensures.does.rest) c.submit_on.ensures.stays.seat,
   (rest_run c.self.inside.recorded c.submit_on.new.recorded c.submit_on.ensures.does.rest).runs _ c.self.invariant.1,
   c.self.invariant.2 ∙ sym c.submit_on.ensures.stays.seat.cores,
+  c.self.invariant.3 ∙ sym c.submit_on.ensures.stays.seat.passed,
 )
 
 pub returns-clause-hosted : goal.returns-clause-hosted

@@ -1,4 +1,4 @@
-use Rattle.std.proofs.Common.{sym, ap}
+use Rattle.std.proofs.Common.{sym, ap, ◌∙◌}
 use Rattle.rt_hosted_house.proofs.Opened.{outside_sends}
 use Rattle.rt_hosted_house.proofs.outside.Outside.open.Goals as goal
 
@@ -6,4 +6,5 @@ pub invariant_of-result : goal.invariant_of-result
 invariant_of-result c = (
   outside_sends _ _ _ _ c.in_ok-desk.desk c.args.ends c.in_ok-desk.ensures.opened c.requires.outs c.requires.fresh,
   ap (λ desk. desk.cores) (sym c.in_ok-desk.ensures.opened),
+  c.new.ensures ∙ ap (λ desk. desk.journal.passed) (sym c.in_ok-desk.ensures.opened),
 )

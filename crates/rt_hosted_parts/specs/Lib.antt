@@ -1,0 +1,3 @@
+pub mod Bad
+pub mod Laws
+pub mod Parts
