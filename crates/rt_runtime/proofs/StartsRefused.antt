@@ -13,7 +13,7 @@ module _ {J T : Type 0} (cap burst room : ℕ) (queues : List Entry) (clocks gat
   no_cores_refused starts = omega (arith, starts.0.numbers.some_core)
 
   -- there are no cores, and want of memory is told
-  memory_refused : Starts {J} {T} 0 cap burst room queues clocks gates (Err Memory) → ⊥
+  memory_refused : Starts {J = J} {T = T} 0 cap burst room queues clocks gates (Err Memory) → ⊥
   memory_refused good = omega (arith, good.numbers.some_core)
 
   -- a clock is wanting
@@ -21,7 +21,7 @@ module _ {J T : Type 0} (cap burst room : ℕ) (queues : List Entry) (clocks gat
   clock_refused cores few starts = omega (arith, few, starts.0.clocks_are)
 
   -- a good configuration is told as a bad one
-  good_refused : (cores : ℕ) → IsGood cores cap burst room queues clocks gates → Starts {J} {T} cores cap burst room queues clocks gates (Err BadConfig) → ⊥
+  good_refused : (cores : ℕ) → IsGood cores cap burst room queues clocks gates → Starts {J = J} {T = T} cores cap burst room queues clocks gates (Err BadConfig) → ⊥
   good_refused cores good starts = starts good
 
   -- a sink is wanting: the outside actor has none
