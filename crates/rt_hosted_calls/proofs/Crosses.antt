@@ -11,6 +11,7 @@ use Rattle.rt_desk.specs.contracts.lane.Lane.{the_row as lane}
 use Rattle.rt_journal_notes.proofs.running.RunningJournal.TheSendSync as journal
 use Rattle.rt_journal_notes.proofs.journal.Journal.TheSendSync as notes
 use Rattle.rt_ring_mesh.proofs.ends.Ends.TheSendSync as ends
+use Rattle.rt_sinks.proofs.discard.Discard.TheSendSync as discard
 use Rattle.rt_core.specs.contracts.one_core.Core.{the_row as core}
 use Rattle.rt_journal_desk.specs.contracts.desk.RecordedDesk.{the_row as desk}
 use Rattle.rt_journal.specs.contracts.recorded.Recorded.{the_row as recorded}
@@ -39,11 +40,11 @@ recorded_send = search (core_send, desk_send, crosses, sendable) depth 60 fits 2
 
 -- a core
 pub hosted_send : IsSend hosted
-hosted_send = search (recorded_send, ends.the_send, job_send, crosses, sendable) depth 60 fits 20000
+hosted_send = search (recorded_send, ends.the_send, discard.the_send, job_send, crosses, sendable) depth 60 fits 20000
 
 -- the outside actor
 pub outside_send : IsSend outside
-outside_send = search (desk_send, ends.the_send, job_send, crosses, sendable) depth 60 fits 20000
+outside_send = search (desk_send, ends.the_send, discard.the_send, job_send, crosses, sendable) depth 60 fits 20000
 
 -- the house, and what it left behind
 house_send : IsSend house

@@ -117,14 +117,14 @@ impl House {
         }
     }
 
-    /// Looks whether notes of this seat were passed on.
-    fn look_at(&mut self, seat: &Member)
-        ensures parted { IsTrue self.new.parted ↔ (IsTrue self.old.parted ⊎ HasPassed seat.now) }
-        ensures rest { self.new ≡ record self.old { parted = self.new.parted } }
+    /// Whether notes of the journals that were handed in were passed on, or of this seat.
+    fn lacks(&self, seat: &Member) -> bool
+        ensures { IsTrue result ↔ (IsTrue self.now.parted ⊎ HasPassed seat.now) }
     {
-        if has_passed(seat) {
-            self.parted = true;
+        if self.parted {
+            return true;
         }
+        has_passed(seat)
     }
 
     /// Takes the journal of a seat in, which is gone from then on.
@@ -140,12 +140,13 @@ impl House {
         if code != Code::Ok {
             return Err((code, seat));
         }
+        let parted = self.lacks(&seat);
         if self.journals.reserve(1).is_err() {
             return Err((Code::NoMemory, seat));
         }
-        self.look_at(&seat);
         self.journals
             .push_reserved(journal_of(Box::into_inner(seat)));
+        self.parted = parted;
         Ok(())
     }
 

@@ -1,8 +1,8 @@
 -- Answers that no call may give, each refused by the definition that judges it.
-use Rattle.std.proofs.Common.{arith}
+use Rattle.std.proofs.Common.{ap, arith}
 use Rattle.std.specs.Prelude.{ℕ, List, [], ◌∷◌, Ok, Err}
 use Rattle.rt_journal_notes.specs.Journals.{JournalView}
-use Rattle.rt_hosted_parts.specs.declared.part.PassError.TheVariants.{Short, Memory}
+use Rattle.rt_hosted_parts.specs.declared.part.PassError.TheVariants.{Short}
 use Rattle.rt_hosted_parts.specs.Parts.{CopiesAll, PassesPart}
 
 -- a text is told as too long for bytes that have room for it
@@ -19,8 +19,8 @@ rest_is_lost copied = cc copied.2
 
 -- a text that is too long loses the notes
 pub short_loses_notes : (before after : List ℕ) → PassesPart 0 (record { notes = []; passed = []; room = 4 }) before (Err (Short 9)) after (record { notes = []; passed = []; room = 3 }) → ⊥
-short_loses_notes before after passes = cc passes.1
+short_loses_notes before after passes = omega (arith, ap (λ (journal : JournalView ℕ). journal.room) passes.1)
 
 -- the places of what was handed on stay used
 pub places_stay_used : (before after : List ℕ) → PassesPart 0 (record { notes = []; passed = []; room = 4 }) before (Ok 0) after (record { notes = []; passed = []; room = 3 }) → ⊥
-places_stay_used before after passes = cc passes.1
+places_stay_used before after passes = omega (arith, ap (λ (journal : JournalView ℕ). journal.room) passes.1)
