@@ -1,6 +1,6 @@
 -- What stands behind a handle of a house may go to another thread.
 use denote.Param.Send.{IsSend, sendable}
-use denote.Struct.Field.{u64-field}
+use denote.Struct.Field.{u64-field, unit-field}
 use Rattle.std.proofs.Crossing.{crosses}
 use Rattle.std.specs.contracts.alloc.Global.{the_row as global}
 use Rattle.std.specs.contracts.impls.GlobalAllocator.TheImpl.{ghosts as its_alloc}
@@ -26,16 +26,16 @@ use Rattle.rt_hosted_calls.specs.contracts.member.Member.{the_row as member}
 job_send : IsSend job
 job_send = search (crosses, sendable)
 
-core_send : IsSend (core job global u64-field.row task its_alloc (copied global))
+core_send : IsSend (core job global u64-field.row unit-field.row task its_alloc (copied global))
 core_send = search (job_send, crosses, tree.crosses, sendable) depth 60 fits 20000
 
-lane_send : IsSend (lane job u64-field.row task)
+lane_send : IsSend (lane job u64-field.row unit-field.row task)
 lane_send = search (job_send, crosses, trie.crosses, sendable) depth 60 fits 20000
 
-desk_send : IsSend (desk job task)
+desk_send : IsSend (desk job unit-field.row task)
 desk_send = search (lane_send, journal.the_send, crosses, sendable) depth 60 fits 20000
 
-recorded_send : IsSend (recorded job global task its_alloc (copied global))
+recorded_send : IsSend (recorded job global unit-field.row task its_alloc (copied global))
 recorded_send = search (core_send, desk_send, crosses, sendable) depth 60 fits 20000
 
 -- a core

@@ -71,7 +71,7 @@ audit_is_busy ended before after told = told
 
 -- journals that lack notes are judged
 pub parted_is_judged : (assembly : Assembly ℕ) (before after : VerdictTold) → JudgesTold (ended_of assembly true) before code.Ok after → ⊥
-parted_is_judged assembly before after told = cc told.2.whole
+parted_is_judged assembly before after told = cc told.1.1.whole
 
 -- journals that lack nothing are told as passed on
 pub whole_is_passed_on : (assembly : Assembly ℕ) (before after : VerdictTold) → JudgesTold (ended_of assembly false) before code.PassedOn after → ⊥

@@ -1,5 +1,5 @@
 -- What no call may tell of submissions, tickets and counts, each refused by the definition that judges it.
-use Rattle.std.proofs.Common.{arith, inl, inr, refl}
+use Rattle.std.proofs.Common.{arith, ap, inl, inr, refl}
 use Rattle.std.specs.Prelude.{◌≡◌, ℕ, Some, None, Ok, Err}
 use Rattle.rt_ids.specs.declared.order.Mode.TheVariants.{Finish}
 use Rattle.rt_ids.specs.declared.order.Order.{Order}
@@ -26,7 +26,7 @@ near_name_has_none (inr far) = omega (arith, far)
 
 -- a name stands for a ticket of another core
 pub name_of_another_core : IsTicketOf (record { number = 1; from = 1; to = 0 }) (Some (record { from = 1; to = 1; number = 1 })) → ⊥
-name_of_another_core is = cc is
+name_of_another_core is = omega (arith, ap (λ (name : Name). name.to) is)
 
 -- an order that couldn't be made is told as sent
 pub bad_order_is_sent : (old new : Member) (before after : Name) → SendsOrder old 0 (Err code.BadShares) before code.Ok after new → ⊥
@@ -57,7 +57,7 @@ house_lets_go house new name (inr told) = told.0
 
 -- a job that is done is told as one that comes back
 pub done_comes_back : outcome_of (Finished 7) ≡ record { size = 32; kind = 1; why = 0; queue = 0; answer = 7; job = 0 } → ⊥
-done_comes_back is = cc is
+done_comes_back is = omega (arith, ap (λ (outcome : OutcomeTold). outcome.kind) is)
 
 -- the counts of a queue are told by a struct of another size
 pub queue_is_told_small : (stats : QueueStats) (figures : QueueFigures) → figures.size ≡ 64 → AreFiguresOf stats figures → ⊥
