@@ -95,7 +95,9 @@ fn come_back<R: Threads + Wait>(rt: &R, house: House<Counted>) -> bool {
     }
     match house.finish_with_locals(rt) {
         Ok((_assembly, tallies)) => {
-            let (first, second) = (&tallies[0], &tallies[1]);
+            let (Some(first), Some(second)) = (tallies.get(0), tallies.get(1)) else {
+                return false;
+            };
             first.core == Some(0) && first.ended == 2 && second.core == Some(1) && second.ended == 3
         }
         Err(_) => false,
