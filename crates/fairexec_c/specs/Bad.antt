@@ -1,5 +1,5 @@
 -- Answers that no call may give, each refused by the definition that judges it.
-use Rattle.std.proofs.Common.{refl}
+use Rattle.std.proofs.Common.{refl, arith, ap}
 use Rattle.std.specs.Prelude.{◌≡◌, ℕ, Some, None, Result}
 use Rattle.rt_ids.specs.declared.order.Order.{Order}
 use Rattle.rt_core.specs.State.{CoreView}
@@ -54,7 +54,7 @@ opened_is_empty config told = told
 
 -- an empty handle tells the name of a submission
 pub empty_handle_names : (order : Result (Order ℕ) Code) → Submits None 0 order (record { number = 0; from = 0; to = 0 }) 12 (record { number = 1; from = 0; to = 0 }) None → ⊥
-empty_handle_names order told = cc (told.1 refl)
+empty_handle_names order told = omega (arith, ap (λ (name : Name). name.number) (told.1 refl))
 
 -- a submission loses the seat
 pub seat_is_lost : (old : Member) (order : Result (Order ℕ) Code) (before after : Name) → Submits (Some old) 0 order before 0 after None → ⊥
