@@ -5,8 +5,8 @@ use Rattle.rt_stats.specs.Walks.{KnowsSums}
 use Rattle.rt_watch.specs.Tells.{TellsCore, TellsQueues}
 use Rattle.rt_watch_tests.proofs.source.numbers_of.Goals as goal
 
-pub returns : goal.returns
-returns c =
+pub returns-in-Some : goal.returns-in-Some
+returns-in-Some c =
     let notes = ap (λ j. j.notes) (c.kept.ensures.whole c.requires) in
     let knows = subst (λ n. KnowsSums c.args.terms.now.burst c.in_ok-sums.sums n) notes c.in_ok-sums.ensures in
     let each : IfSome (Some c.in-Some.queues) (λ queues. (burst : ℕ) (notes : Journal ℕ) → KnowsSums burst c.in_ok-sums.sums notes → TellsQueues burst notes queues.items) =
