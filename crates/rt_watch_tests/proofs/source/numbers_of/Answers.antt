@@ -1,8 +1,8 @@
-use Rattle.std.proofs.Common.{◌≡◌, ℕ, ◌∙◌, ap, sym, subst}
+use Rattle.std.proofs.Common.{ℕ, ap, subst}
 use Rattle.std.specs.Prelude.{IfSome, Some}
 use Rattle.rt_ids.specs.Journal.{Journal}
 use Rattle.rt_stats.specs.Walks.{KnowsSums}
-use Rattle.rt_watch.specs.Tells.{TellsCore, TellsQueues}
+use Rattle.rt_watch.specs.Tells.{TellsQueues}
 use Rattle.rt_watch_tests.proofs.source.numbers_of.Goals as goal
 
 pub returns-in-Some : goal.returns-in-Some
