@@ -3,8 +3,8 @@
 //! **The first word** counts the publications that were begun, **the second** those that are done. Only the publisher changes
 //! them, and they only rise: the first by one before the row is changed, the second by one behind that.
 //!
-//! **The row** stands behind them. Its words are the numbers of the core and of its queues (`specs/Words.antt`). Only the publisher
-//! changes them, and only between the two counts.
+//! **The row** stands behind them. Its words are the numbers of the core and of its queues, and one that tells whether the core
+//! closed by itself (`specs/Words.antt`). Only the publisher changes them, and only between the two counts.
 //!
 //! A watcher loads the second word, then the row, then the first word. If both counts are the same, no publication was begun
 //! while it read: so the row that it read is the one that the last publication left.
