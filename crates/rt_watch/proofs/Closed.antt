@@ -1,6 +1,6 @@
 -- What is told of the closing of a core stays told.
 use Rattle.std.proofs.Common.{◌≡◌, ℕ, zero, suc, ◌<◌, ◌≤◌, ◌||◌, Bool, true, false, List, [], ◌∷◌, ◌++◌, get_or, take, refl, sym, ap, ◌∙◌, arith, subst}
-use Rattle.std.specs.Prelude.{◌==◌, nat_le, Option, Some, None, is_some}
+use Rattle.std.specs.Prelude.{◌==◌, Option, Some, None, is_some}
 use Rattle.rt_ids.specs.Journal.{Journal}
 use Rattle.rt_watch.specs.Closed.{is_own_closing, closed_by_itself, told_by, told_after}
 use Rattle.rt_watch.specs.Growth.{Grows}
@@ -54,6 +54,11 @@ told-now None number true stays = refl
 told-now None number false stays = refl
 told-now (Some first) number true stays = refl
 told-now (Some first) number false stays = stays refl
+
+-- one that keeps what was told changes nothing
+pub told-same : (first : Option ℕ) (number : ℕ) → told_after first number (is_some first) ≡ first
+told-same None number = refl
+told-same (Some first) number = refl
 
 pub told-within : (first : Option ℕ) (number last : ℕ) (closed : Bool) → last < number → ((other : ℕ) → first ≡ Some other → (0 < other) × (other ≤ last))
     → (other : ℕ) → told_after first number closed ≡ Some other → (0 < other) × (other ≤ number)

@@ -8,7 +8,7 @@ use Rattle.rt_watch.specs.Ends.{IsWatcher}
 use Rattle.rt_watch.specs.Growth.{Grows}
 use Rattle.rt_watch.specs.Tells.{Tells}
 use Rattle.rt_watch.specs.Told.{Reads, Checks, Finds, Found, FoundNone}
-use Rattle.rt_watch.specs.Views.{Place, with_look, with_reads, with_seen, watching}
+use Rattle.rt_watch.specs.Views.{Place, with_look, with_reads, watching}
 use Rattle.rt_watch.specs.Words.{closed_in, place_of}
 use Rattle.rt_watch.specs.declared.board.Known.{Known}
 use Rattle.rt_watch.specs.declared.board.Terms.{Terms}

@@ -132,9 +132,9 @@ impl Watcher {
         self.count
     }
 
-    /// Whether that publication told that the core closed by itself: its journal was short, and no command closed it so.
+    /// Whether that publication told that the core closed by itself, without a command. A core that did may have been closed by a command, too.
     ///
-    /// False if it wasn't told. No clause says that a worker tells it.
+    /// False says that it wasn't told. No clause says that what did happen is told.
     pub fn closed_by_itself(&self) -> bool
         ensures told { result ≡ self.now.closed }
         ensures notes { result ≡ true → tells_own_closing self.now.notes ≡ true }

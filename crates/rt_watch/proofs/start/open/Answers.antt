@@ -6,7 +6,7 @@ use Rattle.rt_watch.proofs.start.open.Goals as goal
 pub invariant_of-publisher : goal.invariant_of-publisher
 invariant_of-publisher c = (
   IsPublisher-first _ _ c.in_ok-board.board.shared.table_id c.in_ok-board.seat.me _ _ c.in_ok-board.ensures.table.0 (ap (λ b. b.shared.table_id) c.in_ok-board-2.ensures.ok) c.in_ok-board.ensures.table.2 c.in_ok-row.ensures
-  (ap (λ m. m.0) c.in_ok-board.ensures.publisher),
+      (ap (λ m. m.0) c.in_ok-board.ensures.publisher),
   ap (λ m. is_some m.0.published.closed) c.in_ok-board.ensures.publisher,
 )
 
