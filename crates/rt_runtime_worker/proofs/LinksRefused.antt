@@ -35,8 +35,8 @@ drops_a_note stays = is_shorter stays.grows
     is_shorter (newer, same) = let shorter : 0 ≡ length (newer ++ one_note) = ap (λ (notes : Journal ℕ). length notes) same in omega (arith, shorter, length-append newer one_note)
 
 -- another note stands where it stood
-changes_a_note : StaysLinked (noted one_note) (noted (Created 1 800 ∷ [])) → ⊥
-changes_a_note stays = let opening : Created 1 800 ∷ [] ≡ one_note = stays.opening in cc
+changes_a_note : StaysLinked (noted one_note) (noted (Created 2 900 ∷ [])) → ⊥
+changes_a_note stays = let opening : Created 2 900 ∷ [] ≡ one_note = stays.opening in cc
 
 -- a queue is added to those of the opening
 adds_a_queue : StaysLinked (noted one_note) (noted (Created 2 50 ∷ one_note)) → ⊥

@@ -1,5 +1,5 @@
 -- A small worker that lies down without having published is refused.
-use Rattle.std.proofs.Common.{◌≡◌, ◌⊎◌, ◌||◌, Bool, true, false, inl, inr, true≢false, ℕ, ◌+◌, ◌^◌, ◌-◌, ◌<◌, ◌≤◌, ◌++◌, [], length, length-append, refl, sym, ◌∙◌, ap, arith}
+use Rattle.std.proofs.Common.{◌≡◌, ◌⊎◌, ◌||◌, nat_lt, Bool, true, false, inl, inr, true≢false, ℕ, ◌+◌, ◌^◌, ◌-◌, ◌<◌, ◌≤◌, ◌++◌, [], length, length-append, refl, sym, ◌∙◌, ap, arith}
 use Rattle.rt_ids.specs.declared.names.JobId.{JobId}
 use Rattle.rt_ids.specs.Journal.{Journal}
 use Rattle.rt_jobs.specs.Meanings.{Meaning}
@@ -76,7 +76,7 @@ module _ (meaning : Meaning ℕ ℕ) (reads : ℕ → ℕ → ℕ → Type 0) (a
     where
       same : length goes.ready.linked.recorded.journal.notes ≡ 1
       same = ap (λ (notes : Journal ℕ). length notes) (where_notes has never _ unpublished goes.ready goes.hands)
-      counted : (some : Bool) → MakesRound meaning reads asked _ goes.ready.turns (round_of goes.ready) some 0 (round_of unpublished) → CountsIdle goes.ready.tries some goes.ready.idle true 0 → ⊥
+      counted : (some : Bool) → MakesRound meaning reads asked (nat_lt 0 goes.ready.idle) goes.ready.turns (round_of goes.ready) some 0 (round_of unpublished) → CountsIdle goes.ready.tries some goes.ready.idle true 0 → ⊥
       counted true makes counts = omega (arith, same, round_wrote _ goes.ready.turns 0 (round_of goes.ready) (round_of unpublished) makes refl)
       counted false makes counts = omega (arith, counts.0, goes.keeps.tries)
 
