@@ -1,10 +1,9 @@
 -- What is told of a core that closed by itself stays told.
-use Rattle.std.proofs.Common.{◌≡◌, ◌||◌, true, false, ℕ, ◌∷◌, ap, ◌∙◌, subst, sym}
+use Rattle.std.proofs.Common.{◌≡◌, ◌||◌, true, false, ℕ, ap, ◌∙◌}
 use Rattle.std.proofs.lemmas.Bool.{false≢true}
-use Rattle.std.specs.Prelude.{Bool, Option, None, is_some, not}
+use Rattle.std.specs.Prelude.{Bool, None, is_some, not}
 use Rattle.rt_ids.specs.Commands.{effect_awaited}
 use Rattle.rt_ids.specs.Journal.{Journal}
-use Rattle.rt_ids.specs.declared.note.Note.TheVariants.{CoreClosed}
 use Rattle.rt_ids.specs.declared.order.Mode.TheVariants.{Return}
 use Rattle.rt_journal.specs.Recorded.{RecordedView}
 use Rattle.rt_journal.specs.Steps.{ClosesItself}

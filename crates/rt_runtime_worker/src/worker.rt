@@ -138,11 +138,8 @@ impl<J: Task<Out = u64>, C: Drop, G: Drop, S: Sink> Worker<J, C, G, S> {
     fn show(&mut self)
         ensures { ShowsNow self.old self.new }
     {
-        show_on(
-            self.rounds.recorded(),
-            self.rounds.closed_alone(),
-            &mut self.publisher,
-        );
+        let alone = self.rounds.closed_alone();
+        show_on(self.rounds.recorded(), alone, &mut self.publisher);
         self.since = 0;
     }
 
@@ -190,7 +187,8 @@ impl<J: Task<Out = u64>, C: Drop, G: Drop, S: Sink> Worker<J, C, G, S> {
             ..
         } = self;
         let (mut sink, mut publisher) = (sink, publisher);
-        show_on(rounds.recorded(), rounds.closed_alone(), &mut publisher);
+        let alone = rounds.closed_alone();
+        show_on(rounds.recorded(), alone, &mut publisher);
         let mut linked = rounds.into_linked();
         let _answer = linked.hand_on(&mut sink);
         Ended::of(linked, sink, local, publisher)

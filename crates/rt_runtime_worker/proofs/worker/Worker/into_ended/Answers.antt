@@ -18,4 +18,4 @@ pub show_on-requires-clause-shown : goal.show_on-requires-clause-shown
 show_on-requires-clause-shown g c = subst (λ view. IsShown view (shown_of c.self.inside.publisher)) (sym c.recorded.ensures.recorded) c.self.invariant.3
 
 pub show_on-requires-clause-alone : goal.show_on-requires-clause-alone
-show_on-requires-clause-alone g c = subst (λ view. TellsAlone c.closed_alone.result view.journal.notes) (sym c.recorded.ensures.recorded) c.closed_alone.ensures
+show_on-requires-clause-alone g c = subst (λ view. TellsAlone c.closed_alone-alone.result view.journal.notes) (sym c.recorded.ensures.recorded) c.closed_alone-alone.ensures

@@ -17,4 +17,4 @@ invariant_of-self g c =
     )
 
 pub show_on-requires-clause-alone : goal.show_on-requires-clause-alone
-show_on-requires-clause-alone g c = subst (λ view. TellsAlone c.closed_alone.result view.journal.notes) (sym c.recorded.ensures.recorded) c.closed_alone.ensures
+show_on-requires-clause-alone g c = subst (λ view. TellsAlone c.closed_alone-alone.result view.journal.notes) (sym c.recorded.ensures.recorded) c.closed_alone-alone.ensures
