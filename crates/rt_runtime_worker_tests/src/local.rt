@@ -50,7 +50,7 @@ impl Task for Counted {
     }
 
     fn told(&self) -> Option<u64> {
-        Some(10)
+        None
     }
 }
 
