@@ -1,5 +1,5 @@
 -- What small workers leave at their end that is refused: a core that closed by itself, notes that are kept, a board that is behind.
-use Rattle.std.proofs.Common.{◌≡◌, ◌⊎◌, ◌≢◌, inl, inr, ℕ, ◌+◌, ◌^◌, ◌-◌, ◌<◌, ◌≤◌, [], ◌∷◌, length, refl, sym, ◌∙◌, ap, arith}
+use Rattle.std.proofs.Common.{◌≡◌, ◌⊎◌, inl, inr, ℕ, ◌-◌, [], ◌∷◌, length, sym, ◌∙◌, ap, arith}
 use Rattle.rt_ids.specs.declared.names.JobId.{JobId}
 use Rattle.rt_ids.specs.declared.note.Note.TheVariants.{CoreClosed, Pick, Start, Took, Yield}
 use Rattle.rt_ids.specs.declared.order.Mode.TheVariants.{Return}
@@ -58,6 +58,7 @@ module _ (meaning : Meaning ℕ ℕ) (reads : ℕ → ℕ → ℕ → Type 0) (a
     where
       notes : one_note ≡ ended.last.linked.recorded.journal.notes
       notes = hands_notes has never ended.last.linked (linked_of one_note one_note 1000) ended.last.sink one_note ended.hands
+
       is_behind : Shows ended.last.linked.recorded.journal.notes ended.last.shown (board_of [] 1) → ⊥
       is_behind (inl did) = let none : [] ≡ one_note = ap (λ (shown : ShownView ℕ). shown.notes) did ∙ sym notes in cc
       is_behind (inr (inl many, same)) = let few = ap (λ (shown : ShownView ℕ). shown.count) same in omega (arith, many, few)
