@@ -58,6 +58,7 @@ module _ (meaning : Meaning ℕ ℕ) (reads : ℕ → ℕ → ℕ → Type 0) (a
     where
       notes : one_note ≡ ended.last.linked.recorded.journal.notes
       notes = hands_notes has never ended.last.linked (linked_of one_note one_note 1000) ended.last.sink one_note ended.hands
+
       is_behind : Shows ended.last.linked.recorded.journal.notes ended.last.shown (board_of [] 1) → ⊥
       is_behind (inl did) = let none : [] ≡ one_note = ap (λ (shown : ShownView ℕ). shown.notes) did ∙ sym notes in cc
       is_behind (inr (inl many, same)) = let few = ap (λ (shown : ShownView ℕ). shown.count) same in omega (arith, many, few)

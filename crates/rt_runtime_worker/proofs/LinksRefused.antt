@@ -20,7 +20,7 @@ hearing taken = record (noted []) {
     number = 0;
     outs = [];
     ins = record no_in { inward = record no_in.inward { taken = taken; seen = CloseCore Return ∷ CloseCore Return ∷ [] } } ∷ [];
-  }
+  };
 }
 
 -- the same core, whose end from core 0 has seen nothing

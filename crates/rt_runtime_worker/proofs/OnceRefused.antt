@@ -76,6 +76,7 @@ module _ (meaning : Meaning ℕ ℕ) (reads : ℕ → ℕ → ℕ → Type 0) (a
     where
       same : length goes.ready.linked.recorded.journal.notes ≡ 1
       same = ap (λ (notes : Journal ℕ). length notes) (where_notes has never _ unpublished goes.ready goes.hands)
+
       counted : (some : Bool) → MakesRound meaning reads asked (nat_lt 0 goes.ready.idle) goes.ready.turns (round_of goes.ready) some 0 (round_of unpublished) → CountsIdle goes.ready.tries some goes.ready.idle true 0 → ⊥
       counted true makes counts = omega (arith, same, round_wrote _ goes.ready.turns 0 (round_of goes.ready) (round_of unpublished) makes refl)
       counted false makes counts = omega (arith, counts.0, goes.keeps.tries)
@@ -89,11 +90,13 @@ module _ (meaning : Meaning ℕ ℕ) (reads : ℕ → ℕ → ℕ → Type 0) (a
     where
       count : 0 ≡ told.shown.count
       count = ap (λ (shown : ShownView ℕ). shown.count) (rests.keeps.shown ∙ where_shown meaning reads asked has never _ told rests.ready rests.hands)
+
       few : length tired.linked.recorded.journal.notes ≤ 1
       few =
           let kept = ap (λ (notes : Journal ℕ). length notes) (where_notes has never _ told rests.ready rests.hands) in
           let still = ap (λ (worker : SmallWorker). length worker.linked.recorded.journal.notes) shows.rest in
           omega (arith, kept, still, look_keeps _ _ (round_of rests.ready) (round_of unpublished) rests.looks)
+
       is_told : Shows tired.linked.recorded.journal.notes tired.shown told.shown → ⊥
       is_told (inl did) = let next = ap (λ (shown : ShownView ℕ). shown.count) did in omega (arith, count, next)
       is_told (inr (inl many, same)) = let none = ap (λ (shown : ShownView ℕ). shown.count) was in omega (arith, none, many)

@@ -67,7 +67,15 @@ fn serve_passing<R: Wait>(
     requires own { AreEndsOf 1 4 own }
     requires bells { shared.now.bells.rings ≡ replicate 2 0 }
 {
-    let worker = open(alloc, own, shared, 1, ROOM, refusing_behind(alloc, times), ())?;
+    let worker = open(
+        alloc,
+        own,
+        shared,
+        1,
+        ROOM,
+        refusing_behind(alloc, times),
+        (),
+    )?;
     let (linked, sink) = worker.run(rt).into_parts();
     let (recorded, _ends) = linked.into_parts();
     Ok((
