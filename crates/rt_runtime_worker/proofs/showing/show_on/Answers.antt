@@ -29,8 +29,8 @@ publish_own_closing-requires-clause-closed g c = subst (λ journal. closed_by_it
 pub returns-then-alone : goal.returns-then-alone
 returns-then-alone g c =
     inl (
-      ap shown_of c.publish_own_closing.ensures
-      ∙ ap (λ (journal : JournalView ℕ). record (shown_of c.args.publisher.now) { notes = journal.notes; count = c.args.publisher.now.count + 1 }) c.journal-journal.ensures
+    ap shown_of c.publish_own_closing.ensures
+    ∙ ap (λ (journal : JournalView ℕ). record (shown_of c.args.publisher.now) { notes = journal.notes; count = c.args.publisher.now.count + 1 }) c.journal-journal.ensures
     )
 
 pub publish-requires-clause-queues : goal.publish-requires-clause-queues
@@ -43,6 +43,6 @@ publish-requires-clause-queues g c =
 pub returns : goal.returns
 returns g c =
     inl (
-      ap shown_of c.publish.ensures
-      ∙ ap (λ (journal : JournalView ℕ). record (shown_of c.args.publisher.now) { notes = journal.notes; count = c.args.publisher.now.count + 1 }) c.journal-journal.ensures
+    ap shown_of c.publish.ensures
+    ∙ ap (λ (journal : JournalView ℕ). record (shown_of c.args.publisher.now) { notes = journal.notes; count = c.args.publisher.now.count + 1 }) c.journal-journal.ensures
     )

@@ -20,9 +20,9 @@ collect_from-requires-clause-room g c =
 pub invariant_of-self : goal.invariant_of-self
 invariant_of-self g c = (
   subst (λ ending. IsServed g.J.Task.meaning (record { linked = c.collect_from.new.self; ending = ending })) (sym c.if-self.false)
-    (collects_served c.args.core c.collect_from.result c.self.inside.linked c.collect_from.new.self c.collect_from.ensures.linked c.collect_from.ensures.between c.collect_from.ensures.collects
-    (subst (λ ending. IsReady ending c.self.inside.linked.recorded) c.if-self.false (subst (λ view. IsReady view.ending view.linked.recorded) (sym c.self.view_is) c.look.ensures.ready))
-    (subst (λ ending. ActsAsItMay ending c.self.inside.linked.recorded) c.if-self.false c.self.invariant.0.acts)),
+      (collects_served c.args.core c.collect_from.result c.self.inside.linked c.collect_from.new.self c.collect_from.ensures.linked c.collect_from.ensures.between c.collect_from.ensures.collects
+      (subst (λ ending. IsReady ending c.self.inside.linked.recorded) c.if-self.false (subst (λ view. IsReady view.ending view.linked.recorded) (sym c.self.view_is) c.look.ensures.ready))
+      (subst (λ ending. ActsAsItMay ending c.self.inside.linked.recorded) c.if-self.false c.self.invariant.0.acts)),
   alone_grows c.self.inside.alone c.self.inside.linked.recorded.journal.notes c.collect_from.new.self.recorded.journal.notes c.collect_from.ensures.collects.stays.grows c.self.invariant.1,
 )
 

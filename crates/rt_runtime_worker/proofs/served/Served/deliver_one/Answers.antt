@@ -17,8 +17,8 @@ deliver_from-requires-clause-room g c =
 pub invariant_of-self : goal.invariant_of-self
 invariant_of-self g c = (
   delivers_served c.args.sender c.deliver_from.result c.self.inside.ending c.self.inside.linked c.deliver_from.new.self c.self.invariant.0.linked c.deliver_from.ensures.linked c.self.invariant.0.between c.deliver_from.ensures.between
-    (omega (arith, c.requires, c.look.ensures.stays.seat.cores, ap (λ view. view.linked.recorded.core.cores) c.self.view_is)) c.deliver_from.ensures.delivers
-    (subst (λ view. IsReady view.ending view.linked.recorded) (sym c.self.view_is) c.look.ensures.ready) c.self.invariant.0.acts,
+      (omega (arith, c.requires, c.look.ensures.stays.seat.cores, ap (λ view. view.linked.recorded.core.cores) c.self.view_is)) c.deliver_from.ensures.delivers
+      (subst (λ view. IsReady view.ending view.linked.recorded) (sym c.self.view_is) c.look.ensures.ready) c.self.invariant.0.acts,
   alone_grows c.self.inside.alone c.self.inside.linked.recorded.journal.notes c.deliver_from.new.self.recorded.journal.notes c.deliver_from.ensures.delivers.stays.grows c.self.invariant.1,
 )
 

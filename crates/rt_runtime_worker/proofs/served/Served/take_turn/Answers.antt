@@ -24,8 +24,8 @@ turn-requires g c = record {
 pub invariant_of-self : goal.invariant_of-self
 invariant_of-self g c = (
   turned_served c.self.inside.linked c.turn.new.self c.self.invariant.0.linked c.turn.ensures.linked c.self.invariant.0.between c.turn.ensures.between c.turn.ensures.stays.seat g.M.Meter.Tells g.G.Gate.Asked c.args.meter.now c.turn.new.meter
-    c.args.gate.now c.turn.new.gate c.turn.result c.self.inside.ending c.turn.ensures.makes
-    (subst (λ view. IsReady view.ending view.linked.recorded) (sym c.self.view_is) c.look.ensures.ready) c.self.invariant.0.acts,
+      c.args.gate.now c.turn.new.gate c.turn.result c.self.inside.ending c.turn.ensures.makes
+      (subst (λ view. IsReady view.ending view.linked.recorded) (sym c.self.view_is) c.look.ensures.ready) c.self.invariant.0.acts,
   alone_grows c.self.inside.alone c.self.inside.linked.recorded.journal.notes c.turn.new.self.recorded.journal.notes c.turn.ensures.stays.grows c.self.invariant.1,
 )
 
