@@ -45,6 +45,8 @@ pub struct Published {
     pub row: LinkedList<u64>,
     /// The notes whose numbers were published last, the newest first.
     pub notes: LinkedList<Note<u64>>,
+    /// The number of the first publication that told that the core closed by itself.
+    pub closed: Option<u64>,
 }
 
 /// What a watcher's seat knows. No value of it is made.
@@ -55,6 +57,10 @@ pub struct Looked {
     pub read: LinkedList<u64>,
     /// The notes whose numbers the last look told that found one publication, the newest first.
     pub seen: LinkedList<Note<u64>>,
+    /// The number of the publication which that look found.
+    pub count: u64,
+    /// That publication told that the core closed by itself.
+    pub closed: bool,
 }
 
 /// What a seat at the table knows. No value of it is made.
