@@ -1,5 +1,5 @@
 -- The rule of the table, which holds between any two steps of its seats.
-use Rattle.std.specs.Prelude.{◌≡◌, ℕ, ◌≤◌, true, Some, is_some, List, ◌∷◌, length, take}
+use Rattle.std.specs.Prelude.{◌≡◌, ℕ, ◌<◌, ◌≤◌, true, Some, is_some, List, ◌∷◌, length, take}
 use mathlib.Core.Option.{some}
 use lib.ListN.{get_elem?}
 use Rattle.atomic_table.specs.Table.{State}
@@ -37,5 +37,5 @@ pub record IsBoard (terms : Terms) (state : State (JournalView ℕ) Known) : Typ
   pub behind : whole.done ≤ whole.begun
   pub tells : whole.begun ≡ whole.done → Tells terms whole.notes whole.row
   pub closed : whole.begun ≡ whole.done → closed_in whole.row ≡ is_some whole.closed
-  pub closed_done : (first : ℕ) → whole.closed ≡ Some first → first ≤ whole.done
+  pub closed_at : (first : ℕ) → whole.closed ≡ Some first → (0 < first) × (first ≤ whole.done)
   pub views : AreTold terms whole publisher state.views

@@ -1,6 +1,6 @@
 //! The steps of a watcher's seat.
 
-ghost use Rattle.std.specs.Prelude.{◌≡◌, ◌+◌, ◌≤◌, [], true, IfSome, None, length};
+ghost use Rattle.std.specs.Prelude.{◌≡◌, ◌+◌, ◌<◌, ◌≤◌, [], true, IfSome, None, length};
 ghost use Rattle.rt_watch.specs.Told.{Checks, Found, FoundNone};
 ghost use Rattle.rt_watch.specs.Views.{with_look, with_reads};
 ghost use Rattle.rt_watch.specs.Words as spec;
@@ -39,6 +39,7 @@ fn read_all(board: &Board, seat: &mut Place, row: &mut Vec<u64>)
 fn check(board: &Board, seat: &mut Place) -> u64
     requires board { (seat.old.table_id ≡ board.now.shared.table_id) × (2 ≤ board.now.shared.table_id.words) }
     requires knows { seat.old.me.0.knows ≡ true }
+    requires whole { 6 < length seat.old.me.0.looked.read }
     ensures table { seat.new.table_id ≡ seat.old.table_id }
     ensures checks { Checks seat.old.me result seat.new.me }
 {
