@@ -3,6 +3,9 @@
 //! It prints the sum that a job made of another core's list, what the caller read of two lists, and whether the journals are sound.
 #![tactic(auto)]
 
+ghost use Rattle.std.specs.Prelude.{◌≡◌, false};
+ghost use Rattle.example_answers.specs.Over.{is_over};
+
 use rt_audit::{Verdict, audit};
 use rt_ids::{CoreNo, Mode, Order, Outcome, QueueNo};
 use rt_runtime::{Config, NoGate, Runtime, SystemClock};
@@ -51,7 +54,9 @@ where
 }
 
 /// What a job on core 0 answers. None if it was refused or handed back.
-fn answer<R: Wait + Drop>(rt: &R, node: &mut Node<R>, job: Work) -> Option<u64> {
+fn answer<R: Wait + Drop>(rt: &R, node: &mut Node<R>, job: Work) -> Option<u64>
+    requires { is_over job ≡ false }
+{
     let ticket = node.submit(CoreNo(0), Order::Job(LISTS, job)).ok()?;
     match node.wait(rt, ticket) {
         Ok(Outcome::Finished(number)) => Some(number),
