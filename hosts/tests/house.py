@@ -100,8 +100,10 @@ class Actor:
 
     def ticket(self, name):
         """The link of a ticket, on which it is outstanding."""
-        self.want_room(1)
         sender, to, number = name
+        if sender > 255 or to > 255:
+            raise Refused("FX_UNKNOWN")
+        self.want_room(1)
         if sender != self.number or to >= self.house.cores or not 1 <= number <= self.links[to].given:
             raise Refused("FX_UNKNOWN")
         if self.links[to].held.get(number, "detached") == "detached":

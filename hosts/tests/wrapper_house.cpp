@@ -1,6 +1,7 @@
 // What fairexec_house.hpp adds to the calls: who owns a job, what comes back, and what two threads do with it.
 // The last line is 'N passed, M failed', and the status is 0 if nothing failed.
 #include "fairexec_house.hpp"
+#include <atomic>
 #include <cstdio>
 #include <thread>
 
@@ -21,14 +22,14 @@ static void is(const char *what, unsigned long found, unsigned long wanted) {
 
 // Counts how many are alive.
 struct counted {
-    static long alive;
+    static std::atomic<long> alive;
     unsigned long value;
     explicit counted(unsigned long value) : value(value) { alive++; }
     counted(counted &&other) noexcept : value(other.value) { alive++; }
     counted &operator=(counted &&) = delete;
     ~counted() { alive--; }
 };
-long counted::alive = 0;
+std::atomic<long> counted::alive{0};
 
 static linked::result twice(counted &job, linked::cx<counted> &) { return linked::done(2 * job.value); }
 
@@ -56,7 +57,7 @@ static void one_core() {
     is("the core hasn't seen it", core.run_turn(twice), FX_IDLE);
     is("it is delivered", core.deliver(did) == FX_OK && did, 1);
     is("it runs", core.run_turn(twice), FX_DONE);
-    is("and is destroyed", counted::alive, 0);
+    is("and is destroyed", counted::alive.load(), 0);
     is("its outcome is collected", outside.collect(count) == FX_OK && count == 1, 1);
     is("and told", outside.redeem(*sent.ticket).second->answer, 42);
     is("once", outside.redeem(*sent.ticket).first, FX_GONE);
@@ -89,14 +90,14 @@ static void what_comes_back() {
         is("the last is detached", outside.detach(tickets[3]), FX_OK);
         is("the core hands back", core.close(mode::give_back), FX_OK);
         while (core.run_turn(twice) == FX_BACK) {}
-        is("all four are alive", counted::alive, 4);
+        is("all four are alive", counted::alive.load(), 4);
         is("they are collected", outside.collect(count) == FX_OK && count == 4, 1);
-        is("the detached one is destroyed", counted::alive, 3);
+        is("the detached one is destroyed", counted::alive.load(), 3);
         auto first = outside.redeem(tickets[0]).second, third = outside.redeem(tickets[2]).second;
         is("the first comes back as it was", first->kind == FX_KIND_BACK && first->why == FX_REASON_CORE_RETURNED && first->back->value == 11, 1);
         is("so does one for a queue that isn't there", third->why == FX_REASON_NO_QUEUE && third->back->value == 3, 1);
     }
-    is("what a house has ends with it", counted::alive, 0);
+    is("what a house has ends with it", counted::alive.load(), 0);
 }
 
 static void exceptions() {
