@@ -23,6 +23,7 @@ pub mod Booked
 pub mod HandedOn
 pub mod Dealt
 pub mod Watched
+pub mod ClosingsTold
 pub mod Started
 pub mod Collected
 pub mod Sent

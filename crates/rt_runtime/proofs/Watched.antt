@@ -8,7 +8,7 @@ use Rattle.rt_watch.specs.declared.watcher.Watching.{Watching}
 use Rattle.rt_runtime_worker.specs.Ended.{EndedView}
 use Rattle.rt_runtime_worker.specs.Linked.{LinkedView}
 use Rattle.rt_runtime_worker.specs.Together.{no_linked, worker_at}
-use Rattle.std.specs.Prelude.{Bool, false}
+use Rattle.std.specs.Prelude.{Bool, true, false}
 use Rattle.rt_ids.specs.declared.order.Order.{Order}
 use Rattle.rt_ids.specs.declared.order.Outcome.{Outcome}
 use Rattle.rt_ids.specs.Journal.{Journal}
@@ -109,11 +109,18 @@ module _ {J T : Type 0} (old : RuntimeView J T) (core : ℕ) (low : core < lengt
   now : watch_at core (set old.watched core after) ≡ after
   now = get_or-set_same old.watched core after no_watch low
 
-  pub watches : after.board ≡ before.board → after.terms ≡ before.terms → Grows before.notes after.notes → (found ≡ false → after.notes ≡ before.notes) → Watches core old found (record old { watched = set old.watched core after })
-  watches board terms grows none = record {
+  pub watches : after.board ≡ before.board → after.terms ≡ before.terms → Grows before.notes after.notes → before.count ≤ after.count → (before.closed ≡ true → after.closed ≡ true) → (found ≡ false → after.notes ≡ before.notes) →
+      (found ≡ false → (after.count ≡ before.count) × (after.closed ≡ before.closed)) → Watches core old found (record old { watched = set old.watched core after })
+  watches board terms grows counted told none kept = record {
     board = ap (λ (watcher : Watching). watcher.board) now ∙ (board ∙ ap (λ (watcher : Watching). watcher.board) (sym was));
     terms_are = ap (λ (watcher : Watching). watcher.terms) now ∙ (terms ∙ ap (λ (watcher : Watching). watcher.terms) (sym was));
     grows = subst (λ (watcher : Watching). Grows watcher.notes (watch_at core (set old.watched core after)).notes) (sym was) (subst (λ (watcher : Watching). Grows before.notes watcher.notes) (sym now) grows);
+    counted = omega (arith, counted, ap (λ (watcher : Watching). watcher.count) was, ap (λ (watcher : Watching). watcher.count) now);
+    told = λ before_told. ap (λ (watcher : Watching). watcher.closed) now ∙ told (ap (λ (watcher : Watching). watcher.closed) (sym was) ∙ before_told);
     none = λ vain. ap (λ (watcher : Watching). watcher.notes) now ∙ (none vain ∙ ap (λ (watcher : Watching). watcher.notes) (sym was));
+    kept = λ vain. (
+      ap (λ (watcher : Watching). watcher.count) now ∙ ((kept vain).0 ∙ ap (λ (watcher : Watching). watcher.count) (sym was)),
+      ap (λ (watcher : Watching). watcher.closed) now ∙ ((kept vain).1 ∙ ap (λ (watcher : Watching). watcher.closed) (sym was)),
+    );
     rest = ap (λ (watcher : Watching). record old { watched = set old.watched core watcher }) (sym now);
   }

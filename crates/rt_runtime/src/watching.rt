@@ -1,7 +1,7 @@
 //! What the caller sees of the cores while they run.
 
 ghost use Rattle.std.specs.Prelude.{◌≡◌, ◌<◌, ◌≤◌, IfSome, None, false};
-ghost use Rattle.rt_runtime.specs.Watching.{Watches, watch_at};
+ghost use Rattle.rt_runtime.specs.Watching.{IsToldRightly, Watches, closing_told, watch_at};
 
 use crate::runtime::Runtime;
 use rt_ids::CoreNo;
@@ -32,5 +32,23 @@ impl<J: Task<Out = u64>, C: Drop, G: Drop, S: Sink> Runtime<J, C, G, S> {
         ensures none { self.now.desk.cores ≤ core → result ≡ None }
     {
         self.watchers.get(core.0 as usize)
+    }
+
+    /// Whether the core closed by itself, since its journal was short: what the publication tells that the last watch of this core saw. None
+    /// if no watch saw one yet, or if there is no such core. `Some(true)` stays. `Some(false)` says that it wasn't told then.
+    ///
+    /// A worker that closes its core by itself publishes that before it shuts a gate. So a caller that was answered `SendError::Closed` and
+    /// then watches the core finds it. That is by the body alone: no clause says when a worker publishes, or that a watch sees it. A core
+    /// that was closed by order in mode `Finish` may close by itself later, if its journal grows short: then it is told, too.
+    pub fn closed_by_itself(&self, core: CoreNo) -> Option<bool>
+        ensures some { core < self.now.desk.cores → result ≡ closing_told (watch_at core self.now.watched) }
+        ensures rightly { core < self.now.desk.cores → IsToldRightly (watch_at core self.now.watched) result }
+        ensures none { self.now.desk.cores ≤ core → result ≡ None }
+    {
+        let watcher = self.watched(core)?;
+        if watcher.publication() == 0 {
+            return None;
+        }
+        Some(watcher.closed_by_itself())
     }
 }

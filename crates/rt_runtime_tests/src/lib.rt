@@ -8,6 +8,8 @@ mod bursts;
 #[cfg(test)]
 mod calls;
 #[cfg(test)]
+mod causes;
+#[cfg(test)]
 mod closing;
 #[cfg(test)]
 mod errors;

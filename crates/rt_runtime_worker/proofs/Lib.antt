@@ -1,5 +1,6 @@
 pub mod Along
 pub mod Growing
+pub mod Alone
 pub mod Published
 pub mod Seen
 pub mod Openings

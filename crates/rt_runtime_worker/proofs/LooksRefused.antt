@@ -1,5 +1,5 @@
 -- Looks of a small worker that are refused: gates that stay open, orders that are left, turns that are made up, too many notes.
-use Rattle.std.proofs.Common.{◌≡◌, ◌⊎◌, Bool, true, false, inl, inr, ℕ, ◌+◌, ◌<◌, ◌≤◌, [], ◌∷◌, length, replicate, refl, ap, arith}
+use Rattle.std.proofs.Common.{◌≡◌, Bool, true, false, inl, inr, ℕ, [], ◌∷◌, replicate, refl, ap, arith}
 use Rattle.rt_ids.specs.declared.names.JobId.{JobId}
 use Rattle.rt_ids.specs.declared.note.Note.TheVariants.{CoreClosed, Created, Shut}
 use Rattle.rt_ids.specs.declared.order.Mode.TheVariants.{Return}
@@ -11,7 +11,6 @@ use Rattle.rt_runtime_worker.specs.Looks.{LooksAtAll, RoundView, round_view, tur
 use Rattle.rt_runtime_worker.specs.Readings.{WatchView}
 use Rattle.rt_runtime_worker.specs.Rounds.{HasShutGates, IsHeard, ShutsClosed}
 use Rattle.rt_runtime_worker.proofs.LinksRefused.{hearing, noted}
-use Rattle.rt_runtime_worker.proofs.SmallWorkers.{linked_of}
 
 -- the core is closed, and the gate of core 0 is shut, but not that of the outside actor
 abbrev half_shut : Journal ℕ

@@ -1,15 +1,15 @@
 -- Rounds and rests of a small worker that are refused: notes that are kept, handed on too early, or left unpublished.
-use Rattle.std.proofs.Common.{◌≡◌, ◌⊎◌, ◌||◌, Bool, true, false, not, inl, inr, true≢false, ℕ, ◌<◌, ◌≤◌, [], ◌∷◌, length, Result, Ok, Err, refl, sym, ◌∙◌, ap, arith}
+use Rattle.std.proofs.Common.{◌≡◌, Bool, inl, inr, ℕ, [], Result, Ok, Err, refl, sym, ◌∙◌, ap, arith}
 use Rattle.rt_ids.specs.declared.names.JobId.{JobId}
 use Rattle.rt_ids.specs.Journal.{Journal}
 use Rattle.rt_jobs.specs.Meanings.{Meaning}
 use Rattle.rt_journal_notes.specs.Journals.{JournalView}
 use Rattle.rt_journal_notes.specs.Passing.{PassesOn}
 use Rattle.rt_journal_notes.specs.declared.sink.Refused.{Refused}
-use Rattle.rt_runtime_worker.specs.Passing.{HandsOnWhere, IsDue, IsDueAtRest}
-use Rattle.rt_runtime_worker.specs.Serves.{GoesOn, Rests, ServesOnce}
+use Rattle.rt_runtime_worker.specs.Passing.{HandsOnWhere, IsDue}
+use Rattle.rt_runtime_worker.specs.Serves.{GoesOn, Rests}
 use Rattle.rt_runtime_worker.specs.Workers.{served_of}
-use Rattle.rt_runtime_worker.proofs.SmallWorkers.{SmallWorker, board_of, linked_of, one_note, small_worker}
+use Rattle.rt_runtime_worker.proofs.SmallWorkers.{SmallWorker, linked_of, one_note, small_worker}
 
 -- the sink has what it was handed, and never refuses
 abbrev pub has : Journal ℕ → Journal ℕ

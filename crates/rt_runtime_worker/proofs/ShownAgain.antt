@@ -7,7 +7,7 @@ use Rattle.rt_jobs.specs.Meanings.{Meaning}
 use Rattle.rt_runtime_worker.specs.Asks.{AsksSince}
 use Rattle.rt_runtime_worker.specs.Linked.{LinkedView, RunsOn}
 use Rattle.rt_runtime_worker.specs.Passing.{HandsOnWhere}
-use Rattle.rt_runtime_worker.specs.Serves.{GoesOn, Rests, Serves, ServesOnce, ShowsAgain, ShowsNow}
+use Rattle.rt_runtime_worker.specs.Serves.{GoesOn, Rests, Serves, ServesOnce, ShowsAgain, ShowsEnd, ShowsNow}
 use Rattle.rt_runtime_worker.specs.Shown.{ShownView, Shows}
 use Rattle.rt_runtime_worker.specs.Workers.{WorkerView}
 
@@ -38,6 +38,25 @@ module _ {J T C G S : Type 0} where
     board = ap (λ view. view.shown.board) none.1;
   }
 
+  pub end_same : (was : Bool) (old new : WorkerView J T C G S) → ShowsEnd was old new → SameCore old new
+  end_same was old new (inl did) = now_same old new did.2
+  end_same was old new (inr none) = record {
+    linked = ap (λ view. view.linked) none.1;
+    gate = ap (λ view. view.gate) none.1;
+    board = ap (λ view. view.shown.board) none.1;
+  }
+
+  module _ (middle new : WorkerView J T C G S) (same : SameCore middle new) where
+    -- a step before it is one to the same core
+    pub runs_to : (old : LinkedView J T) → RunsOn old middle.linked → RunsOn old new.linked
+    runs_to old runs = subst (RunsOn old) (sym same.linked) runs
+
+    pub asks_to : (asked : G → ℕ → JobId → G → Type 0) (core : ℕ) (notes : Journal T) (gate : G) → AsksSince asked core notes middle.linked.recorded.journal.notes gate middle.gate →
+        AsksSince asked core notes new.linked.recorded.journal.notes gate new.gate
+    asks_to asked core notes gate asks =
+        subst (λ after. AsksSince asked core notes new.linked.recorded.journal.notes gate after) (sym same.gate)
+        (subst (λ linked. AsksSince asked core notes linked.recorded.journal.notes gate middle.gate) (sym same.linked) asks)
+
   module _ (old middle : WorkerView J T C G S) (same : SameCore old middle) where
     -- a step behind it is one of the same core
     pub runs_from : (new : LinkedView J T) → RunsOn middle.linked new → RunsOn old.linked new
@@ -67,4 +86,4 @@ module _ {J T C G S : Type 0} where
 
     -- a worker that serves keeps its board
     pub serves_board : (old new : WorkerView J T C G S) → Serves meaning reads asked has refused old new → new.shown.board ≡ old.shown.board
-    serves_board old new (shown, again, once) = once_board shown new once ∙ (again_same old shown again).board
+    serves_board old new (shown, again, (served, once, end)) = (end_same shown.ending served new end).board ∙ (once_board shown served once ∙ (again_same old shown again).board)

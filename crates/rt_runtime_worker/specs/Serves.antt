@@ -39,6 +39,10 @@ module _ {J T C G S : Type 0} where
   abbrev pub counted_round : WorkerView J T C G S → WorkerView J T C G S
   counted_round worker = record worker { since = if nat_lt 0 worker.idle then worker.since else worker.since + 1 }
 
+  -- They are published where the worker came to its end, and wasn't there before. Otherwise nothing is done.
+  abbrev pub ShowsEnd : Bool → WorkerView J T C G S → WorkerView J T C G S → Type 0
+  ShowsEnd was old new = ((was ≡ false) × (old.ending ≡ true) × ShowsNow old new) ⊎ (((was ≡ false) × (old.ending ≡ true) → ⊥) × (new ≡ old))
+
   -- they are published where enough rounds were counted since the last time, and otherwise the round before is counted
   abbrev pub ShowsAgain : WorkerView J T C G S → WorkerView J T C G S → Type 0
   ShowsAgain old new = ((shown_each ≤ old.since) × ShowsNow old new) ⊎ ((old.since < shown_each) × (new ≡ counted_round old))
@@ -67,9 +71,10 @@ module _ {J T C G S : Type 0} (meaning : Meaning J T) (reads : C → ℕ → C �
       GoesOn old true new
       ⊎ ((tired : WorkerView J T C G S) × GoesOn old false tired × ((told : WorkerView J T C G S) × ShowsNow tired told × ((slept : Bool) × Rests told slept new)))
 
-  -- the numbers are published if it is time, and then there is one round, and a rest where the next one isn't made at once
+  -- The numbers are published if it is time, and then there is one round, and a rest where the next one isn't made at once. They are published once more where
+  -- the worker came to its end by it.
   abbrev pub Serves : WorkerView J T C G S → WorkerView J T C G S → Type 0
-  Serves old new = (shown : WorkerView J T C G S) × ShowsAgain old shown × ServesOnce shown new
+  Serves old new = (shown : WorkerView J T C G S) × ShowsAgain old shown × ((served : WorkerView J T C G S) × ServesOnce shown served × ShowsEnd shown.ending served new)
 
   -- the worker served like this once and again, and these are its states between, the last one first
   abbrev pub ServesAlong : List (WorkerView J T C G S) → WorkerView J T C G S → WorkerView J T C G S → Type 0

@@ -1,8 +1,9 @@
 -- What of a core its worker publishes, so that others may watch it while it runs.
-use Rattle.std.specs.Prelude.{◌≡◌, ◌⊎◌, ℕ, ◌+◌, ◌-◌, ◌^◌, ◌≤◌, List, length}
+use Rattle.std.specs.Prelude.{◌≡◌, ◌⊎◌, ℕ, ◌+◌, ◌-◌, ◌^◌, ◌≤◌, Bool, true, List, length}
 use Rattle.rt_ids.specs.Journal.{Journal}
 use Rattle.rt_journal.specs.Recorded.{RecordedView}
 use Rattle.rt_runtime_worker.specs.Linked.{Grows}
+use Rattle.rt_watch.specs.Closed.{closed_by_itself}
 use Rattle.rt_watch.specs.declared.board.Terms.{Terms}
 use Rattle.rt_watch.specs.declared.publisher.Publishing.{Publishing}
 
@@ -24,6 +25,10 @@ most_places = 256
 -- the numbers are published behind so many rounds in which something was done
 abbrev pub shown_each : ℕ
 shown_each = 1024
+
+-- who says so tells that the core of this journal closed by itself
+abbrev pub TellsAlone : Bool → Journal ℕ → Type 0
+TellsAlone alone notes = alone ≡ true → closed_by_itself notes ≡ true
 
 -- what the board of a core is of
 abbrev pub board_terms : {J T : Type 0} → RecordedView J T → Terms

@@ -7,6 +7,7 @@ ghost use Rattle.rt_runtime_worker.specs.Linked.{IsBetweenTurns, IsLinked, Stays
 ghost use Rattle.rt_runtime_worker.specs.Gates.{LeavesShut, LeavesReturning, ShutsFirst};
 ghost use Rattle.rt_runtime_worker.specs.Rooms.{ActsAsItMay, ActsByCommand, HasSpare, IsEnding, IsShort};
 ghost use Rattle.rt_runtime_worker.specs.Rounds.{TellsNotes};
+ghost use Rattle.rt_runtime_worker.specs.Shown.{TellsAlone};
 
 use crate::lent::look_at;
 use crate::linked::Linked;
@@ -51,22 +52,24 @@ impl<J: Task<Out = u64>> Linked<J> {
         some
     }
 
-    /// Closes the core in mode `Return`.
-    fn close_returning(&mut self)
+    /// Closes the core in mode `Return`. Whether it wasn't in that mode, so that it closed by itself.
+    fn close_returning(&mut self) -> bool
         requires { length self.old.recorded.journal.notes < self.old.recorded.journal.room }
-        ensures { LeavesReturning self.old self.new }
+        ensures leaves { LeavesReturning self.old self.new }
+        ensures alone { TellsAlone result self.new.recorded.journal.notes }
     {
-        self.recorded.close(Mode::Return);
+        self.recorded.close(Mode::Return)
     }
 
-    /// Closes the core in mode `Return` and shuts each gate, where the journal is short.
+    /// Closes the core in mode `Return` and shuts each gate, where the journal is short. Whether it closed by itself.
     ///
     /// Once in a worker's life: it stands apart, so that the look at the room before each step stays short.
     #[cold]
-    pub(crate) fn end(&mut self)
+    pub(crate) fn end(&mut self) -> bool
         requires spare { HasSpare self.old.recorded }
         requires short { IsShort self.old.recorded }
         requires acts { ActsByCommand self.old.recorded.journal.notes }
+        ensures alone { TellsAlone result self.new.recorded.journal.notes }
         ensures ending { IsEnding self.new.recorded }
         ensures acts { ActsAsItMay true self.new.recorded }
         ensures polls { NotesNoPoll self.old.recorded.journal.notes self.new.recorded.journal.notes }
@@ -75,7 +78,8 @@ impl<J: Task<Out = u64>> Linked<J> {
         ensures between { IsBetweenTurns self.new.recorded }
     {
         let _cores = self.cores;
-        self.close_returning();
+        let alone = self.close_returning();
         self.shut_gates();
+        alone
     }
 }

@@ -137,7 +137,7 @@ impl<J: Task<Out = u64>, C: Drop, G: Drop, S: Sink> Worker<J, C, G, S> {
         ensures begins { IfOk result (λ opened. HasNotBegun opened.0 × (opened.0.tries ≡ 1024)) }
         ensures queues { IfOk result (λ opened. opened.0.linked.recorded.journal.notes ≡ creations ends.number config.now.queues.items) }
         ensures shown { IfOk result (λ opened. (opened.0.shown.notes ≡ []) × (opened.0.shown.count ≡ 0) × (opened.0.since ≡ 0)) }
-        ensures watches { IfOk result (λ opened. opened.1 ≡ record { board = opened.0.shown.board; terms = opened.0.shown.terms; notes = [] }) }
+        ensures watches { IfOk result (λ opened. opened.1 ≡ record { board = opened.0.shown.board; terms = opened.0.shown.terms; notes = []; count = 0; closed = false }) }
     {
         let number = ends.number;
         let served = serve_core(alloc, config, ends)?;

@@ -11,6 +11,7 @@ ghost use Rattle.rt_runtime_worker.specs.Looks.{LooksAtAll, MakesRound, PassesLi
 ghost use Rattle.rt_runtime_worker.specs.Passing.{HandsOn, HasPlaces, IsDue, IsDueAtRest};
 ghost use Rattle.rt_runtime_worker.specs.Readings.{watch_view};
 ghost use Rattle.rt_runtime_worker.specs.Rounds.{CollectsFirst, HearsAll, ShutsClosed, StepsServed};
+ghost use Rattle.rt_runtime_worker.specs.Shown.{TellsAlone};
 ghost use Rattle.rt_runtime_worker.specs.Steps.{HasNoTurn};
 ghost use Rattle.rt_runtime_worker.specs.Turns.{TurnsWith};
 
@@ -104,6 +105,20 @@ impl<J: Task<Out = u64>, C: Drop, G: Drop> Rounds<J, C, G> {
         ensures { IsTrue result ↔ IsDrained self.now.served.linked.recorded.core.cores self.now.served.linked.recorded.journal.notes }
     {
         self.served.is_drained()
+    }
+
+    /// Whether the worker is at its end.
+    pub(crate) fn is_ending(&self) -> bool
+        ensures { result ≡ self.now.served.ending }
+    {
+        self.served.is_ending()
+    }
+
+    /// Whether the core closed by itself at its end. No clause says that it didn't where the answer is false.
+    pub(crate) fn closed_alone(&self) -> bool
+        ensures { TellsAlone result self.now.served.linked.recorded.journal.notes }
+    {
+        self.served.closed_alone()
     }
 
     /// The linked core.

@@ -12,6 +12,7 @@ ghost use Rattle.rt_runtime_worker.specs.Passing.{HandsOn, HasPlaces, IsDue, IsD
 ghost use Rattle.rt_runtime_worker.specs.Rooms.{ActsByCommand, HasSpare, IsReady};
 ghost use Rattle.rt_runtime_worker.specs.Rounds.{CollectsFirst, CollectsNext, HasShutGates, HearsFirst, HearsOne, HearsSome, LooksAtRoom, StepsServed, is_turn};
 ghost use Rattle.rt_runtime_worker.specs.Steps.{HasNoTurn};
+ghost use Rattle.rt_runtime_worker.specs.Shown.{TellsAlone};
 ghost use Rattle.rt_runtime_worker.specs.Turns.{TakesTurn};
 
 use crate::linked::Linked;
@@ -40,6 +41,8 @@ fn is_work(made: Made) -> bool
 pub struct Served<J: Task<Out = u64>> {
     linked: Linked<J>,
     ending: bool,
+    /// The core closed by itself.
+    alone: bool,
 }
 
 impl<J: Task<Out = u64>> Model for Served<J> {
@@ -49,10 +52,11 @@ impl<J: Task<Out = u64>> Model for Served<J> {
     ghost Value = { ServedView J ℕ };
 
     ghost use Rattle.rt_runtime_worker.specs.Ended.{IsServed};
+    ghost use Rattle.rt_runtime_worker.specs.Shown.{TellsAlone};
 
     ghost view = { λ s. record { linked = s.linked; ending = s.ending } };
 
-    ghost invariant = { λ s. IsServed J.meaning (record { linked = s.linked; ending = s.ending }) };
+    ghost invariant = { λ s. IsServed J.meaning (record { linked = s.linked; ending = s.ending }) × TellsAlone s.alone s.linked.recorded.journal.notes };
 }
 
 impl<J: Task<Out = u64>> Served<J> {
@@ -66,6 +70,7 @@ impl<J: Task<Out = u64>> Served<J> {
         Served {
             linked,
             ending: false,
+            alone: false,
         }
     }
 
@@ -86,6 +91,20 @@ impl<J: Task<Out = u64>> Served<J> {
     /// Makes what is still to be made of what the jobs of the core share.
     pub(crate) fn begin(&self, local: &mut J::Local) {
         self.linked.begin(local);
+    }
+
+    /// Whether the worker is at its end.
+    pub(crate) fn is_ending(&self) -> bool
+        ensures { result ≡ self.now.ending }
+    {
+        self.ending
+    }
+
+    /// Whether the core closed by itself at its end. No clause says that it didn't where the answer is false.
+    pub(crate) fn closed_alone(&self) -> bool
+        ensures { TellsAlone result self.now.linked.recorded.journal.notes }
+    {
+        self.alone
     }
 
     /// The linked core.
@@ -130,7 +149,7 @@ impl<J: Task<Out = u64>> Served<J> {
         ensures polls { NotesNoPoll self.old.linked.recorded.journal.notes self.new.linked.recorded.journal.notes }
     {
         if !self.ending && self.linked.is_short() {
-            self.linked.end();
+            self.alone = self.linked.end();
             self.ending = true;
         }
     }

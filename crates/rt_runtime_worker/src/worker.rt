@@ -7,7 +7,7 @@ ghost use Rattle.rt_runtime_worker.specs.Bells.{AreRung};
 ghost use Rattle.rt_runtime_worker.specs.Linked.{RunsOn};
 ghost use Rattle.rt_runtime_worker.specs.Shown.{IsShown, Shows, shown_of};
 ghost use Rattle.rt_runtime_worker.specs.Passing.{HandsOn, HandsOnWhere, IsDue, IsDueAtRest, IsSupplied, PassesTo};
-ghost use Rattle.rt_runtime_worker.specs.Serves.{GoesOn, Rests, Serves, ServesToItsEnd, ShowsAgain, ShowsNow};
+ghost use Rattle.rt_runtime_worker.specs.Serves.{GoesOn, Rests, Serves, ServesOnce, ServesToItsEnd, ShowsAgain, ShowsEnd, ShowsNow};
 ghost use Rattle.rt_runtime_worker.specs.Workers.{HasNotBegun, IsBellOf, KeepsOn, served_of};
 
 use crate::bell::Bell;
@@ -138,7 +138,8 @@ impl<J: Task<Out = u64>, C: Drop, G: Drop, S: Sink> Worker<J, C, G, S> {
     fn show(&mut self)
         ensures { ShowsNow self.old self.new }
     {
-        show_on(self.rounds.recorded(), &mut self.publisher);
+        let alone = self.rounds.closed_alone();
+        show_on(self.rounds.recorded(), alone, &mut self.publisher);
         self.since = 0;
     }
 
@@ -150,6 +151,25 @@ impl<J: Task<Out = u64>, C: Drop, G: Drop, S: Sink> Worker<J, C, G, S> {
             self.show();
         } else if self.idle == 0 {
             self.since += 1;
+        }
+    }
+
+    /// Whether the worker is at its end.
+    fn is_ending(&self) -> bool
+        ensures { result ≡ self.now.ending }
+    {
+        self.rounds.is_ending()
+    }
+
+    /// Publishes where the worker is at its end, and wasn't before.
+    fn show_end(&mut self, was: bool)
+        ensures { ShowsEnd was self.old self.new }
+    {
+        if was {
+            return;
+        }
+        if self.is_ending() {
+            self.show();
         }
     }
 
@@ -167,7 +187,8 @@ impl<J: Task<Out = u64>, C: Drop, G: Drop, S: Sink> Worker<J, C, G, S> {
             ..
         } = self;
         let (mut sink, mut publisher) = (sink, publisher);
-        show_on(rounds.recorded(), &mut publisher);
+        let alone = rounds.closed_alone();
+        show_on(rounds.recorded(), alone, &mut publisher);
         let mut linked = rounds.into_linked();
         let _answer = linked.hand_on(&mut sink);
         Ended::of(linked, sink, local, publisher)
@@ -211,18 +232,29 @@ impl<J: Job + Task<Out = u64>, C: Clock + Drop, G: Gate + Drop, S: Sink> Worker<
         false
     }
 
-    /// Publishes if it is time, and makes one round. If the next one isn't made at once, it publishes and rests.
+    /// Makes one round. If the next one isn't made at once, it publishes and rests.
+    fn serve_once<R: Wait>(&mut self, rt: &R)
+        ensures serves { ServesOnce J.meaning C.Reads G.Asked S.has S.refused self.old self.new }
+        ensures runs { RunsOn self.old.linked self.new.linked }
+        ensures asks { AsksSince G.Asked self.old.linked.recorded.core.core self.old.linked.recorded.journal.notes self.new.linked.recorded.journal.notes self.old.gate self.new.gate }
+    {
+        if !self.goes_on() {
+            // Before it lies down, so that an idle core's board is complete.
+            self.show();
+            self.rests(rt);
+        }
+    }
+
+    /// Publishes if it is time, makes one round, and rests if the next one isn't made at once. If the worker came to its end, it publishes at once.
     fn serve<R: Wait>(&mut self, rt: &R)
         ensures serves { Serves J.meaning C.Reads G.Asked S.has S.refused self.old self.new }
         ensures runs { RunsOn self.old.linked self.new.linked }
         ensures asks { AsksSince G.Asked self.old.linked.recorded.core.core self.old.linked.recorded.journal.notes self.new.linked.recorded.journal.notes self.old.gate self.new.gate }
     {
         self.show_again();
-        if !self.goes_on() {
-            // Before it lies down, so that an idle core's board is complete.
-            self.show();
-            self.rests(rt);
-        }
+        let was = self.is_ending();
+        self.serve_once(rt);
+        self.show_end(was);
     }
 }
 

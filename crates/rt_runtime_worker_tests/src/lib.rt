@@ -4,6 +4,8 @@
 #[cfg(test)]
 mod alone;
 #[cfg(test)]
+mod closing;
+#[cfg(test)]
 mod local;
 #[cfg(test)]
 mod passing;

@@ -14,6 +14,7 @@ use rt_ring::OpenError;
 use rt_ring_mesh::{Ends, open_all};
 use rt_runtime_config::{Clock, Config, Gate};
 use rt_runtime_worker::{Bells, Worker};
+use rt_watch::Watcher;
 use std::alloc::{AllocError, Global};
 use std::process::Abort;
 use std::sync::Arc;
@@ -170,8 +171,9 @@ pub(crate) fn send<J: Task<Out = u64>>(outside: &mut Ends<J>, order: Order<J>) -
     }
 }
 
-/// A worker over these ends, which parks after each round in which nothing was done. A turn may have so many polls. Its jobs share this state.
-pub(crate) fn open<J: Task<Out = u64>, S: Sink>(
+/// A worker over these ends, which parks after each round in which nothing was done, and the watcher of its numbers. A turn may have so many polls. Its jobs
+/// share this state.
+pub(crate) fn open_watched<J: Task<Out = u64>, S: Sink>(
     alloc: Global,
     own: Ends<J>,
     shared: &Shared,
@@ -179,7 +181,7 @@ pub(crate) fn open<J: Task<Out = u64>, S: Sink>(
     room: u32,
     sink: S,
     local: J::Local,
-) -> Result<Worker<J, Still, Counter, S>, AllocError>
+) -> Result<(Worker<J, Still, Counter, S>, Watcher), AllocError>
     requires room { least_room 1 4 burst ≤ room }
     requires none { S.has sink ≡ [] }
     requires own { AreEndsOf 1 4 own }
@@ -200,7 +202,7 @@ pub(crate) fn open<J: Task<Out = u64>, S: Sink>(
         asked: Arc::try_clone(&shared.asked)?,
         wrong: Arc::try_clone(&shared.wrong)?,
     };
-    let (worker, _watcher) = Worker::open(
+    let (worker, watcher) = Worker::open(
         alloc,
         &config,
         own,
@@ -210,7 +212,26 @@ pub(crate) fn open<J: Task<Out = u64>, S: Sink>(
         sink,
         local,
     )?;
-    Ok(worker.with_tries(0))
+    Ok((worker.with_tries(0), watcher))
+}
+
+/// The same worker, watched by nobody.
+pub(crate) fn open<J: Task<Out = u64>, S: Sink>(
+    alloc: Global,
+    own: Ends<J>,
+    shared: &Shared,
+    burst: u8,
+    room: u32,
+    sink: S,
+    local: J::Local,
+) -> Result<Worker<J, Still, Counter, S>, AllocError>
+    requires room { least_room 1 4 burst ≤ room }
+    requires none { S.has sink ≡ [] }
+    requires own { AreEndsOf 1 4 own }
+    requires bells { shared.now.bells.rings ≡ replicate 2 0 }
+{
+    let (worker, _watcher) = open_watched(alloc, own, shared, burst, room, sink, local)?;
+    Ok(worker)
 }
 
 /// Whether the journal begins with these notes.

@@ -11,7 +11,7 @@ use std::fmt;
 pub enum Cause {
     /// It is line 4097.
     TooManyLines,
-    /// It has more than 2048 bytes.
+    /// It has more bytes than a line may have.
     LineTooLong,
     /// The first line that says something doesn't begin with `cores`, or no line says anything.
     CoresLineExpected,

@@ -1,11 +1,13 @@
 -- What the publisher's seat learns of a watcher's.
-use Rattle.std.proofs.Common.{◌≡◌, ℕ, true, false, set, get_or, drop, refl, sym, arith, subst, ⊎_elim}
+use Rattle.std.proofs.Common.{◌≡◌, ℕ, ◌<◌, ◌≤◌, true, false, set, get_or, drop, refl, sym, arith, subst, ⊎_elim}
 use Rattle.std.proofs.lemmas.List.{append-nil}
+use Rattle.std.specs.Prelude.{Some}
 use Rattle.atomic_table.specs.Seated.{TableId}
 use lib.ListN.{get_elem?}
 use mathlib.Core.Option.{some}
 use Rattle.atomic_table.specs.Table.{Allows, Joins, keeps}
 use Rattle.atomic_table.proofs.Lists.{at_set}
+use Rattle.rt_watch.specs.Closed.{told_by}
 use Rattle.rt_watch.specs.Ends.{name_of}
 use Rattle.rt_watch.specs.Growth.{Grows}
 use Rattle.rt_watch.specs.Rule.{IsBoard, IsTold}
@@ -14,6 +16,7 @@ use Rattle.rt_watch.specs.Views.{Place, beside, spent_view}
 use Rattle.rt_watch.specs.declared.board.Known.{Known}
 use Rattle.rt_watch.specs.declared.board.Published.{Published}
 use Rattle.rt_watch.specs.declared.board.Terms.{Terms}
+use Rattle.rt_watch.proofs.Closed.{told-never}
 use Rattle.rt_watch.proofs.Stepping.{seat_looks}
 
 -- two tables by one name are one
@@ -32,13 +35,15 @@ false-true : false ≡ true → ⊥
 false-true e = cc
 
 module _ (terms : Terms) where
-  spent-told : (whole : Published) (publisher seat : ℕ) → IsTold terms whole publisher seat spent_view
-  spent-told whole publisher seat = record {
+  spent-told : (whole : Published) (publisher seat : ℕ) → ((first : ℕ) → whole.closed ≡ Some first → (0 < first) × (first ≤ whole.done)) → IsTold terms whole publisher seat spent_view
+  spent-told whole publisher seat at_first = record {
     terms_are = λ no. absurd (false-true no);
     publishes = λ no. absurd (false-true no);
     at_done = omega arith;
     reads = λ _. refl;
     saw = (whole.notes, sym (append-nil whole.notes));
+    counted = omega arith;
+    closed = told-never whole.closed whole.done at_first;
   }
 
   pub joins : (seat : ℕ) (view : Known) (other : ℕ) (watches : Known) → Joins (IsBoard terms) seat view other watches (beside view watches) spent_view
@@ -52,12 +57,14 @@ module _ (terms : Terms) where
         wide = r.wide;
         behind = r.behind;
         tells = r.tells;
+        closed = r.closed;
+        closed_at = r.closed_at;
         views = λ id known found. ⊎_elim
-            (λ spent. subst (IsTold terms r.whole r.publisher id) spent.1 (spent-told r.whole r.publisher id))
+            (λ spent. subst (IsTold terms r.whole r.publisher id) spent.1 (spent-told r.whole r.publisher id r.closed_at))
             (λ rest. ⊎_elim
             (λ mine. subst (IsTold terms r.whole r.publisher id) mine.1
             (subst (λ (k : ℕ). IsTold terms r.whole r.publisher k (beside view watches)) (sym mine.0)
-            (record { terms_are = told.terms_are; publishes = told.publishes; at_done = seen.at_done; reads = seen.reads; saw = seen.saw })))
+            (record { terms_are = told.terms_are; publishes = told.publishes; at_done = seen.at_done; reads = seen.reads; saw = seen.saw; counted = seen.counted; closed = seen.closed })))
             (λ also. r.views id known also.1)
             (at_set s.views seat id (beside view watches) known rest.1))
             (at_set (set s.views seat (beside view watches)) other id spent_view known found);
@@ -65,10 +72,16 @@ module _ (terms : Terms) where
 
   pub compares : (slots seat : ℕ) (me : Place) → me.0.publishes ≡ true → Allows (IsBoard terms) slots seat me 0 (λ n. n) (Compares me)
   compares slots seat me go s r wide at _ =
-      let told = r.views seat me.0 at in (
+      let told = r.views seat me.0 at in
+      let now : r.whole ≡ me.0.published = sym (told.publishes go).1 in (
         me.0,
         keeps,
         tt,
         seat_looks terms s r seat me.0 at 0 me.0.looked told,
-        (refl, subst (λ (p : Published). Grows me.0.looked.seen p.notes) (sym (told.publishes go).1) told.saw),
+        record {
+          same = refl;
+          grows = subst (λ (p : Published). Grows me.0.looked.seen p.notes) now told.saw;
+          counted = subst (λ (p : Published). me.0.looked.count ≤ p.done) now told.counted;
+          closed = subst (λ (p : Published). me.0.looked.closed ≡ told_by p.closed me.0.looked.count) now told.closed;
+        },
       )

@@ -25,19 +25,20 @@ words-more from zero = ap (λ (n : ℕ). first_word n ∷ []) (let e : from ≡ 
 words-more from (suc count) =
     ap (λ (l : List ℕ). first_word from ∷ l) (words-more (suc from) count ∙ ap (λ (n : ℕ). words_from (suc from) count ++ first_word n ∷ []) (let e : suc from + count ≡ from + suc count = omega arith in e))
 
-first_row-at : (places i : ℕ) → i < place_of places → get_or (first_row places) i 0 ≡ first_word i
+pub first_row-at : (places i : ℕ) → i < place_of places → get_or (first_row places) i 0 ≡ first_word i
 first_row-at places i within = word-at i 0 (place_of places) within ∙ ap first_word (let e : 0 + i ≡ i = omega arith in e)
 
-core-first : (i : ℕ) → i < 6 → first_word i ≡ get_or (core_words (core_stats {T = ℕ} false []) 1) i 0
+core-first : (i : ℕ) → i < 7 → first_word i ≡ get_or (core_words (core_stats {T = ℕ} false []) 1 false) i 0
 core-first zero within = refl
 core-first (suc zero) within = refl
 core-first (suc (suc zero)) within = refl
 core-first (suc (suc (suc zero))) within = refl
 core-first (suc (suc (suc (suc zero)))) within = refl
 core-first (suc (suc (suc (suc (suc zero))))) within = refl
-core-first (suc (suc (suc (suc (suc (suc i)))))) within = absurd (omega arith)
+core-first (suc (suc (suc (suc (suc (suc zero)))))) within = refl
+core-first (suc (suc (suc (suc (suc (suc (suc i))))))) within = absurd (omega arith)
 
-queue-first : (burst i : ℕ) → i < 9 → first_word (6 + i) ≡ get_or (queue_words (stats_of {T = ℕ} burst 0 [])) i 0
+queue-first : (burst i : ℕ) → i < 9 → first_word (7 + i) ≡ get_or (queue_words (stats_of {T = ℕ} burst 0 [])) i 0
 queue-first burst zero within = refl
 queue-first burst (suc zero) within = refl
 queue-first burst (suc (suc zero)) within = refl
@@ -62,12 +63,14 @@ first-tells terms = record {
     sums = refl;
     drained = (λ no. absurd (false-true no), λ (is : IsDrained terms.cores []). absurd (none-some 0 (is.delivered_all 0 (omega arith))));
   };
+  closed = false;
+  closed_is = λ no. absurd (false-true no);
   core_stands = λ i within.
       let e : 0 + i ≡ i = omega arith in
       ap (λ (k : ℕ). get_or (first_row terms.places) k 0) e ∙ (first_row-at terms.places i (omega arith) ∙ core-first i within);
   queue_stands = λ queue there placed.
       let first : 0 ≡ queue = omega arith in
       subst (λ (q : ℕ). HasAt (first_row terms.places) (place_of q) (queue_words (stats_of {T = ℕ} terms.burst q []))) first
-      (λ i within. first_row-at terms.places (6 + i) (omega arith) ∙ queue-first terms.burst i within);
+      (λ i within. first_row-at terms.places (7 + i) (omega arith) ∙ queue-first terms.burst i within);
   shares_fit = λ queue there placed. record { positive = omega arith; bounded = omega arith };
 }

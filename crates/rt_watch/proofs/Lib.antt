@@ -1,4 +1,5 @@
 pub mod Lists
+pub mod Closed
 pub mod Rows
 pub mod Stepping
 pub mod PublisherSteps

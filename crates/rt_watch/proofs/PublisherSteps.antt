@@ -1,19 +1,23 @@
 -- The steps of the publisher's seat: begin, put and end.
-use Rattle.std.proofs.Common.{◌≡◌, ℕ, ◌==◌, suc, ◌+◌, ◌-◌, ◌<◌, true, List, ◌∷◌, set, get_or, refl, sym, ap, ◌∙◌, arith, subst, length-set}
+use Rattle.std.proofs.Common.{◌≡◌, ℕ, ◌==◌, suc, ◌+◌, ◌-◌, ◌<◌, ◌≤◌, true, List, ◌∷◌, set, get_or, refl, sym, ap, ◌∙◌, arith, subst, length-set}
+use Rattle.std.specs.Prelude.{Some, is_some}
 use prog.Atomic.{either}
 use lib.ListN.{get_elem?}
 use mathlib.Core.Option.{some, some-injective}
 use Rattle.atomic_table.specs.Table.{State, Act, Valid, Allows, keeps, stepped, carried_after}
 use Rattle.atomic_table.proofs.Lists.{exchanged}
 use Rattle.rt_journal_notes.specs.Journals.{JournalView}
+use Rattle.rt_watch.specs.Closed.{told_after}
 use Rattle.rt_watch.specs.Growth.{Grows}
 use Rattle.rt_watch.specs.Rule.{IsBoard}
 use Rattle.rt_watch.specs.Tells.{Tells}
 use Rattle.rt_watch.specs.Told.{Begins, Puts, Ends}
 use Rattle.rt_watch.specs.Views.{Place, with_begun, with_row, with_done}
+use Rattle.rt_watch.specs.Words.{closed_in}
 use Rattle.rt_watch.specs.declared.board.Known.{Known}
 use Rattle.rt_watch.specs.declared.board.Published.{Published}
 use Rattle.rt_watch.specs.declared.board.Terms.{Terms}
+use Rattle.rt_watch.proofs.Closed.{told-before, told-now, told-within}
 use Rattle.rt_watch.proofs.Lists.{Grows-self}
 use Rattle.rt_watch.proofs.Stepping.{publisher_steps}
 
@@ -25,13 +29,17 @@ module _ (terms : Terms) (slots seat : ℕ) (me : Place) (go : me.0.publishes �
   words_known : (s : State (JournalView ℕ) Known) (r : IsBoard terms s) → get_elem? s.views seat ≡ some me.0 → s.words ≡ p.begun ∷ p.done ∷ p.row
   words_known s r at = r.words ∙ ap (λ (q : Published). q.begun ∷ q.done ∷ q.row) (sym ((r.views seat me.0 at).publishes go).1)
 
+  -- the number of the publication that first told of the closing
+  at_first : (s : State (JournalView ℕ) Known) (r : IsBoard terms s) → get_elem? s.views seat ≡ some me.0 → (first : ℕ) → p.closed ≡ Some first → (0 < first) × (first ≤ p.done)
+  at_first s r at = subst (λ (q : Published). (first : ℕ) → q.closed ≡ Some first → (0 < first) × (first ≤ q.done)) (sym ((r.views seat me.0 at).publishes go).1) r.closed_at
+
   pub begins : (count : ℕ) → p.done < count → Allows (IsBoard terms) slots seat me 0 (λ _. count) (λ _. Begins count me count)
   begins count ahead s r wide at _ = (
     with_begun me.0 count,
     keeps,
     tt,
     publisher_steps terms s r seat me.0 at go (record p { begun = count }) (set s.words 0 count) ahead (omega arith) (omega arith) (Grows-self p.notes) refl (λ same. absurd (omega arith))
-        (ap (λ (words : List ℕ). set words 0 count) (words_known s r at)),
+        (λ number low. refl) (λ same. absurd (omega arith)) (at_first s r at) (ap (λ (words : List ℕ). set words 0 count) (words_known s r at)),
     refl,
   )
 
@@ -41,7 +49,7 @@ module _ (terms : Terms) (slots seat : ℕ) (me : Place) (go : me.0.publishes �
     keeps,
     tt,
     publisher_steps terms s r seat me.0 at go (record p { row = set p.row index word }) (set s.words (suc (suc index)) word) ahead (omega arith) (omega arith) (Grows-self p.notes) (length-set p.row index word) (λ same. absurd (omega arith))
-        (ap (λ (words : List ℕ). set words (suc (suc index)) word) (words_known s r at)),
+        (λ number low. refl) (λ same. absurd (omega arith)) (at_first s r at) (ap (λ (words : List ℕ). set words (suc (suc index)) word) (words_known s r at)),
     λ i. (with_row me.0 (set p.row (sym same i) word), me.1),
   )
 
@@ -57,17 +65,19 @@ module _ (terms : Terms) (slots seat : ℕ) (me : Place) (go : me.0.publishes �
       (view : Known) × (act : Act (JournalView ℕ)) × Valid s.homes me.1 act × IsBoard terms (stepped s 1 next seat me.1 view act) × Ends count (some journal) me found (view, carried_after me.1 act)
 
   pub ends : (old count : ℕ) (journal : JournalView ℕ) → me.0.knows ≡ true → p.done ≡ old → p.done < count → p.begun ≡ count → Grows p.notes journal.notes → Tells me.0.terms journal.notes p.row
+      → (is_some p.closed ≡ true → closed_in p.row ≡ true)
       → Allows (IsBoard terms) slots seat me 1 (λ found. either (found == old) count found) (Ends count (some journal) me)
-  ends old count journal knows done ahead begun grows tells s r wide at _ =
+  ends old count journal knows done ahead begun grows tells stays s r wide at _ =
       let found : get_or s.words 1 0 ≡ p.done = ap (λ (words : List ℕ). get_or words 1 0) (words_known s r at) in
       exchanged (get_or s.words 1 0) old count (Goes s count journal (get_or s.words 1 0))
       (λ _. (
         with_done me.0 count journal.notes,
         keeps,
         tt,
-        publisher_steps terms s r seat me.0 at go (record p { done = count; notes = journal.notes }) (set s.words 1 count) (omega arith) (omega arith) (omega arith) grows refl
+        publisher_steps terms s r seat me.0 at go (record p { done = count; notes = journal.notes; closed = told_after p.closed count (closed_in p.row) }) (set s.words 1 count) (omega arith) (omega arith) (omega arith) grows refl
             (λ _. subst (λ t. Tells t journal.notes p.row) ((r.views seat me.0 at).terms_are knows) tells)
-            (ap (λ (words : List ℕ). set words 1 count) (words_known s r at)),
+            (λ number low. told-before p.closed count number (closed_in p.row) (omega arith)) (λ _. told-now p.closed count (closed_in p.row) stays)
+            (told-within p.closed count p.done (closed_in p.row) (omega arith) (at_first s r at)) (ap (λ (words : List ℕ). set words 1 count) (words_known s r at)),
         λ said is. ap (λ (j : JournalView ℕ). (with_done me.0 count j.notes, me.1)) (some-injective journal said is),
       ))
       (λ differs. absurd (differs (found ∙ done)))

@@ -7,9 +7,9 @@ use Rattle.atomic_table.specs.Seated.{TableId}
 use Rattle.rt_watch.specs.Ends.{IsWatcher}
 use Rattle.rt_watch.specs.Growth.{Grows}
 use Rattle.rt_watch.specs.Tells.{Tells}
-use Rattle.rt_watch.specs.Told.{Reads, Checks, Finds}
-use Rattle.rt_watch.specs.Views.{Place, with_look, with_reads, with_seen, watching}
-use Rattle.rt_watch.specs.Words.{place_of}
+use Rattle.rt_watch.specs.Told.{Reads, Checks, Finds, Found, FoundNone}
+use Rattle.rt_watch.specs.Views.{Place, with_look, with_reads, watching}
+use Rattle.rt_watch.specs.Words.{closed_in, place_of}
 use Rattle.rt_watch.specs.declared.board.Known.{Known}
 use Rattle.rt_watch.specs.declared.board.Terms.{Terms}
 
@@ -37,37 +37,41 @@ module _ (first mid new : Place) (row : List ℕ) (at found : ℕ) (view : mid.0
   at-is = ap (λ (v : Known). v.looked.at) view
 
   -- a look that found one publication
-  pub look-finds : length row ≡ place_of first.0.terms.places → found ≡ at → Grows first.0.looked.seen new.0.looked.seen × Tells first.0.terms new.0.looked.seen row
+  pub look-finds : length row ≡ place_of first.0.terms.places → found ≡ at → Found row at first.0 new.0
   look-finds wide same =
       let f : Finds mid new = checks.same (same ∙ sym at-is) in
       let seen : new.0.looked.seen ≡ f.notes = ap (λ (m : Place). m.0.looked.seen) f.seen in
       let longer : length row ≡ length f.row = wide ∙ sym (f.wide ∙ ap (λ (v : Known). place_of v.terms.places) view) in
       let read : row ≡ take (length row) f.row = sym (ap (λ (v : Known). v.looked.read) view) ∙ (f.reads ∙ ap (λ (v : Known). take (length v.looked.read) f.row) view) in
-      let whole : f.row ≡ row = sym (read ∙ (ap (λ (n : ℕ). take n f.row) longer ∙ take-length f.row)) in (
-        subst (λ notes. Grows first.0.looked.seen notes) (sym seen) (subst (λ (v : Known). Grows v.looked.seen f.notes) view f.grows),
-        subst (λ notes. Tells first.0.terms notes row) (sym seen) (subst (λ l. Tells first.0.terms f.notes l) whole (subst (λ (v : Known). Tells v.terms f.notes f.row) view f.tells)),
-      )
+      let whole : f.row ≡ row = sym (read ∙ (ap (λ (n : ℕ). take n f.row) longer ∙ take-length f.row)) in record {
+        grows = subst (λ notes. Grows first.0.looked.seen notes) (sym seen) (subst (λ (v : Known). Grows v.looked.seen f.notes) view f.grows);
+        tells = subst (λ notes. Tells first.0.terms notes row) (sym seen) (subst (λ l. Tells first.0.terms f.notes l) whole (subst (λ (v : Known). Tells v.terms f.notes f.row) view f.tells));
+        count_is = ap (λ (m : Place). m.0.looked.count) f.seen ∙ at-is;
+        later = subst (λ (v : Known). v.looked.count ≤ v.looked.at) view f.later;
+        closed_is = ap (λ (m : Place). m.0.looked.closed) f.seen ∙ ap (λ (v : Known). closed_in v.looked.read) view;
+        told = λ was. f.told (ap (λ (v : Known). v.looked.closed) view ∙ was);
+      }
 
   -- and one that didn't
-  pub look-misses : found ≢ at → new.0.looked.seen ≡ first.0.looked.seen
-  look-misses differs = ap (λ (m : Place). m.0.looked.seen) (checks.other (λ same. differs (same ∙ at-is))) ∙ ap (λ (v : Known). v.looked.seen) view
+  pub look-misses : found ≢ at → FoundNone first.0 new.0
+  look-misses differs =
+      let e : new ≡ mid = checks.other (λ same. differs (same ∙ at-is)) in record {
+        seen = ap (λ (m : Place). m.0.looked.seen) e ∙ ap (λ (v : Known). v.looked.seen) view;
+        count = ap (λ (m : Place). m.0.looked.count) e ∙ ap (λ (v : Known). v.looked.count) view;
+        closed = ap (λ (m : Place). m.0.looked.closed) e ∙ ap (λ (v : Known). v.looked.closed) view;
+      }
 
   -- a look leaves the rest as it was
-  look-same : new.0 ≡ with_seen mid.0 new.0.looked.seen
-  look-same = dite (ℕ_discrete found mid.0.looked.at)
-      (λ same. let f : Finds mid new = checks.same same in ap (λ (m : Place). m.0) f.seen ∙ ap (λ l. with_seen mid.0 l) (sym (ap (λ (m : Place). m.0.looked.seen) f.seen)))
-      (λ differs. let e = checks.other differs in ap (λ (m : Place). with_seen m.0 new.0.looked.seen) e)
-
   pub look-terms : new.0.terms ≡ first.0.terms
-  look-terms = ap (λ (v : Known). v.terms) look-same ∙ ap (λ (v : Known). v.terms) view
+  look-terms = dite (ℕ_discrete found mid.0.looked.at) (λ same. ap (λ (m : Place). m.0.terms) (checks.same same).seen) (λ differs. ap (λ (m : Place). m.0.terms) (checks.other differs)) ∙ ap (λ (v : Known). v.terms) view
 
   pub look-knows : new.0.knows ≡ first.0.knows
-  look-knows = ap (λ (v : Known). v.knows) look-same ∙ ap (λ (v : Known). v.knows) view
+  look-knows = dite (ℕ_discrete found mid.0.looked.at) (λ same. ap (λ (m : Place). m.0.knows) (checks.same same).seen) (λ differs. ap (λ (m : Place). m.0.knows) (checks.other differs)) ∙ ap (λ (v : Known). v.knows) view
 
 -- a further watcher of the same board
-pub IsWatcher-again : (seat_table later table again : TableId) (old new : Place) (terms : Terms) (row next row' next' : List ℕ) → IsWatcher seat_table table old terms row next → later ≡ seat_table → again ≡ table → new.0 ≡ watching old.0
-    → row' ≡ row → next' ≡ next → IsWatcher later again new terms row' next'
-IsWatcher-again seat_table later table again old new terms row next row' next' is same also view rows nexts = record {
+pub IsWatcher-again : (seat_table later table again : TableId) (old new : Place) (terms : Terms) (row next row' next' : List ℕ) (count : ℕ) → IsWatcher seat_table table old terms row next count → later ≡ seat_table → again ≡ table → new.0 ≡ watching old.0
+    → row' ≡ row → next' ≡ next → IsWatcher later again new terms row' next' count
+IsWatcher-again seat_table later table again old new terms row next row' next' count is same also view rows nexts = record {
   at_table = same ∙ (is.at_table ∙ sym also);
   words = ap (λ (t : TableId). t.words) also ∙ is.words;
   knows = ap (λ (v : Known). v.knows) view ∙ is.knows;
@@ -75,4 +79,6 @@ IsWatcher-again seat_table later table again old new terms row next row' next' i
   wide = ap (λ (l : List ℕ). length l) rows ∙ is.wide;
   next_wide = ap (λ (l : List ℕ). length l) nexts ∙ is.next_wide;
   tells = subst (λ (l : List ℕ). Tells terms new.0.looked.seen l) (sym rows) (subst (λ notes. Tells terms notes row) (sym (ap (λ (v : Known). v.looked.seen) view)) is.tells);
+  count_is = ap (λ (v : Known). v.looked.count) view ∙ is.count_is;
+  closed_is = ap (λ (v : Known). v.looked.closed) view ∙ (is.closed_is ∙ sym (ap closed_in rows));
 }

@@ -40,16 +40,25 @@ abbrev row : List ℕ
 row = bad.core ++ (bad.idle ++ bad.turned)
 
 right-queue : (queue : ℕ) → queue ≤ 1 → HasAt row (place_of queue) (queue_words (stats_of 1 queue bad.one_turn)) × InRange (stats_of 1 queue bad.one_turn).shares
-right-queue zero low = (has row 6 (queue_words (stats_of 1 0 bad.one_turn)) refl, record { positive = omega arith; bounded = omega arith })
-right-queue (suc zero) low = (has row 15 (queue_words (stats_of 1 1 bad.one_turn)) refl, record { positive = omega arith; bounded = omega arith })
+right-queue zero low = (has row 7 (queue_words (stats_of 1 0 bad.one_turn)) refl, record { positive = omega arith; bounded = omega arith })
+right-queue (suc zero) low = (has row 16 (queue_words (stats_of 1 1 bad.one_turn)) refl, record { positive = omega arith; bounded = omega arith })
 right-queue (suc (suc queue)) low = absurd (omega arith)
+
+abbrev closed_row : List ℕ
+closed_row = 0 ∷ 0 ∷ 0 ∷ 0 ∷ 0 ∷ 1 ∷ 1 ∷ bad.idle
+
+closed-queue : (queue : ℕ) → queue ≤ 0 → HasAt closed_row (place_of queue) (queue_words (stats_of 1 queue bad.closed_itself)) × InRange (stats_of 1 queue bad.closed_itself).shares
+closed-queue zero low = (has closed_row 7 (queue_words (stats_of 1 0 bad.closed_itself)) refl, record { positive = omega arith; bounded = omega arith })
+closed-queue (suc queue) low = absurd (omega arith)
 
 pub rows_refused : RowsAreRefused
 rows_refused = record {
   right = record {
     core = core_stats false bad.one_turn;
     core_is = record { sums = refl; drained = (λ no. absurd (false-true no), λ (is : IsDrained 1 bad.one_turn). absurd (none-some 0 (is.delivered_all 0 (omega arith)))) };
-    core_stands = has row 0 (core_words (core_stats false bad.one_turn) 2) refl;
+    closed = false;
+    closed_is = λ no. absurd (false-true no);
+    core_stands = has row 0 (core_words (core_stats false bad.one_turn) 2 false) refl;
     queue_stands = λ queue there placed. (right-queue queue (omega arith)).0;
     shares_fit = λ queue there placed. (right-queue queue (omega arith)).1;
   };
@@ -62,6 +71,16 @@ rows_refused = record {
   drained = λ t.
       let is = t.core_is.drained.0 (is-true t.core.drained (t.core_stands 4 (omega arith))) in
       none-some 0 (is.delivered_all 0 (omega arith));
+  told = record {
+    core = core_stats false bad.closed_itself;
+    core_is = record { sums = refl; drained = (λ no. absurd (false-true no), λ (is : IsDrained 1 bad.closed_itself). absurd (none-some 0 (is.delivered_all 0 (omega arith)))) };
+    closed = true;
+    closed_is = λ _. refl;
+    core_stands = has closed_row 0 (core_words (core_stats false bad.closed_itself) 1 true) refl;
+    queue_stands = λ queue there placed. (closed-queue queue (omega arith)).0;
+    shares_fit = λ queue there placed. (closed-queue queue (omega arith)).1;
+  };
+  own_closing = λ t. false-true (t.closed_is (is-true t.closed (t.core_stands 6 (omega arith))));
   older = λ g.
       let e : 4 ≡ length (g.0 ++ bad.one_turn) = ap (λ (l : List _). length l) g.1 in
       omega (arith, length-append g.0 bad.one_turn);

@@ -1,10 +1,13 @@
 -- What the publisher's seat knows on its way through a publication.
-use Rattle.std.proofs.Common.{◌≡◌, ℕ, ◌+◌, ◌-◌, ◌<◌, List, length, set, sym, ap, ◌∙◌, arith, subst}
+use Rattle.std.proofs.Common.{◌≡◌, ℕ, ◌+◌, ◌-◌, ◌<◌, true, List, length, set, sym, ap, ◌∙◌, arith, subst}
+use Rattle.std.specs.Prelude.{is_some}
 use Rattle.atomic_table.specs.Seated.{TableId}
 use Rattle.rt_ids.specs.Journal.{Journal}
+use Rattle.rt_watch.specs.Closed.{closed_by_itself, told_after}
 use Rattle.rt_watch.specs.Ends.{IsPublisher, IsWriting}
 use Rattle.rt_watch.specs.Told.{Puts}
 use Rattle.rt_watch.specs.Views.{Place, with_begun, with_row, with_done}
+use Rattle.rt_watch.specs.Words.{closed_in}
 use Rattle.rt_watch.specs.declared.board.Known.{Known}
 use Rattle.rt_watch.specs.declared.board.Terms.{Terms}
 
@@ -40,8 +43,9 @@ IsPublisher-begun seat_table later table old new terms row count next is up same
 }
 
 pub IsPublisher-done : (seat_table later table : TableId) (old new : Place) (terms : Terms) (row after : List ℕ) (count next : ℕ) (notes : Journal ℕ) → IsPublisher seat_table table old terms row count → later ≡ seat_table
-    → new.0 ≡ with_done (with_row (with_begun old.0 next) after) next notes → length after ≡ length row → IsPublisher later table new terms after next
-IsPublisher-done seat_table later table old new terms row after count next notes is same view wide = record {
+    → new.0 ≡ with_done (with_row (with_begun old.0 next) after) next notes → length after ≡ length row
+    → (is_some (told_after old.0.published.closed next (closed_in after)) ≡ true → closed_by_itself notes ≡ true) → IsPublisher later table new terms after next
+IsPublisher-done seat_table later table old new terms row after count next notes is same view wide own = record {
   at_table = same ∙ is.at_table;
   words = is.words;
   publishes = ap (λ (v : Known). v.publishes) view ∙ is.publishes;
@@ -51,4 +55,5 @@ IsPublisher-done seat_table later table old new terms row after count next notes
   wide = wide ∙ is.wide;
   begun = ap (λ (v : Known). v.published.begun) view;
   done = ap (λ (v : Known). v.published.done) view;
+  tells = subst (λ (v : Known). is_some v.published.closed ≡ true → closed_by_itself v.published.notes ≡ true) (sym view) own;
 }

@@ -1,7 +1,8 @@
 -- Rows that don't tell the numbers of a journal.
 use Rattle.std.specs.Prelude.{ℕ, ◌^◌, List, [], ◌∷◌, ◌++◌}
 use Rattle.rt_ids.specs.declared.names.JobId.{JobId}
-use Rattle.rt_ids.specs.declared.note.Note.TheVariants.{Took, Created, Pick, Start, Done}
+use Rattle.rt_ids.specs.declared.note.Note.TheVariants.{Took, Created, Pick, Start, Done, CoreClosed}
+use Rattle.rt_ids.specs.declared.order.Mode.TheVariants.{Return}
 use Rattle.rt_ids.specs.Journal.{Journal}
 use Rattle.rt_watch.specs.Growth.{Grows}
 use Rattle.rt_watch.specs.Tells.{Tells}
@@ -21,9 +22,13 @@ picked = Start job ∷ Pick 1 (2 ^ 64) ∷ Took job 1 ∷ Created 1 1000 ∷ []
 abbrev pub one_turn : Journal ℕ
 one_turn = Done job 30 7 ∷ picked
 
+-- the core closed by itself
+abbrev pub closed_itself : Journal ℕ
+closed_itself = CoreClosed Return ∷ []
+
 -- the words of the core, of queue 0, which did nothing, and of queue 1 behind that turn
 abbrev pub core : List ℕ
-core = 1 ∷ 1 ∷ 0 ∷ 0 ∷ 0 ∷ 2 ∷ []
+core = 1 ∷ 1 ∷ 0 ∷ 0 ∷ 0 ∷ 2 ∷ 0 ∷ []
 
 abbrev pub idle : List ℕ
 idle = 1000 ∷ 0 ∷ 0 ∷ 0 ∷ 0 ∷ 0 ∷ 0 ∷ 0 ∷ 0 ∷ []
@@ -36,12 +41,15 @@ abbrev pub busy : List ℕ
 busy = 1000 ∷ 1 ∷ 0 ∷ 0 ∷ 0 ∷ 0 ∷ 0 ∷ 0 ∷ 0 ∷ []
 
 -- A row with all these numbers tells them. Refused are a row with the numbers of another queue, one with the numbers of two beginnings of the journal mixed, one with the halves
--- of the floor exchanged, one that lacks a queue, and one that tells of a drained core. An older journal isn't one that has grown.
+-- of the floor exchanged, one that lacks a queue, one that tells of a drained core, and one that tells that the core closed by itself. A row that tells it of a
+-- core that did is right. An older journal isn't one that has grown.
 pub record RowsAreRefused : Type 0 where
   pub right : Tells terms one_turn (core ++ (idle ++ turned))
   pub another_queue : Tells terms one_turn (core ++ (turned ++ idle)) → ⊥
   pub mixed : Tells terms one_turn (core ++ (idle ++ busy)) → ⊥
-  pub halves_exchanged : Tells terms one_turn (1 ∷ 0 ∷ 1 ∷ 0 ∷ 0 ∷ 2 ∷ (idle ++ turned)) → ⊥
-  pub queue_left_out : Tells terms one_turn (1 ∷ 1 ∷ 0 ∷ 0 ∷ 0 ∷ 1 ∷ (idle ++ turned)) → ⊥
-  pub drained : Tells terms one_turn (1 ∷ 1 ∷ 0 ∷ 0 ∷ 1 ∷ 2 ∷ (idle ++ turned)) → ⊥
+  pub halves_exchanged : Tells terms one_turn (1 ∷ 0 ∷ 1 ∷ 0 ∷ 0 ∷ 2 ∷ 0 ∷ (idle ++ turned)) → ⊥
+  pub queue_left_out : Tells terms one_turn (1 ∷ 1 ∷ 0 ∷ 0 ∷ 0 ∷ 1 ∷ 0 ∷ (idle ++ turned)) → ⊥
+  pub drained : Tells terms one_turn (1 ∷ 1 ∷ 0 ∷ 0 ∷ 1 ∷ 2 ∷ 0 ∷ (idle ++ turned)) → ⊥
+  pub told : Tells terms closed_itself (0 ∷ 0 ∷ 0 ∷ 0 ∷ 0 ∷ 1 ∷ 1 ∷ idle)
+  pub own_closing : Tells terms one_turn (1 ∷ 1 ∷ 0 ∷ 0 ∷ 0 ∷ 2 ∷ 1 ∷ (idle ++ turned)) → ⊥
   pub older : Grows one_turn picked → ⊥

@@ -1,4 +1,5 @@
 pub mod Growth
+pub mod Closed
 pub mod Words
 pub mod Tells
 pub mod Views
@@ -6,4 +7,5 @@ pub mod Rule
 pub mod Told
 pub mod Ends
 pub mod Laws
+pub mod Closings
 pub mod BadRows

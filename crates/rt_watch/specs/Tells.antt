@@ -1,5 +1,5 @@
 -- When numbers are those of a journal.
-use Rattle.std.specs.Prelude.{◌≡◌, ◌↔◌, ℕ, ◌+◌, ◌<◌, ◌≤◌, IsTrue, List, length, Some, slice_get}
+use Rattle.std.specs.Prelude.{◌≡◌, ◌↔◌, ℕ, ◌+◌, ◌<◌, ◌≤◌, Bool, true, IsTrue, List, length, Some, slice_get}
 use Rattle.rt_shares.specs.Charge.{InRange}
 use Rattle.rt_ids.specs.declared.stats.CoreStats.{CoreStats}
 use Rattle.rt_ids.specs.declared.stats.QueueStats.{QueueStats}
@@ -7,6 +7,7 @@ use Rattle.rt_ids.specs.Closing.{IsDrained}
 use Rattle.rt_ids.specs.Commands.{created_count}
 use Rattle.rt_ids.specs.Journal.{Journal}
 use Rattle.rt_stats.specs.Stats.{core_stats, stats_of}
+use Rattle.rt_watch.specs.Closed.{closed_by_itself}
 use Rattle.rt_watch.specs.Words.{core_words, queue_words, place_of, HasAt}
 use Rattle.rt_watch.specs.declared.board.Terms.{Terms}
 
@@ -20,10 +21,12 @@ pub record TellsQueues (burst : ℕ) (notes : Journal ℕ) (queues : List QueueS
   pub count : length queues ≡ created_count notes + 1
   pub each : (queue : ℕ) → queue < length queues → slice_get queues queue ≡ Some (stats_of burst queue notes)
 
--- a row of words tells the numbers of the core, and of each queue that has a place
+-- A row of words tells the numbers of the core, and of each queue that has a place. If it tells that the core closed by itself, the notes tell so.
 pub record Tells (terms : Terms) (notes : Journal ℕ) (row : List ℕ) : Type 0 where
   pub core : CoreStats
   pub core_is : TellsCore terms.cores notes core
-  pub core_stands : HasAt row 0 (core_words core (created_count notes + 1))
+  pub closed : Bool
+  pub closed_is : closed ≡ true → closed_by_itself notes ≡ true
+  pub core_stands : HasAt row 0 (core_words core (created_count notes + 1) closed)
   pub queue_stands : (queue : ℕ) → queue ≤ created_count notes → queue < terms.places → HasAt row (place_of queue) (queue_words (stats_of terms.burst queue notes))
   pub shares_fit : (queue : ℕ) → queue ≤ created_count notes → queue < terms.places → InRange (stats_of terms.burst queue notes).shares

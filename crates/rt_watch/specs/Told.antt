@@ -1,12 +1,14 @@
 -- What each step tells the seat that makes it: of the seat before, the word found, and the seat after.
-use Rattle.std.specs.Prelude.{◌≡◌, ◌≢◌, ℕ, List, [], ◌∷◌, ◌++◌, length, slice_set, take}
+use Rattle.std.specs.Prelude.{◌≡◌, ◌≢◌, ℕ, ◌≤◌, true, List, [], ◌∷◌, ◌++◌, length, slice_set, take}
 use mathlib.Core.Option.{Option, some}
 use Rattle.rt_ids.specs.Journal.{Journal}
 use Rattle.rt_journal_notes.specs.Journals.{JournalView}
+use Rattle.rt_watch.specs.Closed.{told_by}
 use Rattle.rt_watch.specs.Growth.{Grows}
 use Rattle.rt_watch.specs.Tells.{Tells}
 use Rattle.rt_watch.specs.Views.{Place, with_begun, with_row, with_done, with_look, with_reads, with_seen}
-use Rattle.rt_watch.specs.Words.{place_of}
+use Rattle.rt_watch.specs.Words.{closed_in, place_of}
+use Rattle.rt_watch.specs.declared.board.Known.{Known}
 
 -- begin: so many publications are begun
 abbrev pub Begins : ℕ → Place → ℕ → Place → Type 0
@@ -28,7 +30,8 @@ Looks old found new = new ≡ (with_look old.0 found, old.1)
 abbrev pub Reads : Place → ℕ → Place → Type 0
 Reads old found new = new ≡ (with_reads old.0 (old.0.looked.read ++ found ∷ []), old.1)
 
--- the words that were read are the first of a row that tells the numbers of some notes, which begin with those that were seen
+-- The words that were read are the first of a row that tells the numbers of some notes, which begin with those that were seen. The publication is the one seen
+-- before or a later one, and what was told of the closing stays told.
 pub record Finds (old new : Place) : Type 0 where
   pub notes : Journal ℕ
   pub row : List ℕ
@@ -37,12 +40,32 @@ pub record Finds (old new : Place) : Type 0 where
   pub reads : old.0.looked.read ≡ take (length old.0.looked.read) row
   pub wide : length row ≡ place_of old.0.terms.places
   pub tells : Tells old.0.terms notes row
+  pub later : old.0.looked.count ≤ old.0.looked.at
+  pub told : old.0.looked.closed ≡ true → new.0.looked.closed ≡ true
 
 -- check: if no more publications were begun than were done when the look began, then the look found one publication
 pub record Checks (old : Place) (found : ℕ) (new : Place) : Type 0 where
   pub same : found ≡ old.0.looked.at → Finds old new
   pub other : found ≢ old.0.looked.at → new ≡ old
 
--- compare: the notes that were published last begin with those that were seen
-abbrev pub Compares : Place → ℕ → Place → Type 0
-Compares old found new = (new ≡ old) × Grows old.0.looked.seen old.0.published.notes
+-- what the seat knew of the publication that it saw, behind a look that found this row: the publication of this number
+pub record Found (row : List ℕ) (count : ℕ) (old new : Known) : Type 0 where
+  pub grows : Grows old.looked.seen new.looked.seen
+  pub tells : Tells old.terms new.looked.seen row
+  pub count_is : new.looked.count ≡ count
+  pub later : old.looked.count ≤ count
+  pub closed_is : new.looked.closed ≡ closed_in row
+  pub told : old.looked.closed ≡ true → new.looked.closed ≡ true
+
+-- the same behind a look that found nothing
+pub record FoundNone (old new : Known) : Type 0 where
+  pub seen : new.looked.seen ≡ old.looked.seen
+  pub count : new.looked.count ≡ old.looked.count
+  pub closed : new.looked.closed ≡ old.looked.closed
+
+-- compare: the notes that were published last begin with those that were seen, and what was told of the closing is what the publication seen told
+pub record Compares (old : Place) (found : ℕ) (new : Place) : Type 0 where
+  pub same : new ≡ old
+  pub grows : Grows old.0.looked.seen old.0.published.notes
+  pub counted : old.0.looked.count ≤ old.0.published.done
+  pub closed : old.0.looked.closed ≡ told_by old.0.published.closed old.0.looked.count

@@ -1,9 +1,10 @@
 -- What the seats know, and what they know after a step.
-use Rattle.std.specs.Prelude.{ℕ, true, false, List, []}
+use Rattle.std.specs.Prelude.{ℕ, true, false, None, List, []}
 use Rattle.atomic_table.specs.Table.{Me}
 use Rattle.rt_ids.specs.Journal.{Journal}
 use Rattle.rt_journal_notes.specs.Journals.{JournalView}
-use Rattle.rt_watch.specs.Words.{first_row}
+use Rattle.rt_watch.specs.Closed.{told_after}
+use Rattle.rt_watch.specs.Words.{closed_in, first_row}
 use Rattle.rt_watch.specs.declared.board.Known.{Known}
 use Rattle.rt_watch.specs.declared.board.Terms.{Terms}
 
@@ -17,8 +18,8 @@ first_view terms = record {
   publishes = true;
   knows = true;
   terms = terms;
-  published = record { begun = 0; done = 0; row = first_row terms.places; notes = [] };
-  looked = record { at = 0; read = []; seen = [] };
+  published = record { begun = 0; done = 0; row = first_row terms.places; notes = []; closed = None };
+  looked = record { at = 0; read = []; seen = []; count = 0; closed = false };
 }
 
 -- the view of a further seat, which doesn't publish
@@ -41,9 +42,10 @@ with_begun view begun = record view { published = record view.published { begun 
 abbrev pub with_row : Known → List ℕ → Known
 with_row view row = record view { published = record view.published { row = row } }
 
--- with so many publications done, the last of which was of these notes
+-- with so many publications done, the last of which was of these notes and of the row as it stands
 abbrev pub with_done : Known → ℕ → Journal ℕ → Known
-with_done view done notes = record view { published = record view.published { done = done; notes = notes } }
+with_done view done notes =
+    record view { published = record view.published { done = done; notes = notes; closed = told_after view.published.closed done (closed_in view.published.row) } }
 
 -- with a look that begins at so many publications done
 abbrev pub with_look : Known → ℕ → Known
@@ -53,6 +55,6 @@ with_look view at = record view { looked = record view.looked { at = at; read = 
 abbrev pub with_reads : Known → List ℕ → Known
 with_reads view words = record view { looked = record view.looked { read = words } }
 
--- with these notes seen
+-- with these notes seen, in the words that were read
 abbrev pub with_seen : Known → Journal ℕ → Known
-with_seen view notes = record view { looked = record view.looked { seen = notes } }
+with_seen view notes = record view { looked = record view.looked { seen = notes; count = view.looked.at; closed = closed_in view.looked.read } }

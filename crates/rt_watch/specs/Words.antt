@@ -15,9 +15,13 @@ abbrev pub word_if : Bool → ℕ
 word_if true = 1
 word_if false = 0
 
--- the words of a core that has so many queues
-abbrev pub core_words : CoreStats → ℕ → List ℕ
-core_words core count = core.turns ∷ upper core.floor ∷ lower core.floor ∷ core.held ∷ word_if core.drained ∷ count ∷ []
+-- the words of a core that has so many queues, and of which it is told or not that it closed by itself
+abbrev pub core_words : CoreStats → ℕ → Bool → List ℕ
+core_words core count closed = core.turns ∷ upper core.floor ∷ lower core.floor ∷ core.held ∷ word_if core.drained ∷ count ∷ word_if closed ∷ []
+
+-- whether a row tells that the core closed by itself
+abbrev pub closed_in : List ℕ → Bool
+closed_in row = slice_index row 6 == 1
 
 -- the words of a queue
 abbrev pub queue_words : QueueStats → List ℕ
@@ -25,7 +29,7 @@ queue_words queue = queue.shares ∷ queue.selected ∷ upper queue.runtime ∷ 
 
 -- the words of a queue begin here, behind those of the core and of the queues before it
 abbrev pub place_of : ℕ → ℕ
-place_of queue = 6 + 9 * queue
+place_of queue = 7 + 9 * queue
 
 -- the row has these words from this place on
 abbrev pub HasAt : List ℕ → ℕ → List ℕ → Type 0
@@ -39,7 +43,7 @@ pub record Writes (place : ℕ) (words old new : List ℕ) : Type 0 where
 
 -- the words of a core with no note, which has one queue, with the shares that a queue has unless told otherwise
 abbrev pub first_word : ℕ → ℕ
-first_word index = if index == 5 then 1 else if index == 6 then 1000 else 0
+first_word index = if index == 5 then 1 else if index == 7 then 1000 else 0
 
 abbrev pub words_from : ℕ → ℕ → List ℕ
 words_from index zero = []

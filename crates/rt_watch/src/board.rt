@@ -3,8 +3,8 @@
 //! **The first word** counts the publications that were begun, **the second** those that are done. Only the publisher changes
 //! them, and they only rise: the first by one before the row is changed, the second by one behind that.
 //!
-//! **The row** stands behind them. Its words are the numbers of the core and of its queues (`specs/Words.antt`). Only the publisher
-//! changes them, and only between the two counts.
+//! **The row** stands behind them. Its words are the numbers of the core and of its queues, and one that tells whether the core
+//! closed by itself (`specs/Words.antt`). Only the publisher changes them, and only between the two counts.
 //!
 //! A watcher loads the second word, then the row, then the first word. If both counts are the same, no publication was begun
 //! while it read: so the row that it read is the one that the last publication left.
@@ -45,6 +45,8 @@ pub struct Published {
     pub row: LinkedList<u64>,
     /// The notes whose numbers were published last, the newest first.
     pub notes: LinkedList<Note<u64>>,
+    /// The number of the first publication that told that the core closed by itself.
+    pub closed: Option<u64>,
 }
 
 /// What a watcher's seat knows. No value of it is made.
@@ -55,6 +57,10 @@ pub struct Looked {
     pub read: LinkedList<u64>,
     /// The notes whose numbers the last look told that found one publication, the newest first.
     pub seen: LinkedList<Note<u64>>,
+    /// The number of the publication which that look found.
+    pub count: u64,
+    /// That publication told that the core closed by itself.
+    pub closed: bool,
 }
 
 /// What a seat at the table knows. No value of it is made.

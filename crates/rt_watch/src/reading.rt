@@ -1,9 +1,7 @@
 //! The steps of a watcher's seat.
 
-ghost use Rattle.std.specs.Prelude.{◌≡◌, ◌+◌, ◌≤◌, [], true, false, length};
-ghost use Rattle.rt_watch.specs.Growth.{Grows};
-ghost use Rattle.rt_watch.specs.Tells.{Tells};
-ghost use Rattle.rt_watch.specs.Told.{Checks};
+ghost use Rattle.std.specs.Prelude.{◌≡◌, ◌+◌, ◌<◌, ◌≤◌, [], true, IfSome, None, length};
+ghost use Rattle.rt_watch.specs.Told.{Checks, Found, FoundNone};
 ghost use Rattle.rt_watch.specs.Views.{with_look, with_reads};
 ghost use Rattle.rt_watch.specs.Words as spec;
 
@@ -41,6 +39,7 @@ fn read_all(board: &Board, seat: &mut Place, row: &mut Vec<u64>)
 fn check(board: &Board, seat: &mut Place) -> u64
     requires board { (seat.old.table_id ≡ board.now.shared.table_id) × (2 ≤ board.now.shared.table_id.words) }
     requires knows { seat.old.me.0.knows ≡ true }
+    requires whole { 6 < length seat.old.me.0.looked.read }
     ensures table { seat.new.table_id ≡ seat.old.table_id }
     ensures checks { Checks seat.old.me result seat.new.me }
 {
@@ -48,22 +47,22 @@ fn check(board: &Board, seat: &mut Place) -> u64
     board.shared.load::<Check>(seat, BEGUN)
 }
 
-/// One try of a look. If it found one publication, the row is the one of that.
-pub(crate) fn look_on(board: &Board, seat: &mut Place, row: &mut Vec<u64>) -> bool
+/// One try of a look. If it found one publication, the row is the one of that, and its number is answered.
+pub(crate) fn look_on(board: &Board, seat: &mut Place, row: &mut Vec<u64>) -> Option<u64>
     requires board { (seat.old.table_id ≡ board.now.shared.table_id) × (board.now.shared.table_id.words ≡ 2 + length row.old.items) }
     requires knows { seat.old.me.0.knows ≡ true }
     requires wide { length row.old.items ≡ spec.place_of seat.old.me.0.terms.places }
     ensures table { seat.new.table_id ≡ seat.old.table_id }
     ensures terms { (seat.new.me.0.terms ≡ seat.old.me.0.terms) × (seat.new.me.0.knows ≡ true) }
     ensures wide { length row.new.items ≡ length row.old.items }
-    ensures found { result ≡ true → Grows seat.old.me.0.looked.seen seat.new.me.0.looked.seen × Tells seat.old.me.0.terms seat.new.me.0.looked.seen row.new.items }
-    ensures none { result ≡ false → seat.new.me.0.looked.seen ≡ seat.old.me.0.looked.seen }
+    ensures found { IfSome result (λ count. Found row.new.items count seat.old.me.0 seat.new.me.0) }
+    ensures none { result ≡ None → FoundNone seat.old.me.0 seat.new.me.0 }
 {
     let at = look(board, seat);
     read_all(board, seat, row);
     let found = check(board, seat);
     if found != at {
-        return false;
+        return None;
     }
-    true
+    Some(at)
 }

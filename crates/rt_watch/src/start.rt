@@ -1,6 +1,6 @@
 //! How a board is opened.
 
-ghost use Rattle.std.specs.Prelude.{◌≡◌, ◌+◌, [], ◌∷◌, length, IfOk};
+ghost use Rattle.std.specs.Prelude.{◌≡◌, ◌+◌, [], ◌∷◌, length, IfOk, None, false};
 ghost use Rattle.rt_watch.specs.Views.{first_view, watching};
 ghost use Rattle.rt_watch.specs.Words as spec;
 
@@ -21,8 +21,8 @@ use std::sync::Arc;
 ///
 /// `AllocError` for want of memory.
 pub fn open(alloc: Global, terms: Terms) -> Result<(Publisher, Watcher), AllocError>
-    ensures publisher { IfOk result (λ ends. ends.0 ≡ record { board = ends.0.board; terms = terms; notes = []; count = 0 }) }
-    ensures watcher { IfOk result (λ ends. ends.1 ≡ record { board = ends.0.board; terms = terms; notes = [] }) }
+    ensures publisher { IfOk result (λ ends. ends.0 ≡ record { board = ends.0.board; terms = terms; notes = []; count = 0; closed = None }) }
+    ensures watcher { IfOk result (λ ends. ends.1 ≡ record { board = ends.0.board; terms = terms; notes = []; count = 0; closed = false }) }
 {
     let row = first_row(alloc, &terms)?;
     let seen = Vec::from_slice(alloc, row.as_slice())?;
@@ -36,6 +36,7 @@ pub fn open(alloc: Global, terms: Terms) -> Result<(Publisher, Watcher), AllocEr
         terms,
         row,
         count: 0,
+        closed: false,
     };
     let watcher = Watcher {
         board: again,
@@ -43,6 +44,7 @@ pub fn open(alloc: Global, terms: Terms) -> Result<(Publisher, Watcher), AllocEr
         terms,
         row: seen,
         next,
+        count: 0,
     };
     Ok((publisher, watcher))
 }
@@ -53,7 +55,7 @@ fn first_word(index: usize) -> u64
 {
     if index == 5 {
         1
-    } else if index == 6 {
+    } else if index == 7 {
         1000
     } else {
         0

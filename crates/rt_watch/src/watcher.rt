@@ -1,8 +1,9 @@
 //! The end that watches.
 
-ghost use Rattle.std.specs.Prelude.{◌≡◌, ◌+◌, ◌<◌, ◌≤◌, false, IfOk, None};
+ghost use Rattle.std.specs.Prelude.{◌≡◌, ◌+◌, ◌<◌, ◌≤◌, true, false, IfOk, None};
 ghost use Rattle.rt_ids.specs.Commands.{created_count};
 ghost use Rattle.rt_stats.specs.Stats as spec;
+ghost use Rattle.rt_watch.specs.Closed.{closed_by_itself as tells_own_closing};
 ghost use Rattle.rt_watch.specs.Growth.{Grows};
 ghost use Rattle.rt_watch.specs.Tells.{TellsCore};
 
@@ -27,6 +28,10 @@ pub struct Watching {
     pub terms: Terms,
     /// The notes whose numbers it tells, the newest first.
     pub notes: LinkedList<Note<u64>>,
+    /// The number of the publication that it tells, 0 if it saw none.
+    pub count: u64,
+    /// That publication told that the core closed by itself.
+    pub closed: bool,
 }
 
 /// The end that watches the numbers of a core. It may go to any thread.
@@ -43,6 +48,8 @@ pub struct Watcher {
     pub(crate) row: Vec<u64>,
     /// The row that a look reads.
     pub(crate) next: Vec<u64>,
+    /// The number of the publication that the last look found.
+    pub(crate) count: u64,
 }
 
 impl Model for Watcher {
@@ -53,9 +60,9 @@ impl Model for Watcher {
     ghost use Rattle.std.specs.Arc.{arc_value};
     ghost use Rattle.rt_watch.specs.Ends.{IsWatcher, name_of};
 
-    ghost view = { λ w. record { board = name_of w.seat.table_id; terms = w.terms; notes = w.seat.me.0.looked.seen } };
+    ghost view = { λ w. record { board = name_of w.seat.table_id; terms = w.terms; notes = w.seat.me.0.looked.seen; count = w.count; closed = w.seat.me.0.looked.closed } };
 
-    ghost invariant = { λ w. IsWatcher w.seat.table_id (arc_value w.board).shared.table_id w.seat.me w.terms w.row.items w.next.items };
+    ghost invariant = { λ w. IsWatcher w.seat.table_id (arc_value w.board).shared.table_id w.seat.me w.terms w.row.items w.next.items w.count };
 }
 
 impl Watcher {
@@ -63,12 +70,16 @@ impl Watcher {
     fn look_once(&mut self) -> bool
         ensures same { (self.new.board ≡ self.old.board) × (self.new.terms ≡ self.old.terms) }
         ensures grows { Grows self.old.notes self.new.notes }
+        ensures counted { self.old.count ≤ self.new.count }
+        ensures told { self.old.closed ≡ true → self.new.closed ≡ true }
         ensures none { result ≡ false → self.new.notes ≡ self.old.notes }
+        ensures kept { result ≡ false → (self.new.count ≡ self.old.count) × (self.new.closed ≡ self.old.closed) }
     {
-        if !look_on(&self.board, &mut self.seat, &mut self.next) {
+        let Some(count) = look_on(&self.board, &mut self.seat, &mut self.next) else {
             return false;
-        }
+        };
         swap(&mut self.row, &mut self.next);
+        self.count = count;
         true
     }
 
@@ -78,7 +89,10 @@ impl Watcher {
     pub fn look(&mut self) -> bool
         ensures same { (self.new.board ≡ self.old.board) × (self.new.terms ≡ self.old.terms) }
         ensures grows { Grows self.old.notes self.new.notes }
+        ensures counted { self.old.count ≤ self.new.count }
+        ensures told { self.old.closed ≡ true → self.new.closed ≡ true }
         ensures none { result ≡ false → self.new.notes ≡ self.old.notes }
+        ensures kept { result ≡ false → (self.new.count ≡ self.old.count) × (self.new.closed ≡ self.old.closed) }
     {
         for _ in 0..TRIES {
             if self.look_once() {
@@ -107,7 +121,25 @@ impl Watcher {
             terms: self.terms,
             row,
             next,
+            count: self.count,
         })
+    }
+
+    /// The number of the publication that it tells. 0 if no look found one yet.
+    pub fn publication(&self) -> u64
+        ensures { result ≡ self.now.count }
+    {
+        self.count
+    }
+
+    /// Whether that publication told that the core closed by itself, without a command. A core that did may have been closed by a command, too.
+    ///
+    /// False says that it wasn't told. No clause says that what did happen is told.
+    pub fn closed_by_itself(&self) -> bool
+        ensures told { result ≡ self.now.closed }
+        ensures notes { result ≡ true → tells_own_closing self.now.notes ≡ true }
+    {
+        self.row[6] == 1
     }
 
     /// The numbers of the core.

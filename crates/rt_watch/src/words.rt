@@ -1,6 +1,6 @@
 //! Numbers as words, and words as numbers.
 
-ghost use Rattle.std.specs.Prelude.{◌≡◌, ℕ, ◌+◌, ◌*◌, ◌^◌, ◌<◌, ◌≤◌, length, slice_get, slice_index, Some};
+ghost use Rattle.std.specs.Prelude.{◌≡◌, ℕ, ◌+◌, ◌*◌, ◌^◌, ◌<◌, ◌≤◌, Bool, length, slice_get, slice_index, Some};
 ghost use Rattle.rt_ids.specs.declared.stats.CoreStats.{CoreStats as Core};
 ghost use Rattle.rt_ids.specs.declared.stats.QueueStats.{QueueStats as Queue};
 ghost use Rattle.rt_shares.specs.Charge.{InRange};
@@ -11,7 +11,7 @@ use rt_ids::{CoreStats, QueueStats};
 use rt_shares::Shares;
 
 /// How many words the numbers of a core take.
-pub(crate) const CORE_WORDS: usize = 6;
+pub(crate) const CORE_WORDS: usize = 7;
 
 /// How many words the numbers of a queue take.
 pub(crate) const QUEUE_WORDS: usize = 9;
@@ -50,9 +50,9 @@ fn word_if(is: bool) -> u64
     if is { 1 } else { 0 }
 }
 
-/// The words of a core that has so many queues.
-pub(crate) fn core_words(core: &CoreStats, count: usize) -> [u64; 6]
-    ensures { result ≡ spec.core_words core.now count }
+/// The words of a core that has so many queues, and of which it is told or not that it closed by itself.
+pub(crate) fn core_words(core: &CoreStats, count: usize, closed: bool) -> [u64; 7]
+    ensures { result ≡ spec.core_words core.now count closed }
 {
     [
         core.turns,
@@ -61,6 +61,7 @@ pub(crate) fn core_words(core: &CoreStats, count: usize) -> [u64; 6]
         core.held,
         word_if(core.drained),
         count as u64,
+        word_if(closed),
     ]
 }
 
@@ -106,8 +107,8 @@ fn shares_of(word: u64) -> Shares
 
 /// The numbers of a core, from the words at the head of a row.
 pub(crate) fn core_of(row: &[u64]) -> CoreStats
-    requires { 6 ≤ length row.now }
-    ensures { (core : Core) (count : ℕ) → HasAt row.now 0 (spec.core_words core count) → result ≡ core }
+    requires { 7 ≤ length row.now }
+    ensures { (core : Core) (count : ℕ) (closed : Bool) → HasAt row.now 0 (spec.core_words core count closed) → result ≡ core }
 {
     CoreStats {
         turns: row[0],

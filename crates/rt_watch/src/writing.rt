@@ -1,13 +1,14 @@
 //! The steps of the publisher's seat.
 
-ghost use Rattle.std.specs.Prelude.{◌≡◌, ℕ, ◌+◌, ◌-◌, ◌<◌, ◌≤◌, ◌^◌, [], true, length, slice_get, slice_set, Some};
+ghost use Rattle.std.specs.Prelude.{◌≡◌, ℕ, ◌+◌, ◌-◌, ◌<◌, ◌≤◌, ◌^◌, [], true, is_some, length, slice_get, slice_set, Some};
 ghost use Rattle.rt_ids.specs.declared.stats.QueueStats.{QueueStats as Queue};
 ghost use Rattle.rt_shares.specs.Charge.{InRange};
+ghost use Rattle.rt_watch.specs.Closed.{closed_by_itself, told_after};
 ghost use Rattle.rt_watch.specs.Ends.{IsPublisher, IsWriting};
 ghost use Rattle.rt_watch.specs.Growth.{Grows};
 ghost use Rattle.rt_watch.specs.Tells.{Tells, TellsCore, TellsQueues};
 ghost use Rattle.rt_watch.specs.Views.{with_begun, with_row, with_done};
-ghost use Rattle.rt_watch.specs.Words.{HasAt, Writes};
+ghost use Rattle.rt_watch.specs.Words.{HasAt, Writes, closed_in};
 ghost use Rattle.rt_watch.specs.Words as spec;
 
 use crate::board::{BEGUN, Board, DONE, Place, ROW, Terms};
@@ -72,7 +73,7 @@ fn put_queues(
     ensures writing { IsWriting seat.new.table_id board.now.shared.table_id seat.new.me row.new.items }
     ensures table { seat.new.table_id ≡ seat.old.table_id }
     ensures view { seat.new.me.0 ≡ with_row seat.old.me.0 row.new.items }
-    ensures writes { Writes 6 [] row.old.items row.new.items }
+    ensures writes { Writes 7 [] row.old.items row.new.items }
     ensures has { (queue : ℕ) (stats : Queue) → queue < places → slice_get queues.now queue ≡ Some stats → HasAt row.new.items (spec.place_of queue) (spec.queue_words stats) × InRange stats.shares }
 {
     for number in 0..queues.len().min(places) {
@@ -87,6 +88,7 @@ fn put_row(
     seat: &mut Place,
     row: &mut Vec<u64>,
     places: usize,
+    closed: bool,
     core: &CoreStats,
     queues: &[QueueStats],
 )
@@ -95,10 +97,10 @@ fn put_row(
     ensures table { seat.new.table_id ≡ seat.old.table_id }
     ensures view { seat.new.me.0 ≡ with_row seat.old.me.0 row.new.items }
     ensures wide { length row.new.items ≡ length row.old.items }
-    ensures core { HasAt row.new.items 0 (spec.core_words core.now (length queues.now)) }
+    ensures core { HasAt row.new.items 0 (spec.core_words core.now (length queues.now) closed) }
     ensures queues { (queue : ℕ) (stats : Queue) → queue < places → slice_get queues.now queue ≡ Some stats → HasAt row.new.items (spec.place_of queue) (spec.queue_words stats) × InRange stats.shares }
 {
-    let head = core_words(core, queues.len());
+    let head = core_words(core, queues.len(), closed);
     put_words(board, seat, row, 0, &head);
     put_queues(board, seat, row, places, queues);
 }
@@ -110,6 +112,7 @@ fn end(board: &Board, seat: &mut Place, count: u64, journal: &RunningJournal<u64
     requires begun { (seat.old.me.0.published.done + 1 ≡ count) × (seat.old.me.0.published.begun ≡ count) }
     requires grows { Grows seat.old.me.0.published.notes journal.now.notes }
     requires tells { Tells seat.old.me.0.terms journal.now.notes seat.old.me.0.published.row }
+    requires closed { is_some seat.old.me.0.published.closed ≡ true → closed_in seat.old.me.0.published.row ≡ true }
     ensures table { seat.new.table_id ≡ seat.old.table_id }
     ensures view { seat.new.me.0 ≡ with_done seat.old.me.0 count journal.now.notes }
 {
@@ -126,11 +129,14 @@ pub(crate) fn publish_on(
     row: &mut Vec<u64>,
     terms: Terms,
     count: u64,
+    closed: bool,
     journal: &RunningJournal<u64>,
     core: &CoreStats,
     queues: &[QueueStats],
 )
     requires publisher { IsPublisher seat.old.table_id board.now.shared.table_id seat.old.me terms row.old.items count }
+    requires stays { is_some seat.old.me.0.published.closed ≡ true → closed ≡ true }
+    requires own { closed ≡ true → closed_by_itself journal.now.notes ≡ true }
     requires spent { count < 2 ^ 64 - 1 }
     requires grows { Grows seat.old.me.0.published.notes journal.now.notes }
     requires core { TellsCore terms.cores journal.now.notes core.now }
@@ -138,9 +144,18 @@ pub(crate) fn publish_on(
     ensures publisher { IsPublisher seat.new.table_id board.now.shared.table_id seat.new.me terms row.new.items (count + 1) }
     ensures table { seat.new.table_id ≡ seat.old.table_id }
     ensures notes { seat.new.me.0.published.notes ≡ journal.now.notes }
+    ensures closed { seat.new.me.0.published.closed ≡ told_after seat.old.me.0.published.closed (count + 1) closed }
 {
     let next = count + 1;
     begin(board, seat, next);
-    put_row(board, seat, row, terms.places as usize, core, queues);
+    put_row(
+        board,
+        seat,
+        row,
+        terms.places as usize,
+        closed,
+        core,
+        queues,
+    );
     end(board, seat, next, journal);
 }

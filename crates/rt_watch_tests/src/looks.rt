@@ -1,7 +1,7 @@
 //! What a watcher tells, on one thread.
 
 use crate::source::Source;
-use rt_ids::{ActorNo, CoreNo, JobId, Mode, Note, QueueNo};
+use rt_ids::{ActorNo, Answer, CoreNo, JobId, Mode, Note, QueueNo};
 use rt_shares::Shares;
 use rt_watch::{Terms, Watcher};
 use std::alloc::{AllocError, Global};
@@ -103,6 +103,36 @@ fn tells_of_the_end(alloc: Global) -> Result<bool, AllocError> {
     let open = source.publish(alloc)? && watcher.look() && !watcher.core_stats().drained;
     source.add(Note::Shut(ActorNo(1), 0));
     Ok(open && source.publish(alloc)? && watcher.look() && watcher.core_stats().drained)
+}
+
+/// Whether a watcher tells of this many publications, and whether the last one told that the core closed by itself.
+fn tells_closing(watcher: &Watcher, count: u64, closed: bool) -> bool {
+    watcher.publication() == count && watcher.closed_by_itself() == closed
+}
+
+/// Adds the answer of a command that closes the core, and its effect.
+fn add_command(source: &mut Source) {
+    source.add(Note::Answered(JOB, Answer::Closed));
+    source.add(Note::CoreClosed(Mode::Finish));
+}
+
+/// Whether it is told that a core closed by itself, once that is published and seen, and then on. A command that closed it isn't told.
+fn tells_of_its_closing(alloc: Global) -> Result<bool, AllocError> {
+    let (mut source, mut watcher) = Source::open(alloc, TERMS)?;
+    let first = tells_closing(&watcher, 0, false);
+    add_command(&mut source);
+    let ordered = source.publish(alloc)? && watcher.look() && tells_closing(&watcher, 1, false);
+    let closed = source.close_itself(alloc)? && tells_closing(&watcher, 1, false);
+    let told = watcher.look() && tells_closing(&watcher, 2, true);
+    let later = source.publish(alloc)? && watcher.look() && tells_closing(&watcher, 3, true);
+    let again = tells_closing(&watcher.again(alloc)?, 3, true);
+    Ok(first && ordered && closed && told && later && again)
+}
+
+#[test]
+fn a_core_that_closed_by_itself_is_told(rt: HostRuntime) -> Result<(), Fail> {
+    assert!(rt; tells_of_its_closing(rt.alloc())?);
+    Ok(())
 }
 
 #[test]

@@ -1,11 +1,11 @@
 //! A core's journal as these tests write it, with the publisher of its numbers.
 
-ghost use Rattle.std.specs.Prelude.{◌≡◌, ℕ, IfOk, IfSome};
+ghost use Rattle.std.specs.Prelude.{◌≡◌, ℕ, [], IfOk, IfSome};
 ghost use Rattle.rt_ids.specs.Journal.{Journal as Notes};
 ghost use Rattle.rt_stats.specs.Walks.{KnowsSums};
-ghost use Rattle.rt_watch.specs.Tells.{TellsQueues};
+ghost use Rattle.rt_watch.specs.Tells.{TellsCore, TellsQueues};
 
-use rt_ids::{CoreStats, Note, QueueNo, QueueStats};
+use rt_ids::{CoreStats, Mode, Note, QueueNo, QueueStats};
 use rt_journal_notes::RunningJournal;
 use rt_stats::Sums;
 use rt_watch::{Publisher, Terms, Watcher, open};
@@ -27,6 +27,23 @@ fn queues_of(alloc: Global, sums: &Sums) -> Result<Option<Vec<QueueStats>>, Allo
         queues.push(stats)?;
     }
     Ok(None)
+}
+
+/// The numbers of a core with this journal and of its queues, if there are no more than 255.
+fn numbers_of(
+    alloc: Global,
+    journal: &RunningJournal<u64>,
+    terms: &Terms,
+) -> Result<Option<(CoreStats, Vec<QueueStats>)>, AllocError>
+    requires { journal.now.passed ≡ [] }
+    ensures { IfOk result (λ told. IfSome told (λ told. TellsCore terms.now.cores journal.now.notes told.0 × TellsQueues terms.now.burst journal.now.notes told.1.items)) }
+{
+    let sums = Sums::of(alloc, journal.kept(), terms.burst)?;
+    let core = sums.core_stats(terms.cores);
+    match queues_of(alloc, &sums)? {
+        Some(queues) => Ok(Some((core, queues))),
+        None => Ok(None),
+    }
 }
 
 /// A journal and the publisher of its numbers.
@@ -78,9 +95,7 @@ impl Source {
     /// Publishes the numbers of the journal. Whether it did.
     pub fn publish(&mut self, alloc: Global) -> Result<bool, AllocError> {
         let terms = self.publisher.terms();
-        let sums = Sums::of(alloc, self.journal.kept(), terms.burst)?;
-        let core = sums.core_stats(terms.cores);
-        let Some(queues) = queues_of(alloc, &sums)? else {
+        let Some((core, queues)) = numbers_of(alloc, &self.journal, &terms)? else {
             return Ok(false);
         };
         if self.publisher.is_spent() {
@@ -88,6 +103,25 @@ impl Source {
         }
         self.publisher
             .publish(&self.journal, &core, queues.as_slice());
+        Ok(true)
+    }
+
+    /// Adds a note that the core closed by itself, behind one that is no answer, and publishes it. Whether it did.
+    pub fn close_itself(&mut self, alloc: Global) -> Result<bool, AllocError> {
+        if self.journal.free() < 2 {
+            return Ok(false);
+        }
+        self.journal.push(Note::Turned(QueueNo(0), 0));
+        self.journal.push(Note::CoreClosed(Mode::Return));
+        let terms = self.publisher.terms();
+        let Some((core, queues)) = numbers_of(alloc, &self.journal, &terms)? else {
+            return Ok(false);
+        };
+        if self.publisher.is_spent() {
+            return Ok(false);
+        }
+        self.publisher
+            .publish_own_closing(&self.journal, &core, queues.as_slice());
         Ok(true)
     }
 }

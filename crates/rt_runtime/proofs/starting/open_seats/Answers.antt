@@ -46,7 +46,12 @@ loop-seat-preserved g c =
       watched = rw c.push_reserved.ensures.items
           (rw c.push_reserved-in-loop-seat.ensures.items
           (together_more IsWatcherOf loop.workers.items loop.watchers.items c.in_ok-worker.worker c.in_ok-worker.watcher loop.invariant.watched
-          (record { board = ap (λ watcher. watcher.board) c.in_ok-worker.ensures.watches; terms_are = ap (λ watcher. watcher.terms) c.in_ok-worker.ensures.watches; none = ap (λ watcher. watcher.notes) c.in_ok-worker.ensures.watches })));
+          (record {
+            board = ap (λ watcher. watcher.board) c.in_ok-worker.ensures.watches;
+            terms_are = ap (λ watcher. watcher.terms) c.in_ok-worker.ensures.watches;
+            none = ap (λ watcher. watcher.notes) c.in_ok-worker.ensures.watches;
+            unseen = (ap (λ watcher. watcher.count) c.in_ok-worker.ensures.watches, ap (λ watcher. watcher.closed) c.in_ok-worker.ensures.watches);
+          })));
       made = rw c.push_reserved.ensures.items
           (made_more
           (λ seat worker. IsWiredWith (IsOpenedWith c.args.config.now.cores c.args.config.now.cap c.args.config.now.burst c.args.config.now.room c.args.config.now.queues.items seat.ends)

@@ -1,6 +1,8 @@
-use Rattle.std.proofs.Common.{inr, length, refl, sym, ◌∙◌, subst}
+use Rattle.std.proofs.Common.{◌≡◌, ℕ, ◌+◌, true, inl, inr, length, refl, sym, ap, ◌∙◌, subst}
 use Rattle.std.proofs.lemmas.Bool.{false≢true}
 use Rattle.rt_journal.specs.Stats.{AreExact, TellsQueues}
+use Rattle.rt_journal_notes.specs.Journals.{JournalView}
+use Rattle.rt_watch.specs.Closed.{closed_by_itself}
 use Rattle.rt_watch.specs.Tells as board
 use Rattle.rt_runtime_worker.specs.Shown.{shown_of}
 use Rattle.rt_runtime_worker.proofs.Published.{many_notes, queues_shown}
@@ -14,9 +16,33 @@ returns-then-not-are_exact g c =
       refl,
     )
 
+pub publish_own_closing-requires-clause-queues : goal.publish_own_closing-requires-clause-queues
+publish_own_closing-requires-clause-queues g c =
+    let exact = subst AreExact c.as_slice.ensures.value (c.are_exact.ensures.0 c.if-not-are_exact.false) in
+    let told = queues_shown c.args.recorded.now (shown_of c.args.publisher.now) c.requires.shown c.told_stats-queues.result.1.items (c.told_stats-queues.ensures.exact exact) in
+    subst (λ queues. board.TellsQueues c.args.publisher.now.terms.burst c.journal-journal.result.now.notes queues) (sym c.as_slice-told.ensures.value)
+    (subst (λ journal. board.TellsQueues c.args.publisher.now.terms.burst journal.notes c.told_stats-queues.result.1.items) (sym c.journal-journal.ensures) told)
+
+pub publish_own_closing-requires-clause-closed : goal.publish_own_closing-requires-clause-closed
+publish_own_closing-requires-clause-closed g c = subst (λ journal. closed_by_itself journal.notes ≡ true) (sym c.journal-journal.ensures) (c.requires.alone c.if-alone.true)
+
+pub returns-then-alone : goal.returns-then-alone
+returns-then-alone g c =
+    inl (
+    ap shown_of c.publish_own_closing.ensures
+    ∙ ap (λ (journal : JournalView ℕ). record (shown_of c.args.publisher.now) { notes = journal.notes; count = c.args.publisher.now.count + 1 }) c.journal-journal.ensures
+    )
+
 pub publish-requires-clause-queues : goal.publish-requires-clause-queues
 publish-requires-clause-queues g c =
     let exact = subst AreExact c.as_slice.ensures.value (c.are_exact.ensures.0 c.if-not-are_exact.false) in
     let told = queues_shown c.args.recorded.now (shown_of c.args.publisher.now) c.requires.shown c.told_stats-queues.result.1.items (c.told_stats-queues.ensures.exact exact) in
-    subst (λ queues. board.TellsQueues c.args.publisher.now.terms.burst c.journal.result.now.notes queues) (sym c.as_slice-2.ensures.value)
-    (subst (λ journal. board.TellsQueues c.args.publisher.now.terms.burst journal.notes c.told_stats-queues.result.1.items) (sym c.journal.ensures) told)
+    subst (λ queues. board.TellsQueues c.args.publisher.now.terms.burst c.journal-journal.result.now.notes queues) (sym c.as_slice-told.ensures.value)
+    (subst (λ journal. board.TellsQueues c.args.publisher.now.terms.burst journal.notes c.told_stats-queues.result.1.items) (sym c.journal-journal.ensures) told)
+
+pub returns : goal.returns
+returns g c =
+    inl (
+    ap shown_of c.publish.ensures
+    ∙ ap (λ (journal : JournalView ℕ). record (shown_of c.args.publisher.now) { notes = journal.notes; count = c.args.publisher.now.count + 1 }) c.journal-journal.ensures
+    )

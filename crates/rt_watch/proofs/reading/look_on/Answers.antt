@@ -1,4 +1,4 @@
-use Rattle.std.proofs.Common.{ap, ◌∙◌, sym, arith}
+use Rattle.std.proofs.Common.{ap, ◌∙◌, sym, length, arith}
 use Rattle.rt_watch.specs.Words.{place_of}
 use Rattle.rt_watch.proofs.reading.look_on.Goals as goal
 
@@ -22,3 +22,6 @@ check-found-requires-clause-knows c = ap (λ v. v.knows) c.read_all.ensures.view
 
 pub check-found-requires-clause-board : goal.check-found-requires-clause-board
 check-found-requires-clause-board c = (c.read_all.ensures.table ∙ (c.look-at.ensures.table ∙ c.requires.board.0), omega (arith, c.requires.board.1))
+
+pub check-found-requires-clause-whole : goal.check-found-requires-clause-whole
+check-found-requires-clause-whole c = let read = ap (λ v. length v.looked.read) c.read_all.ensures.view in omega (arith, read, c.read_all.ensures.wide, c.requires.wide)

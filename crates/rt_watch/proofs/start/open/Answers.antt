@@ -1,11 +1,14 @@
 use Rattle.std.proofs.Common.{◌+◌, ◌∙◌, ap, sym, length}
+use Rattle.std.specs.Prelude.{is_some}
 use Rattle.rt_watch.proofs.Beginning.{IsPublisher-first, IsWatcher-first}
 use Rattle.rt_watch.proofs.start.open.Goals as goal
 
 pub invariant_of-publisher : goal.invariant_of-publisher
-invariant_of-publisher c =
-    IsPublisher-first _ _ c.in_ok-board.board.shared.table_id c.in_ok-board.seat.me _ _ c.in_ok-board.ensures.table.0 (ap (λ b. b.shared.table_id) c.in_ok-board-2.ensures.ok) c.in_ok-board.ensures.table.2 c.in_ok-row.ensures
-    (ap (λ m. m.0) c.in_ok-board.ensures.publisher)
+invariant_of-publisher c = (
+  IsPublisher-first _ _ c.in_ok-board.board.shared.table_id c.in_ok-board.seat.me _ _ c.in_ok-board.ensures.table.0 (ap (λ b. b.shared.table_id) c.in_ok-board-2.ensures.ok) c.in_ok-board.ensures.table.2 c.in_ok-row.ensures
+      (ap (λ m. m.0) c.in_ok-board.ensures.publisher),
+  ap (λ m. is_some m.0.published.closed) c.in_ok-board.ensures.publisher,
+)
 
 pub invariant_of-watcher : goal.invariant_of-watcher
 invariant_of-watcher c =

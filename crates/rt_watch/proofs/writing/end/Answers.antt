@@ -7,7 +7,7 @@ compare_exchange_with-before-requires c =
     let next = c.requires.begun.0 in (
       c.requires.board.0,
       omega (arith, c.requires.board.1),
-      ends _ _ _ _ c.requires.publishes.0 _ _ _ c.requires.publishes.1 (omega (arith, next)) (omega (arith, next)) c.requires.begun.1 c.requires.grows c.requires.tells,
+      ends _ _ _ _ c.requires.publishes.0 _ _ _ c.requires.publishes.1 (omega (arith, next)) (omega (arith, next)) c.requires.begun.1 c.requires.grows c.requires.tells c.requires.closed,
     )
 
 pub returns-clause-view : goal.returns-clause-view

@@ -31,7 +31,7 @@ loop-number-preserved c =
       writing = c.put_words.ensures.writing;
       table = c.put_words.ensures.table ∙ inv.table;
       view = c.put_words.ensures.view ∙ ap (λ v. with_row v c.put_words.new.row.items) inv.view;
-      writes = Writes-kept 6 _ _ _ _ _ (omega arith) inv.writes writes;
+      writes = Writes-kept 7 _ _ _ _ _ (omega arith) inv.writes writes;
       each = λ queue stats below there. dite (ℕ_discrete queue number)
           (λ same.
           let told = c.words_at-words.ensures.words stats (ap (λ k. slice_get c.args.queues.now k) (sym same) ∙ there) in

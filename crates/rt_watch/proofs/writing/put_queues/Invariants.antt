@@ -12,6 +12,6 @@ invariant-loop-number l = record {
   writing : IsWriting l.seat.table_id l.board.shared.table_id l.seat.me l.row.items;
   table : l.seat.table_id ≡ l.fn.seat.table_id;
   view : l.seat.me.0 ≡ with_row l.fn.seat.me.0 l.row.items;
-  writes : Writes 6 [] l.fn.row.items l.row.items;
+  writes : Writes 7 [] l.fn.row.items l.row.items;
   each : (queue : ℕ) (stats : QueueStats) → queue < l.number → slice_get l.queues queue ≡ Some stats → HasAt l.row.items (place_of queue) (queue_words stats) × InRange stats.shares;
 }

@@ -40,4 +40,5 @@ returns-clause-watches g c =
     λ there.
     subst (λ core. Watches core c.args.self.now c.look.result new) c.core.view_is
     (subst (λ view. Watches c.core.inside.0 view c.look.result new) c.self.view_is
-    (watches inside c.core.inside.0 low c.index_mut.result.now c.look.new.self c.look.result c.index_mut.ensures.value c.look.ensures.same.0 c.look.ensures.same.1 c.look.ensures.grows c.look.ensures.none))
+    (watches inside c.core.inside.0 low c.index_mut.result.now c.look.new.self c.look.result c.index_mut.ensures.value c.look.ensures.same.0 c.look.ensures.same.1 c.look.ensures.grows c.look.ensures.counted c.look.ensures.told c.look.ensures.none
+    c.look.ensures.kept))

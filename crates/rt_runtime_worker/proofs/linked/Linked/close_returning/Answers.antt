@@ -1,5 +1,6 @@
 use Rattle.std.proofs.Common.{◌∙◌, sym, subst}
 use Rattle.rt_runtime_worker.specs.Gates.{LeavesReturning}
+use Rattle.rt_runtime_worker.proofs.Alone.{alone_now}
 use Rattle.rt_runtime_worker.proofs.Asking.{return_notes_none}
 use Rattle.rt_runtime_worker.proofs.Between.{between_behind}
 use Rattle.rt_runtime_worker.proofs.Gated.{returned_leaves, returned_linked}
@@ -15,7 +16,10 @@ invariant_of-self g c = (
       c.self.invariant.2,
 )
 
-pub returns : goal.returns
-returns g c =
+pub returns-clause-leaves : goal.returns-clause-leaves
+returns-clause-leaves g c =
     subst (λ old. LeavesReturning old (record { recorded = c.close.new.self; ends = c.self.inside.ends })) c.self.view_is
     (returned_leaves c.self.inside.recorded c.close.new.self c.self.inside.ends c.close.result c.close.ensures.closes c.close.ensures.seat)
+
+pub returns-clause-alone : goal.returns-clause-alone
+returns-clause-alone g c = alone_now c.self.inside.recorded c.close.new.self c.close.result c.self.invariant.0.recorded.kept.no_answer c.close.ensures.closes

@@ -1,5 +1,6 @@
 use Rattle.std.proofs.Common.{◌≡◌, sym, ◌∙◌, ap, subst, arith}
 use Rattle.std.specs.Prelude.{nat_lt}
+use Rattle.rt_runtime_worker.proofs.Alone.{alone_grows}
 use Rattle.rt_runtime_worker.specs.Rooms.{ActsAsItMay, IsReady}
 use Rattle.rt_runtime_worker.specs.Ended.{IsServed}
 use Rattle.rt_runtime_worker.proofs.Spare.{places_few}
@@ -17,11 +18,13 @@ collect_from-requires-clause-room g c =
     omega (arith, ready, places_few c.self.inside.linked.recorded.core.cores c.self.inside.linked.recorded.cap)
 
 pub invariant_of-self : goal.invariant_of-self
-invariant_of-self g c =
-    subst (λ ending. IsServed g.J.Task.meaning (record { linked = c.collect_from.new.self; ending = ending })) (sym c.if-self.false)
-    (collects_served c.args.core c.collect_from.result c.self.inside.linked c.collect_from.new.self c.collect_from.ensures.linked c.collect_from.ensures.between c.collect_from.ensures.collects
-    (subst (λ ending. IsReady ending c.self.inside.linked.recorded) c.if-self.false (subst (λ view. IsReady view.ending view.linked.recorded) (sym c.self.view_is) c.look.ensures.ready))
-    (subst (λ ending. ActsAsItMay ending c.self.inside.linked.recorded) c.if-self.false c.self.invariant.acts))
+invariant_of-self g c = (
+  subst (λ ending. IsServed g.J.Task.meaning (record { linked = c.collect_from.new.self; ending = ending })) (sym c.if-self.false)
+      (collects_served c.args.core c.collect_from.result c.self.inside.linked c.collect_from.new.self c.collect_from.ensures.linked c.collect_from.ensures.between c.collect_from.ensures.collects
+      (subst (λ ending. IsReady ending c.self.inside.linked.recorded) c.if-self.false (subst (λ view. IsReady view.ending view.linked.recorded) (sym c.self.view_is) c.look.ensures.ready))
+      (subst (λ ending. ActsAsItMay ending c.self.inside.linked.recorded) c.if-self.false c.self.invariant.0.acts)),
+  alone_grows c.self.inside.alone c.self.inside.linked.recorded.journal.notes c.collect_from.new.self.recorded.journal.notes c.collect_from.ensures.collects.stays.grows c.self.invariant.1,
+)
 
 pub returns-then-self-clause-steps : goal.returns-then-self-clause-steps
 returns-then-self-clause-steps g c = looked_alone c.args.self.now c.look.new.self c.look.ensures.looks c.look.ensures.stays

@@ -1,4 +1,5 @@
 use Rattle.std.proofs.Common.{sym, ◌∙◌, subst, ap, arith}
+use Rattle.rt_runtime_worker.proofs.Alone.{alone_grows}
 use Rattle.rt_runtime_worker.specs.Rooms.{IsReady}
 use Rattle.rt_runtime_worker.proofs.Spare.{ready_room}
 use Rattle.rt_runtime_worker.proofs.Serving.{delivers_served}
@@ -11,13 +12,15 @@ use Rattle.rt_runtime_worker.proofs.served.Served.deliver_one.Goals as goal
 
 pub deliver_from-requires-clause-room : goal.deliver_from-requires-clause-room
 deliver_from-requires-clause-room g c =
-    omega (arith, ready_room c.self.inside.linked c.self.invariant.linked c.self.inside.ending (subst (λ view. IsReady view.ending view.linked.recorded) (sym c.self.view_is) c.look.ensures.ready))
+    omega (arith, ready_room c.self.inside.linked c.self.invariant.0.linked c.self.inside.ending (subst (λ view. IsReady view.ending view.linked.recorded) (sym c.self.view_is) c.look.ensures.ready))
 
 pub invariant_of-self : goal.invariant_of-self
-invariant_of-self g c =
-    delivers_served c.args.sender c.deliver_from.result c.self.inside.ending c.self.inside.linked c.deliver_from.new.self c.self.invariant.linked c.deliver_from.ensures.linked c.self.invariant.between c.deliver_from.ensures.between
-    (omega (arith, c.requires, c.look.ensures.stays.seat.cores, ap (λ view. view.linked.recorded.core.cores) c.self.view_is)) c.deliver_from.ensures.delivers
-    (subst (λ view. IsReady view.ending view.linked.recorded) (sym c.self.view_is) c.look.ensures.ready) c.self.invariant.acts
+invariant_of-self g c = (
+  delivers_served c.args.sender c.deliver_from.result c.self.inside.ending c.self.inside.linked c.deliver_from.new.self c.self.invariant.0.linked c.deliver_from.ensures.linked c.self.invariant.0.between c.deliver_from.ensures.between
+      (omega (arith, c.requires, c.look.ensures.stays.seat.cores, ap (λ view. view.linked.recorded.core.cores) c.self.view_is)) c.deliver_from.ensures.delivers
+      (subst (λ view. IsReady view.ending view.linked.recorded) (sym c.self.view_is) c.look.ensures.ready) c.self.invariant.0.acts,
+  alone_grows c.self.inside.alone c.self.inside.linked.recorded.journal.notes c.deliver_from.new.self.recorded.journal.notes c.deliver_from.ensures.delivers.stays.grows c.self.invariant.1,
+)
 
 pub returns-clause-steps : goal.returns-clause-steps
 returns-clause-steps g c =

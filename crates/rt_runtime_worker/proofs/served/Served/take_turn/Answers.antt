@@ -1,4 +1,5 @@
 use Rattle.std.proofs.Common.{◌≡◌, ◌+◌, ◌≤◌, length, refl, sym, ◌∙◌, ap, subst}
+use Rattle.rt_runtime_worker.proofs.Alone.{alone_grows}
 use Rattle.rt_runtime_worker.specs.Rooms.{IsReady}
 use Rattle.rt_runtime_worker.proofs.Spare.{turn_room}
 use Rattle.rt_runtime_worker.proofs.Serving.{turned_served}
@@ -17,14 +18,16 @@ use Rattle.rt_runtime_worker.proofs.served.Served.take_turn.Goals as goal
 
 pub turn-requires : goal.turn-requires
 turn-requires g c = record {
-  room = turn_room c.self.inside.linked c.self.invariant.linked c.self.inside.ending (subst (λ view. IsReady view.ending view.linked.recorded) (sym c.self.view_is) c.look.ensures.ready);
+  room = turn_room c.self.inside.linked c.self.invariant.0.linked c.self.inside.ending (subst (λ view. IsReady view.ending view.linked.recorded) (sym c.self.view_is) c.look.ensures.ready);
 }
 
 pub invariant_of-self : goal.invariant_of-self
-invariant_of-self g c =
-    turned_served c.self.inside.linked c.turn.new.self c.self.invariant.linked c.turn.ensures.linked c.self.invariant.between c.turn.ensures.between c.turn.ensures.stays.seat g.M.Meter.Tells g.G.Gate.Asked c.args.meter.now c.turn.new.meter
-    c.args.gate.now c.turn.new.gate c.turn.result c.self.inside.ending c.turn.ensures.makes
-    (subst (λ view. IsReady view.ending view.linked.recorded) (sym c.self.view_is) c.look.ensures.ready) c.self.invariant.acts
+invariant_of-self g c = (
+  turned_served c.self.inside.linked c.turn.new.self c.self.invariant.0.linked c.turn.ensures.linked c.self.invariant.0.between c.turn.ensures.between c.turn.ensures.stays.seat g.M.Meter.Tells g.G.Gate.Asked c.args.meter.now c.turn.new.meter
+      c.args.gate.now c.turn.new.gate c.turn.result c.self.inside.ending c.turn.ensures.makes
+      (subst (λ view. IsReady view.ending view.linked.recorded) (sym c.self.view_is) c.look.ensures.ready) c.self.invariant.0.acts,
+  alone_grows c.self.inside.alone c.self.inside.linked.recorded.journal.notes c.turn.new.self.recorded.journal.notes c.turn.ensures.stays.grows c.self.invariant.1,
+)
 
 pub returns-clause-steps : goal.returns-clause-steps
 returns-clause-steps g c =

@@ -1,7 +1,7 @@
 use Rattle.std.proofs.Common.{sym, subst}
 use Rattle.rt_ids.specs.Closing.{IsDrained}
 use Rattle.rt_runtime_worker.specs.Passing.{HandsOn}
-use Rattle.rt_runtime_worker.specs.Shown.{IsShown, Shows, shown_of}
+use Rattle.rt_runtime_worker.specs.Shown.{IsShown, Shows, TellsAlone, shown_of}
 use Rattle.rt_runtime_worker.proofs.GivenBack.{given_back}
 use Rattle.rt_runtime_worker.proofs.Published.{shown_now}
 use Rattle.rt_runtime_worker.proofs.worker.Worker.into_ended.Goals as goal
@@ -16,3 +16,6 @@ of-requires g c =
 
 pub show_on-requires-clause-shown : goal.show_on-requires-clause-shown
 show_on-requires-clause-shown g c = subst (λ view. IsShown view (shown_of c.self.inside.publisher)) (sym c.recorded.ensures.recorded) c.self.invariant.3
+
+pub show_on-requires-clause-alone : goal.show_on-requires-clause-alone
+show_on-requires-clause-alone g c = subst (λ view. TellsAlone c.closed_alone-alone.result view.journal.notes) (sym c.recorded.ensures.recorded) c.closed_alone-alone.ensures

@@ -1,4 +1,4 @@
-use Rattle.std.proofs.Common.{◌≡◌, [], length, sym, ◌∙◌, ap, arith}
+use Rattle.std.proofs.Common.{◌≡◌, false, [], length, sym, ◌∙◌, ap, arith}
 use Rattle.std.specs.Prelude.{slice_index_or}
 use Rattle.rt_runtime_worker.specs.Bells.{BellView}
 use Rattle.rt_watch.specs.declared.publisher.Publishing.{Publishing}
@@ -43,4 +43,4 @@ pub returns-clause-watches : goal.returns-clause-watches
 returns-clause-watches g c =
     let board = ap (λ shown. shown.board) c.of-worker.ensures.shown in
     let terms = ap (λ shown. shown.terms) c.of-worker.ensures.shown ∙ ap (λ (publisher : Publishing). publisher.terms) c.in_ok-publisher.ensures.publisher in
-    c.in_ok-publisher.ensures.watcher ∙ (λ i. record { board = (sym board) i; terms = (sym terms) i; notes = [] })
+    c.in_ok-publisher.ensures.watcher ∙ (λ i. record { board = (sym board) i; terms = (sym terms) i; notes = []; count = 0; closed = false })

@@ -1,44 +1,22 @@
-use Rattle.std.proofs.Common.{inl, inr, ap, subst}
-use Rattle.rt_runtime_worker.specs.Serves.{GoesOn}
-use Rattle.rt_runtime_worker.proofs.Asking.{asks_then}
-use Rattle.rt_runtime_worker.proofs.Along.{runs_along}
-use Rattle.rt_runtime_worker.proofs.ShownAgain.{again_same, asks_from, now_same, runs_from}
+use Rattle.std.proofs.Common.{subst}
+use Rattle.rt_runtime_worker.specs.Serves.{ShowsEnd}
+use Rattle.rt_runtime_worker.proofs.ShownAgain.{again_same, asks_from, asks_to, end_same, runs_from, runs_to}
 use Rattle.rt_runtime_worker.proofs.worker.Worker.serve.Goals as goal
 
-pub returns-then-not-goes_on-clause-runs : goal.returns-then-not-goes_on-clause-runs
-returns-then-not-goes_on-clause-runs g c =
-    runs_from _ _ (again_same c.args.self.now c.show_again.new.self c.show_again.ensures) c.rests.new.self.linked
-    (runs_along c.show_again.new.self.linked c.goes_on.new.self.linked c.rests.new.self.linked c.goes_on.ensures.runs
-    (runs_from _ _ (now_same c.goes_on.new.self c.show.new.self c.show.ensures) c.rests.new.self.linked c.rests.ensures.runs))
+pub returns-clause-runs : goal.returns-clause-runs
+returns-clause-runs g c =
+    runs_from _ _ (again_same c.args.self.now c.show_again.new.self c.show_again.ensures) c.show_end.new.self.linked
+    (runs_to _ _ (end_same c.is_ending-was.result c.serve_once.new.self c.show_end.new.self c.show_end.ensures) c.show_again.new.self.linked c.serve_once.ensures.runs)
 
-pub returns-then-not-goes_on-clause-asks : goal.returns-then-not-goes_on-clause-asks
-returns-then-not-goes_on-clause-asks g c =
-    asks_from _ _ (again_same c.args.self.now c.show_again.new.self c.show_again.ensures) g.G.Gate.Asked c.rests.new.self.linked.recorded.journal.notes c.rests.new.self.gate
-    (asks_then g.G.Gate.Asked c.show_again.new.self.linked.recorded.core.core c.goes_on.new.self.linked.recorded.core.core c.show_again.new.self.linked.recorded.journal.notes c.goes_on.new.self.linked.recorded.journal.notes
-    c.rests.new.self.linked.recorded.journal.notes c.show_again.new.self.gate c.goes_on.new.self.gate c.rests.new.self.gate (ap (λ terms. terms.actor) c.goes_on.ensures.runs.seat) c.goes_on.ensures.asks
-    (asks_from _ _ (now_same c.goes_on.new.self c.show.new.self c.show.ensures) g.G.Gate.Asked c.rests.new.self.linked.recorded.journal.notes c.rests.new.self.gate c.rests.ensures.asks))
+pub returns-clause-asks : goal.returns-clause-asks
+returns-clause-asks g c =
+    asks_from _ _ (again_same c.args.self.now c.show_again.new.self c.show_again.ensures) g.G.Gate.Asked c.show_end.new.self.linked.recorded.journal.notes c.show_end.new.self.gate
+    (asks_to _ _ (end_same c.is_ending-was.result c.serve_once.new.self c.show_end.new.self c.show_end.ensures) g.G.Gate.Asked c.show_again.new.self.linked.recorded.core.core c.show_again.new.self.linked.recorded.journal.notes
+    c.show_again.new.self.gate c.serve_once.ensures.asks)
 
-pub returns-then-not-goes_on-clause-serves : goal.returns-then-not-goes_on-clause-serves
-returns-then-not-goes_on-clause-serves g c = (
+pub returns-clause-serves : goal.returns-clause-serves
+returns-clause-serves g c = (
   c.show_again.new.self,
   c.show_again.ensures,
-  inr (
-    c.goes_on.new.self,
-    subst (λ again. GoesOn g.J.Task.meaning g.C.Clock.Reads g.G.Gate.Asked g.S.Sink.has g.S.Sink.refused c.show_again.new.self again c.goes_on.new.self) c.if-not-goes_on.true c.goes_on.ensures.goes,
-    (c.show.new.self, c.show.ensures, (c.rests.result, c.rests.ensures.rests)),
-  ),
-)
-
-pub returns-else-not-goes_on-clause-runs : goal.returns-else-not-goes_on-clause-runs
-returns-else-not-goes_on-clause-runs g c = runs_from _ _ (again_same c.args.self.now c.show_again.new.self c.show_again.ensures) c.goes_on.new.self.linked c.goes_on.ensures.runs
-
-pub returns-else-not-goes_on-clause-asks : goal.returns-else-not-goes_on-clause-asks
-returns-else-not-goes_on-clause-asks g c =
-    asks_from _ _ (again_same c.args.self.now c.show_again.new.self c.show_again.ensures) g.G.Gate.Asked c.goes_on.new.self.linked.recorded.journal.notes c.goes_on.new.self.gate c.goes_on.ensures.asks
-
-pub returns-else-not-goes_on-clause-serves : goal.returns-else-not-goes_on-clause-serves
-returns-else-not-goes_on-clause-serves g c = (
-  c.show_again.new.self,
-  c.show_again.ensures,
-  inl (subst (λ again. GoesOn g.J.Task.meaning g.C.Clock.Reads g.G.Gate.Asked g.S.Sink.has g.S.Sink.refused c.show_again.new.self again c.goes_on.new.self) c.if-not-goes_on.false c.goes_on.ensures.goes),
+  (c.serve_once.new.self, c.serve_once.ensures.serves, subst (λ was. ShowsEnd was c.serve_once.new.self c.show_end.new.self) c.is_ending-was.ensures c.show_end.ensures),
 )

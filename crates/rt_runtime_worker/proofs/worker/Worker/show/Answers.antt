@@ -1,6 +1,6 @@
 use Rattle.std.proofs.Common.{refl, sym, subst}
 use Rattle.rt_runtime_worker.specs.Serves.{ShowsNow}
-use Rattle.rt_runtime_worker.specs.Shown.{IsShown, Shows, shown_of}
+use Rattle.rt_runtime_worker.specs.Shown.{IsShown, Shows, TellsAlone, shown_of}
 use Rattle.rt_runtime_worker.proofs.Published.{shown_now}
 use Rattle.rt_runtime_worker.proofs.worker.Worker.show.Goals as goal
 
@@ -15,3 +15,6 @@ invariant_of-self g c =
       c.self.invariant.2,
       (shown_now c.self.inside.rounds.served.linked.recorded (shown_of c.self.inside.publisher) (shown_of c.show_on.new.publisher) c.self.invariant.3 shows).is_shown,
     )
+
+pub show_on-requires-clause-alone : goal.show_on-requires-clause-alone
+show_on-requires-clause-alone g c = subst (λ view. TellsAlone c.closed_alone-alone.result view.journal.notes) (sym c.recorded.ensures.recorded) c.closed_alone-alone.ensures

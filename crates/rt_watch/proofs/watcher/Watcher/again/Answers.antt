@@ -13,4 +13,6 @@ split_seat-seat-requires c =
 
 pub invariant_of-result : goal.invariant_of-result
 invariant_of-result c =
-    IsWatcher-again _ _ _ _ c.self.inside.seat.me _ _ _ _ _ _ c.self.invariant c.split_seat-seat.ensures.3 (ap (λ b. b.shared.table_id) c.in_ok-board.ensures) (ap (λ m. m.0) c.split_seat-seat.ensures.4) (c.in_ok-row.ensures.items ∙ c.as_slice.ensures.value) (c.in_ok-next.ensures.items ∙ c.as_slice-2.ensures.value)
+    let row = c.in_ok-row.ensures.items ∙ c.as_slice.ensures.value in
+    let next = c.in_ok-next.ensures.items ∙ c.as_slice-2.ensures.value in
+    IsWatcher-again _ _ _ _ c.self.inside.seat.me _ _ _ _ _ _ _ c.self.invariant c.split_seat-seat.ensures.3 (ap (λ b. b.shared.table_id) c.in_ok-board.ensures) (ap (λ m. m.0) c.split_seat-seat.ensures.4) row next

@@ -1,4 +1,4 @@
-use Rattle.std.proofs.Common.{◌≡◌, ◌∷◌, ◌∙◌, ap}
+use Rattle.std.proofs.Common.{◌∷◌, ◌∙◌, ap}
 use Rattle.rt_watch_tests.proofs.source.Source.add.Goals as goal
 
 pub invariant_of-self : goal.invariant_of-self
