@@ -26,7 +26,7 @@ pub record LendsOwing (from : ℕ) (owed : Option (JobId × OutcomeNote ℕ)) (r
   pub known : from ≤ recorded.core.cores
   pub is : lent at inside before
 
--- the same, where the code has seen the ends so
+-- the same, with the ends as the code has seen them
 abbrev pub OwingAs : {inside ends : Ends} → inside ≡ ends → ℕ → ℕ → Option (JobId × OutcomeNote ℕ) → RecordedView HostJob ℕ → End → Type 0
 OwingAs {inside} {ends} seen from at owed recorded before = LendsOwing from owed recorded ends at inside before
 

@@ -50,7 +50,7 @@ pub record LendsIn (sender : ℕ) (recorded : View) (ends : Ends) (at : ℕ) (in
   pub known : sender ≤ recorded.core.cores
   pub is : lent at inside before
 
--- the same, where the code has seen the ends so
+-- the same, with the ends as the code has seen them
 abbrev pub LendsAs : {inside ends : Ends} → inside ≡ ends → ℕ → ℕ → View → End → Type 0
 LendsAs {inside} {ends} seen sender at recorded before = LendsIn sender recorded ends at inside before
 

@@ -56,7 +56,7 @@ pub record LendsOut (core : ℕ) (desk : Desk) (ends : Ends) (at : ℕ) (inside 
   pub is : before ≡ get_or inside.outs at before
   pub outs : AreOuts desk ends.outs
 
--- the same, where the code has seen the ends so
+-- the same, with the ends as the code has seen them
 abbrev pub LendsAs : {inside ends : Ends} → inside ≡ ends → ℕ → ℕ → Desk → End → Type 0
 LendsAs {inside} {ends} seen core at desk before = LendsOut core desk ends at inside before
 
@@ -90,7 +90,7 @@ module _ {core : ℕ} {desk : Desk} {ends : Ends} {at : ℕ} {inside : Ends} {be
   pub out_lane : HasLane (Fits host_meaning) core desk before.out before.credited
   out_lane = lent.outs.lanes core before out_there
 
-  -- all outcomes that the link holds are noted, where there is room for as many as it may hold
+  -- there is room to note all outcomes that the link holds, if there is room for as many as it may hold
   pub out_room : length desk.journal.notes + desk.cap ≤ desk.journal.room → length desk.journal.notes + length before.out.sent ≤ desk.journal.room + before.out.got
   out_room room = omega (arith, room, out_lane.lane_of.sound.room, out_lane.lane_of.sound.credits, out_beside.capacity)
 
