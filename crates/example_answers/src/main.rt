@@ -4,12 +4,11 @@
 //! whether the journals are sound.
 #![tactic(auto)]
 
-ghost use Rattle.std.specs.Prelude.{◌≡◌, false, sum, IfSome};
-ghost use Rattle.example_answers.specs.Over.{is_over};
+ghost use Rattle.std.specs.Prelude.{◌≡◌, sum, IfSome};
 
 use rt_answers::{Asked, Reply, open};
 use rt_audit::{Verdict, audit};
-use rt_ids::{CoreNo, Mode, Order, Outcome, QueueNo};
+use rt_ids::{CoreNo, Mode, Order, Outcome, QueueNo, Ticket};
 use rt_runtime::{Config, NoGate, Runtime, SystemClock};
 use rt_shares::Shares;
 use squares::Squares;
@@ -55,11 +54,8 @@ where
     Node::start(rt, alloc, config, clocks, gates).ok()
 }
 
-/// What a job on core 0 answers. None if it was refused or handed back.
-fn answer<R: Wait + Drop>(rt: &R, node: &mut Node<R>, job: Work) -> Option<u64>
-    requires { is_over job ≡ false }
-{
-    let ticket = node.submit(CoreNo(0), Order::Job(LISTS, job)).ok()?;
+/// What a job answered. None if it was handed back.
+fn answer<R: Wait + Drop>(rt: &R, node: &mut Node<R>, ticket: Ticket) -> Option<u64> {
     match node.wait(rt, ticket) {
         Ok(Outcome::Finished(number)) => Some(number),
         _ => None,
@@ -82,7 +78,8 @@ fn ask<R: Wait + Print + Drop>(rt: &R, node: &mut Node<R>, alloc: Global) -> Opt
         reply,
         asked,
     };
-    let last = answer(rt, node, job)?;
+    let ticket = node.submit(CoreNo(0), Order::Job(LISTS, job)).ok()?;
+    let last = answer(rt, node, ticket)?;
     println!(rt; "core 0 read the squares of core 1: the last is {last}").ok()
 }
 
@@ -101,7 +98,8 @@ fn take<R: Wait + Print + Drop>(rt: &R, node: &mut Node<R>, alloc: Global) -> Op
         squares,
         reply,
     };
-    let number = answer(rt, node, job)?;
+    let ticket = node.submit(CoreNo(0), Order::Job(LISTS, job)).ok()?;
+    let number = answer(rt, node, ticket)?;
     let rows = taken(&mut asked, number)?;
     println!(rt;
         "the caller took {} squares: their sum is {number}",
