@@ -1,6 +1,6 @@
 //! What the caller sees of the cores while they run.
 
-ghost use Rattle.std.specs.Prelude.{◌≡◌, ◌<◌, ◌≤◌, IfSome, None, false};
+ghost use Rattle.std.specs.Prelude.{◌≡◌, ◌<◌, ◌≤◌, IsSomeAnd, None, false};
 ghost use Rattle.rt_runtime.specs.Watching.{IsToldRightly, Watches, closing_told, watch_at};
 
 use crate::runtime::Runtime;
@@ -29,10 +29,13 @@ impl<J: Task<Out = u64>, C: Drop, G: Drop, S: Sink> Runtime<J, C, G, S> {
     /// What the last watch of this core saw: its numbers and those of its queues, all of one moment. Before the first watch they are those of a
     /// core with no note. None if there is no such core.
     pub fn watched(&self, core: CoreNo) -> Option<&Watcher>
-        ensures some { core < self.now.desk.cores → IfSome result (λ watcher. watcher.now ≡ watch_at core self.now.watched) }
+        ensures some { core < self.now.desk.cores → IsSomeAnd result (λ watcher. watcher.now ≡ watch_at core self.now.watched) }
         ensures none { self.now.desk.cores ≤ core → result ≡ None }
     {
-        self.watchers.get(core.0 as usize)
+        if self.cores <= core.0 {
+            return None;
+        }
+        Some(&self.watchers[core.0 as usize])
     }
 
     /// Whether the core closed by itself, since its journal was short: what the publication tells that the last watch of this core saw. None
