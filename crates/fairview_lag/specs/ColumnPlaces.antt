@@ -1,4 +1,4 @@
--- Where the parts of a column stand.
+-- The places of a column's parts.
 use Rattle.std.specs.Prelude.{ℕ, ◌+◌, ◌-◌, ◌*◌, ◌/◌, min, max, Some}
 use Rattle.fairview_svg.specs.Frames.{fitting}
 use Rattle.fairview_svg.specs.Marks.{fitting_line}

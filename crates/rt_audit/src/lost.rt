@@ -25,11 +25,7 @@ fn has_ended(history: &History, name: &JobId, order: &Order<()>) -> bool
 {
     match *order {
         Order::Job(_, _) => history.has_ended(name),
-        Order::Create(_) => history.is_answered(name),
-        Order::SetShares(_, _) => history.is_answered(name),
-        Order::Close(_, _) => history.is_answered(name),
-        Order::CloseCore(_) => history.is_answered(name),
-        Order::Wake(_, _) => history.is_answered(name),
+        _ => history.is_answered(name),
     }
 }
 

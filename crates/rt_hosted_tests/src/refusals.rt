@@ -130,7 +130,7 @@ fn strangers_and_tickets_are_refused(rt: HostRuntime) -> Result<(), Fail> {
 /// Whether a core with room for five notes makes one turn and no other.
 fn makes_one_turn(core: &mut Hosted, outside: &mut Outside) -> bool {
     let started = hand_in(core, outside) && matches!(core.next(), Ok(Picked::Start(_, _, 7)));
-    // The fifth note may be had, and the last one is kept for the settling.
+    // A submission may take the fifth note. The last one is kept for the settling.
     let sent = core.submit(CoreNo(0), job()).is_ok();
     let full = matches!(core.submit(CoreNo(0), job()), Err(Refusal::JournalFull))
         && matches!(core.deliver(ActorNo(1)), Err(Refusal::JournalFull));

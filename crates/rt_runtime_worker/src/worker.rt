@@ -31,6 +31,9 @@ const TRIES: u32 = 1024;
 
 /// A core beside its journal, over its actor's ends of the links, with a clock and a gate of its own. It rang the bell of each core for each
 /// of its notes that is for that core, and it parks on the bell of its own core. It passes on its notes to its sink, between rounds and rests, and publishes its numbers on its board.
+///
+/// If its core closes by itself, it publishes that at the latest right behind the round or the rest in which the core closed. The gates are shut in
+/// that round or rest, so a sender may be refused shortly before the cause is told.
 #[derive(Drop)]
 pub struct Worker<J: Task<Out = u64>, C: Drop, G: Drop, S: Sink = Whole> {
     own: Bell,
@@ -58,7 +61,21 @@ impl<J: Task<Out = u64>, C: Drop, G: Drop, S: Sink> Model for Worker<J, C, G, S>
     ghost use Rattle.rt_runtime_worker.specs.Shown.{IsShown, shown_of};
     ghost use Rattle.rt_runtime_worker.specs.Workers.{IsBellOf};
 
-    ghost view = { λ w. record { linked = w.rounds.served.linked; ending = w.rounds.served.ending; clock = w.rounds.watch.clock; gate = w.rounds.gate; taken = w.rounds.watch.taken; turns = w.rounds.turns; tries = w.tries; idle = w.idle; bells = w.rounds.bells.names; sink = w.sink; shown = shown_of w.publisher; since = w.since } };
+    ghost view = { λ w.
+        record {
+          linked = w.rounds.served.linked;
+          ending = w.rounds.served.ending;
+          clock = w.rounds.watch.clock;
+          gate = w.rounds.gate;
+          taken = w.rounds.watch.taken;
+          turns = w.rounds.turns;
+          tries = w.tries;
+          idle = w.idle;
+          bells = w.rounds.bells.names;
+          sink = w.sink;
+          shown = shown_of w.publisher;
+          since = w.since;
+        } };
 
     ghost invariant = { λ w.
         AreRung w.rounds.served w.rounds.bells × IsBellOf w.rounds.served.linked.recorded.core.core w.rounds.bells.names w.own

@@ -134,7 +134,7 @@ impl<W: rt_sink::Sink> Lines<W> {
     ///
     /// # Errors
     ///
-    /// Where a write or the flush fails, the sink comes back. What isn't written stays pending.
+    /// If a write or the flush fails, the sink comes back. What isn't written stays pending.
     pub fn finish(self) -> Result<W, Lines<W>>
         ensures ok { IfOk result (λ writer. HasWritten W.contents writer (text_of (actor_lines self.actor self.has))) }
         ensures err { IfErr result (λ back. back ≡ record self { writer = back.writer; pending = back.pending }) }

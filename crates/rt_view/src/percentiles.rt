@@ -56,7 +56,7 @@ fn percentile(rising: &[u128], thousandths: u32) -> u128
     rising[rank as usize - 1]
 }
 
-/// Where the greatest of these numbers stands first.
+/// The first place at which the greatest of these numbers stands.
 pub fn first_greatest(numbers: &[u128]) -> usize
     requires { 0 < length numbers.now }
     ensures { IsFirstGreatest result numbers.now }

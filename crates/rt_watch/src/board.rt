@@ -24,7 +24,7 @@ pub(crate) const BEGUN: usize = 0;
 /// The count of publications that are done.
 pub(crate) const DONE: usize = 1;
 
-/// Where the row begins.
+/// The place at which the row begins.
 pub(crate) const ROW: usize = 2;
 
 /// What a board is of.

@@ -1,16 +1,20 @@
+use Rattle.std.proofs.Common.{◌≡◌, ◌∙◌, ℕ, refl}
+use Rattle.rt_ids.specs.declared.names.JobId.{JobId}
+use Rattle.rt_ids.specs.declared.order.Order.{Order}
+use Rattle.rt_ids.specs.declared.order.Order.TheVariants.{Job, Create, SetShares, Close, CloseCore, Wake}
+use Rattle.rt_ids.specs.Clauses.{name_answered}
+use Rattle.rt_ids.specs.Journal.{Journal, is_told}
+use Rattle.rt_audit.specs.Ends.{ended_by}
 use Rattle.rt_audit.proofs.lost.has_ended.Goals as goal
 
-pub returns-in-Create : goal.returns-in-Create
-returns-in-Create c = λ journal history. rw c.in-Create.is (c.is_answered.ensures journal history)
+-- what is no job ends by its answer
+command_ends : (journal : Journal ℕ) (name : JobId) (order : Order (Unit {0})) → ((queue : ℕ) (task : Unit {0}) → order ≡ Job queue task → ⊥) → is_told name_answered name journal ≡ ended_by journal name order
+command_ends journal name (Job queue task) no_job = absurd (no_job queue task refl)
+command_ends journal name (Create shares) no_job = refl
+command_ends journal name (SetShares queue shares) no_job = refl
+command_ends journal name (Close queue mode) no_job = refl
+command_ends journal name (CloseCore mode) no_job = refl
+command_ends journal name (Wake actor number) no_job = refl
 
-pub returns-in-SetShares : goal.returns-in-SetShares
-returns-in-SetShares c = λ journal history. rw c.in-SetShares.is (c.is_answered-in-SetShares.ensures journal history)
-
-pub returns-in-Close : goal.returns-in-Close
-returns-in-Close c = λ journal history. rw c.in-Close.is (c.is_answered-in-Close.ensures journal history)
-
-pub returns-in-CloseCore : goal.returns-in-CloseCore
-returns-in-CloseCore c = λ journal history. rw c.in-CloseCore.is (c.is_answered-in-CloseCore.ensures journal history)
-
-pub returns-in-Wake : goal.returns-in-Wake
-returns-in-Wake c = λ journal history. rw c.in-Wake.is (c.is_answered-in-Wake.ensures journal history)
+pub returns-in_default : goal.returns-in_default
+returns-in_default c = λ journal history. c.is_answered.ensures journal history ∙ command_ends journal c.args.name.now c.args.order.now c.in_default.not-Job

@@ -1,0 +1,92 @@
+//! The two ends of a place for one answer.
+
+ghost use Rattle.std.specs.Prelude.{◌≡◌, IfOk, IfSome};
+
+use crate::answer::Answer;
+use std::alloc::{AllocError, Global};
+use std::marker::Model;
+use std::sync::{Arc, OnceLock};
+
+/// The end of a place that fills it, once. The job has it.
+#[derive(Drop)]
+pub struct Reply<A: Drop> {
+    shared: Arc<OnceLock<A>, Global>,
+}
+
+/// The end of a place that reads it. Whoever submits the job has it.
+#[derive(Drop)]
+pub struct Asked<A: Drop> {
+    shared: Arc<OnceLock<A>, Global>,
+}
+
+/// A contract sees the name of its place.
+impl<A: Drop> Model for Reply<A> {
+    ghost use Rattle.std.specs.Prelude.{ℕ};
+
+    ghost Value = { ℕ };
+
+    ghost view = { λ reply. reply.shared.value.id };
+}
+
+/// A contract sees the name of its place.
+impl<A: Drop> Model for Asked<A> {
+    ghost use Rattle.std.specs.Prelude.{ℕ};
+
+    ghost Value = { ℕ };
+
+    ghost view = { λ asked. asked.shared.value.id };
+}
+
+/// Opens an empty place: the end for the job, and the end for whoever asks. It allocates once.
+///
+/// # Errors
+///
+/// There is no memory.
+pub fn open<A: Drop>(alloc: Global) -> Result<(Reply<A>, Asked<A>), AllocError>
+    ensures pair { IfOk result (λ ends. ends.0 ≡ ends.1) }
+{
+    let shared = Arc::new(alloc, OnceLock::new())?;
+    let reply = Reply {
+        shared: Arc::try_clone(&shared)?,
+    };
+    Ok((reply, Asked { shared }))
+}
+
+impl<A: Answer> Reply<A> {
+    /// Fills the place, and gives the number for the job to answer: `Step::Done(reply.fill(answer))`. It waits for nobody and allocates nothing.
+    pub fn fill(self, answer: A) -> u64
+        ensures { result ≡ A.number answer }
+    {
+        let number = answer.noted();
+        let _filled = self.shared.try_set(answer).is_ok();
+        number
+    }
+}
+
+impl<A: Answer> Asked<A> {
+    /// The answer, if the place has one with this number: the one that was redeemed. It waits for nobody.
+    pub fn answer(&self, number: u64) -> Option<&A>
+        ensures { IfSome result (λ answer. A.number answer.now ≡ number) }
+    {
+        let answer = self.shared.get()?;
+        if answer.noted() == number {
+            Some(answer)
+        } else {
+            None
+        }
+    }
+
+    /// Takes the answer out of the place, if it has one with this number and the other end is gone. That end is gone once its `fill` returned,
+    /// and so once the number was redeemed. If it gives nothing, all stays as it was.
+    pub fn take(&mut self, number: u64) -> Option<A>
+        ensures { IfSome result (λ answer. A.number answer ≡ number) }
+    {
+        self.answer(number)?;
+        let answer = Arc::get_mut(&mut self.shared)?.take()?;
+        if answer.noted() == number {
+            Some(answer)
+        } else {
+            None
+        }
+    }
+}
