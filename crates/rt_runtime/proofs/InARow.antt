@@ -1,10 +1,10 @@
 -- Steps in a row.
-use Rattle.std.proofs.Common.{◌≡◌, ◌↔◌, ℕ, zero, suc, ◌+◌, ◌<◌, ◌≤◌, Bool, true, false, length, sym, ◌∙◌, ap, subst, arith, refl, length-append, ⊎_elim}
+use Rattle.std.proofs.Common.{◌≡◌, ◌↔◌, ℕ, zero, suc, ◌+◌, ◌<◌, ◌≤◌, Bool, true, false, length, sym, ◌∙◌, ap, subst, add-one, arith, refl, length-append, ⊎_elim}
 use Rattle.std.specs.Prelude.{IsTrue}
 use Rattle.std.proofs.lemmas.Bool.{cases_lt}
 use Rattle.rt_runtime.specs.State.{RuntimeView}
 use Rattle.rt_runtime.specs.Tickets.{Collects}
-use Rattle.rt_runtime.specs.Waiting.{CollectsOnly, CollectsSome, InARow, Waits}
+use Rattle.rt_runtime.specs.Waiting.{CollectsBelow, CollectsEach, CollectsOnly, CollectsSome, InARow, Waits}
 
 module _ {J T : Type 0} where
   -- more of them behind some
@@ -28,6 +28,18 @@ module _ {J T : Type 0} where
   more_collections old between new before later =
       let row = row_more CollectsSome later.calls before.calls old between new before.are later.are in
       record { calls = row.0; are = row.1 }
+
+  -- `collect` of one core more
+  pub below_more : (core count : ℕ) (old between new : RuntimeView J T) → CollectsBelow core old between → Collects core between count new → CollectsBelow (core + 1) old new
+  below_more core count old between new before collects = subst (λ cores. CollectsBelow cores old new) (sym (add-one core)) (between, before, record { count = count; collects = collects })
+
+  below_only : (cores : ℕ) (old new : RuntimeView J T) → CollectsBelow cores old new → CollectsOnly old new
+  below_only zero old new same = record { calls = 0; are = same }
+  below_only (suc core) old new row = one_collection core row.2.count old row.0 new (below_only core old row.0 row.1) row.2.collects
+
+  -- a look at all links collects, and does nothing else
+  pub each_only : (old new : RuntimeView J T) → CollectsEach old new → CollectsOnly old new
+  each_only old new each = below_only old.desk.cores old new each
 
   -- as many outcomes are noted as were collected
   pub collected_count : (core count : ℕ) (old new : RuntimeView J T) → Collects core old count new → length new.desk.journal.notes ≡ count + length old.desk.journal.notes

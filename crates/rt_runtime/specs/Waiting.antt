@@ -30,6 +30,20 @@ module _ {J T : Type 0} where
     pub calls : ℕ
     pub are : InARow CollectsSome calls old new
 
+  -- `collect` of this core
+  pub record CollectsAt (core : ℕ) (old new : RuntimeView J T) : Type 0 where
+    pub count : ℕ
+    pub collects : Collects core old count new
+
+  -- `collect` of each core below this number, in their order
+  abbrev pub CollectsBelow : ℕ → RuntimeView J T → RuntimeView J T → Type 0
+  CollectsBelow zero old new = new ≡ old
+  CollectsBelow (suc core) old new = (between : RuntimeView J T) × CollectsBelow core old between × CollectsAt core between new
+
+  -- one look at all links: `collect` of each core
+  abbrev pub CollectsEach : RuntimeView J T → RuntimeView J T → Type 0
+  CollectsEach old new = CollectsBelow old.desk.cores old new
+
   -- a try in vain, and then collections alone
   pub record TriesInVain (in_vain : RuntimeView J T → RuntimeView J T → Type 0) (old new : RuntimeView J T) : Type 0 where
     pub tried : RuntimeView J T

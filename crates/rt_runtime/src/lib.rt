@@ -7,6 +7,7 @@ mod finishing;
 pub mod laws;
 pub mod passed;
 mod passing;
+mod quiet;
 mod rings;
 pub mod runtime;
 mod starting;

@@ -4,38 +4,25 @@ ghost use Rattle.std.specs.Prelude.{◌≡◌, ◌<◌, ◌↔◌, IfNone, IfOk,
 ghost use Rattle.rt_jobs.specs.Ready.{HasReadyJob};
 ghost use Rattle.rt_link.specs.Fits.{Fits};
 ghost use Rattle.rt_runtime_worker.specs.Workers.{IsBellOf};
-ghost use Rattle.rt_runtime.specs.Waiting.{AreAllPending, CollectsOnly, RedeemsAtLast, RedeemsFirst, SubmitsAtLast, WaitsForAny};
+ghost use Rattle.rt_runtime.specs.Waiting.{AreAllPending, CollectsEach, CollectsOnly, RedeemsAtLast, RedeemsFirst, SubmitsAtLast, WaitsForAny};
 
 use crate::error::SubmitError;
+use crate::quiet::Slept;
 use crate::runtime::Runtime;
 use rt_ids::{ActorNo, CoreNo, Order, Outcome, SendError, Ticket, TicketError};
 use rt_jobs::Task;
 use rt_journal_notes::Sink;
-use rt_runtime_worker::{Bell, Key, sleep};
+use rt_runtime_worker::Bell;
 use std::alloc::AllocError;
 use std::sync::Wait;
 
 /// How often a caller looks for outcomes before it parks.
 const TRIES: u32 = 1024;
 
-/// That the caller lay down, and that a look behind that found no outcome. Only `look_again` makes one, and only it may sleep.
-#[derive(Drop)]
-struct Quiet<'a> {
-    key: Key<'a>,
-}
-
-impl Quiet<'_> {
-    /// Parks until the caller's bell rings. It doesn't if the bell has rung since the caller lay down.
-    fn sleep<R: Wait>(self, rt: &R) {
-        let Quiet { key } = self;
-        sleep(rt, key);
-    }
-}
-
 impl<J: Task<Out = u64>, C: Drop, G: Drop, S: Sink> Runtime<J, C, G, S> {
-    /// Collects all outcomes that the links show. Whether there was one.
-    fn collect_all(&mut self) -> bool
-        ensures collects { CollectsOnly self.old self.new }
+    /// Collects all outcomes that the links show, from each core. Whether there was one.
+    pub(crate) fn collect_all(&mut self) -> bool
+        ensures collects { CollectsEach self.old self.new }
         ensures told { IsTrue result ↔ (length self.old.desk.journal.notes < length self.new.desk.journal.notes) }
     {
         let mut some = false;
@@ -60,19 +47,6 @@ impl<J: Task<Out = u64>, C: Drop, G: Drop, S: Sink> Runtime<J, C, G, S> {
         false
     }
 
-    /// Looks once more at all links, behind the moment in which the caller lay down. It gets up if there was an outcome.
-    fn look_again<'a>(&mut self, key: Key<'a>) -> Option<Quiet<'a>>
-        ensures collects { CollectsOnly self.old self.new }
-        ensures some { IfSome result (λ _. length self.new.desk.journal.notes ≡ length self.old.desk.journal.notes) }
-        ensures none { IfNone result (length self.old.desk.journal.notes < length self.new.desk.journal.notes) }
-    {
-        if self.collect_all() {
-            // step: get up, by the key that is dropped
-            return None;
-        }
-        Some(Quiet { key })
-    }
-
     /// The caller's own bell, in hands of its own: all of the runtime is used while the caller lies down.
     ///
     /// # Errors
@@ -82,6 +56,18 @@ impl<J: Task<Out = u64>, C: Drop, G: Drop, S: Sink> Runtime<J, C, G, S> {
         ensures { IfOk result (IsBellOf self.now.desk.cores self.now.rung.names) }
     {
         self.bells.bell_of(ActorNo(self.cores))
+    }
+
+    /// Lies down on the caller's own bell, looks once more at all links, and parks until that bell rings if there was no outcome.
+    fn rest_on<'a, R: Wait>(&mut self, rt: &R, own: &'a Bell) -> Option<Slept<'a>>
+        requires own { IsBellOf self.old.desk.cores self.old.rung.names own.now }
+        ensures collects { CollectsEach self.old self.new }
+        ensures slept { IfSome result (λ slept. slept.woken.bell.now ≡ own.now) }
+    {
+        match self.look_again(own.lie_down()) {
+            Some(quiet) => Some(quiet.sleep(rt)),
+            None => None,
+        }
     }
 
     /// Waits until there is an outcome: parked, if none comes soon. The worker that gives it rings. It may return before there is one.
@@ -95,9 +81,7 @@ impl<J: Task<Out = u64>, C: Drop, G: Drop, S: Sink> Runtime<J, C, G, S> {
         let Ok(own) = self.own_bell() else {
             return;
         };
-        if let Some(quiet) = self.look_again(own.lie_down()) {
-            quiet.sleep(rt);
-        }
+        let _slept = self.rest_on(rt, &own);
     }
 
     /// Waits until the outcome of a submission is there, and redeems it. The caller is parked meanwhile, if that takes long.

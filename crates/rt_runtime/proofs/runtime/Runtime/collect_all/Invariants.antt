@@ -1,11 +1,11 @@
 use Rattle.std.proofs.Common.{◌<◌, ◌↔◌, ◌≤◌, length}
 use Rattle.std.specs.Prelude.{IsTrue}
-use Rattle.rt_runtime.specs.Waiting.{CollectsOnly}
+use Rattle.rt_runtime.specs.Waiting.{CollectsBelow}
 use Rattle.rt_runtime.proofs.runtime.Runtime.collect_all.Given as goal
 
 abbrev pub invariant-loop-core : goal.invariant-loop-core
 invariant-loop-core g l = record {
-  collects : CollectsOnly l.fn.self l.self;
+  collects : CollectsBelow l.core l.fn.self l.self;
   longer : length l.fn.self.desk.journal.notes ≤ length l.self.desk.journal.notes;
   told : IsTrue l.some ↔ (length l.fn.self.desk.journal.notes < length l.self.desk.journal.notes);
 }
