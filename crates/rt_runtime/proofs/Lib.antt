@@ -23,7 +23,6 @@ pub mod Booked
 pub mod HandedOn
 pub mod Dealt
 pub mod Watched
-pub mod ClosingsTold
 pub mod Started
 pub mod Collected
 pub mod Sent
