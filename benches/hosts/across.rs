@@ -1,5 +1,6 @@
 // Times a job from one core to another through hosts/rust: across OUTSTANDING ROUNDS. Core 0 submits jobs to core 1, with so many outstanding,
-// and redeems their outcomes; core 1 runs each once. It prints a line for each round: tenths of nanoseconds a job, and the sum of the answers.
+// and redeems their outcomes; core 1 runs each once. A turn may have 64 runs, as a tick of tokio has 61. It prints a line for each round: tenths of
+// nanoseconds a job, and the sum of the answers.
 use fairexec::linked::{Config, House, Outcome, Step, Ticket};
 use fairexec::{Error, Mode};
 use std::collections::VecDeque;
@@ -9,7 +10,7 @@ use std::time::Instant;
 const JOBS: u64 = 100_000;
 
 fn round(outstanding: usize) -> Result<(f64, u64), Error> {
-    let (_house, mut cores, outside) = House::<u64>::open(&Config { cores: 2, places: 1024, burst: 1, notes: 1 << 20 })?;
+    let (_house, mut cores, outside) = House::<u64>::open(&Config { cores: 2, places: 1024, burst: 64, notes: 1 << 20 })?;
     let mut second = cores.pop().expect("there are two");
     let mut first = cores.pop().expect("there are two");
     let server = thread::spawn(move || {

@@ -6,6 +6,7 @@
 #include <algorithm>
 #include <atomic>
 #include <condition_variable>
+#include <deque>
 #include <functional>
 #include <list>
 #include <memory>
@@ -23,10 +24,11 @@ struct result {
 
 inline result done(uint64_t answer) { return {step::done, answer}; }
 
-// The right to ask for the outcome of a submission. `name` names the job, too: by it a job is woken.
+// The right to ask for the outcome of a submission. `name` names the job, too: by it a job is woken. Of a job it has the place where that stands.
 struct ticket {
     fx_name name;
-    bool is_job;
+    uint64_t house;
+    std::optional<uint32_t> place;
 };
 
 // What became of a submission: as fx_outcome, with the job that comes back.
@@ -44,13 +46,10 @@ template <class Job> struct submitted {
     std::optional<Job> refused;
 };
 
-// Where the jobs stand, from each actor to each core, and the bells of the actors.
+// Where the jobs stand, from each actor to each core, and the bells of the actors. A place goes with its job, without a lock. First the sender alone
+// has it. An order that was accepted hands it to the core, which has it from each run that the library tells until it settles that run. An outcome
+// that was redeemed hands it back.
 template <class Job> class lanes {
-    struct lane {
-        std::mutex lock;
-        std::vector<std::optional<Job>> places;
-        std::vector<uint32_t> vacant;
-    };
     struct bell {
         std::atomic<bool> sleeps{false};
         std::mutex lock;
@@ -58,45 +57,32 @@ template <class Job> class lanes {
         bool rung = false;
         std::function<void()> calls;
     };
-    uint32_t core_count;
-    std::unique_ptr<lane[]> all;
+    uint32_t core_count, room_of_lane;
+    std::unique_ptr<std::optional<Job>[]> all;
     std::unique_ptr<bell[]> bells;
+    uint64_t number;
 
-    lane &at(uint32_t from, uint32_t to) { return all[from * core_count + to]; }
+    std::optional<Job> &at(uint32_t from, uint32_t to, uint64_t place) { return all[(from * core_count + to) * std::size_t{room_of_lane} + place]; }
+    static uint64_t next_house() noexcept {
+        static std::atomic<uint64_t> houses{0};
+        return houses++;
+    }
 
 public:
-    // One place more than the link has, so that the link judges.
-    lanes(uint32_t cores, uint32_t places) : core_count(cores), all(new lane[(cores + 1) * cores]), bells(new bell[cores + 1]) {
-        for (uint32_t each = 0; each < (cores + 1) * cores; each++) {
-            all[each].places.resize(places + 1);
-            all[each].vacant.reserve(places + 1);
-            for (uint32_t place = places + 1; place > 0; place--) all[each].vacant.push_back(place - 1);
-        }
-    }
+    // A lane has one place more than its link, so that the link judges.
+    lanes(uint32_t cores, uint32_t places)
+        : core_count(cores), room_of_lane(places + 1), all(new std::optional<Job>[(cores + 1) * cores * std::size_t{room_of_lane}]), bells(new bell[cores + 1]), number(next_house()) {}
     uint32_t cores() const noexcept { return core_count; }
+    uint32_t room() const noexcept { return room_of_lane; }
+    // Which house it is, of all that this process opens.
+    uint64_t house() const noexcept { return number; }
 
-    std::optional<uint32_t> put(uint32_t from, uint32_t to, Job &job) {
-        lane &it = at(from, to);
-        std::lock_guard<std::mutex> guard(it.lock);
-        if (it.vacant.empty()) return std::nullopt;
-        uint32_t place = it.vacant.back();
-        it.vacant.pop_back();
-        it.places[place].emplace(std::move(job));
-        return place;
-    }
-    // The job leaves its place, which it keeps if it comes back.
-    std::optional<Job> take(uint32_t from, uint32_t to, uint64_t place, bool for_good) noexcept {
-        lane &it = at(from, to);
-        std::lock_guard<std::mutex> guard(it.lock);
-        std::optional<Job> job = std::move(it.places[place]);
-        it.places[place].reset();
-        if (for_good) it.vacant.push_back(static_cast<uint32_t>(place));
+    // The caller is the actor that has the place.
+    void put(uint32_t from, uint32_t to, uint64_t place, Job &&job) noexcept { at(from, to, place).emplace(std::move(job)); }
+    std::optional<Job> take(uint32_t from, uint32_t to, uint64_t place) noexcept {
+        std::optional<Job> job = std::move(at(from, to, place));
+        at(from, to, place).reset();
         return job;
-    }
-    void restore(uint32_t from, uint32_t to, uint64_t place, std::optional<Job> &&job) noexcept {
-        lane &it = at(from, to);
-        std::lock_guard<std::mutex> guard(it.lock);
-        if (job) it.places[place].emplace(std::move(*job));
     }
 
     void on_ring(uint32_t actor, std::function<void()> calls) { bells[actor].calls = std::move(calls); }
@@ -127,6 +113,13 @@ template <class Job> class actor {
         bool is_woken;
         std::optional<std::pair<fx_code, std::optional<outcome<Job>>>> told;
     };
+    // Of the submissions to one core: the places where no job of this actor stands, from that which is vacant longest, and how many outcomes weren't
+    // collected.
+    struct sent {
+        std::deque<uint32_t> vacant;
+        uint64_t pending = 0;
+    };
+    std::vector<sent> to_core;
     // Jobs for whose outcome nobody asks. They are redeemed once they are collected, since a job that comes back has a place.
     std::vector<ticket> loose;
     std::list<waiting> waits;
@@ -182,20 +175,27 @@ protected:
     uint32_t own = 0;
     std::shared_ptr<lanes<Job>> shared;
 
+    submitted<Job> accepted(const fx_name &name, std::optional<uint32_t> place) {
+        to_core[name.to].pending++;
+        shared->ring(name.to);
+        return {FX_OK, ticket{name, shared->house(), place}, std::nullopt};
+    }
     submitted<Job> ordered(uint32_t code, const fx_name &name) {
         if (code != FX_OK) return {static_cast<fx_code>(code), std::nullopt, std::nullopt};
-        shared->ring(name.to);
-        return {FX_OK, ticket{name, false}, std::nullopt};
+        return accepted(name, std::nullopt);
     }
 
 public:
-    actor(fx_house &house, std::shared_ptr<lanes<Job>> shared) : shared(std::move(shared)) {
+    actor(fx_house &house, std::shared_ptr<lanes<Job>> lanes) : shared(std::move(lanes)) {
+        to_core.resize(shared->cores());
+        for (auto &each : to_core)
+            for (uint32_t place = 0; place < shared->room(); place++) each.vacant.push_back(place);
         uint32_t code = fx_house_take(&house, &seat, &own);
         if (code == FX_NO_MEMORY) throw std::bad_alloc();
         if (code != FX_OK) throw error(code);
     }
     actor(actor &&other) noexcept
-        : loose(std::move(other.loose)), waits(std::move(other.waits)), are_new(other.are_new), keeper(std::move(other.keeper)), own(other.own), shared(std::move(other.shared)) {
+        : to_core(std::move(other.to_core)), loose(std::move(other.loose)), waits(std::move(other.waits)), are_new(other.are_new), keeper(std::move(other.keeper)), own(other.own), shared(std::move(other.shared)) {
         std::swap(seat, other.seat);
     }
     actor(const actor &) = delete;
@@ -206,13 +206,15 @@ public:
 
     [[nodiscard]] submitted<Job> submit(uint32_t to, uint32_t queue, Job job) {
         if (to >= shared->cores()) return {FX_UNKNOWN_CORE, std::nullopt, std::move(job)};
-        std::optional<uint32_t> place = shared->put(own, to, job);
-        if (!place) return {FX_FULL, std::nullopt, std::move(job)};
+        auto &vacant = to_core[to].vacant;
+        if (vacant.empty()) return {FX_FULL, std::nullopt, std::move(job)};
+        uint32_t place = vacant.front();
+        shared->put(own, to, place, std::move(job));
         fx_name name;
-        uint32_t code = called([&] { return fx_seat_submit(&seat, to, queue, *place, &name); });
-        if (code != FX_OK) return {static_cast<fx_code>(code), std::nullopt, shared->take(own, to, *place, true)};
-        shared->ring(to);
-        return {FX_OK, ticket{name, true}, std::nullopt};
+        uint32_t code = called([&] { return fx_seat_submit(&seat, to, queue, place, &name); });
+        if (code != FX_OK) return {static_cast<fx_code>(code), std::nullopt, shared->take(own, to, place)};
+        vacant.pop_front();
+        return accepted(name, place);
     }
     // Orders that are no jobs: each is answered with an fx_answer.
     submitted<Job> create(uint32_t to, uint32_t shares) {
@@ -241,8 +243,10 @@ public:
         count = 0;
         for (uint32_t core = 0; core < shared->cores(); core++) {
             uint64_t some = 0;
+            if (to_core[core].pending == 0) continue;
             uint32_t code = called([&] { return fx_seat_collect(&seat, core, &some); });
             if (code != FX_OK) return static_cast<fx_code>(code);
+            to_core[core].pending -= some;
             are_new = are_new || some > 0;
             count += some;
         }
@@ -262,19 +266,22 @@ public:
         }
         return std::nullopt;
     }
-    // The outcome of a submission that was collected: FX_OK and the outcome, or why there is none.
+    // The outcome of a submission that was collected: FX_OK and the outcome, or why there is none. The ticket of another house is unknown.
     std::pair<fx_code, std::optional<outcome<Job>>> redeem(const ticket &of) {
+        if (of.house != shared->house()) return {FX_UNKNOWN, std::nullopt};
         fx_outcome told{};
         told.size = sizeof told;
         uint32_t code = called([&] { return fx_seat_redeem(&seat, &of.name, &told); });
         if (code != FX_OK) return {static_cast<fx_code>(code), std::nullopt};
         outcome<Job> is{static_cast<fx_kind>(told.kind), told.why, told.queue, told.answer, std::nullopt};
-        if (told.kind == FX_KIND_BACK) is.back.emplace(std::move(*shared->take(of.name.from, of.name.to, told.job, true)));
+        if (told.kind == FX_KIND_BACK) is.back.emplace(std::move(*shared->take(of.name.from, of.name.to, told.job)));
+        // An outcome is redeemed once, so no place is vacant twice.
+        if (of.place) to_core[of.name.to].vacant.push_back(*of.place);
         return {FX_OK, std::move(is)};
     }
     // Nobody will ask for the outcome. A job that comes back is destroyed.
     fx_code detach(const ticket &of) {
-        if (!of.is_job) return static_cast<fx_code>(called([&] { return fx_seat_detach(&seat, &of.name); }));
+        if (!of.place && of.house == shared->house()) return static_cast<fx_code>(called([&] { return fx_seat_detach(&seat, &of.name); }));
         fx_code code = redeem(of).first;
         if (code != FX_PENDING) return code;
         loose.push_back(of);

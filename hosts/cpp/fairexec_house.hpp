@@ -6,7 +6,7 @@
 //     ... house.outside.wait_for(*ticket.ticket).answer ...
 //
 // With C++20 a job may be a coroutine, `task`. A house keeps what its jobs are: a job moves to the core that it is submitted to, and is destroyed there when it is done. A core is used by
-// one thread at a time, and goes to another as fairexec.h says. The lanes of the jobs are locked for the move of one job.
+// one thread at a time, and goes to another as fairexec.h says.
 #ifndef FAIREXEC_HOUSE_HPP
 #define FAIREXEC_HOUSE_HPP
 
@@ -41,46 +41,63 @@ template <class Job, class Clock = std::chrono::steady_clock> class core : publi
         core &of;
         const fx_turn &turn;
         fx_code &told;
-        std::optional<Job> job = of.shared->take(turn.name.from, turn.name.to, turn.job, false);
+        typename Clock::time_point began, &ended;
+        std::optional<Job> job = of.shared->take(turn.name.from, turn.name.to, turn.job);
         result came_to = step::done;
-        typename Clock::time_point began = Clock::now();
 
         ~running() {
-            auto spent = std::chrono::duration_cast<std::chrono::nanoseconds>(Clock::now() - began).count();
+            ended = Clock::now();
+            auto spent = std::chrono::duration_cast<std::chrono::nanoseconds>(ended - began).count();
             const fx_name &name = turn.name;
             // The job is in its place, or gone, before the library gives it on.
-            if (came_to.came_to == step::done) {
-                job.reset();
-                of.shared->take(name.from, name.to, turn.job, true);
-            } else {
-                of.shared->restore(name.from, name.to, turn.job, std::move(job));
-            }
+            if (came_to.came_to == step::done) job.reset();
+            else of.shared->put(name.from, name.to, turn.job, std::move(*job));
             told = static_cast<fx_code>(fx_seat_settle(&of.seat, static_cast<uint32_t>(came_to.came_to), came_to.answer, spent < 0 ? 0 : static_cast<uint64_t>(spent)));
             if (told == FX_DONE && name.from != of.own) of.shared->ring(name.from);
         }
     };
 
-public:
-    using actor<Job>::actor;
+    // Whether a run is over, when the first began, and when the last ended.
+    struct times {
+        bool are_told = false;
+        typename Clock::time_point first{}, ended{};
+    };
 
-    // Runs the next job once, by `run`, which is called with the job and a cx: FX_OK, FX_PARKED, FX_DONE, FX_BACK, FX_IDLE, FX_JOURNAL_FULL or
-    // FX_SPENT.
-    template <class Run> fx_code run_turn(Run &&run) {
+    // Runs the next job once. The run began as the last one ended, if that is told.
+    template <class Run> fx_code run_turn(Run &run, times &of) {
         fx_turn turn{};
         turn.size = sizeof turn;
         fx_code code = static_cast<fx_code>(this->called([&] { return fx_seat_next(&this->seat, &turn); }));
         if (code == FX_BACK) this->shared->ring(turn.name.from);
         if (code != FX_START && code != FX_RESUME) return code;
+        typename Clock::time_point began = of.are_told ? of.ended : Clock::now();
+        if (!std::exchange(of.are_told, true)) of.first = began;
         {
-            running now{*this, turn, code};
+            running now{*this, turn, code, began, of.ended};
             cx<Job> here(*this, turn);
             now.came_to = run(*now.job, here);
         }
         return code;
     }
 
-    // Delivers an order of each actor. If the core is closed it shuts the gates: its own once no job is inside, since jobs may have to be woken.
-    fx_code deliver(bool &did) {
+    // A round runs jobs for so long at most, or one job, and no more than so many. What other actors submit meanwhile waits so long.
+    static constexpr std::chrono::nanoseconds longest{5000};
+    static constexpr uint32_t most = 64;
+
+    // Runs jobs, each from the end of the one before: the code of the last turn.
+    template <class Run> fx_code run_turns(Run &run, bool &did) {
+        times of;
+        fx_code code = FX_OK;
+        for (uint32_t count = 0; count < most; count++) {
+            code = run_turn(run, of);
+            if (code == FX_IDLE || code == FX_JOURNAL_FULL || code == FX_SPENT) return code;
+            did = true;
+            if (of.are_told && of.ended - of.first >= longest) break;
+        }
+        return code;
+    }
+
+    fx_code deliver(bool &did, uint32_t of_each) {
         for (uint32_t sender = this->shared->cores() + 1; sender-- > 0;) {
             if (sender == this->own && stats().held > 0) continue;
             uint32_t code = this->called([&] { return fx_seat_shut(&this->seat, sender); });
@@ -89,22 +106,38 @@ public:
             if (code == FX_JOURNAL_FULL) return FX_JOURNAL_FULL;
         }
         for (uint32_t sender = 0; sender <= this->shared->cores(); sender++) {
-            uint32_t code = this->called([&] { return fx_seat_deliver(&this->seat, sender); });
-            if (code == FX_JOURNAL_FULL) return FX_JOURNAL_FULL;
-            did = did || code == FX_OK;
+            uint32_t code = FX_OK;
+            for (uint32_t count = 0; count < of_each && code == FX_OK; count++) {
+                code = this->called([&] { return fx_seat_deliver(&this->seat, sender); });
+                if (code == FX_JOURNAL_FULL) return FX_JOURNAL_FULL;
+                did = did || code == FX_OK;
+            }
         }
         return FX_OK;
     }
 
-    // One round: it delivers, runs a job and collects: FX_OK if anything happened, else FX_IDLE, or FX_JOURNAL_FULL or FX_SPENT.
+public:
+    using actor<Job>::actor;
+
+    // Runs the next job once, by `run`, which is called with the job and a cx: FX_OK, FX_PARKED, FX_DONE, FX_BACK, FX_IDLE, FX_JOURNAL_FULL or
+    // FX_SPENT.
+    template <class Run> fx_code run_turn(Run &&run) {
+        times of;
+        return run_turn(run, of);
+    }
+
+    // Delivers an order of each actor. If the core is closed it shuts the gates: its own once no job is inside, since jobs may have to be woken.
+    fx_code deliver(bool &did) { return deliver(did, 1); }
+
+    // One round: it delivers what the links show, runs jobs for 5 us or as long as one run takes, and collects: FX_OK if anything happened, else FX_IDLE,
+    // or FX_JOURNAL_FULL or FX_SPENT. If a round has several runs, each is measured from the end of the one before, so the time between them counts too.
     template <class Run> fx_code round(Run &&run) {
         bool did = false;
         uint64_t count = 0;
-        fx_code code = deliver(did);
+        fx_code code = deliver(did, most);
         if (code != FX_OK) return code;
-        code = run_turn(run);
+        code = run_turns(run, did);
         if (code == FX_JOURNAL_FULL || code == FX_SPENT) return code;
-        did = did || code != FX_IDLE;
         code = this->collect(count);
         if (code != FX_OK) return code;
         return did || count > 0 ? FX_OK : FX_IDLE;

@@ -1,6 +1,6 @@
 -- Answers that no call may give, each refused by the definition that judges it.
 use Rattle.std.proofs.Common.{refl, arith, ap}
-use Rattle.std.specs.Prelude.{◌≡◌, ℕ, Some, None, Result}
+use Rattle.std.specs.Prelude.{◌≡◌, ℕ, Option, Some, None, Result}
 use Rattle.rt_ids.specs.declared.order.Order.{Order}
 use Rattle.rt_core.specs.State.{CoreView}
 use Rattle.rt_hosted_calls.specs.declared.code.Code.{Code}
@@ -23,6 +23,10 @@ empty_is_ok does told = cc told
 -- a call loses the core
 pub core_is_lost : (old : CoreView HostJob) (number : ℕ) (does : CoreView HostJob → Code → CoreView HostJob → Type 0) → OnCore (Some old) None number does → ⊥
 core_is_lost old number does told = told
+
+-- a core without room is told as a want of memory
+pub no_room_is_no_memory : (new : Option (CoreView HostJob)) → OpensCore 0 code.NoMemory new → ⊥
+no_room_is_no_memory new told = omega (arith, told.0)
 
 -- a handle that has a core is opened
 pub occupied_is_ok : (old new : CoreView HostJob) → Opens (Some old) 4 0 (Some new) → ⊥

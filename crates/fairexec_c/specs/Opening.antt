@@ -15,7 +15,7 @@ half_room jobs = (jobs + 1) / 2
 abbrev pub OpensCore : ℕ → Code → Option (CoreView HostJob) → Type 0
 OpensCore jobs code.Ok new = (1 ≤ jobs) × (jobs ≤ 131070) × (new ≡ Some (opened 0 1 (2 * half_room jobs) 0 1))
 OpensCore jobs code.BadNumber new = ((jobs ≡ 0) ⊎ (131070 < jobs)) × (new ≡ None)
-OpensCore jobs code.NoMemory new = new ≡ None
+OpensCore jobs code.NoMemory new = (1 ≤ jobs) × (jobs ≤ 131070) × (new ≡ None)
 OpensCore jobs other new = ⊥
 
 -- one that has a core keeps it

@@ -1,6 +1,6 @@
 -- Answers that no call may give, each refused by the definition that judges it.
 use Rattle.std.proofs.Common.{arith, inl, inr}
-use Rattle.std.specs.Prelude.{ℕ, List, Some, Ok, Err, true, false}
+use Rattle.std.specs.Prelude.{◌≡◌, ℕ, List, [], Some, None, Ok, Err, true, false}
 use Rattle.rt_ids.specs.declared.order.Mode.TheVariants.{Finish}
 use Rattle.rt_ids.specs.declared.order.Order.{Order}
 use Rattle.rt_ids.specs.Assembly.{Assembly}
@@ -14,7 +14,7 @@ use Rattle.rt_hosted_calls.specs.declared.member.Member.{Member}
 use Rattle.rt_hosted_calls.specs.declared.member.Member.TheVariants as member
 use Rattle.rt_hosted_calls.specs.declared.verdicts.VerdictTold.{VerdictTold}
 use Rattle.rt_hosted_calls.specs.Ending.{Awaits, Becomes}
-use Rattle.rt_hosted_calls.specs.Houses.{OpensKept, TakesOut}
+use Rattle.rt_hosted_calls.specs.Houses.{OpensKept, TakesNone, TakesOut}
 use Rattle.rt_hosted_calls.specs.Kept.{KeptView}
 use Rattle.rt_hosted_calls.specs.Links.{IsTold}
 use Rattle.rt_hosted_calls.specs.Members.{OnCore}
@@ -56,6 +56,10 @@ opening_is_empty config told = told
 -- a house goes out of a house
 pub house_goes_out : (old new inner : KeptView) → TakesOut old (member.House inner) 0 new → ⊥
 house_goes_out old new inner told = told
+
+-- all seats were taken, and that is told as a want of memory
+pub taken_is_no_memory : (old new : KeptView) → old.outside ≡ None → old.left ≡ [] → TakesNone old code.NoMemory new → ⊥
+taken_is_no_memory old new outside left told = told.0 (outside, left)
 
 -- a house ends in a house
 pub house_may_end : (house inner : KeptView) → Awaits house (member.House inner) code.Ok → ⊥

@@ -79,9 +79,9 @@ EndsSeat (member.Core old) seat new = ⊥
 EndsSeat (member.Outside old) seat new = ⊥
 EndsSeat (member.Ended old) seat new = ⊥
 
--- a seat may not end, for this reason
+-- a seat may not end, for this reason; or it might, and there is no memory
 abbrev pub EndsNoSeat : Member → Member → Code → Type 0
-EndsNoSeat (member.House old) seat told = (told ≡ code.NoMemory) ⊎ ((told ≢ code.Ok) × Awaits old seat told)
+EndsNoSeat (member.House old) seat told = ((told ≡ code.NoMemory) × Awaits old seat code.Ok) ⊎ ((told ≢ code.Ok) × Awaits old seat told)
 EndsNoSeat (member.Core old) seat told = told ≡ code.Empty
 EndsNoSeat (member.Outside old) seat told = told ≡ code.Empty
 EndsNoSeat (member.Ended old) seat told = told ≡ code.Empty

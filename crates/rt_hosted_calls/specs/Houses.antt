@@ -1,5 +1,5 @@
 -- A house as the host keeps it.
-use Rattle.std.specs.Prelude.{◌≡◌, ℕ, ◌<◌, ◌≤◌, false, Option, Some, None, Result, Ok, Err, List, [], ◌∷◌, ◌++◌, length}
+use Rattle.std.specs.Prelude.{◌≡◌, ◌≢◌, ℕ, ◌<◌, ◌≤◌, false, Option, Some, None, Result, Ok, Err, List, [], ◌∷◌, ◌++◌, length}
 use Rattle.rt_hosted.specs.Hosted.{HostedView}
 use Rattle.rt_hosted_house.specs.Houses.{AreGood, HouseView, IsOpened}
 use Rattle.rt_hosted_house.specs.Outside.{CallerView}
@@ -53,10 +53,10 @@ TakesCore old (member.House view) number new = ⊥
 TakesCore old (member.Outside view) number new = ⊥
 TakesCore old (member.Ended view) number new = ⊥
 
--- none goes out: none is left, or there is no memory
+-- none goes out: none is left, or there is no memory for one that is
 abbrev pub TakesNoCore : KeptView → Code → KeptView → Type 0
 TakesNoCore old code.Absent new = (old.left ≡ []) × (new ≡ old)
-TakesNoCore old code.NoMemory new = new ≡ old
+TakesNoCore old code.NoMemory new = (old.left ≢ []) × (new ≡ old)
 TakesNoCore old other new = ⊥
 
 -- the next seat goes out, with its number: that of the outside actor, then the last core
@@ -66,10 +66,10 @@ TakesOut old (member.Core view) number new = (old.outside ≡ None) × TakesCore
 TakesOut old (member.House view) number new = ⊥
 TakesOut old (member.Ended view) number new = ⊥
 
--- none goes out: all are taken, or there is no memory
+-- none goes out: all are taken, or there is no memory for one that is left
 abbrev pub TakesNone : KeptView → Code → KeptView → Type 0
 TakesNone old code.Absent new = (old.outside ≡ None) × (old.left ≡ []) × (new ≡ old)
-TakesNone old code.NoMemory new = new ≡ old
+TakesNone old code.NoMemory new = ((old.outside ≡ None) × (old.left ≡ []) → ⊥) × (new ≡ old)
 TakesNone old other new = ⊥
 
 -- the next seat goes out of a house

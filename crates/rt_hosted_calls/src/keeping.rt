@@ -134,7 +134,7 @@ impl House {
     /// The seat comes back: `Empty` if it is none, `NoActor` if another's journal is the next, `NotDrained` of a core, else `NoMemory`.
     pub(crate) fn take_in(&mut self, seat: Box<Member>) -> Result<(), (Code, Box<Member>)>
         ensures ok { IfOk result (λ _. Awaits self.old seat.value code.Ok × TakesIn self.old seat.value self.new) }
-        ensures err { IfErr result (λ back. (back.1.value ≡ seat.value) × (self.new ≡ self.old) × ((back.0 ≡ code.NoMemory) ⊎ ((back.0 ≢ code.Ok) × Awaits self.old seat.value back.0))) }
+        ensures err { IfErr result (λ back. (back.1.value ≡ seat.value) × (self.new ≡ self.old) × (((back.0 ≡ code.NoMemory) × Awaits self.old seat.value code.Ok) ⊎ ((back.0 ≢ code.Ok) × Awaits self.old seat.value back.0))) }
     {
         let code = self.awaits(&seat);
         if code != Code::Ok {

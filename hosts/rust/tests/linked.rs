@@ -142,6 +142,54 @@ fn jobs_come_back_or_are_dropped() -> Result<(), Error> {
 }
 
 #[test]
+fn the_ticket_of_another_house_is_unknown() -> Result<(), Error> {
+    let (_one, _core, mut first) = single(1)?;
+    let (_two, mut core, mut second) = single(1)?;
+    let foreign = sent(first.submit(0, 0, 1u64))?;
+    let own = sent(second.submit(0, 0, 2))?;
+    assert_eq!(foreign.name(), own.name());
+    core.round(|job, _| Step::Done(*job))?;
+    second.collect()?;
+    assert_eq!(second.redeem(&foreign), Err(Error::Unknown));
+    assert_eq!(second.detach(foreign), Err(Error::Unknown));
+    assert_eq!(second.redeem(&own), Ok(Outcome::Done(2)));
+    sent(second.submit(0, 0, 3))?;
+    Ok(())
+}
+
+static TIME: AtomicUsize = AtomicUsize::new(0);
+
+/// A clock by which a job takes 10 ns.
+fn fast() -> u64 {
+    TIME.fetch_add(10, Ordering::SeqCst) as u64
+}
+
+/// A clock by which a job takes 10 us.
+fn slow() -> u64 {
+    TIME.fetch_add(10_000, Ordering::SeqCst) as u64
+}
+
+#[test]
+fn a_round_runs_many_short_jobs_or_a_long_one() -> Result<(), Error> {
+    let (_house, mut core, mut outside) = single(128)?;
+    for (clock, runs) in [(fast as fn() -> u64, 64), (slow, 1)] {
+        core.set_clock(clock);
+        for job in 0..100u64 {
+            let ticket = sent(outside.submit(0, 0, job))?;
+            outside.detach(ticket)?;
+        }
+        let before = core.stats_of(0)?.time;
+        assert!(core.round(|job, _| Step::Done(*job))?);
+        assert_eq!(outside.collect()?, runs);
+        // Each run begins as the one before ends: a clock is read once more than there are runs.
+        assert_eq!(core.stats_of(0)?.time - before, u128::from(runs) * if runs == 1 { 10_000 } else { 10 });
+        while core.round(|job, _| Step::Done(*job))? {}
+        assert_eq!(outside.collect()?, 100 - runs);
+    }
+    Ok(())
+}
+
+#[test]
 fn what_a_house_has_is_dropped_with_it() -> Result<(), Error> {
     let alive = Arc::new(AtomicUsize::new(0));
     for actors_first in [false, true] {

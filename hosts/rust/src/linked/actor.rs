@@ -5,13 +5,17 @@ use super::names::{Answer, Name, Outcome, Reason};
 use super::seat::{Seat, Told};
 use crate::core::Mode;
 use crate::error::Error;
+use std::collections::VecDeque;
+use std::ops::{Deref, DerefMut};
 use std::sync::Arc;
 
 /// The right to ask for the outcome of one submission. Only the actor that made it has an answer.
 #[derive(PartialEq, Eq, Debug)]
 pub struct Ticket {
     name: Name,
-    is_job: bool,
+    house: u64,
+    // Where the job stands, if it is one.
+    place: Option<u32>,
 }
 
 impl Ticket {
@@ -21,37 +25,78 @@ impl Ticket {
     }
 }
 
+/// What an actor knows of its submissions to one core.
+struct Sent {
+    // The places where no job of this actor stands, from that which is vacant longest: neighbours are on one line of a cache.
+    vacant: VecDeque<u32>,
+    // Submissions whose outcome wasn't collected.
+    pending: u64,
+    // Jobs for whose outcome nobody asks. They are redeemed once they are collected, since a job that comes back has a place.
+    loose: VecDeque<Ticket>,
+}
+
 /// An actor and the jobs that it submitted.
 pub(super) struct Actor<J> {
     pub(super) seat: Seat,
     pub(super) number: u32,
     pub(super) lanes: Arc<Lanes<J>>,
-    // Jobs for whose outcome nobody asks, by the core. They are redeemed once they are collected, since a job that comes back has a place.
-    loose: Vec<Vec<Ticket>>,
-    // Whether the journal was too full to redeem one of them.
+    // By the core.
+    sent: Vec<Sent>,
+    // Whether the journal was too full to redeem one of those for which nobody asks.
     misses: bool,
+}
+
+/// An actor during the calls that one thread makes on its seat.
+pub(super) struct Entered<'a, J>(&'a mut Actor<J>);
+
+impl<J> Drop for Entered<'_, J> {
+    fn drop(&mut self) {
+        self.0.seat.leave();
+    }
+}
+
+impl<J> Deref for Entered<'_, J> {
+    type Target = Actor<J>;
+
+    fn deref(&self) -> &Actor<J> {
+        self.0
+    }
+}
+
+impl<J> DerefMut for Entered<'_, J> {
+    fn deref_mut(&mut self) -> &mut Actor<J> {
+        self.0
+    }
 }
 
 impl<J> Actor<J> {
     pub(super) fn new(number: u32, seat: Seat, lanes: Arc<Lanes<J>>) -> Actor<J> {
-        let loose = (0..lanes.cores()).map(|_| Vec::new()).collect();
-        Actor { seat, number, lanes, loose, misses: false }
+        let none = |_| Sent { vacant: (0..Lanes::<J>::room(lanes.places())).collect(), pending: 0, loose: VecDeque::new() };
+        let sent = (0..lanes.cores()).map(none).collect();
+        Actor { seat, number, lanes, sent, misses: false }
+    }
+
+    /// Each call below is made by an actor that was entered.
+    pub(super) fn enter(&mut self) -> Entered<'_, J> {
+        self.seat.enter();
+        Entered(self)
     }
 
     pub(super) fn submit(&mut self, to: u32, queue: u32, job: J) -> Result<Ticket, (Error, J)> {
-        if to >= self.lanes.cores() {
-            return Err((Error::UnknownCore, job));
-        }
+        let Some(sent) = self.sent.get_mut(to as usize) else { return Err((Error::UnknownCore, job)) };
         // A link that is full has a job in each place but one at most.
-        let place = self.lanes.put(self.number, to, job).map_err(|job| (Error::Full, job))?;
+        let Some(&place) = sent.vacant.front() else { return Err((Error::Full, job)) };
+        // SAFETY: a vacant place is the sender's.
+        unsafe { self.lanes.exchange(self.number, to, place, Some(job)) };
         match self.seat.submit(to, queue, place) {
             Ok(name) => {
-                self.lanes.ring(to);
-                Ok(Ticket { name, is_job: true })
+                sent.vacant.pop_front();
+                Ok(self.accepted(name, Some(place)))
             }
             Err(error) => {
-                let job = self.lanes.vacate(self.number, to, place).expect("a job that wasn't accepted stands where it was put");
-                Err((error, job))
+                // SAFETY: the order wasn't accepted, so the place still is the sender's.
+                let job = unsafe { self.lanes.exchange(self.number, to, place, None) };
+                Err((error, job.expect("a job that wasn't accepted stands where it was put")))
             }
         }
     }
@@ -59,8 +104,13 @@ impl<J> Actor<J> {
     /// An order that is no job.
     pub(super) fn order(&mut self, order: impl FnOnce(&mut Seat) -> Result<Name, Error>) -> Result<Ticket, Error> {
         let name = order(&mut self.seat)?;
+        Ok(self.accepted(name, None))
+    }
+
+    fn accepted(&mut self, name: Name, place: Option<u32>) -> Ticket {
+        self.sent[name.to as usize].pending += 1;
         self.lanes.ring(name.to);
-        Ok(Ticket { name, is_job: false })
+        Ticket { name, house: self.lanes.house(), place }
     }
 
     /// Collects what the links show. How many outcomes there were.
@@ -68,21 +118,38 @@ impl<J> Actor<J> {
         let mut all = 0;
         let missed = std::mem::take(&mut self.misses);
         for core in 0..self.lanes.cores() {
-            let count = match self.seat.collect(core) {
-                Ok(count) => count,
+            match self.collect_from(core, missed) {
+                Ok(count) => all += count,
                 Err(error) => {
                     self.misses |= missed;
                     return Err(error);
                 }
-            };
-            all += count;
-            if (count > 0 || missed) && !self.loose[core as usize].is_empty() {
-                let mut loose = std::mem::take(&mut self.loose[core as usize]);
-                loose.retain(|ticket| self.stays_loose(ticket));
-                self.loose[core as usize] = loose;
             }
         }
         Ok(all)
+    }
+
+    fn collect_from(&mut self, core: u32, missed: bool) -> Result<u64, Error> {
+        let sent = &mut self.sent[core as usize];
+        let count = if sent.pending > 0 { self.seat.collect(core)? } else { 0 };
+        sent.pending -= count;
+        self.redeem_loose(core, if missed { u64::MAX } else { count });
+        Ok(count)
+    }
+
+    /// Redeems so many of the jobs for which nobody asks, if their outcomes were collected.
+    fn redeem_loose(&mut self, core: u32, most: u64) {
+        let mut loose = std::mem::take(&mut self.sent[core as usize].loose);
+        let (mut at, mut left) = (0, most);
+        while left > 0 && !self.misses && at < loose.len() {
+            if self.stays_loose(&loose[at]) {
+                at += 1;
+            } else {
+                loose.remove(at);
+                left -= 1;
+            }
+        }
+        self.sent[core as usize].loose = loose;
     }
 
     /// Whether the outcome of this job is still to be asked for.
@@ -98,22 +165,34 @@ impl<J> Actor<J> {
     }
 
     pub(super) fn redeem(&mut self, ticket: &Ticket) -> Result<Outcome<J>, Error> {
+        // The ticket of another house may have the same name.
+        if ticket.house != self.lanes.house() {
+            return Err(Error::Unknown);
+        }
         let Name { from, to, .. } = ticket.name;
-        Ok(match self.seat.redeem(ticket.name)? {
+        let outcome = match self.seat.redeem(ticket.name)? {
             Told::Done(answer) => Outcome::Done(answer),
             Told::Answered(answer, queue) => Outcome::Answered(Answer::of(answer, queue)),
-            Told::Back(reason, place) => Outcome::Back(Reason::of(reason), self.lanes.vacate(from, to, place).expect("a job that comes back has its place")),
-        })
+            Told::Back(reason, place) => {
+                assert_eq!(Some(place), ticket.place, "a job comes back with its number");
+                // SAFETY: the outcome hands the place back to the sender.
+                let job = unsafe { self.lanes.exchange(from, to, place, None) };
+                Outcome::Back(Reason::of(reason), job.expect("a job that comes back has its place"))
+            }
+        };
+        // An outcome is redeemed once, so no place is vacant twice.
+        self.sent[to as usize].vacant.extend(ticket.place);
+        Ok(outcome)
     }
 
     pub(super) fn detach(&mut self, ticket: Ticket) -> Result<(), Error> {
-        if !ticket.is_job {
+        if ticket.place.is_none() && ticket.house == self.lanes.house() {
             return self.seat.detach(ticket.name);
         }
         match self.redeem(&ticket) {
             Ok(_) => Ok(()),
             Err(Error::Pending) => {
-                self.loose[ticket.name.to as usize].push(ticket);
+                self.sent[ticket.name.to as usize].loose.push_back(ticket);
                 Ok(())
             }
             Err(error) => Err(error),
@@ -122,7 +201,7 @@ impl<J> Actor<J> {
 
     /// Whether one more task may go to this core: on the link to the own core a place stays free for wakes.
     pub(super) fn may_submit_task(&self, to: u32) -> bool {
-        to != self.number || self.loose[to as usize].len() + 1 < self.lanes.places() as usize
+        to != self.number || self.sent[to as usize].loose.len() + 1 < self.lanes.places() as usize
     }
 
     pub(super) fn sleep(&mut self, is_awake: impl FnOnce() -> bool) {
@@ -133,14 +212,14 @@ impl<J> Actor<J> {
 
 /// The calls on submissions, which a core, a job that runs and the outside actor have alike.
 macro_rules! submissions {
-    ($actor:ident) => {
+    ($($entered:tt)+) => {
         /// Submits a job to a queue of a core. The job itself may be inside before this call is over.
         ///
         /// # Errors
         ///
         /// `NoQueue` above 255, `UnknownCore`, `JournalFull`, `Closed`, `Full`, `Spent`, each with the job.
         pub fn submit(&mut self, to: u32, queue: u32, job: J) -> Result<Ticket, (Error, J)> {
-            self.$actor.submit(to, queue, job)
+            self.$($entered)+.submit(to, queue, job)
         }
 
         /// Submits an order to make a queue with these shares. Each order that is no job has an answer as its outcome.
@@ -149,7 +228,7 @@ macro_rules! submissions {
         ///
         /// `BadShares`, then as `submit`.
         pub fn create(&mut self, to: u32, shares: u32) -> Result<Ticket, Error> {
-            self.$actor.order(|seat| seat.create(to, shares))
+            self.$($entered)+.order(|seat| seat.create(to, shares))
         }
 
         /// Submits an order to give a queue these shares.
@@ -158,7 +237,7 @@ macro_rules! submissions {
         ///
         /// `BadShares`, then as `submit`.
         pub fn set_shares(&mut self, to: u32, queue: u32, shares: u32) -> Result<Ticket, Error> {
-            self.$actor.order(|seat| seat.set_shares(to, queue, shares))
+            self.$($entered)+.order(|seat| seat.set_shares(to, queue, shares))
         }
 
         /// Submits an order to close a queue.
@@ -167,7 +246,7 @@ macro_rules! submissions {
         ///
         /// As `submit`.
         pub fn close_queue(&mut self, to: u32, queue: u32, mode: Mode) -> Result<Ticket, Error> {
-            self.$actor.order(|seat| seat.close_queue(to, queue, mode))
+            self.$($entered)+.order(|seat| seat.close_queue(to, queue, mode))
         }
 
         /// Submits an order to close a core.
@@ -176,7 +255,7 @@ macro_rules! submissions {
         ///
         /// As `submit`.
         pub fn close_core(&mut self, to: u32, mode: Mode) -> Result<Ticket, Error> {
-            self.$actor.order(|seat| seat.close_core(to, mode))
+            self.$($entered)+.order(|seat| seat.close_core(to, mode))
         }
 
         /// Submits an order to wake a job, by its name, to the core where it is.
@@ -185,7 +264,7 @@ macro_rules! submissions {
         ///
         /// As `submit`.
         pub fn wake(&mut self, job: Name) -> Result<Ticket, Error> {
-            self.$actor.order(|seat| seat.wake(job))
+            self.$($entered)+.order(|seat| seat.wake(job))
         }
 
         /// Collects all outcomes that the links show. How many there were.
@@ -194,7 +273,7 @@ macro_rules! submissions {
         ///
         /// `JournalFull`.
         pub fn collect(&mut self) -> Result<u64, Error> {
-            self.$actor.collect()
+            self.$($entered)+.collect()
         }
 
         /// The outcome of a submission that was collected. It is gone from then on.
@@ -203,7 +282,7 @@ macro_rules! submissions {
         ///
         /// `JournalFull`, `Unknown` for the ticket of another actor, `Gone`, `Pending`.
         pub fn redeem(&mut self, ticket: &Ticket) -> Result<Outcome<J>, Error> {
-            self.$actor.redeem(ticket)
+            self.$($entered)+.redeem(ticket)
         }
 
         /// Nobody will ask for the outcome of a submission. A job that comes back is dropped.
@@ -212,7 +291,7 @@ macro_rules! submissions {
         ///
         /// `JournalFull`, `Unknown`, `Gone`.
         pub fn detach(&mut self, ticket: Ticket) -> Result<(), Error> {
-            self.$actor.detach(ticket)
+            self.$($entered)+.detach(ticket)
         }
 
         /// Puts the text of the notes that the journal keeps behind this text. The journal keeps none of them then, and all its notes are free.
@@ -222,13 +301,13 @@ macro_rules! submissions {
         ///
         /// `NoMemory`. Then nothing changes.
         pub fn pass_on(&mut self, text: &mut Vec<u8>) -> Result<(), Error> {
-            self.$actor.seat.pass_on(text)
+            self.$($entered)+.seat.pass_on(text)
         }
 
         /// Whenever the journal is full from now on, the text of its notes goes to `takes`, and the call that needs room is made again. So
         /// `JournalFull` comes only if the journal has room for fewer notes than one call may need. What is kept at the end goes out by `pass_on`.
         pub fn keep_notes_by(&mut self, takes: impl FnMut(&[u8]) + Send + 'static) {
-            self.$actor.seat.keep_notes_by(Box::new(takes));
+            self.$($entered)+.seat.keep_notes_by(Box::new(takes));
         }
     };
 }
@@ -240,7 +319,7 @@ pub struct Outside<J> {
 }
 
 impl<J> Outside<J> {
-    submissions!(actor);
+    submissions!(actor.enter());
 
     /// Waits for the outcome of a submission.
     ///
@@ -248,10 +327,11 @@ impl<J> Outside<J> {
     ///
     /// `JournalFull`, `Unknown`, `Gone`.
     pub fn wait_for(&mut self, ticket: &Ticket) -> Result<Outcome<J>, Error> {
+        let mut actor = self.actor.enter();
         loop {
-            self.actor.collect()?;
-            match self.actor.redeem(ticket) {
-                Err(Error::Pending) => self.actor.sleep(|| false),
+            actor.collect()?;
+            match actor.redeem(ticket) {
+                Err(Error::Pending) => actor.sleep(|| false),
                 told => return told,
             }
         }

@@ -7,7 +7,14 @@ use crate::core::Mode;
 use crate::error::Error;
 use crate::house::{wall_clock, Clock};
 use crate::stats::{CoreStats, QueueStats};
-use std::panic::{catch_unwind, AssertUnwindSafe};
+use std::marker::PhantomData;
+use std::panic::catch_unwind;
+
+/// A round runs jobs for so many nanoseconds at most, or one job. What other actors submit meanwhile waits so long.
+const LONGEST: u64 = 5_000;
+
+/// A round delivers so many orders of an actor at most, and runs so many jobs.
+const MOST: u32 = 64;
 
 /// What a turn came to.
 #[derive(Clone, Copy, PartialEq, Eq, Debug)]
@@ -33,13 +40,22 @@ pub enum Turn {
 pub struct Core<J> {
     pub(super) actor: Actor<J>,
     clock: Clock,
+    // It may be closed: it was when it was asked last, or took in something since.
+    may_be_closed: bool,
 }
 
-/// What a job may do while it runs.
+/// What a job may do while it runs. It stays on the thread of its core.
+///
+/// ```compile_fail,E0277
+/// fn is_send<T: Send>() {}
+/// is_send::<fairexec::linked::Cx<'static, u64>>();
+/// ```
 pub struct Cx<'a, J> {
     actor: &'a mut Actor<J>,
     name: Name,
     queue: u32,
+    // The seat of the actor was entered by this thread.
+    stays: PhantomData<*const ()>,
 }
 
 impl<J> Cx<'_, J> {
@@ -65,10 +81,11 @@ impl<J> Cx<'_, J> {
 struct Running<'a, J> {
     actor: &'a mut Actor<J>,
     name: Name,
-    place: usize,
+    place: u32,
     job: Option<J>,
     clock: Clock,
     began: u64,
+    ended: u64,
     step: Step,
     settled: Option<Settled>,
 }
@@ -76,12 +93,13 @@ struct Running<'a, J> {
 impl<J> Running<'_, J> {
     fn settle(&mut self) {
         // A clock that panics here is charged as little as may be: nothing leaves the core with a job that nobody runs.
-        let spent = catch_unwind(AssertUnwindSafe(|| (self.clock)().saturating_sub(self.began))).unwrap_or(0);
+        self.ended = catch_unwind(self.clock).unwrap_or(0);
+        let spent = self.ended.saturating_sub(self.began);
         let Name { from, to, .. } = self.name;
-        // The job is in its place, or gone, before the library gives it on.
-        match self.step {
-            Step::Yield | Step::Park => self.actor.lanes.restore(from, to, self.place, self.job.take()),
-            Step::Done(_) => drop(self.actor.lanes.vacate(from, to, self.place)),
+        // A job that may run again is in its place before the library gives it on.
+        if !matches!(self.step, Step::Done(_)) {
+            // SAFETY: the place is this core's until the run is settled.
+            unsafe { self.actor.lanes.exchange(from, to, self.place, self.job.take()) };
         }
         self.settled = self.actor.seat.settle(self.step, spent).ok();
         debug_assert!(self.settled.is_some());
@@ -99,11 +117,81 @@ impl<J> Drop for Running<'_, J> {
     }
 }
 
+/// The run of a turn, from one time to another.
+type Times = (u64, u64);
+
+/// Runs the next job of a core once. The run began at `since`, if that is told. The answer: what the turn came to, and when the job ran.
+fn turn<J, R>(actor: &mut Actor<J>, clock: Clock, since: Option<u64>, run: R) -> Result<(Turn, Option<Times>), Error>
+where
+    R: FnOnce(&mut J, &mut Cx<'_, J>) -> Step,
+{
+    let (name, queue, place) = match actor.seat.next()? {
+        Next::Run(name, queue, place) => (name, queue, place),
+        Next::Back(name) => {
+            actor.lanes.ring(name.from);
+            return Ok((Turn::Back(name), None));
+        }
+        Next::Idle => return Ok((Turn::Idle, None)),
+    };
+    // SAFETY: the library told this run, so the place is this core's.
+    let job = unsafe { actor.lanes.exchange(name.from, name.to, place, None) };
+    let mut running = Running { actor, name, place, job, clock, began: u64::MAX, ended: 0, step: Step::Done(0), settled: None };
+    running.began = since.unwrap_or_else(clock);
+    if let Some(job) = &mut running.job {
+        running.step = run(job, &mut Cx { actor: running.actor, name, queue, stays: PhantomData });
+    }
+    running.settle();
+    let turn = match running.settled {
+        Some(Settled::Parked) => Turn::Parked,
+        Some(Settled::Queued) => Turn::Yielded,
+        Some(Settled::Done) | None => Turn::Done,
+    };
+    Ok((turn, Some((running.began, running.ended))))
+}
+
+/// Runs jobs, each from the end of the one before, until some time has passed or no queue has work. Whether there was a job.
+fn turns<J, R>(actor: &mut Actor<J>, clock: Clock, run: &mut R) -> Result<bool, Error>
+where
+    R: FnMut(&mut J, &mut Cx<'_, J>) -> Step,
+{
+    let (mut first, mut last) = (None, None);
+    for count in 0..MOST {
+        let (turn, times) = turn(actor, clock, last, &mut *run)?;
+        if turn == Turn::Idle {
+            return Ok(count > 0);
+        }
+        let Some((began, ended)) = times else { continue };
+        last = Some(ended);
+        if ended.saturating_sub(*first.get_or_insert(began)) >= LONGEST {
+            break;
+        }
+    }
+    Ok(true)
+}
+
+/// Shuts the gates of a closed core: its own last, once no job is inside, since its jobs may still have to be woken, and not at all if more is to go
+/// through it. Whether one was shut, or `Open`.
+fn shut<J>(actor: &mut Actor<J>, needs_own_gate: bool) -> Result<bool, Error> {
+    let (own, cores) = (actor.number, actor.lanes.cores());
+    let mut did = false;
+    for sender in (0..=cores).rev() {
+        if sender == own && (needs_own_gate || actor.seat.stats().held > 0) {
+            continue;
+        }
+        match actor.seat.shut(sender) {
+            Ok(()) => did = true,
+            Err(Error::Shut) => {}
+            Err(error) => return Err(error),
+        }
+    }
+    Ok(did)
+}
+
 impl<J> Core<J> {
-    submissions!(actor);
+    submissions!(actor.enter());
 
     pub(super) fn new(actor: Actor<J>) -> Core<J> {
-        Core { actor, clock: wall_clock }
+        Core { actor, clock: wall_clock, may_be_closed: true }
     }
 
     /// Runs are measured by this clock from now on. At first it is the wall's time.
@@ -125,26 +213,8 @@ impl<J> Core<J> {
     where
         R: FnOnce(&mut J, &mut Cx<'_, J>) -> Step,
     {
-        let (name, queue, place) = match self.actor.seat.next()? {
-            Next::Run(name, queue, place) => (name, queue, place),
-            Next::Back(name) => {
-                self.actor.lanes.ring(name.from);
-                return Ok(Turn::Back(name));
-            }
-            Next::Idle => return Ok(Turn::Idle),
-        };
-        let job = self.actor.lanes.borrow(name.from, name.to, place);
-        let mut running = Running { actor: &mut self.actor, name, place, job, clock: self.clock, began: u64::MAX, step: Step::Done(0), settled: None };
-        running.began = (running.clock)();
-        if let Some(job) = &mut running.job {
-            running.step = run(job, &mut Cx { actor: running.actor, name, queue });
-        }
-        running.settle();
-        Ok(match running.settled {
-            Some(Settled::Parked) => Turn::Parked,
-            Some(Settled::Queued) => Turn::Yielded,
-            Some(Settled::Done) | None => Turn::Done,
-        })
+        let (turn, _) = turn(&mut self.actor.enter(), self.clock, None, run)?;
+        Ok(turn)
     }
 
     /// Delivers one order of each actor. If the core is closed, it shuts the gates first: its own last, once no job is inside, since its jobs
@@ -154,50 +224,52 @@ impl<J> Core<J> {
     ///
     /// `JournalFull`.
     pub fn deliver(&mut self) -> Result<bool, Error> {
-        self.deliver_with(false)
+        self.deliver_with(false, 1)
     }
 
-    /// The same, and its own gate stays open if more is to go through it.
-    pub(super) fn deliver_with(&mut self, needs_own_gate: bool) -> Result<bool, Error> {
-        let (own, cores) = (self.number(), self.actor.lanes.cores());
+    /// The same, and its own gate stays open if more is to go through it. Of each actor it delivers so many orders at most.
+    fn deliver_with(&mut self, needs_own_gate: bool, most: u32) -> Result<bool, Error> {
+        let mut actor = self.actor.enter();
         let mut did = false;
-        // The outside actor's gate is tried first: of an open core it tells that, and no other is tried.
-        for sender in (0..=cores).rev() {
-            if sender == own && (needs_own_gate || self.stats().held > 0) {
-                continue;
-            }
-            match self.actor.seat.shut(sender) {
-                Ok(()) => did = true,
-                Err(Error::Open) => break,
-                Err(Error::Shut) => {}
-                Err(error) => return Err(error),
+        if self.may_be_closed {
+            match shut(&mut actor, needs_own_gate) {
+                Err(Error::Open) => self.may_be_closed = false,
+                told => did = told?,
             }
         }
-        for sender in 0..=cores {
-            did |= self.actor.seat.deliver(sender)?;
+        for sender in 0..=actor.lanes.cores() {
+            for _ in 0..most {
+                if !actor.seat.deliver(sender)? {
+                    break;
+                }
+                self.may_be_closed = true;
+                did = true;
+            }
         }
         Ok(did)
     }
 
-    /// One round: it delivers, runs a job, and collects. Whether anything happened.
+    /// One round: it delivers what the links show, runs jobs for 5 µs or as long as one run takes, and collects. Whether anything happened.
+    /// If a round has several runs, each is measured from the end of the one before, so the time between them counts too.
     ///
     /// # Errors
     ///
     /// `JournalFull`, `Spent`.
     pub fn round<R>(&mut self, run: R) -> Result<bool, Error>
     where
-        R: FnOnce(&mut J, &mut Cx<'_, J>) -> Step,
+        R: FnMut(&mut J, &mut Cx<'_, J>) -> Step,
     {
         self.round_with(false, run)
     }
 
-    pub(super) fn round_with<R>(&mut self, needs_own_gate: bool, run: R) -> Result<bool, Error>
+    pub(super) fn round_with<R>(&mut self, needs_own_gate: bool, mut run: R) -> Result<bool, Error>
     where
-        R: FnOnce(&mut J, &mut Cx<'_, J>) -> Step,
+        R: FnMut(&mut J, &mut Cx<'_, J>) -> Step,
     {
-        let mut did = self.deliver_with(needs_own_gate)?;
-        did |= self.run_turn(run)? != Turn::Idle;
-        did |= self.actor.collect()? > 0;
+        let mut did = self.deliver_with(needs_own_gate, MOST)?;
+        let mut actor = self.actor.enter();
+        did |= turns(&mut actor, self.clock, &mut run)?;
+        did |= actor.collect()? > 0;
         Ok(did)
     }
 
@@ -210,7 +282,7 @@ impl<J> Core<J> {
     where
         R: FnMut(&mut J, &mut Cx<'_, J>) -> Step,
     {
-        while !self.is_drained() {
+        while !self.has_ended() {
             if !self.round(&mut run)? {
                 self.sleep();
             }
@@ -220,7 +292,11 @@ impl<J> Core<J> {
 
     /// Sleeps until another actor submits to this core or gives it an outcome, for 10 ms at most.
     pub fn sleep(&mut self) {
-        self.actor.sleep(|| false);
+        self.sleep_unless(|| false);
+    }
+
+    pub(super) fn sleep_unless(&mut self, is_awake: impl FnOnce() -> bool) {
+        self.actor.enter().sleep(is_awake);
     }
 
     /// Closes the core by itself.
@@ -229,17 +305,23 @@ impl<J> Core<J> {
     ///
     /// `JournalFull`; `Closed` if it was so, or more strictly, before.
     pub fn close(&mut self, mode: Mode) -> Result<(), Error> {
-        self.actor.seat.close(mode)
+        self.may_be_closed = true;
+        self.actor.enter().seat.close(mode)
     }
 
     /// Whether the core has come to its end: it is closed, everything was delivered, and no job is inside.
     pub fn is_drained(&mut self) -> bool {
-        self.actor.seat.is_drained()
+        self.actor.enter().seat.is_drained()
+    }
+
+    /// The same, and an open core isn't asked.
+    pub(super) fn has_ended(&mut self) -> bool {
+        self.may_be_closed && self.is_drained()
     }
 
     /// The counts of the core.
     pub fn stats(&mut self) -> CoreStats {
-        self.actor.seat.stats()
+        self.actor.enter().seat.stats()
     }
 
     /// The counts of a queue.
@@ -248,7 +330,7 @@ impl<J> Core<J> {
     ///
     /// `NoQueue`.
     pub fn stats_of(&mut self, queue: u32) -> Result<QueueStats, Error> {
-        self.actor.seat.stats_of(queue)
+        self.actor.enter().seat.stats_of(queue)
     }
 }
 

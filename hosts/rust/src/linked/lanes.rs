@@ -1,6 +1,7 @@
 //! What all actors of a house share: where the jobs stand, and the bells of those that sleep.
 
-use std::sync::atomic::{AtomicBool, Ordering};
+use std::cell::UnsafeCell;
+use std::sync::atomic::{AtomicBool, AtomicU64, Ordering};
 use std::sync::{Condvar, Mutex, MutexGuard, PoisonError};
 use std::time::Duration;
 
@@ -8,11 +9,11 @@ fn lock<T>(of: &Mutex<T>) -> MutexGuard<'_, T> {
     of.lock().unwrap_or_else(PoisonError::into_inner)
 }
 
-/// The jobs that one actor submitted to one core. The library knows a job by its place here.
-struct Lane<J> {
-    places: Vec<Option<J>>,
-    vacant: Vec<usize>,
-}
+/// The place of a job that one actor submitted to one core. The library knows the job by the number of its place.
+///
+/// A place goes with its job, without a lock. First the sender alone has it. An order that was accepted hands it to the core, which has it from
+/// each run that the library tells until it settles that run. An outcome that was redeemed hands it back.
+struct Place<J>(UnsafeCell<Option<J>>);
 
 /// Rung where an actor that sleeps has something to do.
 #[derive(Default)]
@@ -22,25 +23,40 @@ struct Bell {
     rings: Condvar,
 }
 
-/// The lanes of a house, one from each actor to each core, and a bell for each actor. A lane is locked for a move of one job.
+/// The places of a house, a lane of them from each actor to each core, and a bell for each actor.
 pub(super) struct Lanes<J> {
+    house: u64,
     cores: u32,
     places: u32,
-    lanes: Vec<Mutex<Lane<J>>>,
+    lanes: Vec<Box<[Place<J>]>>,
     bells: Vec<Bell>,
 }
 
+// SAFETY: each place is one actor's at a time, by the rule of its type. The library hands orders and outcomes over by sequentially consistent
+// atomics, so what the one actor did to a place is done before the other has it.
+unsafe impl<J: Send> Sync for Lanes<J> {}
+
 impl<J> Lanes<J> {
-    /// Each lane has room for one job more than its link, so that the link judges.
     pub(super) fn new(cores: u32, places: u32) -> Lanes<J> {
-        let room = places as usize + 1;
-        let lane = || Mutex::new(Lane { places: (0..room).map(|_| None).collect(), vacant: (0..room).rev().collect() });
+        static HOUSES: AtomicU64 = AtomicU64::new(0);
+        let lane = |_| (0..Self::room(places)).map(|_| Place(UnsafeCell::new(None))).collect();
         Lanes {
+            house: HOUSES.fetch_add(1, Ordering::Relaxed),
             cores,
             places,
-            lanes: (0..cores * (cores + 1)).map(|_| lane()).collect(),
+            lanes: (0..cores * (cores + 1)).map(lane).collect(),
             bells: (0..=cores).map(|_| Bell::default()).collect(),
         }
+    }
+
+    /// A lane has room for one job more than its link, so that the link judges.
+    pub(super) fn room(places: u32) -> u32 {
+        places + 1
+    }
+
+    /// Which house it is, of all that this process opens.
+    pub(super) fn house(&self) -> u64 {
+        self.house
     }
 
     pub(super) fn cores(&self) -> u32 {
@@ -52,33 +68,15 @@ impl<J> Lanes<J> {
         self.places
     }
 
-    fn lane(&self, from: u32, to: u32) -> MutexGuard<'_, Lane<J>> {
-        lock(&self.lanes[(from * self.cores + to) as usize])
-    }
-
-    /// Puts a job where none stands yet. It comes back if there is no place.
-    pub(super) fn put(&self, from: u32, to: u32, job: J) -> Result<usize, J> {
-        let mut lane = self.lane(from, to);
-        let Some(place) = lane.vacant.pop() else { return Err(job) };
-        lane.places[place] = Some(job);
-        Ok(place)
-    }
-
-    /// Takes the job out of its place, which it keeps.
-    pub(super) fn borrow(&self, from: u32, to: u32, place: usize) -> Option<J> {
-        self.lane(from, to).places[place].take()
-    }
-
-    /// Puts it back.
-    pub(super) fn restore(&self, from: u32, to: u32, place: usize, job: Option<J>) {
-        self.lane(from, to).places[place] = job;
-    }
-
-    /// The job leaves its place for good.
-    pub(super) fn vacate(&self, from: u32, to: u32, place: usize) -> Option<J> {
-        let mut lane = self.lane(from, to);
-        lane.vacant.push(place);
-        lane.places[place].take()
+    /// Puts a job into its place, or takes it out.
+    ///
+    /// # Safety
+    ///
+    /// The caller is the actor that has the place.
+    pub(super) unsafe fn exchange(&self, from: u32, to: u32, place: u32, job: Option<J>) -> Option<J> {
+        let place = &self.lanes[(from * self.cores + to) as usize][place as usize];
+        // SAFETY: nobody else reads or writes it now.
+        unsafe { std::mem::replace(&mut *place.0.get(), job) }
     }
 
     /// Tells this actor that there is something to do.

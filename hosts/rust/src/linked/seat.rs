@@ -9,7 +9,7 @@ use std::sync::atomic::{AtomicBool, Ordering};
 
 /// What comes next, with the host's number of a job.
 pub(super) enum Next {
-    Run(Name, u32, usize),
+    Run(Name, u32, u32),
     Back(Name),
     Idle,
 }
@@ -25,7 +25,7 @@ pub(super) enum Settled {
 /// What became of a submission, with the host's number of a job.
 pub(super) enum Told {
     Done(u64),
-    Back(u32, usize),
+    Back(u32, u32),
     Answered(u32, u32),
 }
 
@@ -41,7 +41,7 @@ pub(super) struct Seat {
     // Whoever takes the notes if the journal is full.
     keeper: Option<Keeper>,
     // The library asks that a lock, the start or the join of a thread, or a sequentially consistent atomic stands between two calls on
-    // different threads. A channel may hand a value over by less. So each call begins and ends with such an atomic of its seat.
+    // different threads. A channel may hand a value over by less. So whoever uses the seat begins and ends with such an atomic of it.
     order: AtomicBool,
 }
 
@@ -49,6 +49,7 @@ pub(super) struct Seat {
 unsafe impl Send for Seat {}
 
 // In each call below the handle is that of an open seat and of this `Seat` alone, and every pointer is to a local value that outlives the call.
+// The calls of one thread stand between `enter` and `leave`.
 impl Seat {
     /// The next seat of a house, with its number.
     pub(super) fn take(house: &mut raw::fx_house) -> Result<(u32, Seat), Error> {
@@ -56,28 +57,36 @@ impl Seat {
         let mut actor = 0;
         // SAFETY: the house is open, and the seat is empty.
         refused(seat.call(|it| unsafe { raw::fx_house_take(house, it, &mut actor) }))?;
+        seat.leave();
         Ok((actor, seat))
+    }
+
+    /// Stands before the calls of a thread.
+    #[inline]
+    pub(super) fn enter(&self) {
+        self.order.load(Ordering::SeqCst);
+    }
+
+    /// Stands behind them.
+    #[inline]
+    pub(super) fn leave(&self) {
+        self.order.store(true, Ordering::SeqCst);
     }
 
     /// Hands the journal of this seat to its house.
     pub(super) fn end(&mut self, house: &mut raw::fx_house) -> Result<(), Error> {
+        self.enter();
         // SAFETY: the house is open, and the seat is of it.
         refused(self.call(|it| unsafe { raw::fx_house_end(house, it) }))
     }
 
+    #[inline]
     fn call(&mut self, mut call: impl FnMut(&mut raw::fx_seat) -> u32) -> u32 {
-        let code = self.call_once(&mut call);
+        let code = call(&mut self.handle);
         // If the notes are taken, the journal is as good as new.
         if code == raw::FX_JOURNAL_FULL && self.hand_on().is_ok() {
-            return self.call_once(&mut call);
+            return call(&mut self.handle);
         }
-        code
-    }
-
-    fn call_once(&mut self, call: impl FnOnce(&mut raw::fx_seat) -> u32) -> u32 {
-        self.order.load(Ordering::SeqCst);
-        let code = call(&mut self.handle);
-        self.order.store(true, Ordering::SeqCst);
         code
     }
 
@@ -104,7 +113,7 @@ impl Seat {
             let (had, room) = (text.len(), text.capacity() - text.len());
             let mut count = 0;
             // SAFETY: as above; behind what it has the vector has room for as many bytes as the call is told.
-            match self.call_once(|it| unsafe { raw::fx_seat_pass_on(it, text.as_mut_ptr().add(had), room, &mut count) }) {
+            match unsafe { raw::fx_seat_pass_on(&mut self.handle, text.as_mut_ptr().add(had), room, &mut count) } {
                 raw::FX_SHORT => text.reserve(count as usize),
                 code => {
                     refused(code)?;
@@ -117,23 +126,26 @@ impl Seat {
     }
 
     /// A call that tells the name of a submission.
+    #[inline]
     fn named(&mut self, mut call: impl FnMut(&mut raw::fx_seat, &mut raw::fx_name) -> u32) -> Result<Name, Error> {
         let mut name = raw::fx_name::default();
         refused(self.call(|it| call(it, &mut name)))?;
         Ok(Name::of(&name))
     }
 
+    #[inline]
     pub(super) fn next(&mut self) -> Result<Next, Error> {
         let mut turn = raw::fx_turn { size: size_of::<raw::fx_turn>() as u32, ..raw::fx_turn::default() };
         // SAFETY: as above.
         match self.call(|it| unsafe { raw::fx_seat_next(it, &mut turn) }) {
-            raw::FX_START | raw::FX_RESUME => Ok(Next::Run(Name::of(&turn.name), turn.queue, turn.job as usize)),
+            raw::FX_START | raw::FX_RESUME => Ok(Next::Run(Name::of(&turn.name), turn.queue, turn.job as u32)),
             raw::FX_BACK => Ok(Next::Back(Name::of(&turn.name))),
             raw::FX_IDLE => Ok(Next::Idle),
             code => Err(Error::of(code)),
         }
     }
 
+    #[inline]
     pub(super) fn settle(&mut self, step: Step, spent: u64) -> Result<Settled, Error> {
         let (step, answer) = match step {
             Step::Yield => (raw::FX_STEP_YIELD, 0),
@@ -150,6 +162,7 @@ impl Seat {
     }
 
     /// Whether there was an order.
+    #[inline]
     pub(super) fn deliver(&mut self, sender: u32) -> Result<bool, Error> {
         // SAFETY: as above.
         match self.call(|it| unsafe { raw::fx_seat_deliver(it, sender) }) {
@@ -158,6 +171,7 @@ impl Seat {
         }
     }
 
+    #[inline]
     pub(super) fn collect(&mut self, core: u32) -> Result<u64, Error> {
         let mut count = 0;
         // SAFETY: as above.
@@ -165,9 +179,10 @@ impl Seat {
         Ok(count)
     }
 
-    pub(super) fn submit(&mut self, to: u32, queue: u32, job: usize) -> Result<Name, Error> {
+    #[inline]
+    pub(super) fn submit(&mut self, to: u32, queue: u32, job: u32) -> Result<Name, Error> {
         // SAFETY: as above.
-        self.named(|it, name| unsafe { raw::fx_seat_submit(it, to, queue, job as u64, name) })
+        self.named(|it, name| unsafe { raw::fx_seat_submit(it, to, queue, u64::from(job), name) })
     }
 
     pub(super) fn create(&mut self, to: u32, shares: u32) -> Result<Name, Error> {
@@ -196,6 +211,7 @@ impl Seat {
         self.named(|it, name| unsafe { raw::fx_seat_wake(it, &job, name) })
     }
 
+    #[inline]
     pub(super) fn redeem(&mut self, name: Name) -> Result<Told, Error> {
         let name = name.raw();
         let mut outcome = raw::fx_outcome { size: size_of::<raw::fx_outcome>() as u32, ..raw::fx_outcome::default() };
@@ -203,7 +219,7 @@ impl Seat {
         refused(self.call(|it| unsafe { raw::fx_seat_redeem(it, &name, &mut outcome) }))?;
         Ok(match outcome.kind {
             raw::FX_KIND_DONE => Told::Done(outcome.answer),
-            raw::FX_KIND_BACK => Told::Back(outcome.why, outcome.job as usize),
+            raw::FX_KIND_BACK => Told::Back(outcome.why, outcome.job as u32),
             _ => Told::Answered(outcome.why, outcome.queue),
         })
     }
@@ -252,6 +268,7 @@ impl Seat {
 
 impl Drop for Seat {
     fn drop(&mut self) {
+        self.enter();
         // SAFETY: as above, and nobody uses the handle any more. A seat that ended is empty, which the call tells.
         self.call(|it| unsafe { raw::fx_seat_free(it) });
     }

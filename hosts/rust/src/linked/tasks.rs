@@ -251,14 +251,14 @@ impl Core<Task> {
         }
         let mut tasks = Tasks::of(self);
         let own = self.number() as usize;
-        while !self.is_drained() || tasks.spawned.iter().any(|it| !it.is_empty()) {
+        while !self.has_ended() || tasks.spawned.iter().any(|it| !it.is_empty()) {
             let mut did = tasks.send_wakes(self)?;
             let needs_own_gate = !tasks.spawned[own].is_empty();
             did |= self.round_with(needs_own_gate, |task, cx| tasks.poll(task, cx))?;
             did |= tasks.submit_spawned(self)?;
             if !did {
                 let woken = Arc::clone(&tasks.woken);
-                self.actor.sleep(|| !lock(&woken.list).is_empty());
+                self.sleep_unless(|| !lock(&woken.list).is_empty());
             }
         }
         Ok(())
