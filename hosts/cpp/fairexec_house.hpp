@@ -5,13 +5,11 @@
 //     auto ticket = house.outside.submit(1, 0, [](fairexec::linked::cx<fairexec::linked::job> &) { return fairexec::linked::done(42); });
 //     ... house.outside.wait_for(*ticket.ticket).answer ...
 //
-// With C++20 a job may be a coroutine, `task`. A house keeps what its jobs are: a job moves to the core that it is submitted to, and is destroyed there when it is done. A core is used by
-// one thread at a time, and goes to another as fairexec.h says.
+// With C++20 a job may be a coroutine, `task`. A house keeps what its jobs are: a job moves to the core that it is submitted to, and is destroyed there when it is done. A core is used by one thread at a time, and goes to another as fairexec.h says.
 #ifndef FAIREXEC_HOUSE_HPP
 #define FAIREXEC_HOUSE_HPP
 
 #include "fairexec_actor.hpp"
-#include <string>
 
 namespace fairexec::linked {
 
@@ -97,7 +95,17 @@ template <class Job, class Clock = std::chrono::steady_clock> class core : publi
         return code;
     }
 
-    fx_code deliver(bool &did, uint32_t of_each) {
+public:
+    using actor<Job>::actor;
+
+    // Runs the next job once, by `run`, which is called with the job and a cx: FX_OK, FX_PARKED, FX_DONE, FX_BACK, FX_IDLE, FX_JOURNAL_FULL or FX_SPENT.
+    template <class Run> fx_code run_turn(Run &&run) {
+        times of;
+        return run_turn(run, of);
+    }
+
+    // Delivers an order of each actor, or so many. A closed core shuts the gates: its own once no job is inside, since jobs may have to be woken.
+    fx_code deliver(bool &did, uint32_t of_each = 1) {
         for (uint32_t sender = this->shared->cores() + 1; sender-- > 0;) {
             if (sender == this->own && stats().held > 0) continue;
             uint32_t code = this->called([&] { return fx_seat_shut(&this->seat, sender); });
@@ -106,28 +114,15 @@ template <class Job, class Clock = std::chrono::steady_clock> class core : publi
             if (code == FX_JOURNAL_FULL) return FX_JOURNAL_FULL;
         }
         for (uint32_t sender = 0; sender <= this->shared->cores(); sender++) {
-            uint32_t code = FX_OK;
-            for (uint32_t count = 0; count < of_each && code == FX_OK; count++) {
-                code = this->called([&] { return fx_seat_deliver(&this->seat, sender); });
+            for (uint32_t count = 0; count < of_each; count++) {
+                uint32_t code = this->called([&] { return fx_seat_deliver(&this->seat, sender); });
                 if (code == FX_JOURNAL_FULL) return FX_JOURNAL_FULL;
-                did = did || code == FX_OK;
+                if (code != FX_OK) break;
+                did = true;
             }
         }
         return FX_OK;
     }
-
-public:
-    using actor<Job>::actor;
-
-    // Runs the next job once, by `run`, which is called with the job and a cx: FX_OK, FX_PARKED, FX_DONE, FX_BACK, FX_IDLE, FX_JOURNAL_FULL or
-    // FX_SPENT.
-    template <class Run> fx_code run_turn(Run &&run) {
-        times of;
-        return run_turn(run, of);
-    }
-
-    // Delivers an order of each actor. If the core is closed it shuts the gates: its own once no job is inside, since jobs may have to be woken.
-    fx_code deliver(bool &did) { return deliver(did, 1); }
 
     // One round: it delivers what the links show, runs jobs for 5 us or as long as one run takes, and collects: FX_OK if anything happened, else FX_IDLE,
     // or FX_JOURNAL_FULL or FX_SPENT. If a round has several runs, each is measured from the end of the one before, so the time between them counts too.
