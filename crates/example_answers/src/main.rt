@@ -69,16 +69,18 @@ fn parts(alloc: Global) -> Result<(Squares, Reply<Squares>, Asked<Squares>), All
     Ok((squares, reply, asked))
 }
 
-/// Has a job of core 0 ask core 1 for squares.
+/// Has a job of core 1 list squares, and then one of core 0 read them.
 fn ask<R: Wait + Print + Drop>(rt: &R, node: &mut Node<R>, alloc: Global) -> Option<()> {
     let (squares, reply, asked) = parts(alloc).ok()?;
-    let job = Work::Ask {
+    let list = Work::List {
         count: COUNT,
         squares,
         reply,
-        asked,
     };
-    let ticket = node.submit(CoreNo(0), Order::Job(LISTS, job)).ok()?;
+    let listed = node.submit(CoreNo(1), Order::Job(QueueNo(0), list)).ok()?;
+    let number = answer(rt, node, listed)?;
+    let read = Work::Read { number, asked };
+    let ticket = node.submit(CoreNo(0), Order::Job(LISTS, read)).ok()?;
     let last = answer(rt, node, ticket)?;
     println!(rt; "core 0 read the squares of core 1: the last is {last}").ok()
 }

@@ -1,13 +1,10 @@
-//! The kinds of work of this program. One answers squares, from one core to another.
+//! The kinds of work of this program. One answers squares, and another reads them on another core.
 
 ghost use Rattle.std.specs.Prelude.{◌≡◌};
 
 use crate::squares::Squares;
 use rt_answers::{Asked, Reply};
-use rt_ids::{CoreNo, Order, Outcome, QueueNo, Ticket};
-use rt_jobs::{
-    Asks, Job, Post, Redeemed, Step, Task, poll_asking, redeem_if_there, submit_and_keep,
-};
+use rt_jobs::{Asks, Job, Post, Step, Task, poll_asking};
 use std::mem;
 use std::snapshot::Snapshot;
 
@@ -20,16 +17,9 @@ pub enum Work {
         squares: Squares,
         reply: Reply<Squares>,
     },
-    /// Has core 1 list so many squares. It waits for them, and answers the last one.
-    Ask {
-        count: u64,
-        squares: Squares,
-        reply: Reply<Squares>,
-        asked: Asked<Squares>,
-    },
-    /// Waits for the squares of another core.
-    Wait {
-        ticket: Ticket,
+    /// Reads the squares that a job of another core answered by this number, and answers the last one.
+    Read {
+        number: u64,
         asked: Asked<Squares>,
     },
     /// Lists so many squares and holds them. It is parked until its queue closes in mode `Return`, and comes back with them.
@@ -70,7 +60,7 @@ impl Job for Work {
 
 // A poll takes the job apart. It is over, unless the poll puts it together again.
 impl Asks for Work {
-    fn ask<P: Post<Self, u64>>(&mut self, begun: &Snapshot<P>, post: &mut P) -> Step<u64> {
+    fn ask<P: Post<Self, u64>>(&mut self, _begun: &Snapshot<P>, _post: &mut P) -> Step<u64> {
         match mem::replace(self, Work::Ended) {
             Work::List {
                 count,
@@ -87,35 +77,7 @@ impl Asks for Work {
                 };
                 Step::Yield
             }
-            Work::Ask {
-                count,
-                squares,
-                reply,
-                asked,
-            } => {
-                let job = Work::List {
-                    count,
-                    squares,
-                    reply,
-                };
-                match submit_and_keep(begun, post, CoreNo(1), Order::Job(QueueNo(0), job)) {
-                    Ok(ticket) => {
-                        *self = Work::Wait { ticket, asked };
-                        Step::Yield
-                    }
-                    Err(_) => Step::Done(0),
-                }
-            }
-            Work::Wait { ticket, asked } => match redeem_if_there(begun, post, ticket) {
-                Redeemed::NotYet => {
-                    *self = Work::Wait { ticket, asked };
-                    Step::Yield
-                }
-                Redeemed::There(Outcome::Finished(number)) => {
-                    Step::Done(last_of(asked.answer(number)))
-                }
-                _ => Step::Done(0),
-            },
+            Work::Read { number, asked } => Step::Done(last_of(asked.answer(number))),
             Work::Hold { count, mut squares } => {
                 let added = squares.add_next(count);
                 *self = Work::Hold { count, squares };
