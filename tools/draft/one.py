@@ -5,7 +5,7 @@ hold: with --only, a lower function counts by its contract. At most so many chec
 import fcntl, os, subprocess, sys, time
 sys.path.insert(0, os.path.dirname(os.path.realpath(__file__)))
 from common import rt, rtlib, crates_in
-SLOTS = int(os.environ.get("SLOTS", "5"))
+SLOTS = int(os.environ.get("SLOTS", "10" if "/work/h/worker" in sys.argv[1] or "/work/h/runtime" in sys.argv[1] else "4"))
 clone, name, *flags = sys.argv[1:]
 clone = os.path.realpath(clone)
 crate = next((it for it in crates_in(clone) if it.name == name), None) or sys.exit(f"no crate {name}")
