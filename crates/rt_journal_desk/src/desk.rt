@@ -156,6 +156,7 @@ impl<J: Task<Out = u64>> RecordedDesk<J> {
     /// # Errors
     ///
     /// Those of the link: `Closed`, `Full` and `Spent`, tried in this order. The order comes back, and nothing is noted.
+    #[inline(always)]
     pub fn submit<O: OutEnd<J>>(
         &mut self,
         end: &mut O,
@@ -207,6 +208,7 @@ impl<J: Task<Out = u64>> RecordedDesk<J> {
     }
 
     /// Collects the next outcome that the link of a core shows, if there is one, and notes it. Whether there was one.
+    #[inline(always)]
     fn collect_one<O: OutEnd<J>>(&mut self, end: &mut O, core: CoreNo) -> bool
         requires beside { IsOutOf core self.old (O.out end.old) (O.credited end.old) }
         requires lane { HasLane (Fits J.meaning) core self.old (O.out end.old) (O.credited end.old) }
@@ -242,6 +244,7 @@ impl<J: Task<Out = u64>> RecordedDesk<J> {
     ///
     /// `Unknown` where nothing was accepted under the name; `Gone` where it was redeemed or detached before; `Pending` where its outcome
     /// isn't collected yet. Nothing changes.
+    #[inline(always)]
     pub fn redeem<O: OutEnd<J>>(
         &mut self,
         end: &mut O,
@@ -319,6 +322,7 @@ impl<J: Task<Out = u64>> RecordedDesk<J> {
     }
 
     /// Adds these notes one after another, so that the last of them is the newest. None of them is of a submission.
+    #[inline(always)]
     pub fn write(&mut self, notes: &[Note<u64>])
         requires room { length self.old.journal.notes + length notes.now ≤ self.old.journal.room }
         requires written { IsWritten (terms_of_desk self.old) (reverse notes.now ++ self.old.journal.notes) }

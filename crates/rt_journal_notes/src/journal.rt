@@ -62,6 +62,7 @@ impl<T: Copy> Journal<T> {
     }
 
     /// Adds the newest note.
+    #[inline(always)]
     pub fn push(&mut self, note: Note<T>)
         requires free { length self.old.notes < self.old.room }
         ensures notes { self.new ≡ record self.old { notes = note ∷ self.old.notes } }
@@ -95,6 +96,7 @@ impl<T: Copy> Journal<T> {
     }
 
     /// Adds these notes one after another, so that the last of them is the newest.
+    #[inline(always)]
     pub fn push_all(&mut self, notes: &[Note<T>])
         requires free { length self.old.notes + length notes.now ≤ self.old.room }
         ensures notes { self.new ≡ record self.old { notes = reverse notes.now ++ self.old.notes } }

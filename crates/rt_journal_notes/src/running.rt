@@ -61,6 +61,7 @@ impl<T: Copy> RunningJournal<T> {
     }
 
     /// Adds the newest note.
+    #[inline(always)]
     pub fn push(&mut self, note: Note<T>)
         requires free { length self.old.notes < self.old.room }
         ensures notes { self.new ≡ record self.old { notes = note ∷ self.old.notes } }
@@ -70,6 +71,7 @@ impl<T: Copy> RunningJournal<T> {
     }
 
     /// Adds these notes one after another, so that the last of them is the newest.
+    #[inline(always)]
     pub fn push_all(&mut self, notes: &[Note<T>])
         requires free { length self.old.notes + length notes.now ≤ self.old.room }
         ensures notes { self.new ≡ record self.old { notes = reverse notes.now ++ self.old.notes } }

@@ -18,6 +18,7 @@ use rt_ids::{Order, Outcome};
 use rt_jobs::Task;
 
 /// The number of the last order that this end sees. If all that it saw before is taken, it looks, unless the gate is shut: then no other comes.
+#[inline(always)]
 pub(crate) fn seen_orders<J: Task>(
     board: &Board<J>,
     seat: &mut Place<J>,
@@ -45,6 +46,7 @@ pub(crate) fn seen_orders<J: Task>(
 }
 
 /// The next order of those that this end saw. `lone` where no other order waits.
+#[inline(always)]
 pub(crate) fn lift_order<J: Task>(
     board: &Board<J>,
     seat: &mut Place<J>,
@@ -85,6 +87,7 @@ pub(crate) fn close<J: Task>(board: &Board<J>, seat: &mut Place<J>) -> u64
 }
 
 /// Gives the outcome of the order of this number. `given` is the return word from then on.
+#[inline(always)]
 pub(crate) fn give<J: Task>(
     board: &Board<J>,
     seat: &mut Place<J>,

@@ -83,6 +83,7 @@ impl<J: Task> InEnd<J> for RingIn<J> {
 
     ghost inward = { λ s. s.inward };
 
+    #[inline(always)]
     fn take(&mut self) -> Option<Envelope<J>> {
         let before = self.seen;
         let taken = self.base + self.taken;
@@ -106,6 +107,7 @@ impl<J: Task> InEnd<J> for RingIn<J> {
         })
     }
 
+    #[inline(always)]
     fn give(&mut self, number: u64, outcome: Outcome<J, J::Out>)
         requires { MayGive (Fits J.meaning) self.old.inward number outcome }
         ensures link { self.new.link ≡ self.old.link }

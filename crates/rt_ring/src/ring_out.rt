@@ -83,6 +83,7 @@ impl<J: Task> OutEnd<J> for RingOut<J> {
 
     ghost credited = { λ s. s.credited };
 
+    #[inline(always)]
     fn send(&mut self, order: Order<J>) -> Result<u64, SendError<J>>
         requires ready { HasReadyJob J.meaning order }
         ensures link { self.new.link ≡ self.old.link }
@@ -111,6 +112,7 @@ impl<J: Task> OutEnd<J> for RingOut<J> {
         }
     }
 
+    #[inline(always)]
     fn collect(&mut self) -> Option<(u64, Outcome<J, J::Out>)> {
         let before = self.seen;
         let got = self.base + self.collected;

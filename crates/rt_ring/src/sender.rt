@@ -16,6 +16,7 @@ use rt_ids::{Order, Outcome};
 use rt_jobs::Task;
 
 /// One try to have an order accepted under the number after `last`. The order comes back where the gate is shut.
+#[inline(always)]
 pub(crate) fn offer<J: Task>(
     board: &Board<J>,
     seat: &mut Place<J>,
@@ -61,6 +62,7 @@ pub(crate) fn is_open<J: Task>(board: &Board<J>, seat: &mut Place<J>, last: u64)
 }
 
 /// The return word as this end saw it last. It looks if all that it saw before is got.
+#[inline(always)]
 pub(crate) fn seen_outcomes<J: Task>(
     board: &Board<J>,
     seat: &mut Place<J>,
@@ -88,6 +90,7 @@ pub(crate) fn seen_outcomes<J: Task>(
 }
 
 /// The next outcome of those that this end saw, with its order's number. `lone` where no other outcome waits.
+#[inline(always)]
 pub(crate) fn lift_outcome<J: Task>(
     board: &Board<J>,
     seat: &mut Place<J>,

@@ -14,6 +14,7 @@ use std::marker::Model;
 const APART: usize = 8;
 
 /// Who has something from this note: the receiver of an order that was sent, or the sender of a job or command that has its outcome.
+#[inline(always)]
 fn told(note: &Note<u64>) -> Option<u8>
     ensures { result ≡ told_by note.now }
 {
@@ -109,6 +110,7 @@ impl Bells {
     }
 
     /// Rings the bell of each actor that has something from these notes.
+    #[inline(always)]
     pub(crate) fn ring_for(&mut self, notes: &[Note<u64>])
         ensures { self.new ≡ record self.old { rings = rung_for notes.now self.old.rings } }
     {

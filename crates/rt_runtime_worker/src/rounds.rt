@@ -46,6 +46,7 @@ fn is_quiet(worked: bool, came: bool) -> bool
 }
 
 /// Wakes the workers that have something from the notes behind the first `count` that are kept.
+#[inline(always)]
 fn ring_since(bells: &mut Bells, journal: &RunningJournal<u64>, count: usize)
     requires { length journal.now.passed + count ≤ length journal.now.notes }
     ensures { bells.new ≡ record bells.old { rings = rung_for (drop (length journal.now.passed + count) (reverse journal.now.notes)) bells.old.rings } }

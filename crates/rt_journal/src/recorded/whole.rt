@@ -32,6 +32,7 @@ use std::alloc::{Allocator, Global};
 use std::mem;
 
 /// The notes of the pick of this job.
+#[inline(always)]
 fn picked_notes(next: &Next) -> [Note<u64>; 2]
     ensures { result ≡ pick_notes next.now.queue next.now.vr next.now.name next.now.started }
 {
@@ -54,6 +55,7 @@ fn followed_notes(next: &Next) -> [Note<u64>; 1]
 }
 
 /// The note of a settled poll. A job that asks to be parked stays if a wake of it is kept.
+#[inline(always)]
 fn settled_notes(name: &JobId, time: u64, step: &Step<u64>, woken: bool) -> [Note<u64>; 1]
     ensures { result ≡ settle_notes name.now time step.now woken }
 {
@@ -71,6 +73,7 @@ fn settled_notes(name: &JobId, time: u64, step: &Step<u64>, woken: bool) -> [Not
 }
 
 /// What a poll of this step settles to.
+#[inline(always)]
 fn settled(step: &Step<u64>, woken: bool) -> Settled<u64>
     ensures { result ≡ settled_of step.now woken }
 {
@@ -88,6 +91,7 @@ fn settled(step: &Step<u64>, woken: bool) -> Settled<u64>
 }
 
 /// Notes the settling of the poll of this job. What the poll came to.
+#[inline(always)]
 fn note_settled<J: Task<Out = u64>>(
     said: &mut RecordedDesk<J>,
     next: &Next,
@@ -107,6 +111,7 @@ fn note_settled<J: Task<Out = u64>>(
 
 /// The desk and its ends, lent as a post beside what the jobs share. What stays in their places owns no memory, and nothing is dropped
 /// when they come back.
+#[inline(always)]
 fn lend_out<'a, J: Job<Out = u64>, O: OutEnd<J> + Drop>(
     alloc: Global,
     said: &mut RecordedDesk<J>,
@@ -123,6 +128,7 @@ fn lend_out<'a, J: Job<Out = u64>, O: OutEnd<J> + Drop>(
 }
 
 /// Puts the desk and its ends back.
+#[inline(always)]
 fn put_back<J: Job<Out = u64>, O: OutEnd<J> + Drop>(
     said: &mut RecordedDesk<J>,
     ends: &mut Vec<O, Global>,
@@ -141,6 +147,7 @@ fn put_back<J: Job<Out = u64>, O: OutEnd<J> + Drop>(
 
 /// Polls the job that is told ahead where it stands, and settles its poll. The desk and the ends are lent to it for that long. The
 /// answer: what the poll came to, and the time that counts.
+#[inline(always)]
 fn turn_lent<J: Job<Out = u64>, A: Allocator + Clone, O: OutEnd<J> + Drop, M: Meter>(
     alloc: Global,
     core: &mut Core<J, A>,
@@ -198,6 +205,7 @@ impl<J: Task<Out = u64>, A: Allocator + Clone> Recorded<J, A> {
     /// # Errors
     ///
     /// Those of `pick`.
+    #[inline(always)]
     pub fn ahead(&self) -> Result<Ahead, PickError>
         ensures { TellsAhead self.now.core result }
     {
@@ -219,6 +227,7 @@ impl<J: Job<Out = u64>, A: Allocator + Clone> Recorded<J, A> {
     /// stays open: `further_posting` makes the next poll, and `end_turn` ends the turn. The job's pick is noted, it is polled once and lent the desk and
     /// its ends for that long, what it posts is noted, and its settling. If the job told no time of its own, that of the meter counts,
     /// which is started right before the poll and asked right after it. The outcome of a job that is done is owed: `give_done` gives it.
+    #[inline(always)]
     pub fn turn_posting<O: OutEnd<J> + Drop, M: Meter>(
         &mut self,
         alloc: Global,
@@ -249,6 +258,7 @@ impl<J: Job<Out = u64>, A: Allocator + Clone> Recorded<J, A> {
     }
 
     /// Notes the pick, makes the turn, and notes its settling.
+    #[inline(always)]
     fn turn_noted<O: OutEnd<J> + Drop, M: Meter>(
         &mut self,
         alloc: Global,
@@ -341,6 +351,7 @@ impl<J: Job<Out = u64>, A: Allocator + Clone> Recorded<J, A> {
     }
 
     /// Gives the outcome of a turn on the end of the job's sender, if the job is done.
+    #[inline(always)]
     pub fn give_done<I: InEnd<J>>(&self, end: &mut I, name: JobId, settled: &Settled<u64>)
         requires owed { IsInOwing name.from (told_under name (option_map outcome_note (outcome_settled {J = J} settled.now)) name.from) self.now (I.inward end.old) }
         requires may_answer { MayAnswer J.meaning self.now.took name settled.now }
