@@ -50,6 +50,18 @@ impl<T, A: Allocator> SealedVec<T, A> {
     }
 }
 
+impl<T, A: Allocator + Copy> SealedVec<T, A> {
+    /// One more, with no value and no room. It takes no memory and lends no allocator.
+    pub fn emptied(&self) -> Self
+        ensures items { result.items ≡ [] }
+        ensures capacity { result.cap ≡ 0 }
+    {
+        SealedVec {
+            values: Vec::new(*self.values.allocator()),
+        }
+    }
+}
+
 impl<T, A: Allocator> Index<usize> for SealedVec<T, A> {
     type Output = T;
 

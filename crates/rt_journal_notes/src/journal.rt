@@ -50,6 +50,13 @@ impl<T: Copy> Journal<T> {
         Journal { notes, room }
     }
 
+    /// One more, of no note, which has room for none. It takes no memory.
+    pub fn emptied(&self) -> Self
+        ensures { result ≡ record { notes = []; passed = []; room = 0 } }
+    {
+        Journal::of(Vec::new(*self.notes.allocator()))
+    }
+
     /// Writes to the memory of all notes that there may be, so that none of them is the first to touch its page. No note is added.
     pub fn prefault(&mut self)
         ensures { self.new ≡ self.old }

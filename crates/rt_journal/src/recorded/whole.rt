@@ -108,7 +108,6 @@ fn note_settled<J: Task<Out = u64>>(
 /// The desk and its ends, lent as a post beside what the jobs share. What stays in their places owns no memory, and nothing is dropped
 /// when they come back.
 fn lend_out<'a, J: Job<Out = u64>, O: OutEnd<J> + Drop>(
-    alloc: Global,
     said: &mut RecordedDesk<J>,
     ends: &mut Vec<O, Global>,
     local: &'a mut J::Local,
@@ -117,8 +116,10 @@ fn lend_out<'a, J: Job<Out = u64>, O: OutEnd<J> + Drop>(
     requires spare { length said.old.journal.notes + sum_by left_of said.old.lanes < said.old.journal.room }
     ensures { result ≡ lends said.old ends.old.items }
 {
-    let desk = mem::replace(said, RecordedDesk::nothing(alloc));
-    let lent = mem::replace(ends, Vec::new(alloc));
+    let nothing = said.emptied();
+    let desk = mem::replace(said, nothing);
+    let none = Vec::new(*ends.allocator());
+    let lent = mem::replace(ends, none);
     RecordedPost::lend_further(desk, lent, local)
 }
 
@@ -142,7 +143,6 @@ fn put_back<J: Job<Out = u64>, O: OutEnd<J> + Drop>(
 /// Polls the job that is told ahead where it stands, and settles its poll. The desk and the ends are lent to it for that long. The
 /// answer: what the poll came to, and the time that counts.
 fn turn_lent<J: Job<Out = u64>, A: Allocator + Clone, O: OutEnd<J> + Drop, M: Meter>(
-    alloc: Global,
     core: &mut Core<J, A>,
     said: &mut RecordedDesk<J>,
     ends: &mut Vec<O, Global>,
@@ -160,7 +160,7 @@ fn turn_lent<J: Job<Out = u64>, A: Allocator + Clone, O: OutEnd<J> + Drop, M: Me
     ensures room { length said.new.journal.notes < said.new.journal.room }
     ensures written { IsWritten (terms_of_desk said.new) said.new.journal.notes }
 {
-    let mut post = lend_out(alloc, said, ends, local);
+    let mut post = lend_out(said, ends, local);
     let (step, time) = core.turn_metered(next, &mut post, meter);
     put_back(said, ends, post);
     (step, time)
@@ -168,7 +168,6 @@ fn turn_lent<J: Job<Out = u64>, A: Allocator + Clone, O: OutEnd<J> + Drop, M: Me
 
 /// The same for a further poll, of the job that is told ahead in the open turn.
 fn further_lent<J: Job<Out = u64>, A: Allocator + Clone, O: OutEnd<J> + Drop, M: Meter>(
-    alloc: Global,
     core: &mut Core<J, A>,
     said: &mut RecordedDesk<J>,
     ends: &mut Vec<O, Global>,
@@ -186,7 +185,7 @@ fn further_lent<J: Job<Out = u64>, A: Allocator + Clone, O: OutEnd<J> + Drop, M:
     ensures room { length said.new.journal.notes < said.new.journal.room }
     ensures written { IsWritten (terms_of_desk said.new) said.new.journal.notes }
 {
-    let mut post = lend_out(alloc, said, ends, local);
+    let mut post = lend_out(said, ends, local);
     let (step, time) = core.turn_further_metered(next, &mut post, meter);
     put_back(said, ends, post);
     (step, time)
@@ -221,7 +220,6 @@ impl<J: Job<Out = u64>, A: Allocator + Clone> Recorded<J, A> {
     /// which is started right before the poll and asked right after it. The outcome of a job that is done is owed: `give_done` gives it.
     pub fn turn_posting<O: OutEnd<J> + Drop, M: Meter>(
         &mut self,
-        alloc: Global,
         ends: &mut Vec<O, Global>,
         local: &mut J::Local,
         next: &Next,
@@ -245,13 +243,12 @@ impl<J: Job<Out = u64>, A: Allocator + Clone> Recorded<J, A> {
         ensures seat { IsSameSeat self.old self.new }
         ensures sound { IsRecorded J.meaning self.new }
     {
-        self.turn_noted(alloc, ends, local, next, meter)
+        self.turn_noted(ends, local, next, meter)
     }
 
     /// Notes the pick, makes the turn, and notes its settling.
     fn turn_noted<O: OutEnd<J> + Drop, M: Meter>(
         &mut self,
-        alloc: Global,
         ends: &mut Vec<O, Global>,
         local: &mut J::Local,
         next: &Next,
@@ -266,15 +263,7 @@ impl<J: Job<Out = u64>, A: Allocator + Clone> Recorded<J, A> {
         self.said.see_lanes();
         let picked = picked_notes(next);
         self.said.write(&picked);
-        let (step, time) = turn_lent(
-            alloc,
-            &mut self.core,
-            &mut self.said,
-            ends,
-            local,
-            next,
-            meter,
-        );
+        let (step, time) = turn_lent(&mut self.core, &mut self.said, ends, local, next, meter);
         note_settled(&mut self.said, next, &step, time)
     }
 
@@ -283,7 +272,6 @@ impl<J: Job<Out = u64>, A: Allocator + Clone> Recorded<J, A> {
     /// before the next outcome is collected, and for two more.
     pub fn further_posting<O: OutEnd<J> + Drop, M: Meter>(
         &mut self,
-        alloc: Global,
         ends: &mut Vec<O, Global>,
         local: &mut J::Local,
         next: &Next,
@@ -307,13 +295,12 @@ impl<J: Job<Out = u64>, A: Allocator + Clone> Recorded<J, A> {
         ensures seat { IsSameSeat self.old self.new }
         ensures sound { IsRecorded J.meaning self.new }
     {
-        self.further_noted(alloc, ends, local, next, meter)
+        self.further_noted(ends, local, next, meter)
     }
 
     /// Notes the beginning, makes the poll, and notes its settling.
     fn further_noted<O: OutEnd<J> + Drop, M: Meter>(
         &mut self,
-        alloc: Global,
         ends: &mut Vec<O, Global>,
         local: &mut J::Local,
         next: &Next,
@@ -328,15 +315,7 @@ impl<J: Job<Out = u64>, A: Allocator + Clone> Recorded<J, A> {
         self.said.see_lanes();
         let begun = followed_notes(next);
         self.said.write(&begun);
-        let (step, time) = further_lent(
-            alloc,
-            &mut self.core,
-            &mut self.said,
-            ends,
-            local,
-            next,
-            meter,
-        );
+        let (step, time) = further_lent(&mut self.core, &mut self.said, ends, local, next, meter);
         note_settled(&mut self.said, next, &step, time)
     }
 
