@@ -52,7 +52,7 @@ impl Squares {
 
     /// The squares. Their sum is the number of the answer.
     pub fn into_rows(self) -> Vec<u64>
-        ensures { sum result.items ≡ Squares.number self }
+        ensures { sum result.items ≡ self.total }
     {
         self.rows
     }

@@ -1,2 +1,5 @@
+pub mod Answers
+pub mod BadEnds
+pub mod Ends
 pub mod Refusals
 pub mod Shows

@@ -5,9 +5,15 @@
 mod refusal;
 mod words;
 
-ghost use Rattle.std.specs.Prelude.{◌≡◌, ◌≢◌, Err};
+ghost use Rattle.std.specs.Prelude.{◌≡◌, ◌≢◌, Err, map, option_map, string_bytes};
 ghost use Rattle.std.specs.declared.io.ErrorKind.TheVariants as kinds;
-ghost use Rattle.fair_args.specs.declared.unasked.Unasked.TheVariants as unasked;
+ghost use Rattle.clap.specs.Words.{fault_of};
+ghost use Rattle.fair_args.specs.Asks.{asks_of};
+ghost use Rattle.fairview.specs.Answers.{IsUnopened, OpensFile, ShowsOf};
+ghost use Rattle.fairview.specs.Ends.{EndsBy, EndsFor, status_unasked};
+ghost use Rattle.fairview.specs.Shows.{view_asked};
+ghost use Rattle.fairview_args.specs.Asks.{what_named, what_told};
+ghost use Rattle.fairview_args.specs.CommandLine.{our_app};
 ghost use Rattle.fairview_report.specs.Faults.{status_of};
 ghost use Rattle.fairview_report.specs.declared.fault.ViewFault.TheVariants as faults;
 ghost use Rattle.rt_text.specs.declared.status.Status.TheVariants as status;
@@ -18,6 +24,8 @@ use fair_args::Unasked;
 use fairview_args::{What, parse};
 use fairview_report::fault::status_of;
 use fairview_report::{View, ViewFault, view_text};
+use rt_lines::Source;
+use rt_sink::Sink;
 use rt_text::Status;
 use std::io::ErrorKind;
 use std::process::ExitCode;
@@ -32,6 +40,7 @@ fn main(rt: HostRuntime) -> ExitCode {
 fn program<R>(rt: &R) -> Status
 where
     R: Files + Input + Print + Eprint + Env + AllocGlobal,
+    ensures never { result ≢ status.FaultFound }
 {
     let args = match env::args(rt) {
         Ok(args) => args,
@@ -40,30 +49,53 @@ where
     let Ok(words) = args.collect::<Vec<String>>(rt.alloc()) else {
         return ended(rt, Err(ViewFault::Memory));
     };
-    match parse(rt, rt.alloc(), words.as_slice()) {
-        Ok(asked) => done(rt, asked.what, asked.file),
+    by_words(rt, words.as_slice(), &mut rt.reader(), &mut io::writer(rt))
+}
+
+/// Does what these words ask for, the first of which is the program's name. Without a file the input is read, and what is shown is written to
+/// the output.
+fn by_words<R, I: Source, S: Sink>(
+    rt: &R,
+    words: &[String],
+    input: &mut I,
+    output: &mut S,
+) -> Status
+where
+    R: Files + Print + Eprint + AllocGlobal,
+    ensures ends { EndsBy
+        (ShowsOf I.remaining I.tries I.reads I.interrupts I.fails R.File.remaining S.contents S.tries S.interrupts S.fails input.old input.new output.old output.new)
+        ((input.new ≡ input.old) × (output.new ≡ output.old))
+        (fault_of our_app (map string_bytes words.now)) (asks_of what_named our_app (map string_bytes words.now)) result }
+    ensures never { result ≢ status.FaultFound }
+{
+    match parse(rt, rt.alloc(), words) {
+        Ok(asked) => done(rt, asked.what, asked.file, input, output),
         Err(why) => not_done(rt, why),
     }
 }
 
 /// Does what the command line asks for.
-fn done<R: Files + Input + Print + Eprint + AllocGlobal>(
+fn done<R: Files + Eprint + AllocGlobal, I: Source, S: Sink>(
     rt: &R,
     what: What<'_>,
     file: Option<&str>,
-) -> Status {
+    input: &mut I,
+    output: &mut S,
+) -> Status
+    ensures ends { EndsFor
+        (ShowsOf I.remaining I.tries I.reads I.interrupts I.fails R.File.remaining S.contents S.tries S.interrupts S.fails input.old input.new output.old output.new (option_map (λ path. path.now) file.entry))
+        ((input.new ≡ input.old) × (output.new ≡ output.old)) (view_asked (what_told what.entry)) result }
+    ensures never { result ≢ status.FaultFound }
+{
     match view_of(what) {
-        Ok(view) => ended(rt, show(rt, view, file)),
+        Ok(view) => ended(rt, show(rt, view, file, input, output)),
         Err(refusal) => word_refused(rt, refusal),
     }
 }
 
 /// How a command line ends that asks for nothing.
 fn not_done<R: Eprint>(rt: &R, why: Unasked) -> Status
-    ensures told { why ≡ unasked.Told → result ≡ status.Done }
-    ensures mistake { why ≡ unasked.Mistake → result ≡ status.Refused }
-    ensures write { why ≡ unasked.Write → result ≡ status_of (Err faults.Write) }
-    ensures memory { why ≡ unasked.Memory → result ≡ status_of (Err faults.Memory) }
+    ensures { result ≡ status_unasked why }
 {
     match why {
         Unasked::Told => Status::Done,
@@ -73,20 +105,35 @@ fn not_done<R: Eprint>(rt: &R, why: Unasked) -> Status
     }
 }
 
-/// Shows what is asked for of the journal text of the file, or of standard input.
-fn show<R: Files + Input + Print + AllocGlobal>(
+/// Shows what is asked for of the journal text of the file, or of the input.
+fn show<R: Files + AllocGlobal, I: Source, S: Sink>(
     rt: &R,
     view: View,
     file: Option<&str>,
-) -> Result<(), ViewFault> {
-    let alloc = rt.alloc();
-    let mut sink = io::writer(rt);
+    input: &mut I,
+    output: &mut S,
+) -> Result<(), ViewFault>
+    ensures { ShowsOf I.remaining I.tries I.reads I.interrupts I.fails R.File.remaining S.contents S.tries S.interrupts S.fails
+        input.old input.new output.old output.new (option_map (λ path. path.now) file.entry) view result }
+{
     match file {
-        None => view_text(alloc, view, &mut rt.reader(), &mut sink),
-        Some(path) => match fs::open(rt, path) {
-            Ok(mut source) => view_text(alloc, view, &mut source, &mut sink),
-            Err(error) => Err(unopened(error.kind())),
-        },
+        None => view_text(rt.alloc(), view, input, output),
+        Some(path) => show_file(rt, view, path, output),
+    }
+}
+
+/// Shows what is asked for of the journal text of the file of this path.
+fn show_file<R: Files + AllocGlobal, S: Sink>(
+    rt: &R,
+    view: View,
+    path: &str,
+    output: &mut S,
+) -> Result<(), ViewFault>
+    ensures { OpensFile R.File.remaining S.contents S.tries S.interrupts S.fails view output.old output.new result }
+{
+    match fs::open(rt, path) {
+        Ok(mut source) => view_text(rt.alloc(), view, &mut source, output),
+        Err(error) => Err(unopened(error.kind())),
     }
 }
 
@@ -94,6 +141,7 @@ fn show<R: Files + Input + Print + AllocGlobal>(
 fn unopened(kind: ErrorKind) -> ViewFault
     ensures memory { kind ≡ kinds.OutOfMemory → result ≡ faults.Memory }
     ensures other { kind ≢ kinds.OutOfMemory → result ≡ faults.Read }
+    ensures either { IsUnopened (Err result) }
 {
     match kind {
         ErrorKind::OutOfMemory => ViewFault::Memory,
@@ -123,6 +171,7 @@ fn word_refused<R: Eprint>(rt: &R, refusal: Refusal) -> Status
 fn words_refused<R: Eprint>(rt: &R, kind: ErrorKind) -> Status
     ensures memory { kind ≡ kinds.OutOfMemory → result ≡ status.Memory }
     ensures other { kind ≢ kinds.OutOfMemory → result ≡ status.Refused }
+    ensures never { result ≢ status.FaultFound }
 {
     if kind == ErrorKind::OutOfMemory {
         return ended(rt, Err(ViewFault::Memory));

@@ -1,5 +1,5 @@
 -- A core that was just opened, over fresh ends.
-use Rattle.std.proofs.Common.{◌≡◌, ℕ, sym, ap, subst, arith}
+use Rattle.std.proofs.Common.{◌≡◌, ℕ, sym, ◌∙◌, ap, subst, arith}
 use Rattle.std.specs.Prelude.{None, []}
 use Rattle.rt_journal.specs.Recorded.{RecordedView, IsRecorded}
 use Rattle.rt_journal.specs.Steps.{opened_beside}
@@ -10,28 +10,42 @@ use Rattle.rt_hosted.specs.declared.job.HostJob.{HostJob}
 use Rattle.rt_hosted.specs.Hosted.{HasRoom, IsHosted, IsRunOf}
 use Rattle.rt_hosted.specs.Jobs.{host_meaning}
 
-module _ (core cores cap burst room : ℕ) (recorded : RecordedView HostJob ℕ) (ends : EndsView HostJob ℕ) (is : recorded ≡ opened_beside core cores cap room burst) (sound : IsRecorded host_meaning recorded)
-    (are : AreEndsOf cores cap ends) (number : ends.number ≡ core) where
+abbrev View : Type 0
+View = RecordedView HostJob ℕ
+
+-- the core as it was opened, beside its ends
+pub record Begins (core cores cap burst room : ℕ) (recorded : View) (ends : EndsView HostJob ℕ) : Type 0 where
+  pub is : recorded ≡ opened_beside core cores cap room burst
+  pub sound : IsRecorded host_meaning recorded
+  pub are : AreEndsOf cores cap ends
+  pub number : ends.number ≡ core
+
+-- the same core, whose memory was written to since
+pub begins_again : {core cores cap burst room : ℕ} {recorded now : View} {ends : EndsView HostJob ℕ} → recorded ≡ opened_beside core cores cap room burst → IsRecorded host_meaning recorded → AreEndsOf cores cap ends → ends.number ≡ core → now ≡ recorded →
+    Begins core cores cap burst room now ends
+begins_again is sound are number same = record { is = same ∙ is; sound = subst (IsRecorded host_meaning) (sym same) sound; are = are; number = number }
+
+module _ {core cores cap burst room : ℕ} {recorded : View} {ends : EndsView HostJob ℕ} (begins : Begins core cores cap burst room recorded ends) where
   created : CreatesSince host_meaning 0 (opened_beside core cores cap room burst) recorded
   created =
-      subst (CreatesSince host_meaning 0 (opened_beside core cores cap room burst)) (sym is)
-      (created_none (opened_beside core cores cap room burst) 0 tt (subst (IsRecorded host_meaning) is sound))
+      subst (CreatesSince host_meaning 0 (opened_beside core cores cap room burst)) (sym begins.is)
+      (created_none (opened_beside core cores cap room burst) 0 tt (subst (IsRecorded host_meaning) begins.is begins.sound))
 
   pub begun_hosted : IsHosted (record { recorded = recorded; ends = ends })
   begun_hosted = record {
-    recorded = sound;
-    beside = (opened_linked core cores cap burst room 0 recorded ends created are number).beside;
-    room = subst (HasRoom 0) (sym is) (omega arith);
+    recorded = begins.sound;
+    beside = (opened_linked core cores cap burst room 0 recorded ends created begins.are begins.number).beside;
+    room = subst (HasRoom 0) (sym begins.is) (omega arith);
   }
 
   pub begun_runs : IsRunOf recorded.core.out None
-  begun_runs = subst (λ (view : RecordedView HostJob ℕ). IsRunOf view.core.out None) (sym is) tt
+  begun_runs = subst (λ (view : View). IsRunOf view.core.out None) (sym begins.is) tt
 
   pub begun_cores : cores ≡ recorded.core.cores
-  begun_cores = ap (λ (view : RecordedView HostJob ℕ). view.core.cores) (sym is)
+  begun_cores = ap (λ (view : View). view.core.cores) (sym begins.is)
 
   pub begun_passed : [] ≡ recorded.journal.passed
-  begun_passed = ap (λ (view : RecordedView HostJob ℕ). view.journal.passed) (sym is)
+  begun_passed = ap (λ (view : View). view.journal.passed) (sym begins.is)
 
   pub begun_over : IsOpenedOver cores cap burst room ends (record { recorded = recorded; ends = ends })
-  begun_over = opened_over core cores cap burst room 0 recorded ends created are number
+  begun_over = opened_over core cores cap burst room 0 recorded ends created begins.are begins.number

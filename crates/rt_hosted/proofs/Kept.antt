@@ -57,15 +57,28 @@ pub rest_run : (old new : View) → new ≡ record old { journal = new.journal; 
 rest_run old new rest = same_run old.core.out new.core.out (ap (λ (view : View). view.core.out) rest)
 
 -- behind a call that took no more notes than there was room for, there is room for the settling
-pub room_after : (count : ℕ) (old new : View) → HasRoom count old → length new.journal.notes ≤ length old.journal.notes + count → KeepsRun old.core.out new.core.out → IsSameSeat old new → HasRoom 0 new
+room_after : (count : ℕ) (old new : View) → HasRoom count old → length new.journal.notes ≤ length old.journal.notes + count → KeepsRun old.core.out new.core.out → IsSameSeat old new → HasRoom 0 new
 room_after count old new room few keeps seat =
     let kept : number_if (is_some new.core.out) ≡ number_if (is_some old.core.out) = ap (λ out. number_if out) keeps.out in
     omega (arith, room, few, kept, seat.room)
 
--- the core and its ends, as the code has them behind a call
-pub hosted_after : (count : ℕ) (old new : View) (ends : EndsView HostJob ℕ) → IsRecorded host_meaning new → AreBeside (Fits host_meaning) new ends → HasRoom count old → length new.journal.notes ≤ length old.journal.notes + count →
-    KeepsRun old.core.out new.core.out → IsSameSeat old new → IsHosted (record { recorded = new; ends = ends })
-hosted_after count old new ends sound beside room few keeps seat = record { recorded = sound; beside = beside; room = room_after count old new room few keeps seat }
+-- what a call that took so many notes at most left of a core, and of its ends as the code has them
+pub record Leaves (count : ℕ) (old new : View) (ends : EndsView HostJob ℕ) : Type 0 where
+  pub sound : IsRecorded host_meaning new
+  pub beside : AreBeside (Fits host_meaning) new ends
+  pub room : HasRoom count old
+  pub few : length new.journal.notes ≤ length old.journal.notes + count
+  pub keeps : KeepsRun old.core.out new.core.out
+  pub seat : IsSameSeat old new
+
+module _ {count : ℕ} {old new : View} {ends : EndsView HostJob ℕ} (leaves : Leaves count old new ends) where
+  pub hosted_after : IsHosted (record { recorded = new; ends = ends })
+  hosted_after = record { recorded = leaves.sound; beside = leaves.beside; room = room_after count old new leaves.room leaves.few leaves.keeps leaves.seat }
+
+  -- with them the job that the host runs, the count of cores, and what was passed on
+  pub holds_after : (run : Option Run) {cores : ℕ} {passed : Journal ℕ} → IsRunOf old.core.out run → cores ≡ old.core.cores → passed ≡ old.journal.passed →
+      IsHosted (record { recorded = new; ends = ends }) × IsRunOf new.core.out run × (cores ≡ new.core.cores) × (passed ≡ new.journal.passed)
+  holds_after run runs counts had = (hosted_after, leaves.keeps.runs run runs, counts ∙ sym leaves.seat.cores, had ∙ sym leaves.seat.passed)
 
 -- the sender of the job that the host runs is there
 pub run_known : (view : View) (run : Option Run) (one : Run) → IsRecorded host_meaning view → IsRunOf view.core.out run → run ≡ Some one → one.name.from ≤ view.core.cores

@@ -1,7 +1,11 @@
 mod Asked
-pub mod Begun
-pub mod Kept
-pub mod OnIns
-pub mod OnOuts
+mod Begun
+mod Given
+mod Kept
+mod LentIn
+pub mod LentOut
+pub mod Noted
 pub mod Passed
-pub mod Turned
+pub mod Submitted
+mod TakenOut
+mod Turned

@@ -3,12 +3,14 @@ use Rattle.std.proofs.Common.{◌≡◌, ℕ, ◌+◌, List, length, sym, ap, �
 use Rattle.std.specs.Prelude.{Option, Result, Ok, Err}
 use Rattle.std.proofs.lemmas.List.{length-append}
 use Rattle.rt_journal_desk.specs.Ends.{IsOutOf}
+use Rattle.rt_journal_desk.specs.Submissions.{DeskView}
 use Rattle.rt_journal_notes.specs.Journals.{JournalView, passed_all}
 use Rattle.rt_journal.specs.Ends.{IsInOf}
 use Rattle.rt_journal.specs.Recorded.{IsRecorded, RecordedView, desk_of}
 use Rattle.rt_link.specs.Fits.{Fits}
 use Rattle.rt_link.specs.declared.ends.Inward.{Inward}
 use Rattle.rt_link.specs.declared.ends.Outward.{Outward}
+use Rattle.rt_ring.specs.declared.ring_out.Sending.{Sending}
 use Rattle.rt_ring_mesh.specs.Ends.{EndsView}
 use Rattle.rt_runtime_worker.specs.Linked.{AreBeside}
 use Rattle.rt_hosted_parts.specs.declared.part.PassError.{PassError}
@@ -17,20 +19,27 @@ use Rattle.rt_hosted.specs.declared.job.HostJob.{HostJob}
 use Rattle.rt_hosted.specs.declared.turns.Run.{Run}
 use Rattle.rt_hosted.specs.Hosted.{HasRoom, HostedView, IsHosted, IsRunOf}
 use Rattle.rt_hosted.specs.Jobs.{host_meaning}
+use Rattle.rt_hosted.proofs.LentOut.{AreOuts}
 
 abbrev View : Type 0
 View = RecordedView HostJob ℕ
 
+abbrev Desk : Type 0
+Desk = DeskView HostJob ℕ
+
 abbrev pub the_hosted : View → EndsView HostJob ℕ → HostedView
 the_hosted view ends = record { recorded = view; ends = ends }
 
--- the core with these ends is the same but for its journal
+-- the core with these ends is the same, except its journal
 abbrev pub HandedView : View → View → EndsView HostJob ℕ → Type 0
 HandedView old new ends = the_hosted new ends ≡ the_hosted (record old { journal = new.journal }) ends
 
--- the same core, whose journal passed all notes on
+-- the same core or desk, whose journal passed all notes on
 abbrev pub forgotten : View → View
 forgotten view = record view { journal = passed_all view.journal }
+
+abbrev pub forgotten_desk : Desk → Desk
+forgotten_desk desk = record desk { journal = passed_all desk.journal }
 
 in_again : (view : View) (sender : ℕ) (inward : Inward HostJob ℕ) → IsInOf sender view inward → IsInOf sender (forgotten view) inward
 in_again view sender inward is = record {
@@ -47,8 +56,8 @@ in_again view sender inward is = record {
   orders = is.orders;
 }
 
-out_again : (view : View) (core : ℕ) (out : Outward HostJob ℕ) (credited : ℕ) → IsOutOf core (desk_of view) out credited → IsOutOf core (desk_of (forgotten view)) out credited
-out_again view core out credited is = record {
+out_again : (desk : Desk) (core : ℕ) (out : Outward HostJob ℕ) (credited : ℕ) → IsOutOf core desk out credited → IsOutOf core (forgotten_desk desk) out credited
+out_again desk core out credited is = record {
   known = is.known;
   from = is.from;
   to = is.to;
@@ -60,15 +69,19 @@ out_again view core out credited is = record {
   collected = is.collected;
 }
 
+-- the ends on which an actor sends are beside it as before
+pub outs_again : (desk : Desk) (outs : List (Sending HostJob ℕ)) → AreOuts desk outs → AreOuts (forgotten_desk desk) outs
+outs_again desk outs are = record {
+  count = are.count;
+  beside = λ core end there. out_again desk core end.out end.credited (are.beside core end there);
+  lanes = λ core end there. let had = are.lanes core end there in record { lane = had.lane; is = had.is; lane_of = had.lane_of };
+}
+
 beside_again : (view : View) (ends : EndsView HostJob ℕ) → AreBeside (Fits host_meaning) view ends → AreBeside (Fits host_meaning) (forgotten view) ends
 beside_again view ends are = record {
   number = are.number;
   ins_are = are.ins_are;
-  outs = record {
-    count = are.outs.count;
-    beside = λ core end there. out_again view core end.out end.credited (are.outs.beside core end there);
-    lanes = λ core end there. let had = are.outs.lanes core end there in record { lane = had.lane; is = had.is; lane_of = had.lane_of };
-  };
+  outs = outs_again (desk_of view) ends.outs are.outs;
   ins = λ sender known. in_again view sender _ (are.ins sender known);
 }
 

@@ -8,8 +8,12 @@ use Rattle.rt_core.specs.declared.turn.Turn.TheVariants as turn
 use Rattle.rt_core.specs.declared.turn.PickError.{PickError}
 use Rattle.rt_core.specs.declared.turn.PickError.TheVariants as error
 use Rattle.rt_core.specs.declared.turn.Settled.{Settled}
-use Rattle.rt_journal.specs.Recorded.{RecordedView}
+use Rattle.rt_core.specs.Answers.{IsReadyTurn}
+use Rattle.rt_journal.specs.Ends.{IsSameSeat, LeavesOwed}
+use Rattle.rt_journal.specs.Owed.{owed_back}
+use Rattle.rt_journal.specs.Recorded.{IsRecorded, RecordedView, desk_of}
 use Rattle.rt_journal.specs.Turns.{EndsTurn, Follows, Picks, Settles}
+use Rattle.rt_journal_desk.specs.Ends.{KeepsOuts}
 use Rattle.rt_hosted.specs.declared.answers.Picked.{Picked}
 use Rattle.rt_hosted.specs.declared.answers.Picked.TheVariants as picked
 use Rattle.rt_hosted.specs.declared.answers.Refusal.{Refusal}
@@ -43,6 +47,16 @@ GoesOn old (Err error) new = ⊥
 -- the open turn goes on, or there is a pick once no turn is open
 abbrev pub TurnsTo : RecordedView HostJob ℕ → Turned → RecordedView HostJob ℕ → Type 0
 TurnsTo old turned new = GoesOn old turned new ⊎ ((over : RecordedView HostJob ℕ) × EndsIfOpen old over × Picks host_meaning over turned new)
+
+-- what a turn leaves of the core: the outcome of a job that goes back is owed to its sender, and all other ends stay
+pub record TakesOut (old : RecordedView HostJob ℕ) (turned : Turned) (new : RecordedView HostJob ℕ) : Type 0 where
+  pub turns : TurnsTo old turned new
+  pub ready : IsReadyTurn host_meaning turned
+  pub ins : (sender : ℕ) → LeavesOwed sender (owed_back turned sender) old new
+  pub outs : KeepsOuts (desk_of old) (desk_of new)
+  pub seat : IsSameSeat old new
+  pub lanes : new.lanes ≡ old.lanes
+  pub sound : IsRecorded host_meaning new
 
 -- a turn, and what the host is told of it
 pub record Goes (old : HostedView) (told : Result Picked Refusal) (new : HostedView) : Type 0 where

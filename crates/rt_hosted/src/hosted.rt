@@ -60,7 +60,7 @@ impl Model for Hosted {
 }
 
 impl Hosted {
-    /// Opens the core that has these ends, with queue 0 alone.
+    /// Opens the core that has these ends, with queue 0 alone. It writes to the memory of all notes, so that no turn is the first to touch a page of them.
     pub fn open(
         alloc: Global,
         ends: Ends<HostJob>,
@@ -74,7 +74,8 @@ impl Hosted {
     {
         let number = ends.number;
         let core = CoreNo(number.0);
-        let recorded = Recorded::open_burst(alloc, alloc, core, cores, cap, burst, room)?;
+        let mut recorded = Recorded::open_burst(alloc, alloc, core, cores, cap, burst, room)?;
+        recorded.prefault();
         Ok(Hosted {
             cores,
             recorded,

@@ -3,8 +3,8 @@
 ghost use Rattle.std.specs.Prelude.{◌≡◌, ℕ, ◌+◌, ◌<◌, ◌≤◌, None, Ok, Some, IfSome, length};
 ghost use Rattle.rt_core.specs.Answers.{IsReadyTurn};
 ghost use Rattle.rt_ids.specs.declared.note.OutcomeNote.TheVariants.{Returned};
-ghost use Rattle.rt_journal.specs.Ends.{IsSameSeat, KeepsIn, LeavesOwed};
-ghost use Rattle.rt_journal.specs.Owed.{IsSentUnder, owed_back};
+ghost use Rattle.rt_journal.specs.Ends.{IsSameSeat, KeepsIn};
+ghost use Rattle.rt_journal.specs.Owed.{IsSentUnder};
 ghost use Rattle.rt_journal.specs.Recorded.{IsRecorded, desk_of};
 ghost use Rattle.rt_journal.specs.Turns.{Follows, IsOut, IsOutUnder, IsPolled, Settles};
 ghost use Rattle.rt_journal_desk.specs.Ends.{KeepsOuts};
@@ -14,7 +14,7 @@ ghost use Rattle.rt_runtime_worker.specs.Linked.{AreBeside, AreOwing, SeesNoLess
 ghost use Rattle.rt_hosted.specs.declared.answers.Picked.TheVariants.{Back, Resume, Start};
 ghost use Rattle.rt_hosted.specs.Hosted.{IsHosted, IsRunOf};
 ghost use Rattle.rt_hosted.specs.Jobs.{host_meaning};
-ghost use Rattle.rt_hosted.specs.Turns.{EndsIfOpen, Goes, TurnsTo};
+ghost use Rattle.rt_hosted.specs.Turns.{EndsIfOpen, Goes, TakesOut};
 
 use crate::answers::{Picked, Refusal};
 use crate::job::HostJob;
@@ -86,13 +86,7 @@ fn take_out(recorded: &mut Recorded<HostJob>) -> Result<Turn<HostJob>, PickError
     requires rest { recorded.old.core.out ≡ None }
     requires sound { IsRecorded host_meaning recorded.old }
     requires room { length recorded.old.journal.notes + 3 ≤ recorded.old.journal.room }
-    ensures turns { TurnsTo recorded.old result recorded.new }
-    ensures ready { IsReadyTurn host_meaning result }
-    ensures ins { (sender : ℕ) → LeavesOwed sender (owed_back result sender) recorded.old recorded.new }
-    ensures outs { KeepsOuts (desk_of recorded.old) (desk_of recorded.new) }
-    ensures seat { IsSameSeat recorded.old recorded.new }
-    ensures lanes { recorded.new.lanes ≡ recorded.old.lanes }
-    ensures sound { IsRecorded host_meaning recorded.new }
+    ensures { TakesOut recorded.old result recorded.new }
 {
     match follow_or_end(recorded) {
         Some(turn) => Ok(turn),

@@ -1,2 +1,3 @@
+mod Kept
 mod Opened
-pub mod Passed
+mod Passed

@@ -20,7 +20,6 @@ use Rattle.rt_ring_mesh.proofs.Parts.{at_end}
 use Rattle.rt_ring_mesh.proofs.Using.{ends_same}
 use Rattle.rt_runtime_team.specs.Works.{Together}
 use Rattle.rt_runtime_team.proofs.Lists.{together_length}
-use Rattle.rt_runtime_worker.specs.Linked.{LinkedView}
 use Rattle.rt_runtime_worker.specs.Opening.{AreEndsOf, IsOpenedOver, IsWorkerOf}
 use Rattle.rt_runtime_worker.specs.Together.{no_linked, worker_at}
 use Rattle.rt_runtime_worker.proofs.Opened.{fresh_out}

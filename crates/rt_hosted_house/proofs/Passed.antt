@@ -1,14 +1,13 @@
 -- What it changes of the outside actor to hand on notes: nothing but what is kept, and how many notes there may be.
 use Rattle.std.proofs.Common.{◌≡◌, ℕ, List, sym, ap, ◌∙◌, subst}
 use Rattle.std.specs.Prelude.{Result, Ok, Err}
-use Rattle.rt_journal_desk.specs.Ends.{IsOutOf}
 use Rattle.rt_journal_desk.specs.Submissions.{DeskView}
-use Rattle.rt_journal_notes.specs.Journals.{JournalView, passed_all}
-use Rattle.rt_link.specs.declared.ends.Outward.{Outward}
+use Rattle.rt_journal_notes.specs.Journals.{JournalView}
 use Rattle.rt_ring_mesh.specs.Ends.{EndsView}
 use Rattle.rt_hosted_parts.specs.declared.part.PassError.{PassError}
 use Rattle.rt_hosted_parts.specs.Parts.{PassesPart}
 use Rattle.rt_hosted.specs.declared.job.HostJob.{HostJob}
+use Rattle.rt_hosted.proofs.Passed.{outs_again}
 use Rattle.rt_hosted_house.specs.Outside.{CallerView, SendsFrom}
 
 abbrev Desk : Type 0
@@ -17,39 +16,15 @@ Desk = DeskView HostJob ℕ
 abbrev pub the_caller : Desk → EndsView HostJob ℕ → CallerView
 the_caller desk ends = record { desk = desk; ends = ends }
 
--- the actor with these ends is the same but for its journal
+-- the actor with these ends is the same, except its journal
 abbrev pub HandedView : Desk → Desk → EndsView HostJob ℕ → Type 0
 HandedView old new ends = the_caller new ends ≡ the_caller (record old { journal = new.journal }) ends
-
--- the same desk, whose journal passed all notes on
-abbrev pub forgotten : Desk → Desk
-forgotten desk = record desk { journal = passed_all desk.journal }
-
-out_again : (desk : Desk) (core : ℕ) (out : Outward HostJob ℕ) (credited : ℕ) → IsOutOf core desk out credited → IsOutOf core (forgotten desk) out credited
-out_again desk core out credited is = record {
-  known = is.known;
-  from = is.from;
-  to = is.to;
-  base = is.base;
-  capacity = is.capacity;
-  accepted = is.accepted;
-  outstanding = is.outstanding;
-  behind = is.behind;
-  collected = is.collected;
-}
-
-sends_again : (desk : Desk) (ends : EndsView HostJob ℕ) → SendsFrom (record { desk = desk; ends = ends }) → SendsFrom (record { desk = forgotten desk; ends = ends })
-sends_again desk ends are = record {
-  count = are.count;
-  beside = λ core end there. out_again desk core end.out end.credited (are.beside core end there);
-  lanes = λ core end there. let had = are.lanes core end there in record { lane = had.lane; is = had.is; lane_of = had.lane_of };
-}
 
 -- whatever came of it, the desk is beside its ends as before
 pub handed_sends : (actor : ℕ) (before after : List ℕ) (answer : Result ℕ PassError) (old new : Desk) (ends : EndsView HostJob ℕ) → PassesPart actor old.journal before answer after new.journal → new ≡ record old { journal = new.journal } →
     SendsFrom (record { desk = old; ends = ends }) → SendsFrom (record { desk = new; ends = ends })
 handed_sends actor before after (Ok count) old new ends passes rest sends =
-    subst (λ (desk : Desk). SendsFrom (record { desk = desk; ends = ends })) (sym (rest ∙ ap (λ (journal : JournalView ℕ). record old { journal = journal }) passes.1)) (sends_again old ends sends)
+    subst (λ (desk : Desk). SendsFrom (record { desk = desk; ends = ends })) (sym (rest ∙ ap (λ (journal : JournalView ℕ). record old { journal = journal }) passes.1)) (outs_again old ends.outs sends)
 handed_sends actor before after (Err error) old new ends passes rest sends =
     subst (λ (desk : Desk). SendsFrom (record { desk = desk; ends = ends })) (sym (rest ∙ ap (λ (journal : JournalView ℕ). record old { journal = journal }) passes.1)) sends
 

@@ -43,7 +43,7 @@ impl Model for Outside {
 }
 
 impl Outside {
-    /// Opens the outside actor over its ends of links that were just opened.
+    /// Opens the outside actor over its ends of links that were just opened. It writes to the memory of all notes.
     pub(crate) fn open(
         alloc: Global,
         ends: Ends<HostJob>,
@@ -57,7 +57,8 @@ impl Outside {
         ensures desk { IfOk result (λ outside. outside.desk ≡ opened_desk cores cores cap room burst) }
         ensures ends { IfOk result (λ outside. outside.ends ≡ ends) }
     {
-        let desk = RecordedDesk::open_burst(alloc, ActorNo(cores), cores, cap, burst, room)?;
+        let mut desk = RecordedDesk::open_burst(alloc, ActorNo(cores), cores, cap, burst, room)?;
+        desk.prefault();
         Ok(Outside {
             cores,
             desk,

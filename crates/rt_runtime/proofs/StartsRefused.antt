@@ -1,10 +1,14 @@
--- Starts that are refused: over a bad configuration, with a core that is closed already, with bells that the caller hasn't, and with a sink too few.
-use Rattle.std.proofs.Common.{◌≡◌, ℕ, ◌<◌, List, [], ◌∷◌, arith}
-use Rattle.std.specs.Prelude.{true, Ok, Err}
+-- Starts that are refused: over a bad configuration, with a core that is closed already, with bells that the caller hasn't, with a sink too few, and with a
+-- publication that was seen already.
+use Rattle.std.proofs.Common.{◌≡◌, ℕ, ◌<◌, List, [], ◌∷◌, subst, arith}
+use Rattle.std.specs.Prelude.{All, true, Ok, Err}
+use Rattle.std.proofs.lemmas.List.Elements.{All-head}
 use Rattle.rt_runtime_config.specs.Configs.{Entry, IsGood}
 use Rattle.rt_runtime.specs.declared.error.StartError.TheVariants.{BadConfig, Memory}
 use Rattle.rt_runtime.specs.Calls.{Begins, IsStarted, Starts}
 use Rattle.rt_runtime.specs.State.{RuntimeView}
+use Rattle.rt_runtime.specs.Watching.{IsUnseen}
+use Rattle.rt_watch.specs.declared.watcher.Watching.{Watching}
 use Rattle.rt_runtime.specs.WithSinks.{StartsWithSinks}
 
 module _ {J T : Type 0} (cap burst room : ℕ) (queues : List Entry) (clocks gates : ℕ) (view : RuntimeView J T) where
@@ -35,3 +39,10 @@ module _ {J T : Type 0} (cap burst room : ℕ) (queues : List Entry) (clocks gat
   -- the worker rings other bells than the caller
   bells_refused : IsStarted 1 cap burst room queues view → view.rung.names ≡ 3 ∷ 4 ∷ [] → view.bells ≡ (4 ∷ 3 ∷ []) ∷ [] → ⊥
   bells_refused started names others = let same = started.bells in absurd cc
+
+  -- a publication was seen already
+  seen_refused : IsStarted 1 cap burst room queues view → (seen : Watching) → view.watched ≡ seen ∷ [] → seen.count ≡ 1 → ⊥
+  seen_refused started seen is one =
+      let unseen : All IsUnseen (seen ∷ []) = subst (λ watched. All IsUnseen watched) is started.unseen in
+      let none : IsUnseen seen = All-head IsUnseen seen [] unseen in
+      omega (arith, none.count, one)

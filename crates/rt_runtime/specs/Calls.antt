@@ -21,7 +21,7 @@ use Rattle.rt_runtime_config.specs.Configs.{Entry, IsGood}
 use Rattle.rt_runtime.specs.Outcomes.{AllFitTheirOrders, AllHaveOutcomes, AllPollsAreOwed, AreItsOrders, Orders, TellsOrders}
 use Rattle.rt_runtime.specs.Starting.{HaveQueues}
 use Rattle.rt_runtime.specs.State.{RuntimeView, closing_at, submitted}
-use Rattle.rt_runtime.specs.Watching.{SawBeginnings}
+use Rattle.rt_runtime.specs.Watching.{IsUnseen, SawBeginnings}
 
 module _ {J T : Type 0} where
   -- A runtime that was just started. There is a worker for each core, and the outside actor has a fresh end to each. Each core has the queues that
@@ -39,7 +39,7 @@ module _ {J T : Type 0} where
     pub have_queues : HaveQueues cores queues view.workers
     pub refused : view.refused ≡ false
     pub watched : length view.watched ≡ cores
-    pub unseen : All (λ seen. seen.notes ≡ []) view.watched
+    pub unseen : All IsUnseen view.watched
 
   -- this is the first core that the caller didn't close
   pub record IsFirstOpen (core : ℕ) (view : RuntimeView J T) : Type 0 where

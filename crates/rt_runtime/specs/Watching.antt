@@ -19,12 +19,17 @@ watch_at core watched = slice_index_or watched core no_watch
 abbrev pub AreWatching : {J T C G S : Type 0} → List Watching → List (WorkerView J T C G S) → Type 0
 AreWatching watchers workers = map (λ watcher. watcher.board) watchers ≡ map (λ worker. worker.shown.board) workers
 
--- the watcher of this worker's board, which tells the numbers of no note, and saw no publication yet
+-- nothing was seen yet: no publication, and the numbers of no note
+pub record IsUnseen (watcher : Watching) : Type 0 where
+  pub none : watcher.notes ≡ []
+  pub count : watcher.count ≡ 0
+  pub closed : watcher.closed ≡ false
+
+-- the watcher of this worker's board, which saw nothing yet
 pub record IsWatcherOf {J T C G S : Type 0} (worker : WorkerView J T C G S) (watcher : Watching) : Type 0 where
   pub board : watcher.board ≡ worker.shown.board
   pub terms_are : watcher.terms ≡ worker.shown.terms
-  pub none : watcher.notes ≡ []
-  pub unseen : (watcher.count ≡ 0) × (watcher.closed ≡ false)
+  pub unseen : IsUnseen watcher
 
 -- The caller looked at a core, and at nothing else. It sees the numbers of as many notes as before, or of more: the publication that it saw before, or a later
 -- one. That the core closed by itself stays told. If the caller found nothing it sees what it saw.

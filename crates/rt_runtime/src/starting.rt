@@ -189,7 +189,8 @@ fn open_outside<J: Task<Out = u64>>(
         config.room,
     )?;
     desk.prefault();
-    let mut closing = Vec::new(alloc);
+    // Each submission reads it, so its memory is apart from what the workers write to.
+    let mut closing = Vec::with_capacity(alloc, config.cores as usize + 128)?;
     closing.resize(config.cores as usize, false)?;
     Ok((desk, closing))
 }

@@ -6,6 +6,7 @@ use Rattle.rt_runtime_config.specs.Configs.{Entry, queues_of}
 use Rattle.rt_runtime_worker.specs.Queues.{creations}
 use Rattle.rt_runtime.specs.Calls.{Starts}
 use Rattle.rt_runtime.specs.State.{RuntimeView}
+use Rattle.rt_runtime.specs.WithLocals.{StartsWithLocals, StartsWithSinksAndLocals}
 use Rattle.rt_runtime.specs.WithSinks.{StartsWithSinks}
 use Rattle.rt_runtime.specs.declared.error.StartError.{StartError}
 use Rattle.rt_runtime_house.specs.declared.house.PlanError.{PlanError}
@@ -55,3 +56,15 @@ StartsPlan {J} {T} plan (Err error) = Starts {J = J} {T = T} plan.cores plan.cap
 abbrev pub StartsPlanWithSinks : {J T : Type 0} → Plan → ℕ → Result (RuntimeView J T × List Name) StartError → Type 0
 StartsPlanWithSinks plan sinks (Ok started) = StartsWithSinks plan.cores plan.cap plan.burst plan.room plan.queues plan.cores plan.cores sinks (Ok started.0) × (started.1 ≡ plan.names)
 StartsPlanWithSinks {J} {T} plan sinks (Err error) = StartsWithSinks {J = J} {T = T} plan.cores plan.cap plan.burst plan.room plan.queues plan.cores plan.cores sinks (Err error)
+
+-- the same with so many states that jobs share, and without sinks
+abbrev pub StartsPlanWithLocals : {J T : Type 0} → Plan → ℕ → Result (RuntimeView J T × List Name) StartError → Type 0
+StartsPlanWithLocals plan locals (Ok started) = StartsWithLocals plan.cores plan.cap plan.burst plan.room plan.queues plan.cores plan.cores locals (Ok started.0) × (started.1 ≡ plan.names)
+StartsPlanWithLocals {J} {T} plan locals (Err error) = StartsWithLocals {J = J} {T = T} plan.cores plan.cap plan.burst plan.room plan.queues plan.cores plan.cores locals (Err error)
+
+-- the same with sinks and states
+abbrev pub StartsPlanWithSinksAndLocals : {J T : Type 0} → Plan → ℕ → ℕ → Result (RuntimeView J T × List Name) StartError → Type 0
+StartsPlanWithSinksAndLocals plan sinks locals (Ok started) =
+    StartsWithSinksAndLocals plan.cores plan.cap plan.burst plan.room plan.queues plan.cores plan.cores sinks locals (Ok started.0) × (started.1 ≡ plan.names)
+StartsPlanWithSinksAndLocals {J} {T} plan sinks locals (Err error) =
+    StartsWithSinksAndLocals {J = J} {T = T} plan.cores plan.cap plan.burst plan.room plan.queues plan.cores plan.cores sinks locals (Err error)

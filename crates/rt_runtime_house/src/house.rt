@@ -3,7 +3,7 @@
 ghost use Rattle.std.specs.Prelude.{◌≡◌, ◌+◌, ◌≤◌, All, [], IfOk, length, min};
 ghost use Rattle.rt_ids.specs.Limits.{most_notes};
 ghost use Rattle.rt_runtime_config.specs.Configs.{least_room, queues_of};
-ghost use Rattle.rt_runtime_house.specs.Plans.{fresh_plan, PlansQueue, StartsPlan, StartsPlanWithSinks};
+ghost use Rattle.rt_runtime_house.specs.Plans.{fresh_plan, PlansQueue, StartsPlan, StartsPlanWithLocals, StartsPlanWithSinks, StartsPlanWithSinksAndLocals};
 
 use crate::names::QueueNames;
 use rt_ids::{CoreNo, MOST_NOTES, MOST_QUEUES, QueueNo};
@@ -233,6 +233,70 @@ impl House {
             return Err(StartError::Memory);
         };
         let runtime = Runtime::start_with_sinks(rt, alloc, config, clocks, gates, sinks)?;
+        Ok((runtime, names))
+    }
+
+    /// The same as `start`, for jobs that share a state: each core has one by its number, which its worker lends to each poll.
+    ///
+    /// # Errors
+    ///
+    /// Those of `Runtime::start_with_locals`.
+    pub fn start_with_locals<J, R>(
+        self,
+        rt: R,
+        alloc: Global,
+        locals: Vec<J::Local>,
+    ) -> Result<(Node<J, R>, QueueNames), StartError>
+    where
+        J: Job + Task<Out = u64> + Send + 'static,
+        J::Local: Send + 'static,
+        R: Threads + Wait + time::Clock + Copy + Drop + Send + 'static,
+        ensures { StartsPlanWithLocals self (length locals.items) result }
+    {
+        let House { config, names } = self;
+        let cores = config.cores;
+        if !is_good(&config, cores as usize, cores as usize) || locals.len() != cores as usize {
+            return Err(StartError::BadConfig);
+        }
+        let Ok((clocks, gates)) = wiring(rt, alloc, cores) else {
+            return Err(StartError::Memory);
+        };
+        let runtime = Runtime::start_with_locals(rt, alloc, config, clocks, gates, locals)?;
+        Ok((runtime, names))
+    }
+
+    /// The same as `start_with_sinks`, for jobs that share a state.
+    ///
+    /// # Errors
+    ///
+    /// Those of `Runtime::start_with_sinks_and_locals`.
+    pub fn start_with_sinks_and_locals<J, R, S>(
+        self,
+        rt: R,
+        alloc: Global,
+        sinks: Vec<S>,
+        locals: Vec<J::Local>,
+    ) -> Result<(Node<J, R, S>, QueueNames), StartError>
+    where
+        J: Job + Task<Out = u64> + Send + 'static,
+        J::Local: Send + 'static,
+        R: Threads + Wait + time::Clock + Copy + Drop + Send + 'static,
+        S: Sink + Send + 'static,
+        requires { All (λ sink. S.has sink ≡ []) sinks.items }
+        ensures { StartsPlanWithSinksAndLocals self (length sinks.items) (length locals.items) result }
+    {
+        let House { config, names } = self;
+        let cores = config.cores;
+        let seats = cores as usize;
+        if !is_good(&config, seats, seats) || sinks.len() != seats + 1 || locals.len() != seats {
+            return Err(StartError::BadConfig);
+        }
+        let Ok((clocks, gates)) = wiring(rt, alloc, cores) else {
+            return Err(StartError::Memory);
+        };
+        let runtime = Runtime::start_with_sinks_and_locals(
+            rt, alloc, config, clocks, gates, sinks, locals,
+        )?;
         Ok((runtime, names))
     }
 }

@@ -75,3 +75,44 @@ fn a_house_without_cores_is_refused(rt: HostRuntime) -> Result<(), Fail> {
     assert!(rt; matches!(started, Err(StartError::BadConfig)));
     Ok(())
 }
+
+/// So many states that hold nothing. None if memory is wanting.
+fn states(alloc: Global, count: usize) -> Option<Vec<()>> {
+    let mut states = Vec::with_capacity(alloc, count).ok()?;
+    for _ in 0..count {
+        states.push(()).ok()?;
+    }
+    Some(states)
+}
+
+#[test]
+fn states_come_back_from_a_planned_house(rt: HostRuntime) -> Result<(), Fail> {
+    let (Some((house, _)), Some(locals)) = (planned(rt.alloc()), states(rt.alloc(), 2)) else {
+        assert!(rt; false, "no plan");
+        return Ok(());
+    };
+    let Ok((mut runtime, _)) = house.start_with_locals::<Work, _>(rt, rt.alloc(), locals) else {
+        assert!(rt; false, "no house");
+        return Ok(());
+    };
+    for core in 0..2 {
+        assert!(rt; runtime.close_core(CoreNo(core), Mode::Finish).is_ok());
+    }
+    let Ok((_, back)) = runtime.finish_with_locals(&rt) else {
+        assert!(rt; false, "not closed");
+        return Ok(());
+    };
+    assert!(rt; back.len() == 2);
+    Ok(())
+}
+
+#[test]
+fn a_house_with_too_few_states_is_refused(rt: HostRuntime) -> Result<(), Fail> {
+    let (Some((house, _)), Some(locals)) = (planned(rt.alloc()), states(rt.alloc(), 1)) else {
+        assert!(rt; false, "no plan");
+        return Ok(());
+    };
+    let started = house.start_with_locals::<Work, _>(rt, rt.alloc(), locals);
+    assert!(rt; matches!(started, Err(StartError::BadConfig)));
+    Ok(())
+}

@@ -42,32 +42,24 @@ fn is_refused<R: Wait>(rt: &R, house: &mut House<Work>) -> bool {
     }
 }
 
-/// What the first look tells that finds a publication.
+/// Whether the core is told as drained.
+fn is_drained(house: &House<Work>) -> bool {
+    match house.watched(CORE) {
+        Some(watcher) => watcher.core_stats().drained,
+        None => false,
+    }
+}
+
+/// Why the core closed: what is told once a look finds that it closed by itself, or that it is drained.
 fn cause(house: &mut House<Work>) -> Option<bool> {
     for _ in 0..LOOKS {
-        if house.watch(CORE) {
-            let told = house.closed_by_itself(CORE);
-            if told.is_some() {
-                return told;
-            }
+        let _found = house.watch(CORE);
+        let told = house.closed_by_itself(CORE);
+        if told == Some(true) || is_drained(house) {
+            return told;
         }
     }
     None
-}
-
-/// Whether the core is told as drained, and not as closed by itself.
-fn is_drained_by_order(house: &mut House<Work>) -> bool {
-    for _ in 0..LOOKS {
-        let _found = house.watch(CORE);
-        let drained = match house.watched(CORE) {
-            Some(watcher) => watcher.core_stats().drained,
-            None => return false,
-        };
-        if drained {
-            return house.closed_by_itself(CORE) == Some(false);
-        }
-    }
-    false
 }
 
 #[test]
@@ -92,7 +84,7 @@ fn a_core_closed_by_order_tells_no_other_cause(rt: HostRuntime) -> Result<(), Fa
         assert!(rt; false, "no house");
         return Ok(());
     };
-    assert!(rt; house.close_core(CORE, Mode::Finish).is_ok() && is_drained_by_order(&mut house));
+    assert!(rt; house.close_core(CORE, Mode::Finish).is_ok() && cause(&mut house) == Some(false));
     assert!(rt; house.closed_by_itself(CoreNo(1)).is_none());
     assert!(rt; house.finish(&rt).is_ok());
     Ok(())

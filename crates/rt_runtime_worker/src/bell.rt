@@ -17,6 +17,8 @@ struct Hung {
     actor: u8,
     /// Nothing is ever put in. By its number contracts tell one bell from another.
     name: OnceLock<u8>,
+    /// Keeps off the lines of `event` what stands behind this in memory, and which another thread may write to.
+    apart: [u64; 16],
 }
 
 /// The bell of one actor, in the hands of one who rings it or parks on it. Contracts see whose it is, which bell it is, and how often it was
@@ -55,6 +57,7 @@ impl Bell {
                     event: sync::EventCount::new(),
                     actor: actor.0,
                     name: OnceLock::new(),
+                    apart: [0; 16],
                 },
             )?,
         })

@@ -9,6 +9,10 @@ use rt_ids::{ActorNo, CoreNo, Note};
 use std::alloc::{AllocError, Global};
 use std::marker::Model;
 
+/// A list has so many places beside those of its bells. Each thread writes to its own list as it rings, so what stands behind it in memory,
+/// another thread's list perhaps, is kept off its lines.
+const APART: usize = 8;
+
 /// Who has something from this note: the receiver of an order that was sent, or the sender of a job or command that has its outcome.
 fn told(note: &Note<u64>) -> Option<u8>
     ensures { result ≡ told_by note.now }
@@ -50,7 +54,7 @@ impl Bells {
         ensures rings { IfOk result (λ bells. bells.rings ≡ replicate (cores + 1) 0) }
         ensures apart { IfOk result (λ bells. AreApart bells.names) }
     {
-        let mut bells = Vec::with_capacity(alloc, cores as usize + 1)?;
+        let mut bells = Vec::with_capacity(alloc, cores as usize + 1 + APART)?;
         for actor in 0..cores as usize + 1 {
             let bell = Bell::open(alloc, ActorNo(actor as u8))?;
             bells.push_reserved(bell);
@@ -67,7 +71,7 @@ impl Bells {
         ensures names { IfOk result (λ bells. bells.names ≡ self.now.names) }
         ensures rings { IfOk result (λ bells. bells.rings ≡ replicate (length self.now.rings) 0) }
     {
-        let mut bells = Vec::with_capacity(alloc, self.bells.len())?;
+        let mut bells = Vec::with_capacity(alloc, self.bells.len() + APART)?;
         for place in 0..self.bells.len() {
             let bell = self.bells[place].again()?;
             bells.push_reserved(bell);

@@ -2,31 +2,36 @@ use Rattle.std.proofs.Common.{ap, length, refl, ◌∙◌, arith}
 use Rattle.std.specs.Prelude.{Err}
 use Rattle.rt_ids.specs.declared.names.TicketError.TheVariants.{Unknown}
 use Rattle.rt_journal.specs.Recorded.{desk_of}
-use Rattle.rt_hosted.specs.Jobs.{host_meaning}
-use Rattle.rt_hosted.proofs.OnOuts.{detaches_add, out_beside, out_lane, out_put_beside, out_stays}
+use Rattle.rt_hosted.proofs.LentOut.{LendsAs, out_beside, out_lane, out_put_beside, out_stays}
+use Rattle.rt_hosted.proofs.Submitted.{detaches_add}
 use Rattle.rt_hosted.proofs.outs.detach_on.Goals as goal
+use Rattle.rt_hosted.proofs.outs.detach_on.Goals.{After-index_mut}
+
+-- the end to the core, as it is borrowed
+lends : (c : goal.After-index_mut) → LendsAs c.ends.view_is c.args.ticket.to c.to.inside.0 (desk_of c.args.recorded.now) c.index_mut.result.now
+lends c = record {
+  known = (c.knows.ensures.knows.0 c.if-not-knows.false).1;
+  opens = record { number = c.to.view_is ∙ ap (λ name. name.to) c.name-to.ensures; seen = c.ends.view_is };
+  is = c.index_mut.ensures.value;
+  outs = c.requires.beside.outs;
+}
 
 pub returns-then-not-knows-clause-does : goal.returns-then-not-knows-clause-does
 returns-then-not-knows-clause-does c = record { answer = Err Unknown; detaches = (c.knows.ensures.unknown c.if-not-knows.true, refl); told_is = refl; rest = refl }
 
 pub detach-requires-clause-beside : goal.detach-requires-clause-beside
-detach-requires-clause-beside c =
-    out_beside host_meaning c.args.ticket.to (desk_of c.args.recorded.now) c.args.ends.now (c.knows.ensures.knows.0 c.if-not-knows.false).1 c.to.inside.0 _ (record { number = c.to.view_is ∙ ap (λ name. name.to) c.name-to.ensures; seen = c.ends.view_is }) c.index_mut.result.now c.index_mut.ensures.value c.requires.beside.outs
+detach-requires-clause-beside c = out_beside (lends (goal.at.detach-requires-clause-beside c).After-index_mut)
 
 pub detach-requires-clause-lane : goal.detach-requires-clause-lane
-detach-requires-clause-lane c =
-    out_lane host_meaning c.args.ticket.to (desk_of c.args.recorded.now) c.args.ends.now (c.knows.ensures.knows.0 c.if-not-knows.false).1 c.to.inside.0 _ (record { number = c.to.view_is ∙ ap (λ name. name.to) c.name-to.ensures; seen = c.ends.view_is }) c.index_mut.result.now c.index_mut.ensures.value c.requires.beside.outs
+detach-requires-clause-lane c = out_lane (lends (goal.at.detach-requires-clause-lane c).After-index_mut)
 
 pub returns-clause-stays : goal.returns-clause-stays
 returns-clause-stays c =
     let same = ap (λ out. length out.seen) c.detach.ensures.out in
-    out_stays host_meaning c.args.ticket.to c.args.recorded.now c.args.ends.now (c.knows.ensures.knows.0 c.if-not-knows.false).1 c.to.inside.0 _ (record { number = c.to.view_is ∙ ap (λ name. name.to) c.name-to.ensures; seen = c.ends.view_is }) c.index_mut.result.now c.index_mut.ensures.value c.requires.beside
-    c.detach.new.self c.detach.new.end c.detach.ensures.seat c.detach.ensures.untouched (omega (arith, same)) (detaches_add _ _ _ _ c.detach.ensures.detaches)
+    out_stays c.requires.beside (lends (goal.at.returns-clause-stays c).After-index_mut) c.detach.new.self c.detach.new.end c.detach.ensures.seat c.detach.ensures.untouched (omega (arith, same)) (detaches_add _ _ _ _ c.detach.ensures.detaches)
 
 pub returns-clause-beside : goal.returns-clause-beside
-returns-clause-beside c =
-    out_put_beside host_meaning c.args.ticket.to c.args.recorded.now c.args.ends.now (c.knows.ensures.knows.0 c.if-not-knows.false).1 c.to.inside.0 _ (record { number = c.to.view_is ∙ ap (λ name. name.to) c.name-to.ensures; seen = c.ends.view_is }) c.index_mut.result.now c.index_mut.ensures.value c.requires.beside
-    c.detach.new.self c.detach.new.end c.detach.ensures.stays c.detach.ensures.ins c.detach.ensures.seat
+returns-clause-beside c = out_put_beside c.requires.beside (lends (goal.at.returns-clause-beside c).After-index_mut) c.detach.new.self c.detach.new.end c.detach.ensures.stays c.detach.ensures.ins c.detach.ensures.seat
 
 pub returns-clause-does : goal.returns-clause-does
 returns-clause-does c = record {

@@ -1,12 +1,23 @@
 use Rattle.std.proofs.Common.{ap, refl, ◌∙◌}
-use Rattle.std.specs.Prelude.{Err, []}
+use Rattle.std.specs.Prelude.{Err}
 use Rattle.rt_ids.specs.declared.names.TicketError.TheVariants.{Unknown}
 use Rattle.rt_desk.specs.Lanes.{FitsSent}
 use Rattle.rt_link.specs.Fits.{Fits}
 use Rattle.rt_hosted.specs.Jobs.{host_meaning}
-use Rattle.rt_hosted.proofs.OnOuts.{out_beside, out_fits, out_ends, out_lane, outs_put, redeems_add}
+use Rattle.rt_hosted.proofs.LentOut.{LendsAs, out_beside, out_ends, out_fits, out_lane, outs_put}
+use Rattle.rt_hosted.proofs.Submitted.{redeems_add}
 use Rattle.rt_hosted_house.proofs.Opened.{stays_same}
 use Rattle.rt_hosted_house.proofs.sent.redeem_on.Goals as goal
+use Rattle.rt_hosted_house.proofs.sent.redeem_on.Goals.{After-index_mut}
+
+-- the end to the core, as it is borrowed
+lends : (c : goal.After-index_mut) → LendsAs c.ends.view_is c.args.ticket.to c.to.inside.0 c.args.desk.now c.index_mut.result.now
+lends c = record {
+  known = (c.knows.ensures.knows.0 c.if-not-knows.false).1;
+  opens = record { number = c.to.view_is ∙ ap (λ name. name.to) c.name-to.ensures; seen = c.ends.view_is };
+  is = c.index_mut.ensures.value;
+  outs = c.requires.sends;
+}
 
 pub returns-then-not-knows-clause-does : goal.returns-then-not-knows-clause-does
 returns-then-not-knows-clause-does c = record { answer = Err Unknown; redeems = (c.knows.ensures.unknown c.if-not-knows.true, refl); fits = tt; told_is = refl }
@@ -15,18 +26,18 @@ pub returns-then-not-knows-clause-stays : goal.returns-then-not-knows-clause-sta
 returns-then-not-knows-clause-stays c = stays_same (record { desk = c.args.desk.now; ends = c.args.ends.now })
 
 pub redeem-requires-clause-beside : goal.redeem-requires-clause-beside
-redeem-requires-clause-beside c = out_beside host_meaning c.args.ticket.to c.args.desk.now c.args.ends.now (c.knows.ensures.knows.0 c.if-not-knows.false).1 c.to.inside.0 _ (record { number = c.to.view_is ∙ ap (λ name. name.to) c.name-to.ensures; seen = c.ends.view_is }) c.index_mut.result.now c.index_mut.ensures.value c.requires.sends
+redeem-requires-clause-beside c = out_beside (lends (goal.at.redeem-requires-clause-beside c).After-index_mut)
 
 pub redeem-requires-clause-lane : goal.redeem-requires-clause-lane
-redeem-requires-clause-lane c = out_lane host_meaning c.args.ticket.to c.args.desk.now c.args.ends.now (c.knows.ensures.knows.0 c.if-not-knows.false).1 c.to.inside.0 _ (record { number = c.to.view_is ∙ ap (λ name. name.to) c.name-to.ensures; seen = c.ends.view_is }) c.index_mut.result.now c.index_mut.ensures.value c.requires.sends
+redeem-requires-clause-lane c = out_lane (lends (goal.at.redeem-requires-clause-lane c).After-index_mut)
 
 pub returns-clause-sends : goal.returns-clause-sends
-returns-clause-sends c = outs_put host_meaning c.args.ticket.to c.args.desk.now c.args.ends.now (c.knows.ensures.knows.0 c.if-not-knows.false).1 c.to.inside.0 _ (record { number = c.to.view_is ∙ ap (λ name. name.to) c.name-to.ensures; seen = c.ends.view_is }) c.index_mut.result.now c.index_mut.ensures.value c.requires.sends c.redeem.new.end c.redeem.new.self c.redeem.ensures.stays
+returns-clause-sends c = outs_put (lends (goal.at.returns-clause-sends c).After-index_mut) c.redeem.new.end c.redeem.ensures.stays
 
 pub returns-clause-stays : goal.returns-clause-stays
 returns-clause-stays c = record {
   seat = c.redeem.ensures.stays.rest;
-  ends = out_ends host_meaning c.args.ticket.to c.args.desk.now c.args.ends.now (c.knows.ensures.knows.0 c.if-not-knows.false).1 c.to.inside.0 _ (record { number = c.to.view_is ∙ ap (λ name. name.to) c.name-to.ensures; seen = c.ends.view_is }) c.index_mut.result.now c.index_mut.ensures.value c.requires.sends c.redeem.new.end c.redeem.ensures.untouched;
+  ends = out_ends (lends (goal.at.returns-clause-stays c).After-index_mut) c.redeem.new.end c.redeem.ensures.untouched;
   grows = (redeems_add _ _ _ _ c.redeem.ensures.redeems).grows;
 }
 
@@ -34,6 +45,6 @@ pub returns-clause-does : goal.returns-clause-does
 returns-clause-does c = record {
   answer = c.redeem.result;
   redeems = c.redeem.ensures.redeems;
-  fits = out_fits host_meaning c.args.ticket.to c.args.desk.now c.args.ends.now (c.knows.ensures.knows.0 c.if-not-knows.false).1 c.to.inside.0 _ (record { number = c.to.view_is ∙ ap (λ name. name.to) c.name-to.ensures; seen = c.ends.view_is }) c.index_mut.result.now c.index_mut.ensures.value c.requires.sends c.redeem.result (λ out. FitsSent (Fits host_meaning) out c.args.ticket.number) c.redeem.ensures.fits;
+  fits = out_fits (lends (goal.at.returns-clause-does c).After-index_mut) c.redeem.result (λ out. FitsSent (Fits host_meaning) out c.args.ticket.number) c.redeem.ensures.fits;
   told_is = c.told_redeemed.ensures;
 }

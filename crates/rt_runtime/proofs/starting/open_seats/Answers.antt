@@ -49,8 +49,11 @@ loop-seat-preserved g c =
           (record {
             board = ap (λ watcher. watcher.board) c.in_ok-worker.ensures.watches;
             terms_are = ap (λ watcher. watcher.terms) c.in_ok-worker.ensures.watches;
-            none = ap (λ watcher. watcher.notes) c.in_ok-worker.ensures.watches;
-            unseen = (ap (λ watcher. watcher.count) c.in_ok-worker.ensures.watches, ap (λ watcher. watcher.closed) c.in_ok-worker.ensures.watches);
+            unseen = record {
+              none = ap (λ watcher. watcher.notes) c.in_ok-worker.ensures.watches;
+              count = ap (λ watcher. watcher.count) c.in_ok-worker.ensures.watches;
+              closed = ap (λ watcher. watcher.closed) c.in_ok-worker.ensures.watches;
+            };
           })));
       made = rw c.push_reserved.ensures.items
           (made_more

@@ -2,22 +2,28 @@ use Rattle.std.proofs.Common.{◌≡◌, ◌+◌, ap, length, sym, subst, ◌∙
 use Rattle.rt_runtime_worker.specs.Linked.{StaysLinked}
 use Rattle.rt_hosted.specs.Hosted.{HasRoom, HostedView}
 use Rattle.rt_runtime_worker.specs.Steps.{ShutsGate}
-use Rattle.rt_hosted.proofs.Kept.{hosted_after, same_run}
+use Rattle.rt_hosted.proofs.Kept.{Leaves, holds_after, hosted_after, same_run}
 use Rattle.rt_hosted.proofs.hosted.Hosted.shut.Goals as goal
+use Rattle.rt_hosted.proofs.hosted.Hosted.shut.Goals.{After-shut_on}
+
+-- what the call on the end left
+left : (c : goal.After-shut_on) → Leaves 1 c.self.inside.recorded c.shut_on.new.recorded c.shut_on.new.ends
+left c = record {
+  sound = c.shut_on.ensures.sound;
+  beside = c.shut_on.ensures.beside;
+  room = subst (λ (view : HostedView). HasRoom 1 view.recorded) (sym c.self.view_is) (c.has_room.ensures.0 c.if-not-has_room.false);
+  few =
+      let longer : length c.shut_on.new.recorded.journal.notes ≡ length c.self.inside.recorded.journal.notes + 1 = ap (λ journal. length journal.notes) c.shut_on.ensures.does.tells.journal ∙ omega arith in
+      omega (arith, longer);
+  keeps = same_run c.self.inside.recorded.core.out c.shut_on.new.recorded.core.out c.shut_on.ensures.does.tells.out;
+  seat = c.shut_on.ensures.does.stays.seat;
+}
 
 pub invariant_of-self : goal.invariant_of-self
-invariant_of-self c = (
-  hosted_after 1 c.self.inside.recorded c.shut_on.new.recorded c.shut_on.new.ends c.shut_on.ensures.sound c.shut_on.ensures.beside (subst (λ (view : HostedView). HasRoom 1 view.recorded) (sym c.self.view_is) (c.has_room.ensures.0 c.if-not-has_room.false))
-      (let longer : length c.shut_on.new.recorded.journal.notes ≡ length c.self.inside.recorded.journal.notes + 1 = ap (λ journal. length journal.notes) c.shut_on.ensures.does.tells.journal ∙ omega arith in omega (arith, longer)) (same_run c.self.inside.recorded.core.out c.shut_on.new.recorded.core.out c.shut_on.ensures.does.tells.out) c.shut_on.ensures.does.stays.seat,
-  (same_run c.self.inside.recorded.core.out c.shut_on.new.recorded.core.out c.shut_on.ensures.does.tells.out).runs _ c.self.invariant.1,
-  c.self.invariant.2 ∙ sym c.shut_on.ensures.does.stays.seat.cores,
-  c.self.invariant.3 ∙ sym c.shut_on.ensures.does.stays.seat.passed,
-)
+invariant_of-self c = holds_after (left (goal.at.invariant_of-self c).After-shut_on) c.self.inside.run c.self.invariant.1 c.self.invariant.2 c.self.invariant.3
 
 pub returns-clause-hosted : goal.returns-clause-hosted
-returns-clause-hosted c =
-    hosted_after 1 c.self.inside.recorded c.shut_on.new.recorded c.shut_on.new.ends c.shut_on.ensures.sound c.shut_on.ensures.beside (subst (λ (view : HostedView). HasRoom 1 view.recorded) (sym c.self.view_is) (c.has_room.ensures.0 c.if-not-has_room.false))
-    (let longer : length c.shut_on.new.recorded.journal.notes ≡ length c.self.inside.recorded.journal.notes + 1 = ap (λ journal. length journal.notes) c.shut_on.ensures.does.tells.journal ∙ omega arith in omega (arith, longer)) (same_run c.self.inside.recorded.core.out c.shut_on.new.recorded.core.out c.shut_on.ensures.does.tells.out) c.shut_on.ensures.does.stays.seat
+returns-clause-hosted c = hosted_after (left (goal.at.returns-clause-hosted c).After-shut_on)
 
 pub returns-clause-stays : goal.returns-clause-stays
 returns-clause-stays c = subst (λ (old : HostedView). StaysLinked old (record { recorded = c.shut_on.new.recorded; ends = c.shut_on.new.ends })) c.self.view_is c.shut_on.ensures.does.stays

@@ -1,23 +1,27 @@
-use Rattle.std.proofs.Common.{sym, subst, ◌∙◌}
+use Rattle.std.proofs.Common.{sym, subst}
 use Rattle.rt_runtime_worker.specs.Linked.{StaysLinked}
 use Rattle.rt_hosted.specs.Hosted.{HasRoom, HostedView}
-use Rattle.rt_hosted.proofs.Kept.{hosted_after, rest_run}
-use Rattle.rt_hosted.proofs.OnOuts.{submitted_few}
+use Rattle.rt_hosted.proofs.Kept.{Leaves, holds_after, hosted_after, rest_run}
+use Rattle.rt_hosted.proofs.Submitted.{submits_add}
 use Rattle.rt_hosted.proofs.hosted.Hosted.submit.Goals as goal
+use Rattle.rt_hosted.proofs.hosted.Hosted.submit.Goals.{After-submit_on}
+
+-- what the call on the end left
+left : (c : goal.After-submit_on) → Leaves 1 c.self.inside.recorded c.submit_on.new.recorded c.submit_on.new.ends
+left c = record {
+  sound = c.submit_on.ensures.sound;
+  beside = c.submit_on.ensures.beside;
+  room = subst (λ (view : HostedView). HasRoom 1 view.recorded) (sym c.self.view_is) (c.has_room.ensures.0 c.if-not-has_room.false);
+  few = (submits_add _ _ _ _ _ c.submit_on.ensures.does.submits).few;
+  keeps = rest_run c.self.inside.recorded c.submit_on.new.recorded c.submit_on.ensures.does.rest;
+  seat = c.submit_on.ensures.stays.seat;
+}
 
 pub invariant_of-self : goal.invariant_of-self
-invariant_of-self c = (
-  hosted_after 1 c.self.inside.recorded c.submit_on.new.recorded c.submit_on.new.ends c.submit_on.ensures.sound c.submit_on.ensures.beside (subst (λ (view : HostedView). HasRoom 1 view.recorded) (sym c.self.view_is) (c.has_room.ensures.0 c.if-not-has_room.false))
-      (submitted_few _ _ _ _ _ c.submit_on.ensures.does.submits) (rest_run c.self.inside.recorded c.submit_on.new.recorded c.submit_on.ensures.does.rest) c.submit_on.ensures.stays.seat,
-  (rest_run c.self.inside.recorded c.submit_on.new.recorded c.submit_on.ensures.does.rest).runs _ c.self.invariant.1,
-  c.self.invariant.2 ∙ sym c.submit_on.ensures.stays.seat.cores,
-  c.self.invariant.3 ∙ sym c.submit_on.ensures.stays.seat.passed,
-)
+invariant_of-self c = holds_after (left (goal.at.invariant_of-self c).After-submit_on) c.self.inside.run c.self.invariant.1 c.self.invariant.2 c.self.invariant.3
 
 pub returns-clause-hosted : goal.returns-clause-hosted
-returns-clause-hosted c =
-    hosted_after 1 c.self.inside.recorded c.submit_on.new.recorded c.submit_on.new.ends c.submit_on.ensures.sound c.submit_on.ensures.beside (subst (λ (view : HostedView). HasRoom 1 view.recorded) (sym c.self.view_is) (c.has_room.ensures.0 c.if-not-has_room.false))
-    (submitted_few _ _ _ _ _ c.submit_on.ensures.does.submits) (rest_run c.self.inside.recorded c.submit_on.new.recorded c.submit_on.ensures.does.rest) c.submit_on.ensures.stays.seat
+returns-clause-hosted c = hosted_after (left (goal.at.returns-clause-hosted c).After-submit_on)
 
 pub returns-clause-stays : goal.returns-clause-stays
 returns-clause-stays c = subst (λ (old : HostedView). StaysLinked old (record { recorded = c.submit_on.new.recorded; ends = c.submit_on.new.ends })) c.self.view_is c.submit_on.ensures.stays

@@ -8,7 +8,7 @@ use Rattle.rt_runtime_config.specs.Configs.{least_room}
 use Rattle.rt_runtime.specs.Starting.{HaveQueues, IsHouse}
 use Rattle.std.proofs.lemmas.List.{length-map}
 use Rattle.rt_runtime_team.proofs.Lists.{together_length}
-use Rattle.rt_runtime.specs.Watching.{IsWatcherOf}
+use Rattle.rt_runtime.specs.Watching.{IsUnseen, IsWatcherOf}
 use Rattle.rt_runtime.proofs.AllPassed.{together_all}
 use Rattle.rt_runtime.proofs.Dealt.{same_maps}
 use Rattle.rt_runtime.proofs.Started.{holds_next, none_submitted, started}
@@ -82,6 +82,6 @@ returns-in-Ok-start g c = record {
   watched =
       sym (together_length IsWatcherOf c.in-Ok.workers.items c.in-Ok.watchers.items c.in-Ok.ensures.watchers)
       ∙ (sym (length-map c.in-Ok.workers.items (λ worker. worker.linked)) ∙ c.in-Ok.ensures.house.count);
-  unseen = together_all IsWatcherOf (λ seen. seen.notes ≡ []) (λ worker watcher is. is.none) c.in-Ok.workers.items c.in-Ok.watchers.items c.in-Ok.ensures.watchers;
+  unseen = together_all IsWatcherOf IsUnseen (λ worker watcher is. is.unseen) c.in-Ok.workers.items c.in-Ok.watchers.items c.in-Ok.ensures.watchers;
   have_queues = subst (λ workers. HaveQueues c.args.config.now.cores c.args.config.now.queues.items (map (λ worker. worker.linked) workers)) (sym c.in-Ok-start.ensures.ok) c.in-Ok.ensures.house.have_queues;
 }

@@ -1,0 +1,41 @@
+-- Which status a command line has.
+use Rattle.std.proofs.Common.{◌≡◌, ◌≢◌, ◌∷◌, [], List, ℕ, Option, Some, None, Ok, Err, inr}
+use Rattle.clap.specs.Kinds.{Kinds}
+use Rattle.fair_args.specs.Asks.{Asking}
+use Rattle.fair_args.specs.Refusals.{IsReason}
+use Rattle.fair_args.specs.declared.unasked.Unasked.{Unasked}
+use Rattle.fair_args.specs.declared.unasked.Unasked.TheVariants as unasked
+use Rattle.fairview_args.specs.Asks.{Wish}
+use Rattle.fairview_report.specs.Faults.{status_of}
+use Rattle.fairview_report.specs.declared.fault.ViewFault.TheVariants as fault
+use Rattle.fairview_report.specs.declared.view.View.{View}
+use Rattle.rt_text.specs.declared.status.Status.{Status}
+use Rattle.rt_text.specs.declared.status.Status.TheVariants as status
+use Rattle.fairview.specs.Answers.{Answer}
+use Rattle.fairview.specs.Ends.{EndsBy, status_unasked}
+
+-- no answer ends as what an audit found
+pub no_fault_found : (answer : Answer) → status_of answer ≢ status.FaultFound
+no_fault_found (Ok done) is = cc
+no_fault_found (Err (fault.Text line cause)) is = cc
+no_fault_found (Err (fault.Core core)) is = cc
+no_fault_found (Err fault.Read) is = cc
+no_fault_found (Err fault.Write) is = cc
+no_fault_found (Err fault.Memory) is = cc
+
+-- nor do words that ask for nothing
+pub none_found : (why : Unasked) → status_unasked why ≢ status.FaultFound
+none_found unasked.Told is = cc
+none_found unasked.Mistake is = cc
+none_found unasked.Write is = cc
+none_found unasked.Memory is = cc
+
+module _ (shows : Option (List ℕ) → View → Answer → Type 0) (same : Type 0) where
+  -- words that ask for nothing end by why they do
+  pub ends_unasked : (faults : Kinds) (asked : Option (Asking Wish)) (why : Unasked) (result : Status) → IsReason faults why → result ≡ status_unasked why → same → EndsBy shows same faults asked result
+  ends_unasked [] (Some asking) unasked.Told result reason is stays = absurd reason.1
+  ends_unasked [] (Some asking) unasked.Mistake result reason is stays = absurd reason.1
+  ends_unasked [] (Some asking) unasked.Write result reason is stays = absurd reason.1
+  ends_unasked [] (Some asking) unasked.Memory result reason is stays = inr (is, stays)
+  ends_unasked [] None why result reason is stays = record { why = why; reason = reason; ended = is; stays = stays }
+  ends_unasked (kind ∷ faults) asked why result reason is stays = record { why = why; reason = reason; ended = is; stays = stays }
