@@ -11,3 +11,5 @@ mod refusals;
 mod room;
 #[cfg(test)]
 mod runs;
+#[cfg(test)]
+mod threads;

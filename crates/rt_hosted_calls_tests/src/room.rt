@@ -60,7 +60,7 @@ pub(crate) fn no_outcome() -> OutcomeTold {
 }
 
 /// The next seat of a house, if its number is this.
-fn seat(alloc: Global, house: &mut Member, wanted: u32) -> Option<Box<Member>> {
+pub(crate) fn seat(alloc: Global, house: &mut Member, wanted: u32) -> Option<Box<Member>> {
     match house.take_seat(alloc) {
         Ok((seat, number)) => { if number == wanted { Some(seat) } else { None } }
         Err(_) => None,
