@@ -1,39 +1,13 @@
 //! An answer of which a contract sees the number.
 
-ghost use Rattle.std.specs.Prelude.{◌≡◌, ℕ, length};
+ghost use Rattle.std.specs.Prelude.{◌≡◌};
 ghost use Rattle.rt_ids.specs.Outcomes.{IsSpelledOutcome, outcome_note};
 ghost use Rattle.sketch_answers.specs.Numbers.{note_at};
 
+use rt_answers::Answer;
 use rt_ids::{Answer as Told, Outcome, OutcomeNote};
 use std::marker::Model;
 use std::mem;
-
-/// What a job answers. A note tells its number, and nothing else of it.
-pub trait Answer: Drop {
-    ghost number: { Self → ℕ };
-
-    /// The number that a note tells.
-    fn noted(&self) -> u64
-        ensures { result ≡ number self.now };
-}
-
-/// A number is noted as it is, so of a number a contract sees all.
-impl Answer for u64 {
-    ghost number = { λ n. n };
-
-    fn noted(&self) -> u64 {
-        *self
-    }
-}
-
-/// A list is noted by its length.
-impl Answer for Vec<u64> {
-    ghost number = { λ rows. length rows.items };
-
-    fn noted(&self) -> u64 {
-        self.len() as u64
-    }
-}
 
 /// An answer of which a contract sees the number alone. It has the bytes of the answer.
 #[derive(Drop)]

@@ -5,7 +5,8 @@ ghost use Rattle.rt_ids.specs.declared.order.Outcome.TheVariants.{Finished};
 ghost use Rattle.rt_jobs.specs.Steps.{IfDone, IfUndone};
 ghost use Rattle.sketch_answers.specs.Keeping.{Keeps, Redeems};
 
-use crate::answer::{Answer, Numbered, told};
+use crate::answer::{Numbered, told};
+use rt_answers::Answer;
 use rt_ids::{JobId, Note, Outcome};
 use rt_jobs::{Step, Task};
 use rt_journal_notes::Journal;

@@ -4,7 +4,7 @@ ghost use Rattle.std.specs.Prelude.{◌≡◌, ◌↔◌};
 ghost use Rattle.rt_ids.specs.Outcomes.{FitsOrder, outcome_note};
 ghost use Rattle.sketch_answers.specs.Numbers.{note_at};
 
-use crate::answer::Answer;
+use rt_answers::Answer;
 use rt_ids::{Order, Outcome};
 
 /// An answer that is a number is noted as it is today.

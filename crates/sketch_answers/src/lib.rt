@@ -5,5 +5,5 @@ mod answer;
 mod kept;
 mod laws;
 
-pub use answer::{Answer, Numbered, exchanged, note_of, told};
+pub use answer::{Numbered, exchanged, note_of, told};
 pub use kept::{Answers, Kept, parted};
