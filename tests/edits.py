@@ -3,6 +3,7 @@ Those that begin with a line 'tests: CRATE' are left to tests/tested-edits: a te
 
   tests/edits [--jobs N] [--gate] [--alone] [NAME..]
   tests/edits --look [NAME..]
+  tests/edits --compile [NAME..]
 
 NAME..    these crates alone; without a name every crate that has edits
 --jobs N  this many crates side by side (1 if left out; a check takes up to 4 GB)
@@ -10,12 +11,14 @@ NAME..    these crates alone; without a name every crate that has edits
 --alone   each edit in a check of its own, of the whole crate
 --look    proves nothing: names each edit, of must-fail/ too, that can't be applied, in a second for all.
           The last line is 'N passed, M failed', and the status is 0 if each can be.
+--compile proves no edit, and gives all to the compiler, many in one pass: names each that it refuses without a line 'compiler:',
+          and each with such a line that it doesn't refuse so. The last line and the status are as those of --look.
 
 An edit may change an answer of its function too, behind its change of the function, so that a clause of the contract stays open.
 Edits of one crate that change different functions are tried together: one check proves all the functions that they change, and
 nothing else. An edit is refused if a goal of its own function is open. Whatever isn't refused so, or changes more than the bodies
 of functions, is tried alone by `rt must-fail`, which checks the whole crate. An edit with a line 'compiler: CODE' must be refused
-by the compiler with that error, before anything is proved.
+by the compiler with that error, before anything is proved. Any other that the compiler refuses is a BAD EDIT: it says nothing of a contract.
 
 Works on a copy. The libraries that were built on this machine are taken along, and the others are built.
 The last line counts the edits that were refused, those that still prove, and those that can't be applied.
@@ -33,6 +36,9 @@ ROOT = Path(__file__).resolve().parent.parent
 
 # How many functions one check proves at most, so that its memory stays small.
 MOST = 12
+
+# A check of no function ends where the compiler is through.
+NO_FUNCTION = "no_function_has_this_name"
 
 # What a proof file says of a name that an edit took away, or of a goal that says nothing any more. It tells nothing of the contract.
 NAMES = re.compile(r"has no field|is not in scope|has no `|was not admitted|expected type `Unit \{0\}`")
@@ -174,6 +180,10 @@ class Copy:
         texts = {}
         for edit in edits:
             edit.apply(self.folder, texts)
+        return self.with_texts(texts, *words)
+
+    def with_texts(self, texts, *words):
+        """What rt says of the crate with these texts of files."""
         were = {file: (self.folder / file).read_text() for file in texts}
         try:
             for file, text in texts.items():
@@ -242,10 +252,39 @@ def batches(edits):
     return found
 
 
-def by_compiler(copy, edit):
-    said = copy.with_edits([edit], "check", "--only", "")
-    error = next((it for it in said if f"error[{edit.compiler}]" in it), None)
-    edit.said = f"refused: {error[:160]}" if error else f"NOT REFUSED by the compiler: no error[{edit.compiler}]"
+def by_compiler(copy, edits):
+    """Gives these edits to the compiler, and says of those with a line 'compiler:' whether it refuses them, and of the others which are bad."""
+    from compiled_edits import refusals
+
+    for asked in ([it for it in edits if it.compiler], [it for it in edits if not it.compiler]):
+        told = refusals(asked, copy.folder, lambda texts: copy.with_texts(texts, "check", "--only", NO_FUNCTION))
+        for edit in asked:
+            error = told.pop(edit.name, None)
+            if edit.compiler:
+                is_so = error and f"error[{edit.compiler}]" in error
+                edit.said = f"refused: {error}" if is_so else f"NOT REFUSED by the compiler with error[{edit.compiler}]: {error}"
+            elif error:
+                edit.said = f"BAD EDIT: the compiler refuses it: {error}"
+        for where, error in told.items():
+            print(f"{copy.crate}: {where}: {error}", flush=True)
+
+
+def compile_all(crates):
+    passed, failed = 0, 0
+    with tempfile.TemporaryDirectory() as room:
+        for crate in crates:
+            edits = [it for it in edits_of(crate, "edits", "must-fail") if not it.apply(ROOT / "crates" / crate, {})]
+            if not edits:
+                continue
+            copy = Copy(crate, Path(room))
+            by_compiler(copy, edits)
+            bad = [it for it in edits if it.said and not it.said.startswith("refused")]
+            for edit in bad:
+                print(f"{edit.path.relative_to(ROOT)}: {edit.said}", flush=True)
+            passed, failed = passed + len(edits) - len(bad), failed + len(bad)
+            shutil.rmtree(copy.top, ignore_errors=True)
+    print(f"{passed} passed, {failed} failed")
+    return 1 if failed else 0
 
 
 def try_crate(crate, kinds, each_alone, room):
@@ -257,9 +296,8 @@ def try_crate(crate, kinds, each_alone, room):
         edit.said = why and f"BAD EDIT: {why}"
     left = [it for it in edits if not it.said]
     copy = Copy(crate, room)
-    for edit in [it for it in left if it.compiler]:
-        by_compiler(copy, edit)
-    left = [it for it in left if not it.compiler]
+    by_compiler(copy, left)
+    left = [it for it in left if not it.said]
     if not each_alone and left:
         said = copy.rt("check", "--jobs", "1")
         functions = [it[1] for it in (re.match(rf"fn {crate}::(\S+): proved", line) for line in said) if it]
@@ -282,7 +320,7 @@ def stop(why):
 
 
 def main(words):
-    jobs, kinds, each_alone, is_look, names = 1, ["edits"], False, False, []
+    jobs, kinds, each_alone, proves_none, names = 1, ["edits"], False, None, []
     while words:
         word = words.pop(0)
         if word == "--jobs" and words and words[0].isdigit() and int(words[0]):
@@ -291,8 +329,8 @@ def main(words):
             kinds = ["edits", "must-fail"]
         elif word == "--alone":
             each_alone = True
-        elif word == "--look":
-            is_look = True
+        elif word in ("--look", "--compile"):
+            proves_none = look if word == "--look" else compile_all
         elif word.startswith("-"):
             stop(__doc__.strip())
         else:
@@ -301,8 +339,8 @@ def main(words):
     for name in names:
         if name not in here:
             stop(f"tests/edits: no crate {name}")
-    if is_look:
-        return look(names or here)
+    if proves_none:
+        return proves_none(names or here)
     crates = names or [it for it in here if any(not edit.tests for edit in edits_of(it, *kinds))]
     with tempfile.TemporaryDirectory() as room, ThreadPoolExecutor(jobs) as pool:
         tried = [edit for it in pool.map(lambda crate: try_crate(crate, kinds, each_alone, Path(room)), crates) for edit in it]

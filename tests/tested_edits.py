@@ -4,8 +4,9 @@
 
 NAME..       the edits of these crates alone; without a name those of every crate
 --jobs N     this many side by side (1 if left out; each takes up to 2 GB)
---minutes N  begins no other edit once N minutes have passed, and names those that are left. First come those whose crate, tests or own
-             text changed last: what isn't committed, and then by the time of the commit
+--minutes N  begins no other edit once N minutes have passed, and names those that are left. One comes whose crate, tests or own text
+             changed last (what isn't committed, and then by the time of the commit), then one in turn, and so on. The turn goes
+             through all edits, one further with each commit, so that over the commits each is tried
 
 Works on copies. The tests of a crate are built and run with no proof (`rt try --test`), once without an edit, when they must pass, and
 then with each edit. An edit is refused if a test fails.
@@ -165,6 +166,19 @@ def newest_first(tries):
     return sorted(tries, key=lambda it: -max(of(crates / it.crate / "src"), of(crates / it.tests / "src"), of(it.edit.path)))
 
 
+def in_turn(tries):
+    """Those of the same tests beside each other, from a place on that each commit moves by one."""
+    told = git("rev-list", "--count", "HEAD").strip()
+    ordered = sorted(tries, key=lambda it: (it.tests, it.crate, it.edit.name))
+    start = int(told) % len(ordered) if told.isdigit() and ordered else 0
+    return ordered[start:] + ordered[:start]
+
+
+def newest_and_in_turn(tries):
+    """The one that changed last, one in turn, and so on."""
+    return list(dict.fromkeys(it for pair in zip(newest_first(tries), in_turn(tries)) for it in pair))
+
+
 def with_untouched(tries):
     """These tries, and in front of the first one of each crate of tests the one without an edit. Answers those by crate too."""
     found, untouched = [], {}
@@ -208,7 +222,7 @@ def main(words):
         if it.tests not in here:
             stop(f"tests/tested-edits: {it.edit.path.relative_to(ROOT)}: no crate {it.tests}")
     if minutes:
-        tries = newest_first(tries)
+        tries = newest_and_in_turn(tries)
     left, untouched = with_untouched(tries)
     passed, failed, waiting = 0, 0, []
 

@@ -29,6 +29,16 @@
  * which gives it back before it answers; fx_house_end, fx_house_free and fx_seat_free give back what the others took. The library is for
  * x86-64-v2.
  *
+ * What no call can test is the host's duty, beside the threads' order above:
+ * - Each pointer points to a value of its type, or to as many bytes as `room` tells, and none is null. Two pointers of one call don't overlap.
+ * - A handle is empty, by FX_NO_CORE or its like, before its first call. Only one copy of it is used.
+ * - The forked child of a process with threads makes no call.
+ * - The program's malloc, realloc and free are of one allocator, and malloc aligns blocks to 16 bytes.
+ * - The seats that a house is ended with are its own.
+ * - What a job's number stands for lives until the call that answers FX_DONE or FX_BACK of it; in a house until fx_seat_settle answers FX_DONE,
+ *   or until the outcome by which the job comes back is redeemed.
+ * - A run that an exception or a panic ends is settled all the same.
+ *
  * C99 and C++11. docs/EMBEDDING.md tells how to build and link, and what is promised.
  */
 #ifndef FAIREXEC_H
@@ -41,7 +51,12 @@
 extern "C" {
 #endif
 
-/* The version of this interface. A host compares it with fx_version() before its first other call. */
+/*
+ * The version of this interface. A host compares it with fx_version() before its first other call. It rises whenever a host that was compiled
+ * with the header before would go wrong: if a call, a struct, a number or what one means changes or goes. A call that is added leaves it as it is.
+ * The host sets the size field of a struct to the struct's sizeof. Any other number is answered FX_BAD_NUMBER: so the struct of another header is
+ * found. No struct grows within a version.
+ */
 #define FX_VERSION 1u
 
 /* No pointer that is handed in is null: compilers that know how warn of one, and none is tried at run time. */

@@ -125,25 +125,27 @@ template <class Job> class actor {
     std::list<waiting> waits;
     // Whether outcomes were collected for which nobody asked yet.
     bool are_new = false;
-    // Who takes the notes if the journal is full, and where their text stands meanwhile.
+    // Who takes the notes if the journal is full, and where their text stands until he took it.
     std::function<void(const std::string &)> keeper;
     std::string notes;
 
-    // Asks for all outcomes that may have come. What a full journal refuses is asked for the next time.
+    // Asks for all outcomes that may have come. What a full journal refuses is asked for the next time, and so is all behind an exception of `takes`.
     void ask() {
-        if (!std::exchange(are_new, false)) return;
+        if (!are_new) return;
+        bool again = false;
         for (std::size_t each = 0; each < loose.size();) {
             fx_code code = redeem(loose[each]).first;
-            are_new = are_new || code == FX_JOURNAL_FULL;
+            again = again || code == FX_JOURNAL_FULL;
             if (code == FX_PENDING || code == FX_JOURNAL_FULL) each++;
             else loose[each] = loose.back(), loose.pop_back();
         }
         for (auto &each : waits) {
             if (each.told) continue;
             auto told = redeem(each.of);
-            are_new = are_new || told.first == FX_JOURNAL_FULL;
+            again = again || told.first == FX_JOURNAL_FULL;
             if (told.first != FX_PENDING && told.first != FX_JOURNAL_FULL) each.told.emplace(std::move(told));
         }
+        are_new = again;
     }
     // Wakes the jobs whose outcomes have come. A wake that the link doesn't take waits for the next time.
     void wake_waiting() {
@@ -151,16 +153,34 @@ template <class Job> class actor {
             if (!each.told || each.is_woken) continue;
             auto sent = wake(each.job);
             each.is_woken = sent.code == FX_OK;
-            if (sent.ticket) detach(*sent.ticket);
+            if (!sent.ticket) continue;
+            try {
+                detach(*sent.ticket);
+            } catch (...) {
+                loose.push_back(*sent.ticket);
+                throw;
+            }
         }
     }
 
-    // Hands the notes to whoever takes them. Whether anybody did.
+    // Puts the text of what the journal keeps behind this text. An exception of the string leaves all as it was.
+    fx_code put_behind(std::string &text) {
+        std::size_t had = text.size();
+        uint64_t count = 0;
+        uint32_t code;
+        text.resize(std::max(text.capacity(), had + 1));
+        while ((code = fx_seat_pass_on(&seat, reinterpret_cast<uint8_t *>(&text[had]), text.size() - had, &count)) == FX_SHORT) {
+            text.resize(had);
+            text.resize(had + static_cast<std::size_t>(count));
+        }
+        text.resize(code == FX_OK ? had + static_cast<std::size_t>(count) : had);
+        return static_cast<fx_code>(code);
+    }
+    // Hands the notes to whoever takes them, behind those that an exception of his left. Whether anybody took them.
     bool hand_on() {
-        if (!keeper) return false;
-        notes.clear();
-        if (pass_on(notes) != FX_OK) return false;
+        if (!keeper || put_behind(notes) != FX_OK) return false;
         keeper(notes);
+        notes.clear();
         return true;
     }
 
@@ -195,7 +215,7 @@ public:
         if (code != FX_OK) throw error(code);
     }
     actor(actor &&other) noexcept
-        : to_core(std::move(other.to_core)), loose(std::move(other.loose)), waits(std::move(other.waits)), are_new(other.are_new), keeper(std::move(other.keeper)), own(other.own), shared(std::move(other.shared)) {
+        : to_core(std::move(other.to_core)), loose(std::move(other.loose)), waits(std::move(other.waits)), are_new(other.are_new), keeper(std::move(other.keeper)), notes(std::move(other.notes)), own(other.own), shared(std::move(other.shared)) {
         std::swap(seat, other.seat);
     }
     actor(const actor &) = delete;
@@ -211,7 +231,13 @@ public:
         uint32_t place = vacant.front();
         shared->put(own, to, place, std::move(job));
         fx_name name;
-        uint32_t code = called([&] { return fx_seat_submit(&seat, to, queue, place, &name); });
+        uint32_t code;
+        try {
+            code = called([&] { return fx_seat_submit(&seat, to, queue, place, &name); });
+        } catch (...) {
+            shared->take(own, to, place);
+            throw;
+        }
         if (code != FX_OK) return {static_cast<fx_code>(code), std::nullopt, shared->take(own, to, place)};
         vacant.pop_front();
         return accepted(name, place);
@@ -289,21 +315,19 @@ public:
     }
 
     // Puts the text of the notes that the journal keeps behind this text: FX_OK, or FX_NO_MEMORY. The journal keeps none of them then, and all its
-    // notes are free. All parts of an actor are its notes in the text of the journals. An exception of the string leaves all as it was.
+    // notes are free. All parts of an actor are its notes in the text of the journals. An exception of the string loses none of them.
     fx_code pass_on(std::string &text) {
-        std::size_t had = text.size();
-        uint64_t count = 0;
-        uint32_t code;
-        text.resize(std::max(text.capacity(), had + 1));
-        while ((code = fx_seat_pass_on(&seat, reinterpret_cast<uint8_t *>(&text[had]), text.size() - had, &count)) == FX_SHORT) {
-            text.resize(had);
-            text.resize(had + static_cast<std::size_t>(count));
-        }
-        text.resize(code == FX_OK ? had + static_cast<std::size_t>(count) : had);
-        return static_cast<fx_code>(code);
+        if (notes.empty()) return put_behind(text);
+        fx_code code = put_behind(notes);
+        if (code != FX_OK) return code;
+        text += notes;
+        notes.clear();
+        return FX_OK;
     }
     // Whenever the journal is full from now on, the text of its notes goes to `takes`, and the call that needs room is made again. So
     // FX_JOURNAL_FULL comes only if the journal has room for fewer notes than one call may need. What is kept at the end goes out by `pass_on`.
+    // An exception of `takes` leaves that call, which wasn't made; a job that was handed in with it is destroyed. The text is kept: it goes first
+    // the next time that notes go to `takes`, or to pass_on.
     void keep_notes_by(std::function<void(const std::string &)> takes) { keeper = std::move(takes); }
 
     // A thread that sleeps by its own means, as by epoll, lets `calls` be called where there is something to do: it says so before the threads

@@ -210,6 +210,8 @@ template <class Job, class Clock = std::chrono::steady_clock> class house {
         ~owned() { fx_house_free(&at); }
     } handle;
     std::shared_ptr<lanes<Job>> shared;
+    // How many cores have ended.
+    std::size_t ended = 0;
 
     std::shared_ptr<lanes<Job>> opened(const config &with) {
         if (fx_version() != FX_VERSION) throw std::runtime_error("libfairexec.a has another version than fairexec.h");
@@ -239,11 +241,15 @@ public:
     house(const house &) = delete;
     house &operator=(const house &) = delete;
 
-    // Ends all actors: FX_OK, or FX_NOT_DRAINED. No thread uses them any more.
+    // Ends all actors: FX_OK; or FX_NOT_DRAINED, and none has ended by this call; or FX_NO_MEMORY, and the next call goes on with who is left. No
+    // thread uses the actors any more.
     fx_code end() noexcept {
-        for (auto &each : cores)
-            if (!each.is_drained()) return FX_NOT_DRAINED;
-        for (auto &each : cores) each.end(handle.at);
+        for (std::size_t each = ended; each < cores.size(); each++)
+            if (!cores[each].is_drained()) return FX_NOT_DRAINED;
+        for (; ended < cores.size(); ended++) {
+            fx_code code = cores[ended].end(handle.at);
+            if (code != FX_OK) return code;
+        }
         return outside.end(handle.at);
     }
     // After the end: the verdict over the journals of all actors, and the text of the notes that they kept. If an actor passed notes on, the
@@ -292,109 +298,8 @@ public:
     result operator()(cx<job> &here) { return held->run(here); }
 };
 
-#if defined(__cpp_impl_coroutine)
-// A coroutine as a job of a house: `co_return 42;` is its answer, `co_await again;` and `co_await park;` end a run, and
-// `co_await ask(core, queue, task)` submits another one and goes on with its outcome. Until that has come it is parked, and the other holds a place of
-// the link: coroutines that wait for more others than a link has places wait for ever. An exception of a coroutine leaves run_turn; a submission that is refused for good throws `error` in the coroutine.
-class task {
-public:
-    struct promise_type;
-    struct asking;
-
-    task(task &&other) noexcept : at(std::exchange(other.at, nullptr)) {}
-    task &operator=(task &&) = delete;
-    ~task() {
-        if (at) at.destroy();
-    }
-    result operator()(cx<task> &here);
-
-private:
-    std::coroutine_handle<promise_type> at;
-    explicit task(std::coroutine_handle<promise_type> at) : at(at) {}
-};
-
-struct task::asking {
-    uint32_t to, queue;
-    task job;
-};
-
-inline task::asking ask(uint32_t to, uint32_t queue, task job) { return {to, queue, std::move(job)}; }
-
-struct task::promise_type {
-    std::exception_ptr thrown;
-    bool parks = false;
-    uint64_t answer = 0;
-    // What it asks another core, from the submission to the outcome.
-    std::optional<asking> sends;
-    std::optional<ticket> waits;
-    std::optional<outcome<task>> told;
-    fx_code refused = FX_OK;
-
-    struct awaits {
-        promise_type &of;
-        bool await_ready() noexcept { return false; }
-        void await_suspend(std::coroutine_handle<>) noexcept {}
-        outcome<task> await_resume() {
-            if (of.refused != FX_OK) throw error(std::exchange(of.refused, FX_OK));
-            outcome<task> told = std::move(*of.told);
-            of.told.reset();
-            return told;
-        }
-    };
-
-    task get_return_object() { return task(std::coroutine_handle<promise_type>::from_promise(*this)); }
-    std::suspend_always initial_suspend() noexcept { return {}; }
-    std::suspend_always final_suspend() noexcept { return {}; }
-    std::suspend_always await_transform(again_type) noexcept { return {}; }
-    std::suspend_always await_transform(park_type) noexcept {
-        parks = true;
-        return {};
-    }
-    awaits await_transform(asking what) {
-        sends.emplace(std::move(what));
-        return {*this};
-    }
-    void return_value(uint64_t with) noexcept { answer = with; }
-    void unhandled_exception() noexcept { thrown = std::current_exception(); }
-
-    // Whether the coroutine may go on: what it asks for has come, or is refused.
-    bool may_go_on(cx<task> &here) {
-        if (sends) {
-            auto sent = here->submit(sends->to, sends->queue, std::move(sends->job));
-            if (sent.code == FX_FULL) {
-                asking again{sends->to, sends->queue, std::move(*sent.refused)};
-                sends.reset();
-                sends.emplace(std::move(again));
-                return false;
-            }
-            sends.reset();
-            refused = sent.code;
-            waits = sent.ticket;
-            if (waits) here->wake_with(*waits, here.name);
-        }
-        if (!waits) return true;
-        auto kept = here->kept(*waits);
-        if (!kept) return false;
-        waits.reset();
-        refused = kept->first;
-        if (kept->second) told.emplace(std::move(*kept->second));
-        return true;
-    }
-};
-
-inline result task::operator()(cx<task> &here) {
-    promise_type &of = at.promise();
-    while (of.may_go_on(here)) {
-        of.parks = false;
-        at.resume();
-        if (of.thrown) std::rethrow_exception(std::exchange(of.thrown, nullptr));
-        if (at.done()) return done(of.answer);
-        if (!of.sends) return of.parks ? step::park : step::yield;
-    }
-    return of.waits ? step::park : step::yield;
-}
-#endif
-
 } // namespace fairexec::linked
+
+#include "fairexec_task.hpp"
 
 #endif

@@ -1,4 +1,5 @@
 """What the header of the library for hosts declares, and what its crates, its archive and raw.rs do: names, parameters, structs and codes.
+And whether its top comment says what the page for hosts asks of them.
 
 A declaration is {"functions": {name: [(type, parameter)]}, "structs": {name: [(type, field)]}, "codes": {name: number}}, in C's types.
 """
@@ -133,3 +134,33 @@ def wrong_headers(header):
         yield "a header with more", {**header, part: {**header[part], "fx_more": []}}
     for name, number in header["codes"].items():
         yield f"another {name}", {**header, "codes": {**header["codes"], name: number + 1}}
+
+
+# The rules for a host that no call tests: words of its row in docs/EMBEDDING.md, and what the top comment of the header says of it.
+RULES = {
+    "no pointer is null": ["none is null", "points to a value of its type, or to as many bytes as", "Two pointers of one call don't overlap"],
+    "only one copy of it is used": ["A handle is empty, by FX_NO_CORE or its like, before its first call", "Only one copy of it is used"],
+    "one call at a time on a handle": ["at most one call at a time runs on a handle"],
+    "goes to another thread by": ["stands a lock, the start or the join of a thread, or a sequentially consistent atomic"],
+    "the seats that a house is ended with": ["The seats that a house is ended with are its own"],
+    "no call in a signal handler": ["No call may be made from a signal handler", "The forked child of a process with threads makes no call"],
+    "aligns blocks to 16": ["malloc, realloc and free are of one allocator", "malloc aligns blocks to 16 bytes"],
+    "what a job's number stands for": ["the call that answers FX_DONE or FX_BACK of it", "until the outcome by which the job comes back is redeemed"],
+    "exceptions and panics": ["A run that an exception or a panic ends is settled"],
+}
+
+
+def top_of(header):
+    """The first comment of the header, on one line."""
+    return re.sub(r"\s*\n \*\s*", " ", header[: header.index("*/")])
+
+
+def unsaid(page, top):
+    """Which rules of the page the top comment doesn't say, as lines."""
+    section = page[page.index("## Rules for the host") : page.index("## What is promised")]
+    rows = [row for row, who in re.findall(r"^\| (.*) \| (.*) \|$", section, re.MULTILINE) if who.startswith("the host")]
+    found = [f"{of}: no row of the page" for of in RULES if sum(of in row for row in rows) != 1]
+    for row in rows:
+        said = [words for of, words in RULES.items() if of in row]
+        found += [f"{row}: the header doesn't say: {it}" for words in said for it in words if it not in top] if said else [f"{row}: no word of the header is known"]
+    return found

@@ -1,7 +1,7 @@
 /*
  * Calls on a house out of order, twice, on empty handles, on a house that has ended, on a core whose job runs, on the outside actor, and with
  * numbers at their limits: each answers the code that fairexec.h names, and a refused one changes nothing, by all counts of the core, by what
- * the links show, and by what its pointers point to.
+ * the links show, and by what its pointers point to. Houses that end with the seats of others, and what their audits and texts say.
  * The last line is 'N passed, M failed', and the status is 0 if nothing failed.
  */
 #include "house_checks.h"
@@ -332,6 +332,49 @@ static void moving(void) {
     freed(&of);
 }
 
+/* A house of two cores and one job ends with core 0 of another house. Nothing tests that but what is asked of the journals. */
+static void crossed(uint32_t cores, uint32_t jobs, uint32_t sound, uint32_t text) {
+    ran own = ran_jobs(2, 1), other = ran_jobs(cores, jobs);
+    fx_verdict verdict = {sizeof verdict, 7, 7, 7, 7};
+    uint8_t bytes[64];
+    uint64_t count = POISON;
+    memset(bytes, POISON, sizeof bytes);
+    IS(fx_house_end(&own.house, &other.seats[1]), FX_NO_ACTOR);
+    IS(fx_house_end(&own.house, &other.seats[0]), FX_OK);
+    empty(&other.seats[0]);
+    for (int each = 1; each < 3; each++) IS(fx_house_end(&own.house, &own.seats[each]), FX_OK);
+    IS(fx_house_audit(&own.house, &verdict), FX_OK);
+    is("whether it is sound", verdict.sound, sound);
+    is("a rule is broken, or none", verdict.rule > 0, !sound);
+    IS(fx_house_text(&own.house, 0, bytes, sizeof bytes, &count), text);
+    is("what has no text writes none", text != FX_MIXED || (count == POISON && bytes[0] == POISON), 1);
+    IS(fx_seat_free(&own.seats[0]), FX_OK);
+    for (uint32_t each = 1; each <= cores; each++) IS(fx_seat_free(&other.seats[each]), FX_OK);
+    IS(fx_house_free(&own.house), FX_OK);
+    IS(fx_house_free(&other.house), FX_OK);
+}
+
+/* A core has 256 queues at most. */
+static void many_queues(void) {
+    all of = opened(2, 1, 1000);
+    fx_seat *core = &of.seats[0], *outside = &of.seats[OUTSIDE];
+    fx_name name;
+    for (uint32_t number = 1; number <= 257; number++) {
+        poison();
+        IS(fx_seat_create(outside, 0, 100, &name), FX_OK);
+        IS(fx_seat_deliver(core, OUTSIDE), FX_OK);
+        IS(fx_seat_collect(outside, 0, &out.count), FX_OK);
+        IS(fx_seat_redeem(outside, &name, &out.outcome), FX_OK);
+        is("an answer", out.outcome.kind, FX_KIND_ANSWER);
+        is("the queue is made, or is one too many", out.outcome.why, number < 256 ? FX_ANSWER_CREATED : FX_ANSWER_TOO_MANY);
+        is("its number", out.outcome.queue, number < 256 ? number : 0);
+    }
+    poison();
+    IS(fx_seat_stats(core, &out.core), FX_OK);
+    is("there are 256", out.core.queues, 256);
+    freed(&of);
+}
+
 int main(void) {
     opening();
     numbers();
@@ -341,6 +384,11 @@ int main(void) {
     ending();
     ending_with_less();
     moving();
+    /* The journals fit, differ from those of the others, or name an actor that the house doesn't have. */
+    crossed(2, 1, 1, FX_OK);
+    crossed(2, 0, 0, FX_OK);
+    crossed(3, 1, 0, FX_MIXED);
+    many_queues();
     for (uint32_t code = FX_OK; code <= FX_PASSED_ON; code++) is("each code has a text of its own", strcmp(fx_text(code), fx_text(FX_PASSED_ON + 1)) != 0, 1);
     printf("%u passed, %u failed\n", passed, failed);
     return failed != 0;

@@ -1,8 +1,8 @@
 /*
  * A caller that picks its calls on houses and their numbers at random: house_random CALLS SEED. Often a call is one that is refused. It
  * prints each call with its numbers, what it was answered, and what it wrote; house_calls.py makes the same calls, and compares. Most houses have
- * two cores. Some have a journal that runs full, and in some notes are passed on, and their text is printed. A house that is drained is ended, and
- * its verdict and the text of its journals are printed.
+ * two cores. In some the journals run full or the cores have all their queues, and in some notes are passed on, and their text is printed. A house
+ * that is drained is ended, and its verdict and the text of its journals are printed.
  * A call that is refused and writes something all the same is printed as `wrote`, which no model answers.
  */
 #include "fairexec.h"
@@ -242,7 +242,7 @@ static void any_call(void) {
     else if (kind < 980) tell(actor);
     else if (kind < 990) order(actor, 1 + below(2));
     else if (kind < 995) shut(core, about(config.cores + 1));
-    else if (closes && rarely(10)) order(actor, 3 + (uint32_t)rarely(3));
+    else if (closes && rarely(4)) order(actor, 3 + (uint32_t)rarely(6));
     else if (closes && rarely(20)) close_by_itself(core, about(2));
 }
 
@@ -346,13 +346,27 @@ static void take(void) {
     passes = rarely(2);
 }
 
+/* Orders for more queues than a core has. */
+static void many_queues(void) {
+    for (uint32_t each = 0; each < 320 * config.cores; each++) {
+        order(config.cores, 1);
+        for (uint32_t core = 0; core < config.cores; core++) {
+            deliver(core, config.cores);
+            collect(config.cores, core);
+        }
+        for (uint32_t twice = 0; twice < 2; twice++) redeem(config.cores);
+    }
+}
+
 int main(int count, char **words) {
     all = count > 1 ? strtoull(words[1], NULL, 10) : 1000000;
     state = count > 2 ? strtoull(words[2], NULL, 10) : 88172645463325252u;
+    uint32_t houses = 0;
     while (calls < all) {
         open();
         if (house.at == NULL) continue;
         take();
+        if (config.notes >= 200000 && houses++ % 20 == 0) many_queues();
         for (uint64_t until = calls + (config.notes < 400 ? 8 * config.notes : rarely(10) ? 20000 : 2500); calls < until && calls < all;) any_call();
         drain();
         end();

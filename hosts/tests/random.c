@@ -3,8 +3,11 @@
  * model, and often a call is one that is refused. Each call has to answer the model's code, and to write what the model writes: nothing
  * if it is refused. At times all counts of a core are compared.
  * It stops at the first difference, which it tells. The last line is 'N passed, M failed', and the status is 0 if nothing failed.
+ * random CALLS SEED print: each call goes to the standard output with its numbers, its code and what it wrote, for core_calls.py, which makes
+ * the same calls. All else goes to the standard error then.
  */
 #include "model.h"
+#include <inttypes.h>
 #include <stdio.h>
 
 enum { CORES = 3, CALLS = 13, CODES = 20 };
@@ -29,6 +32,11 @@ typedef struct {
     uint32_t at;
     model model;
 } pair;
+
+static pair pairs[CORES];
+/* Whether each call is printed, and where all else goes. */
+static bool prints;
+static FILE *told;
 
 /* What a call answers, and what it writes. */
 typedef struct {
@@ -142,12 +150,48 @@ static answer by_model(model *m, const call *c) {
     return a;
 }
 
+/* The numbers of a call. */
+static void print_numbers(const call *c) {
+    switch (c->kind) {
+    case 0: printf(" %" PRIu32, c->jobs); break;
+    case 2: printf(" %" PRIu32, c->shares); break;
+    case 3: printf(" %" PRIu32 " %" PRIu32, c->queue, c->shares); break;
+    case 4:
+    case 11: printf(" %" PRIu32 " %" PRIu64, c->queue, c->job); break;
+    case 6: printf(" %" PRIu32 " %" PRIu64, c->step, c->spent); break;
+    case 7: printf(" %" PRIu32 " %" PRIu32, c->queue, c->mode); break;
+    case 8: printf(" %" PRIu32, c->mode); break;
+    case 9: printf(" %" PRIu32, c->size_off); break;
+    case 10: printf(" %" PRIu32 " %" PRIu32, c->queue, c->size_off); break;
+    case 12: printf(" %" PRIu64, c->order); break;
+    default: break;
+    }
+}
+
+/* A call on a core, and what stands behind it where it writes: that is as it was if it was refused. */
+static void print_call(const call *c, uint32_t core, const answer *a) {
+    const fx_core_stats *of = &a->core;
+    const fx_queue_stats *q = &a->of_queue;
+    printf("%s %" PRIu32, names[c->kind], core);
+    print_numbers(c);
+    printf(" = %" PRIu32, a->code);
+    if (c->kind == 2) printf(" %" PRIu32, a->queue);
+    if (c->kind == 5) printf(" %" PRIu64, a->job);
+    if (c->kind == 11) printf(" %" PRIu64, a->order);
+    if (c->kind == 9)
+        printf(" %" PRIu32 " %" PRIu64 " %" PRIu64 " %" PRIu64 " %" PRIu64 " %" PRIu64 " %" PRIu32 " %" PRIu32, of->queues, of->room, of->held, of->turns, of->floor_low, of->floor_high, of->running, of->closed);
+    if (c->kind == 10)
+        printf(" %" PRIu32 " %" PRIu64 " %" PRIu64 " %" PRIu64 " %" PRIu64 " %" PRIu64 " %" PRIu64 " %" PRIu64 " %" PRIu64, q->shares, q->picks, q->waiting, q->done, q->back, q->time_low, q->time_high, q->virtual_low, q->virtual_high);
+    printf("\n");
+}
+
 static bool agrees(pair *p, const call *c, uint64_t number) {
     answer wanted = by_model(&p->model, c);
     answer found = by_library(&p->places[p->at], c);
+    if (prints) print_call(c, (uint32_t)(p - pairs), &found);
     if (wanted.code < CODES) seen[wanted.code]++;
     if (memcmp(&wanted, &found, sizeof found) == 0) return true;
-    printf("FAILED: call %llu, fx_%s of queue %u, shares %u, jobs %u, step %u, mode %u, spent %llu, order %llu: %u (%s), job %llu, queue %u, order %llu, and not %u (%s), job %llu, queue %u, order %llu\n",
+    fprintf(told, "FAILED: call %llu, fx_%s of queue %u, shares %u, jobs %u, step %u, mode %u, spent %llu, order %llu: %u (%s), job %llu, queue %u, order %llu, and not %u (%s), job %llu, queue %u, order %llu\n",
            (unsigned long long)number, names[c->kind], c->queue, c->shares, c->jobs, c->step, c->mode, (unsigned long long)c->spent,
            (unsigned long long)c->order,
            found.code, fx_text(found.code), (unsigned long long)found.job, found.queue, (unsigned long long)found.order,
@@ -168,9 +212,10 @@ static bool all_agree(pair *p, uint64_t number) {
 }
 
 int main(int count, char **words) {
-    static pair pairs[CORES];
     uint64_t calls = count > 1 ? strtoull(words[1], NULL, 10) : 1000000;
     state = count > 2 ? strtoull(words[2], NULL, 10) : 88172645463325252u;
+    prints = count > 3;
+    told = prints ? stderr : stdout;
     for (uint64_t number = 0; number < calls; number++) {
         if (creations > 0) {
             creations--;
@@ -181,7 +226,7 @@ int main(int count, char **words) {
         pair *p = &pairs[whose];
         call c = any_call(&p->model);
         if (!agrees(p, &c, number) || (rarely(500) && !all_agree(p, number))) {
-            printf("%llu passed, 1 failed\n", (unsigned long long)number);
+            fprintf(told, "%llu passed, 1 failed\n", (unsigned long long)number);
             return 1;
         }
         if (rarely(1000)) {
@@ -197,9 +242,9 @@ int main(int count, char **words) {
     uint64_t unseen = 0;
     for (uint32_t code = 0; code < CODES; code++) {
         if (seen[code] > 0 || code == FX_SPENT || code == FX_NO_MEMORY) continue;
-        printf("FAILED: no call was answered %u (%s)\n", code, fx_text(code));
+        fprintf(told, "FAILED: no call was answered %u (%s)\n", code, fx_text(code));
         unseen++;
     }
-    printf("%llu passed, %llu failed\n", (unsigned long long)calls, (unsigned long long)unseen);
+    fprintf(told, "%llu passed, %llu failed\n", (unsigned long long)calls, (unsigned long long)unseen);
     return unseen != 0;
 }

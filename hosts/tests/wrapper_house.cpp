@@ -257,10 +257,75 @@ static void notes_go_on() {
     is("and has nothing left", house.text() == "journal 1\ncores 2 cap 4\nend\n", 1);
 }
 
+// Who takes notes throws each second time. A call that this leaves is made again.
+template <class Job> struct fails_often {
+    linked::house<Job> house;
+    std::string parts[2];
+    unsigned long calls = 0, thrown = 0;
+
+    explicit fails_often(const linked::config &with) : house(with) {
+        house.cores[0].keep_notes_by([this](const std::string &text) { takes(0, text); });
+        house.outside.keep_notes_by([this](const std::string &text) { takes(1, text); });
+    }
+    void takes(int actor, const std::string &text) {
+        if (++calls % 2 == 1) throw std::runtime_error("mine");
+        parts[actor] += text;
+    }
+    template <class Call> auto again(Call call) {
+        for (;;) {
+            try {
+                return call();
+            } catch (const std::runtime_error &) {
+                thrown++;
+            }
+        }
+    }
+    // What is kept goes out, and the house ends.
+    template <class Run> void end(Run run) {
+        auto &core = house.cores[0];
+        is("an end comes too early", house.end(), FX_NOT_DRAINED);
+        is("the core closes", again([&] { return core.close(mode::finish); }), FX_OK);
+        is("it drains", again([&] { return core.run(run); }), FX_OK);
+        is("the last notes go out", core.pass_on(parts[0]) == FX_OK && house.outside.pass_on(parts[1]) == FX_OK, 1);
+        is("it ends", house.end(), FX_OK);
+        is("once", house.end(), FX_EMPTY);
+    }
+    // How many of the jobs of the outside actor were sent and done, in their order, once each.
+    unsigned long whole(unsigned long jobs) const {
+        std::size_t sent = 0, done = 0;
+        unsigned long count = 0, lines = 0;
+        for (unsigned long number = 1; number <= jobs; number++) {
+            std::string name = "1>0#" + std::to_string(number) + " ";
+            sent = parts[1].find("1 sent " + name, sent);
+            done = parts[0].find("0 done " + name, done);
+            if (sent != std::string::npos && done != std::string::npos) count++;
+        }
+        for (std::size_t at = 0; (at = parts[1].find("1 sent ", at)) != std::string::npos; at++) lines++;
+        return lines == jobs ? count : 0;
+    }
+};
+
+static void no_note_is_lost() {
+    fails_often<counted> of({1, 4, 1, 24});
+    auto &outside = of.house.outside;
+    unsigned long right = 0;
+    for (unsigned long number = 0; number < 200; number++) {
+        auto sent = of.again([&] { return outside.submit(0, 0, counted(number)); });
+        is("a submission that was left was not made", counted::alive.load(), 1);
+        of.again([&] { return of.house.cores[0].round(twice); });
+        right += of.again([&] { return outside.wait_for(*sent.ticket).answer; }) == 2 * number;
+    }
+    is("all answers are right", right, 200);
+    of.end(twice);
+    is("who takes notes threw", of.thrown > 20, 1);
+    is("all notes went out once, in their order", of.whole(200), 200);
+}
+
 int main() {
     one_core();
     what_comes_back();
     notes_go_on();
+    no_note_is_lost();
     exceptions();
     two_cores();
 #if defined(__cpp_impl_coroutine)

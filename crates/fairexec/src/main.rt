@@ -1,9 +1,14 @@
 //! Runs scripts on the model of a thread-per-core executor with fair task queues, or on its threads, and judges journals.
 #![tactic(auto)]
 
-ghost use Rattle.std.specs.Prelude.{◌≡◌, ◌≢◌, true, Err, IfOk};
+ghost use Rattle.std.specs.Prelude.{◌≡◌, ◌≢◌, true, Err, IfOk, map, option_map, string_bytes};
 ghost use Rattle.std.specs.declared.io.ErrorKind.TheVariants as kinds;
-ghost use Rattle.fair_args.specs.declared.unasked.Unasked.TheVariants as unasked;
+ghost use Rattle.clap.specs.Words.{fault_of};
+ghost use Rattle.fair_args.specs.Asks.{asks_of};
+ghost use Rattle.fairexec.specs.Ends.{EndsBy, EndsFor, status_unasked};
+ghost use Rattle.fairexec.specs.Files.{IsUnopened, IsUnopenedScript, Judges, JudgesFile, Runs, RunsFile, RunsFileOnThreads, RunsOnThreads};
+ghost use Rattle.fairexec_args.specs.Asks.{what_named};
+ghost use Rattle.fairexec_args.specs.CommandLine.{our_app};
 ghost use Rattle.fairexec_args.specs.declared.asked.What.TheVariants as whats;
 ghost use Rattle.rt_text.specs.Statuses.{fault_status, status_of};
 ghost use Rattle.fairexec_threads_script.specs.Faults.{status_of as threads_code};
@@ -18,6 +23,8 @@ use fairexec_run::run_script;
 use fairexec_threads::threads_script;
 use fairexec_threads_script::{ThreadsFault, status_of as threads_status};
 use rt_journal_read::JournalCause;
+use rt_lines::Source;
+use rt_sink::Sink;
 use rt_text::{Cause, CauseWords, Fault, Status};
 use std::io::ErrorKind;
 use std::process::ExitCode;
@@ -53,31 +60,56 @@ where
     let Ok(words) = args.collect::<Vec<String>>(rt.alloc()) else {
         return failed(rt, Fault::Memory);
     };
-    match parse(rt, rt.alloc(), words.as_slice()) {
-        Ok(asked) => done(rt, asked.what, asked.file),
+    by_words(rt, words.as_slice(), &mut rt.reader(), &mut io::writer(rt))
+}
+
+/// Does what these words ask for, the first of which is the program's name. Without a file the input is read, and what is asked for is
+/// written to the output.
+fn by_words<R, I: Source, S: Sink>(
+    rt: &R,
+    words: &[String],
+    input: &mut I,
+    output: &mut S,
+) -> Status
+where
+    R: Files + Print + Eprint + AllocGlobal + Threads + Wait + Copy + Drop + Send + 'static,
+    ensures ends { EndsBy
+        (EndsFor I.remaining I.tries I.reads I.interrupts I.fails R.File.remaining S.contents S.tries S.interrupts S.fails input.old input.new output.old output.new)
+        ((input.new ≡ input.old) × (output.new ≡ output.old))
+        (fault_of our_app (map string_bytes words.now)) (asks_of what_named our_app (map string_bytes words.now)) result }
+{
+    match parse(rt, rt.alloc(), words) {
+        Ok(asked) => done(rt, asked.what, asked.file, input, output),
         Err(why) => not_done(rt, why),
     }
 }
 
 /// Does what the command line asks for.
-fn done<R>(rt: &R, what: What, file: Option<&str>) -> Status
+fn done<R, I: Source, S: Sink>(
+    rt: &R,
+    what: What,
+    file: Option<&str>,
+    input: &mut I,
+    output: &mut S,
+) -> Status
 where
-    R: Files + Input + Print + Eprint + AllocGlobal + Threads + Wait + Copy + Drop + Send + 'static,
-    ensures { what ≢ whats.Audit → result ≢ status.FaultFound }
+    R: Files + Eprint + AllocGlobal + Threads + Wait + Copy + Drop + Send + 'static,
+    ensures ends { EndsFor I.remaining I.tries I.reads I.interrupts I.fails R.File.remaining S.contents S.tries S.interrupts S.fails
+        input.old input.new output.old output.new (option_map (λ path. path.now) file.entry) what result }
+    ensures never { what ≢ whats.Audit → result ≢ status.FaultFound }
 {
     match what {
-        What::Run { journal, stats } => ended(rt, run(rt, journal, stats, file)),
-        What::Threads { journal, stats } => ran(rt, threads(rt, journal, stats, file)),
-        What::Audit => ended(rt, audit(rt, file)),
+        What::Run { journal, stats } => ended(rt, run(rt, journal, stats, file, input, output)),
+        What::Threads { journal, stats } => {
+            ran(rt, threads(rt, journal, stats, file, input, output))
+        }
+        What::Audit => ended(rt, audit(rt, file, input, output)),
     }
 }
 
 /// How a command line ends that asks for nothing.
 fn not_done<R: Eprint>(rt: &R, why: Unasked) -> Status
-    ensures told { why ≡ unasked.Told → result ≡ status.Done }
-    ensures mistake { why ≡ unasked.Mistake → result ≡ status.Refused }
-    ensures write { why ≡ unasked.Write → result ≡ status.Device }
-    ensures memory { why ≡ unasked.Memory → result ≡ status.Memory }
+    ensures { result ≡ status_unasked why }
 {
     match why {
         Unasked::Told => Status::Done,
@@ -87,56 +119,109 @@ fn not_done<R: Eprint>(rt: &R, why: Unasked) -> Status
     }
 }
 
-/// Runs the script of the file, or of standard input.
-fn run<R: Files + Input + Print + AllocGlobal>(
+/// Runs the script of the file, or of the input.
+fn run<R: Files + AllocGlobal, I: Source, S: Sink>(
     rt: &R,
     journal: bool,
     stats: bool,
     file: Option<&str>,
+    input: &mut I,
+    output: &mut S,
 ) -> Result<bool, Fault<Cause>>
-    ensures { IfOk result (λ done. done ≡ true) }
+    ensures runs { Runs I.remaining I.tries I.reads I.interrupts I.fails R.File.remaining S.contents S.tries S.interrupts S.fails
+        input.old input.new output.old output.new (option_map (λ path. path.now) file.entry) journal stats result }
+    ensures done { IfOk result (λ done. done ≡ true) }
 {
-    let alloc = rt.alloc();
-    let mut sink = io::writer(rt);
     match file {
-        None => run_script(alloc, journal, stats, &mut rt.reader(), &mut sink),
-        Some(path) => match fs::open(rt, path) {
-            Ok(mut source) => run_script(alloc, journal, stats, &mut source, &mut sink),
-            Err(error) => Err(opening_fault(error.kind())),
-        },
+        None => run_script(rt.alloc(), journal, stats, input, output),
+        Some(path) => run_file(rt, journal, stats, path, output),
     }
 }
 
-/// Runs the script of the file, or of standard input, on threads.
-fn threads<R>(rt: &R, journal: bool, stats: bool, file: Option<&str>) -> Result<bool, ThreadsFault>
+/// Runs the script of the file of this path.
+fn run_file<R: Files + AllocGlobal, S: Sink>(
+    rt: &R,
+    journal: bool,
+    stats: bool,
+    path: &str,
+    output: &mut S,
+) -> Result<bool, Fault<Cause>>
+    ensures runs { RunsFile R.File.remaining S.contents S.tries S.interrupts S.fails journal stats output.old output.new result }
+    ensures done { IfOk result (λ done. done ≡ true) }
+{
+    match fs::open(rt, path) {
+        Ok(mut source) => run_script(rt.alloc(), journal, stats, &mut source, output),
+        Err(error) => Err(opening_fault(error.kind())),
+    }
+}
+
+/// Runs the script of the file, or of the input, on threads.
+fn threads<R, I: Source, S: Sink>(
+    rt: &R,
+    journal: bool,
+    stats: bool,
+    file: Option<&str>,
+    input: &mut I,
+    output: &mut S,
+) -> Result<bool, ThreadsFault>
 where
-    R: Files + Input + Print + AllocGlobal + Threads + Wait + Copy + Drop + Send + 'static,
-    ensures { IfOk result (λ sound. sound ≡ true) }
+    R: Files + AllocGlobal + Threads + Wait + Copy + Drop + Send + 'static,
+    ensures runs { RunsOnThreads I.remaining I.tries I.reads I.interrupts I.fails R.File.remaining S.contents S.tries S.interrupts S.fails
+        input.old input.new output.old output.new (option_map (λ path. path.now) file.entry) journal stats result }
+    ensures sound { IfOk result (λ sound. sound ≡ true) }
 {
-    let alloc = rt.alloc();
-    let mut sink = io::writer(rt);
     match file {
-        None => threads_script(*rt, alloc, journal, stats, &mut rt.reader(), &mut sink),
-        Some(path) => match fs::open(rt, path) {
-            Ok(mut source) => threads_script(*rt, alloc, journal, stats, &mut source, &mut sink),
-            Err(error) => Err(not_opened(error.kind())),
-        },
+        None => threads_script(*rt, rt.alloc(), journal, stats, input, output),
+        Some(path) => threads_file(rt, journal, stats, path, output),
     }
 }
 
-/// Judges the journal text of the file, or of standard input.
-fn audit<R: Files + Input + Print + AllocGlobal>(
+/// Runs the script of the file of this path on threads.
+fn threads_file<R, S: Sink>(
+    rt: &R,
+    journal: bool,
+    stats: bool,
+    path: &str,
+    output: &mut S,
+) -> Result<bool, ThreadsFault>
+where
+    R: Files + AllocGlobal + Threads + Wait + Copy + Drop + Send + 'static,
+    ensures runs { RunsFileOnThreads R.File.remaining S.contents S.tries S.interrupts S.fails journal stats output.old output.new result }
+    ensures sound { IfOk result (λ sound. sound ≡ true) }
+{
+    match fs::open(rt, path) {
+        Ok(mut source) => threads_script(*rt, rt.alloc(), journal, stats, &mut source, output),
+        Err(error) => Err(not_opened(error.kind())),
+    }
+}
+
+/// Judges the journal text of the file, or of the input.
+fn audit<R: Files + AllocGlobal, I: Source, S: Sink>(
     rt: &R,
     file: Option<&str>,
-) -> Result<bool, Fault<JournalCause>> {
-    let alloc = rt.alloc();
-    let mut sink = io::writer(rt);
+    input: &mut I,
+    output: &mut S,
+) -> Result<bool, Fault<JournalCause>>
+    ensures { Judges I.remaining I.tries I.reads I.interrupts I.fails R.File.remaining S.contents S.tries S.interrupts S.fails
+        input.old input.new output.old output.new (option_map (λ path. path.now) file.entry) result }
+{
     match file {
-        None => audit_text(alloc, &mut rt.reader(), &mut sink),
-        Some(path) => match fs::open(rt, path) {
-            Ok(mut source) => audit_text(alloc, &mut source, &mut sink),
-            Err(error) => Err(opening_fault(error.kind())),
-        },
+        None => audit_text(rt.alloc(), input, output),
+        Some(path) => audit_file(rt, path, output),
+    }
+}
+
+/// Judges the journal text of the file of this path.
+fn audit_file<R: Files + AllocGlobal, S: Sink>(
+    rt: &R,
+    path: &str,
+    output: &mut S,
+) -> Result<bool, Fault<JournalCause>>
+    ensures { JudgesFile R.File.remaining S.contents S.tries S.interrupts S.fails output.old output.new result }
+{
+    match fs::open(rt, path) {
+        Ok(mut source) => audit_text(rt.alloc(), &mut source, output),
+        Err(error) => Err(opening_fault(error.kind())),
     }
 }
 
@@ -144,6 +229,7 @@ fn audit<R: Files + Input + Print + AllocGlobal>(
 fn opening_fault<C>(kind: ErrorKind) -> Fault<C>
     ensures memory { kind ≡ kinds.OutOfMemory → result ≡ faults.Memory }
     ensures other { kind ≢ kinds.OutOfMemory → result ≡ faults.Read }
+    ensures either { IsUnopened (Err result) }
 {
     match kind {
         ErrorKind::OutOfMemory => Fault::Memory,
@@ -155,6 +241,7 @@ fn opening_fault<C>(kind: ErrorKind) -> Fault<C>
 fn not_opened(kind: ErrorKind) -> ThreadsFault
     ensures memory { kind ≡ kinds.OutOfMemory → result ≡ Of faults.Memory }
     ensures other { kind ≢ kinds.OutOfMemory → result ≡ Of faults.Read }
+    ensures either { IsUnopenedScript (Err result) }
 {
     ThreadsFault::Of(opening_fault(kind))
 }

@@ -28,7 +28,7 @@ fn grown(alloc: Global, count: u32) -> Result<Journal<u64>, AllocError> {
     let mut journal = Journal::try_with_room(alloc, 0)?;
     for i in 0..count {
         if journal.len() < 1000 {
-            journal.try_push(Note::Pick(QueueNo(0), u128::from(i)))?;
+            journal.try_push(alloc, Note::Pick(QueueNo(0), u128::from(i)))?;
         }
     }
     Ok(journal)

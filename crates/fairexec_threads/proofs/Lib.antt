@@ -6,7 +6,9 @@ pub mod Walking
 pub mod Running
 pub mod Ready
 pub mod Opened
+pub mod Standing
 pub mod Answered
+pub mod Polled
 pub mod Suffixes
 pub mod Heard
 pub mod Walked

@@ -24,7 +24,7 @@ use Rattle.rt_runtime.specs.Sends.{MakesRoom, Sends, SendsTo, SubmitsTo}
 use Rattle.rt_runtime.specs.State.{RuntimeView}
 use Rattle.fairexec_threads_script.specs.Orders.{Told, orders_to}
 use Rattle.fairexec_threads.specs.Counting.{sent_to, IsOfScript, HasPlace}
-use Rattle.fairexec_threads.specs.Offers.{Offers, OffersAll, closings}
+use Rattle.fairexec_threads.specs.Offers.{HasWords, Offers, OffersAll}
 use Rattle.fairexec_threads.proofs.Rooming.{outstanding_few, has_room}
 use Rattle.fairexec_script.specs.TextLimits.{most_lines}
 
@@ -32,15 +32,15 @@ abbrev pub View : Type 0
 View = RuntimeView Script ℕ
 
 -- a send to a core with a place is accepted, or the core is closed
-of_error : (core : ℕ) (order : Order Script) (old : View) (error : SendError Script) (new : View) → core < old.desk.cores → HasPlace core old → SendsTo core order old (Err error) new → Offers (core, order) old new
-of_error core order old (Closed back final) new there place sends = record { there = there; answer = Err (Closed back final); taken = tt; sends = sends }
-of_error core order old (Full back) new there place sends =
+of_error : (core : ℕ) (order : Order Script) → HasWords order → (old : View) (error : SendError Script) (new : View) → core < old.desk.cores → HasPlace core old → SendsTo core order old (Err error) new → Offers (core, order) old new
+of_error core order words old (Closed back final) new there place sends = record { there = there; words = words; answer = Err (Closed back final); taken = tt; sends = sends }
+of_error core order words old (Full back) new there place sends =
     let full = sends.submits.1 in let few = outstanding_few core old.desk.journal.notes in let here = place.here in
     absurd (omega (arith, full, few, here))
-of_error core order old (Spent back) new there place sends =
+of_error core order words old (Spent back) new there place sends =
     let spent = sends.submits.2 in let here = place.here in let small = place.of_script.small_cap in
     absurd (omega (arith, spent, here, small))
-of_error core order old (NoCore back) new there place sends = absurd sends.submits
+of_error core order words old (NoCore back) new there place sends = absurd sends.submits
 
 -- there is room for the send, so nothing is passed on first
 none_passed : (each core : ℕ) (old mid : View) → each ≤ 3 → HasPlace core old → MakesRoom each old mid → mid ≡ old
@@ -52,12 +52,12 @@ sends_at_once each core order old mid answer new some there place room sends =
     let here : Sends core order old answer new = subst (λ (view : View). Sends core order view answer new) (none_passed each core old mid some place room) sends in
     here.there there
 
-pub offered : (each core : ℕ) (order : Order Script) (old : View) (answer : Result JobId (SubmitError Script)) (new : View) → each ≤ 3 → core < old.desk.cores → HasPlace core old → SubmitsTo each core order old answer new → Offers (core, order) old new
-offered each core order old (Ok name) new some there place (mid, room, sends) =
-    record { there = there; answer = Ok name; taken = tt; sends = sends_at_once each core order old mid (Ok name) new some there place room sends }
-offered each core order old (Err (JournalFull back)) new some there place submits = let full = submits.0 in let room = has_room each core old some place in absurd (omega (arith, full, room))
-offered each core order old (Err (Send error)) new some there place (mid, room, sends) =
-    of_error core order old error new there place (sends_at_once each core order old mid (Err error) new some there place room sends)
+pub offered : (each core : ℕ) (order : Order Script) → HasWords order → (old : View) (answer : Result JobId (SubmitError Script)) (new : View) → each ≤ 3 → core < old.desk.cores → HasPlace core old → SubmitsTo each core order old answer new → Offers (core, order) old new
+offered each core order words old (Ok name) new some there place (mid, room, sends) =
+    record { there = there; words = words; answer = Ok name; taken = tt; sends = sends_at_once each core order old mid (Ok name) new some there place room sends }
+offered each core order words old (Err (JournalFull back)) new some there place submits = let full = submits.0 in let room = has_room each core old some place in absurd (omega (arith, full, room))
+offered each core order words old (Err (Send error)) new some there place (mid, room, sends) =
+    of_error core order words old error new there place (sends_at_once each core order old mid (Err error) new some there place room sends)
 
 -- one more at the end, if it is told
 last_length : {A : Type 0} (told : Bool) (xs : List A) (x : A) → length (with_last xs (cond told (Some x) None)) ≡ length xs + cond told 1 0

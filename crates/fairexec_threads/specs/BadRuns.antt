@@ -1,12 +1,18 @@
 -- Runs of a script on threads that are refused, each for one thing.
-use Rattle.std.specs.Prelude.{◌≡◌, ℕ, Bool, List, [], Option, Some, Err}
+use Rattle.std.specs.Prelude.{◌≡◌, ℕ, Bool, List, [], ◌∷◌, Option, Some, Err}
 use Rattle.rt_ids.specs.declared.names.JobId.{JobId}
+use Rattle.rt_ids.specs.declared.note.Note.TheVariants.{Pick, Resume, Yield}
 use Rattle.rt_ids.specs.declared.order.Mode.TheVariants.{Finish, Return}
 use Rattle.rt_ids.specs.declared.order.Order.{Order}
+use Rattle.rt_ids.specs.declared.order.Order.TheVariants.{Job}
 use Rattle.rt_ids.specs.declared.order.SendError.TheVariants.{Full}
 use Rattle.rt_ids.specs.Assembly.{Assembly}
 use Rattle.rt_ids.specs.Journal.{Journal}
 use Rattle.rt_jobs.specs.Scripts.{Script}
+use Rattle.rt_jobs.specs.declared.poll.Poll.{Poll}
+use Rattle.rt_jobs.specs.declared.poll.Poll.TheVariants as poll
+use Rattle.rt_journal.specs.BadPolls.{job, begun}
+use Rattle.rt_runtime.specs.Outcomes.{Orders}
 use Rattle.rt_runtime.specs.State.{RuntimeView}
 use Rattle.rt_text.specs.declared.fault.Fault.TheVariants.{Read}
 use Rattle.fairexec_threads_script.specs.declared.fault.ThreadsFault.TheVariants.{Of}
@@ -14,12 +20,21 @@ use Rattle.fairexec_threads_script.specs.Orders.{Told}
 use Rattle.fairexec_threads.specs.Accepted.{IsSent, ClosesItself, IsHeard}
 use Rattle.fairexec_threads.specs.Counting.{sent_to, HasPlace, CanClose}
 use Rattle.fairexec_threads.specs.Offers.{Offers}
+use Rattle.fairexec_threads.specs.Polled.{IsPolledAsTold}
 use Rattle.fairexec_threads.specs.Runs.{IsRun, IsCutShort}
 use Rattle.fairexec_threads.specs.Starting.{IsOfStart}
 
 -- the journals of one core and of the outside actor tell of nothing
 abbrev pub silent : Assembly ℕ
 silent = record { cores = 1; cap = 1; burst = 1; journals = [] }
+
+-- the journal of core 0 tells these notes, and those of core 1 and of the outside actor tell of nothing
+abbrev pub of_core_0 : Journal ℕ → Assembly ℕ
+of_core_0 notes = record { cores = 2; cap = 4; burst = 1; journals = notes ∷ [] ∷ [] ∷ [] }
+
+-- whatever was sent, these notes aren't what the journal of core 0 tells of a job of these words
+abbrev pub IsNotPolledAsTold : List Poll → Journal ℕ → Type 0
+IsNotPolledAsTold words notes = (sent : Orders Script) → IsPolledAsTold sent (of_core_0 notes) job (Job 0 (record { polls = words; polled = 0 })) → ⊥
 
 -- each of these is refused
 pub record RunsAreRefused : Type 0 where
@@ -34,6 +49,10 @@ pub record RunsAreRefused : Type 0 where
   -- a core that closes by itself in mode `Finish`, and one that does so with an empty journal
   pub finishing : (before : Journal ℕ) (assembly : Assembly ℕ) → ClosesItself Finish before assembly → ⊥
   pub roomy : ClosesItself Return [] silent → ⊥
+  -- a job is polled once more than its words say, its `p` sends nothing though no gate is shut, and another time counts than the one that is told
+  pub polled_once_more : IsNotPolledAsTold (poll.Yield 5 ∷ poll.Done 1 7 ∷ []) (Yield job 5 ∷ Resume job ∷ Pick 0 5 ∷ Yield job 5 ∷ begun)
+  pub p_is_left_out : IsNotPolledAsTold (poll.Submit 5 1 0 ∷ poll.Done 1 7 ∷ []) (Yield job 5 ∷ begun)
+  pub another_time : IsNotPolledAsTold (poll.Yield 5 ∷ poll.Done 1 7 ∷ []) (Yield job 6 ∷ begun)
   -- an order to a core that isn't there, to a full link, and the closing of a core whose link is full
   pub to_none : (order : Order Script) (old new : RuntimeView Script ℕ) → old.desk.cores ≡ 1 → Offers (1, order) old new → ⊥
   pub no_place : (view : RuntimeView Script ℕ) → sent_to 0 view ≡ view.desk.cap → HasPlace 0 view → ⊥

@@ -3,6 +3,7 @@ pub mod Starting
 pub mod Offers
 pub mod Counting
 pub mod Outcomes
+pub mod Polled
 pub mod Accepted
 pub mod Runs
 pub mod Laws

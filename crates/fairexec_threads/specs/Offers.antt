@@ -2,10 +2,11 @@
 use Rattle.std.specs.Prelude.{◌≡◌, ℕ, zero, suc, ◌<◌, ◌++◌, List, [], ◌∷◌, Result, Ok, Err}
 use Rattle.rt_ids.specs.declared.names.JobId.{JobId}
 use Rattle.rt_ids.specs.declared.order.Mode.TheVariants.{Finish}
-use Rattle.rt_ids.specs.declared.order.Order.TheVariants.{CloseCore}
+use Rattle.rt_ids.specs.declared.order.Order.{Order}
+use Rattle.rt_ids.specs.declared.order.Order.TheVariants.{CloseCore, Job}
 use Rattle.rt_ids.specs.declared.order.SendError.{SendError}
 use Rattle.rt_ids.specs.declared.order.SendError.TheVariants.{Closed}
-use Rattle.rt_jobs.specs.Scripts.{Script}
+use Rattle.rt_jobs.specs.Scripts.{Script, IsScript}
 use Rattle.rt_runtime.specs.Sends.{SendsTo}
 use Rattle.rt_runtime.specs.State.{RuntimeView}
 use Rattle.fairexec_threads_script.specs.Orders.{Told}
@@ -16,9 +17,15 @@ IsTaken (Ok name) = Unit {0}
 IsTaken (Err (Closed back final)) = Unit {0}
 IsTaken (Err _) = ⊥
 
+-- the polls of a job that is sent are a script's: at most 64, and exactly the last one is done
+abbrev pub HasWords : Order Script → Type 0
+HasWords (Job queue job) = IsScript job.polls
+HasWords _ = Unit {0}
+
 -- one order is sent to its core: it is accepted, unless its gate is found shut
 pub record Offers (told : Told) (old new : RuntimeView Script ℕ) : Type 0 where
   pub there : told.0 < old.desk.cores
+  pub words : HasWords told.1
   pub answer : Result JobId (SendError Script)
   pub taken : IsTaken answer
   pub sends : SendsTo told.0 told.1 old answer new

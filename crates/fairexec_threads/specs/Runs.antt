@@ -17,12 +17,13 @@ use Rattle.fairexec_threads_script.specs.Scripts.{threads_script_of}
 use Rattle.fairexec_threads.specs.Accepted.{AreHeard}
 use Rattle.fairexec_threads.specs.Offers.{OffersAll, closings}
 use Rattle.fairexec_threads.specs.Outcomes.{AreAnswered}
+use Rattle.fairexec_threads.specs.Polled.{ArePolledAsTold}
 use Rattle.fairexec_threads.specs.Rooms.{room_of}
 use Rattle.rt_runtime_worker.specs.Queues.{creations, opening_of}
 
 -- A runtime of these numbers and queues is started, the orders are sent, each core is closed from 0 upwards, and the runtime is finished. The
 -- journal of each core begins with the creation of its queues. Each order is accepted, unless its core has closed. What the journals tell of an
--- order is what it asks.
+-- order is what it asks. Each poll that they tell of the job of an order is the one that its words say.
 pub record RunsOrders (cores cap burst : ℕ) (queues : List Entry) (orders : List Told) (assembly : Assembly ℕ) : Type 0 where
   pub started : RuntimeView Script ℕ
   pub ended : RuntimeView Script ℕ
@@ -32,6 +33,7 @@ pub record RunsOrders (cores cap burst : ℕ) (queues : List Entry) (orders : Li
   pub opened : (core : ℕ) → core < cores → opening_of (journal_of core assembly) ≡ creations core queues
   pub heard : AreHeard (orders ++ closings cores) started ended offers assembly
   pub answered : AreAnswered (orders ++ closings cores) started ended offers assembly
+  pub polled : ArePolledAsTold finishes.orders assembly (orders ++ closings cores) started ended offers
 
 -- the same of a script that told its size
 abbrev pub RunsScript : Drafted → Assembly ℕ → Type 0

@@ -5,12 +5,22 @@ ghost use Rattle.rt_ids.specs.declared.order.Mode.TheVariants as mode;
 ghost use Rattle.rt_ids.specs.declared.order.Order.TheVariants as order;
 ghost use Rattle.fairexec_threads_script.specs.Limits.{IsToldOf, AreTold, HasSpare};
 ghost use Rattle.fairexec_threads.specs.Counting.{IsOfScript, HasPlace, CanClose, AreClosedBelow};
-ghost use Rattle.fairexec_threads.specs.Offers.{Offers, OffersAll, closings};
+ghost use Rattle.fairexec_threads.specs.Offers.{HasWords, Offers, OffersAll, closings};
 ghost use Rattle.fairexec_script.specs.TextLimits.{most_lines};
 
 use crate::house::House;
 use rt_ids::{CoreNo, Mode, Order};
 use rt_jobs::ScriptJob;
+
+/// How many polls the job of an order has, 0 if it has none. Each job that is counted is seen to be a script's.
+fn polls_of(order: &Order<ScriptJob>) -> usize
+    ensures { HasWords order.now }
+{
+    match order {
+        Order::Job(_, job) => job.poll_count(),
+        _ => 0,
+    }
+}
 
 /// Sends one order to its core.
 fn offer(house: &mut House, core: CoreNo, order: Order<ScriptJob>)
@@ -18,6 +28,7 @@ fn offer(house: &mut House, core: CoreNo, order: Order<ScriptJob>)
     requires place { HasPlace core house.old }
     ensures { Offers (core, order) house.old house.new }
 {
+    let _polls = polls_of(&order);
     let _answer = house.submit(core, order);
 }
 

@@ -7,6 +7,7 @@ use rt_ids::Note;
 /// The notes of one call, in their order.
 pub type Notes<T> = ArrayVec<Note<T>, 4>;
 
+#[inline(always)]
 pub(crate) fn one_note<T: Copy>(note: Note<T>) -> Notes<T>
     ensures { result.items ≡ note ∷ [] }
 {

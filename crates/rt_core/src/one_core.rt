@@ -183,6 +183,7 @@ impl<J: Task, A: Allocator + Clone> Core<J, A> {
     }
 
     /// Carries out the next submission of its sender.
+    #[inline(always)]
     pub fn deliver(&mut self, envelope: Envelope<J>) -> (Delivered<J>, Notes<J::Out>)
     where
         J::Out: Copy,

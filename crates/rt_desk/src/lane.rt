@@ -53,6 +53,7 @@ impl<J: Task> Lane<J> {
     }
 
     /// Sends an order, whose number is outstanding from then on.
+    #[inline(always)]
     pub fn submit<O: OutEnd<J>>(
         &mut self,
         end: &mut O,
@@ -75,6 +76,7 @@ impl<J: Task> Lane<J> {
     }
 
     /// Takes in an outcome that was just collected: it is kept, or dropped where nobody will ask for it.
+    #[inline(always)]
     fn keep<O: OutEnd<J>>(&mut self, end: &mut O, number: u64, outcome: Outcome<J, J::Out>)
         requires { IsJustGot (Fits J.meaning) self.old (O.out end.old) (O.credited end.old) number outcome }
         ensures lane { IsLaneOf (Fits J.meaning) self.new (O.out end.new) (O.credited end.new) }
@@ -112,6 +114,7 @@ impl<J: Task> Lane<J> {
     }
 
     /// Collects one outcome, if the link from this actor to this core shows one. Its name, and what became of the submission.
+    #[inline(always)]
     pub fn collect_told<O: OutEnd<J>>(
         &mut self,
         end: &mut O,
@@ -157,12 +160,14 @@ impl<J: Task> Lane<J> {
         end.outstanding()
     }
 
+    #[inline(always)]
     fn is_given(&self, number: u64) -> bool
         ensures { IsTrue result ↔ IsGiven self.now number }
     {
         self.last - self.count < number && number <= self.last
     }
 
+    #[inline(always)]
     fn standing(&self, number: u64) -> Standing
         ensures { StandsAs result (at self.now.entries number) }
     {
@@ -175,6 +180,7 @@ impl<J: Task> Lane<J> {
     }
 
     /// The outcome of a number, which is gone from then on.
+    #[inline(always)]
     pub fn redeem<O: OutEnd<J>>(
         &mut self,
         end: &mut O,

@@ -1,8 +1,8 @@
 //! A vector that asks for no memory any more.
-ghost use Rattle.std.specs.Prelude.{◌≡◌, ◌<◌, [], ◌∷◌, ◌++◌, length, slice_index_or, vec_capacity};
+ghost use Rattle.std.specs.Prelude.{◌≡◌, ◌<◌, ◌≤◌, [], ◌∷◌, ◌++◌, length, slice_index_or, vec_capacity, IfOk, IsSome, MatchOption};
 ghost use Rattle.std.specs.Borrow.{sem};
 
-use std::alloc::Allocator;
+use std::alloc::{AllocError, Allocator};
 use std::marker::Model;
 use std::ops::{Index, IndexMut};
 
@@ -47,6 +47,64 @@ impl<T, A: Allocator> SealedVec<T, A> {
         ensures capacity { self.new.cap ≡ self.old.cap }
     {
         self.values.push_reserved(value);
+    }
+
+    /// Takes the last value out.
+    pub fn pop(&mut self) -> Option<T>
+        ensures cases { MatchOption result (self.new ≡ self.old) (λ value. self.old ≡ record self.new { items = self.new.items ++ value ∷ [] }) }
+        ensures there { 0 < length self.old.items → IsSome result }
+    {
+        self.values.pop()
+    }
+
+    /// All values.
+    pub fn as_slice(&self) -> &[T]
+        ensures { result.now ≡ self.now.items }
+    {
+        self.values.as_slice()
+    }
+}
+
+impl<T, A: Allocator + Copy> SealedVec<T, A> {
+    /// One more, with no value and no room. It takes no memory and lends no allocator.
+    pub fn emptied(&self) -> Self
+        ensures { result ≡ record { items = []; cap = 0 } }
+    {
+        SealedVec {
+            values: Vec::new(*self.values.allocator()),
+        }
+    }
+}
+
+impl<T: Copy, A: Allocator> SealedVec<T, A> {
+    /// Takes all values away. Their room stays.
+    pub fn clear(&mut self)
+        ensures { self.new ≡ record self.old { items = [] } }
+    {
+        self.values.clear();
+    }
+
+    /// Writes a value to all room that is left, and takes it away again, so that nobody else is the first to touch this memory.
+    pub fn prefault(&mut self, value: T)
+        ensures items { self.new.items ≡ self.old.items }
+        ensures capacity { self.old.cap ≤ self.new.cap }
+    {
+        let count = self.len();
+        let Ok(()) = self.values.resize(self.values.capacity(), value) else {
+            unreachable!()
+        };
+        self.values.truncate(count);
+    }
+
+    /// The same values in memory of their own, with room for this many.
+    pub fn with_more_room(&self, alloc: A, room: usize) -> Result<Self, AllocError>
+        requires { length self.now.items ≤ room }
+        ensures items { IfOk result (λ more. more.items ≡ self.now.items) }
+        ensures capacity { IfOk result (λ more. room ≤ more.cap) }
+    {
+        let mut values = Vec::with_capacity(alloc, room)?;
+        values.extend_from_slice(self.as_slice())?;
+        Ok(Self::sealed(values))
     }
 }
 

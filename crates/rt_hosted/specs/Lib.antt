@@ -1,3 +1,4 @@
+pub mod Flags
 pub mod Bad
 pub mod Hosted
 pub mod Jobs

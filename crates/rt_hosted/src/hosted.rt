@@ -281,7 +281,8 @@ impl Hosted {
 
     /// Whether a link shows an order or an outcome that wasn't seen yet: one load for each link. No clause says that the answer is right.
     pub fn shows(&self) -> bool {
-        self.ends.ins.iter().any(|end| end.shows()) || self.ends.outs.iter().any(|end| end.shows())
+        self.ends.ins.as_slice().iter().any(|end| end.shows())
+            || self.ends.outs.as_slice().iter().any(|end| end.shows())
     }
 
     /// Whether the host runs no job of this core, and no turn of it is open.

@@ -4,6 +4,7 @@ ghost use Rattle.std.specs.Prelude.{◌≡◌, false};
 ghost use Rattle.rt_hosted.specs.Jobs.{heard};
 ghost use Rattle.rt_jobs.specs.Steps as steps;
 
+use crate::flag::Flag;
 use rt_ids::{ActorNo, CoreNo, JobId, Outcome, Ticket, TicketError};
 use rt_jobs::{Job, Post, Step, Task};
 
@@ -11,7 +12,7 @@ use rt_jobs::{Job, Post, Step, Task};
 #[derive(Drop)]
 pub struct HostJob {
     pub handle: u64,
-    pub ended: bool,
+    pub ended: Flag,
 }
 
 impl HostJob {
@@ -21,7 +22,7 @@ impl HostJob {
     {
         HostJob {
             handle,
-            ended: false,
+            ended: Flag::of(false),
         }
     }
 }
@@ -38,7 +39,7 @@ impl Task for HostJob {
     ghost laws = { host_laws };
 
     fn is_done(&self) -> bool {
-        self.ended
+        self.ended.get()
     }
 
     fn told(&self) -> Option<u64> {
@@ -49,7 +50,7 @@ impl Task for HostJob {
 impl Job for HostJob {
     fn poll<P: Post<Self, u64>>(&mut self, post: &mut P) -> Step<u64> {
         let step = step_heard(post.redeem(run_ticket()));
-        self.ended = is_done_step(&step);
+        self.ended = Flag::of(is_done_step(&step));
         step
     }
 }

@@ -2,6 +2,7 @@
 #![tactic(auto)]
 
 pub mod answers;
+pub mod flag;
 pub mod hosted;
 pub mod job;
 mod lent;

@@ -24,7 +24,7 @@ use Rattle.rt_hosted_calls.specs.contracts.house.House.{the_row as house}
 use Rattle.rt_hosted_calls.specs.contracts.member.Member.{the_row as member}
 
 job_send : IsSend job
-job_send = search (crosses, sendable)
+job_send = search (crosses, sendable) depth 60 fits 20000
 
 core_send : IsSend (core job global u64-field.row unit-field.row task its_alloc (copied global))
 core_send = search (job_send, crosses, tree.crosses, sendable) depth 60 fits 20000

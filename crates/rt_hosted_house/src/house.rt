@@ -90,7 +90,8 @@ fn open_within(
 }
 
 /// Opens a house: so many cores, each with queue 0 alone, so many places for submissions on each link, turns of so many polls, and journals with
-/// room for so many notes. The body of no later call asks for memory, except that of a queue; no clause says so.
+/// room for so many notes. No later call of a core or of the outside actor has an allocator in reach, except the making of a queue, and
+/// `pass_on`, which takes one.
 ///
 /// # Errors
 ///

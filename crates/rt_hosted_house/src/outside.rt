@@ -150,7 +150,7 @@ impl Outside {
 
     /// Whether a link shows an outcome that wasn't seen yet: one load for each link. No clause says that the answer is right.
     pub fn shows(&self) -> bool {
-        self.ends.outs.iter().any(|end| end.shows())
+        self.ends.outs.as_slice().iter().any(|end| end.shows())
     }
 
     /// The notes of the outside actor.

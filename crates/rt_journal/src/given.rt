@@ -13,6 +13,7 @@ use rt_jobs::Task;
 use rt_link::InEnd;
 
 /// The outcome of a delivery, if it has one yet.
+#[inline(always)]
 pub(crate) fn outcome_of<J: Task<Out = u64>>(delivered: Delivered<J>) -> Option<Outcome<J, u64>>
     ensures { result ≡ outcome_delivered delivered }
 {
@@ -24,6 +25,7 @@ pub(crate) fn outcome_of<J: Task<Out = u64>>(delivered: Delivered<J>) -> Option<
 }
 
 /// The outcome of a settled poll, if the job is done.
+#[inline(always)]
 pub(crate) fn outcome_done<J: Task<Out = u64>>(settled: &Settled<u64>) -> Option<Outcome<J, u64>>
     ensures { result ≡ outcome_settled settled.now }
 {
@@ -34,6 +36,7 @@ pub(crate) fn outcome_done<J: Task<Out = u64>>(settled: &Settled<u64>) -> Option
 }
 
 /// Gives an outcome on this end, if there is one.
+#[inline(always)]
 pub(crate) fn give_if<J: Task<Out = u64>, I: InEnd<J>>(
     end: &mut I,
     number: u64,

@@ -174,6 +174,7 @@ impl<J: Task<Out = u64>, A: Allocator + Clone> Recorded<J, A> {
     }
 
     /// Takes the next order from this end, carries it out, and gives its outcome on the end, if it has one yet. Whether there was one.
+    #[inline(always)]
     pub fn deliver<I: InEnd<J>>(&mut self, end: &mut I) -> bool
         requires beside { IsInOf (I.inward end.old).from self.old (I.inward end.old) }
         requires room { length self.old.journal.notes + 2 ≤ self.old.journal.room }
@@ -199,6 +200,7 @@ impl<J: Task<Out = u64>, A: Allocator + Clone> Recorded<J, A> {
     }
 
     /// Carries out the next order of its sender. Its outcome, if it has one yet.
+    #[inline(always)]
     fn receive(&mut self, envelope: Envelope<J>) -> Option<Outcome<J, u64>>
         requires next { IsNextIn self.old envelope.name }
         requires ready { HasReadyJob J.meaning envelope.order }

@@ -14,6 +14,7 @@ ghost use Rattle.rt_journal_desk.specs.Tickets.{HasLane, KnowsLanes, StaysBeside
 ghost use Rattle.rt_journal_desk.specs.Spending.{Spends, HoldsSome, booked};
 
 use rt_desk::lane::Lane;
+use rt_fixed::SealedVec;
 use rt_ids::{ActorNo, CoreNo, JobId, Note, Order, Outcome, SendError, Ticket, TicketError};
 use rt_jobs::Task;
 use rt_journal_notes::{Refused, RunningJournal, Sink};
@@ -29,7 +30,7 @@ pub struct RecordedDesk<J: Task<Out = u64>> {
     cap: u16,
     burst: u8,
     journal: RunningJournal<u64>,
-    lanes: Vec<Lane<J>, Global>,
+    lanes: SealedVec<Lane<J>, Global>,
 }
 
 impl<J: Task<Out = u64>> Model for RecordedDesk<J> {
@@ -50,7 +51,7 @@ impl<J: Task<Out = u64>> Model for RecordedDesk<J> {
 
 impl<J: Task<Out = u64>> RecordedDesk<J> {
     /// Opens a journal of `room` notes for an actor, who may submit on links of this capacity to `cores` cores. Each turn of a core is a single poll.
-    /// The other calls ask for no memory; no clause says so.
+    /// No other call has an allocator in reach.
     pub fn open(
         alloc: Global,
         actor: ActorNo,
@@ -88,8 +89,8 @@ impl<J: Task<Out = u64>> RecordedDesk<J> {
         })
     }
 
-    /// A desk of no core and no note. It stands where a desk was taken out, until that is put back.
-    pub fn nothing(alloc: Global) -> Self
+    /// One more, of no core and no note. It stands where this one was taken out, until that is put back, and takes no memory.
+    pub fn emptied(&self) -> Self
         ensures { result ≡ opened_desk 0 0 0 0 1 }
     {
         RecordedDesk {
@@ -97,8 +98,8 @@ impl<J: Task<Out = u64>> RecordedDesk<J> {
             cores: 0,
             cap: 0,
             burst: 1,
-            journal: RunningJournal::nothing(alloc),
-            lanes: Vec::new(alloc),
+            journal: self.journal.emptied(),
+            lanes: self.lanes.emptied(),
         }
     }
 
@@ -156,6 +157,7 @@ impl<J: Task<Out = u64>> RecordedDesk<J> {
     /// # Errors
     ///
     /// Those of the link: `Closed`, `Full` and `Spent`, tried in this order. The order comes back, and nothing is noted.
+    #[inline(always)]
     pub fn submit<O: OutEnd<J>>(
         &mut self,
         end: &mut O,
@@ -207,6 +209,7 @@ impl<J: Task<Out = u64>> RecordedDesk<J> {
     }
 
     /// Collects the next outcome that the link of a core shows, if there is one, and notes it. Whether there was one.
+    #[inline(always)]
     fn collect_one<O: OutEnd<J>>(&mut self, end: &mut O, core: CoreNo) -> bool
         requires beside { IsOutOf core self.old (O.out end.old) (O.credited end.old) }
         requires lane { HasLane (Fits J.meaning) core self.old (O.out end.old) (O.credited end.old) }
@@ -242,6 +245,7 @@ impl<J: Task<Out = u64>> RecordedDesk<J> {
     ///
     /// `Unknown` where nothing was accepted under the name; `Gone` where it was redeemed or detached before; `Pending` where its outcome
     /// isn't collected yet. Nothing changes.
+    #[inline(always)]
     pub fn redeem<O: OutEnd<J>>(
         &mut self,
         end: &mut O,
@@ -319,6 +323,7 @@ impl<J: Task<Out = u64>> RecordedDesk<J> {
     }
 
     /// Adds these notes one after another, so that the last of them is the newest. None of them is of a submission.
+    #[inline(always)]
     pub fn write(&mut self, notes: &[Note<u64>])
         requires room { length self.old.journal.notes + length notes.now ≤ self.old.journal.room }
         requires written { IsWritten (terms_of_desk self.old) (reverse notes.now ++ self.old.journal.notes) }
@@ -334,12 +339,12 @@ fn open_lanes<J: Task<Out = u64>>(
     alloc: Global,
     cores: u8,
     cap: u16,
-) -> Result<Vec<Lane<J>, Global>, AllocError>
+) -> Result<SealedVec<Lane<J>, Global>, AllocError>
     ensures { IfOk result (λ lanes. lanes.items ≡ replicate cores (fresh_lane cap)) }
 {
     let mut lanes = Vec::with_capacity(alloc, cores as usize)?;
     for _ in 0..cores {
         lanes.push_reserved(Lane::open(alloc, cap)?);
     }
-    Ok(lanes)
+    Ok(SealedVec::sealed(lanes))
 }

@@ -11,6 +11,7 @@ ghost use Rattle.rt_journal_desk.specs.Calls.{Does};
 ghost use Rattle.rt_journal_desk.specs.Spending.{left_of};
 
 use crate::desk::RecordedDesk;
+use rt_fixed::SealedVec;
 use rt_ids::{CoreNo, Order, Outcome, SendError, Ticket, TicketError};
 use rt_jobs::{Post, Task};
 use rt_link::OutEnd;
@@ -22,7 +23,7 @@ use std::marker::Model;
 /// A contract sees the desk and the ends as they are, and nothing of what is shared. What each call does says `Does`.
 pub struct RecordedPost<'a, J: Task<Out = u64>, O: OutEnd<J>> {
     said: RecordedDesk<J>,
-    ends: Vec<O, Global>,
+    ends: SealedVec<O, Global>,
     local: &'a mut J::Local,
 }
 
@@ -40,7 +41,7 @@ impl<'a, J: Task<Out = u64>, O: OutEnd<J>> Model for RecordedPost<'a, J, O> {
 
 impl<'a, J: Task<Out = u64>, O: OutEnd<J>> RecordedPost<'a, J, O> {
     /// Lends a desk and its ends. There is room for three notes for each place of each link, and for one more.
-    pub fn lend(said: RecordedDesk<J>, ends: Vec<O, Global>, local: &'a mut J::Local) -> Self
+    pub fn lend(said: RecordedDesk<J>, ends: SealedVec<O, Global>, local: &'a mut J::Local) -> Self
         requires outs { AreOutsOf (Fits J.meaning) O.out O.credited said ends.items }
         requires room { length said.journal.notes + said.cores * (3 * said.cap) < said.journal.room }
         ensures lent { result ≡ record { desk = said; ends = ends.items } }
@@ -54,7 +55,7 @@ impl<'a, J: Task<Out = u64>, O: OutEnd<J>> RecordedPost<'a, J, O> {
     /// next outcome is collected, and for one more.
     pub fn lend_further(
         said: RecordedDesk<J>,
-        ends: Vec<O, Global>,
+        ends: SealedVec<O, Global>,
         local: &'a mut J::Local,
     ) -> Self
         requires outs { AreOutsOf (Fits J.meaning) O.out O.credited said ends.items }
@@ -65,7 +66,7 @@ impl<'a, J: Task<Out = u64>, O: OutEnd<J>> RecordedPost<'a, J, O> {
     }
 
     /// The desk and its ends, after what was posted.
-    pub fn into_parts(self) -> (RecordedDesk<J>, Vec<O, Global>)
+    pub fn into_parts(self) -> (RecordedDesk<J>, SealedVec<O, Global>)
         ensures desk { result.0 ≡ self.entry.desk }
         ensures ends { result.1.items ≡ self.entry.ends }
         ensures lent { IsLent (Fits J.meaning) O.out O.credited self.entry }

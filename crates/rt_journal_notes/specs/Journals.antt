@@ -35,6 +35,7 @@ module _ {T : Type 0} where
   passed_all journal = record { notes = journal.notes; passed = journal.notes; room = length journal.notes + places_of journal }
 
   -- all notes have room, and the room has its memory
-  pub record IsReserved (room capacity : ℕ) (notes : List (Note T)) : Type 0 where
+  pub record IsReserved (room reserved capacity : ℕ) (notes : List (Note T)) : Type 0 where
     pub within_room : length notes ≤ room
-    pub reserved : room ≤ capacity
+    pub within_reserved : room ≤ reserved
+    pub within_capacity : reserved ≤ capacity

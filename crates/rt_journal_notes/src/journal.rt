@@ -4,17 +4,20 @@ ghost use Rattle.std.specs.Prelude.{◌≡◌, ◌↔◌, ◌+◌, ◌<◌, ◌�
 ghost use Rattle.rt_ids.specs.Limits.{most_notes};
 ghost use Rattle.rt_journal_notes.specs.Journals.{free_notes, IsWithinRoom};
 
+use rt_fixed::SealedVec;
 use rt_ids::Note;
 use std::alloc::{AllocError, Global};
 use std::marker::Model;
 
-/// The notes of one actor. The opening, `try_push` and `try_reserve` ask for memory, and no other call does; no clause says so.
+/// The notes of one actor. The opening, `try_push` and `try_reserve` are handed an allocator. No other call has one in reach, since the notes stand in a sealed vector.
 ///
 /// A contract sees the list of the notes, the newest first, and how many there may be in all.
 #[derive(Drop)]
 pub struct Journal<T: Copy> {
-    notes: Vec<Note<T>>,
+    notes: SealedVec<Note<T>, Global>,
     room: u32,
+    /// How many notes have their memory. It may be more than the room.
+    reserved: u32,
 }
 
 impl<T: Copy> Model for Journal<T> {
@@ -22,12 +25,11 @@ impl<T: Copy> Model for Journal<T> {
 
     ghost Value = { JournalView T };
 
-    ghost use Rattle.std.specs.Prelude.{vec_capacity};
     ghost use Rattle.rt_journal_notes.specs.Journals.{journal_of_notes, IsReserved};
 
     ghost view = { λ journal. journal_of_notes journal.room journal.notes.items };
 
-    ghost invariant = { λ journal. IsReserved journal.room (vec_capacity journal.notes) journal.notes.items };
+    ghost invariant = { λ journal. IsReserved journal.room journal.reserved journal.notes.cap journal.notes.items };
 }
 
 impl<T: Copy> Journal<T> {
@@ -36,7 +38,11 @@ impl<T: Copy> Journal<T> {
         ensures { IfOk result (λ journal. journal ≡ record { notes = []; passed = []; room = room }) }
     {
         let notes = Vec::with_capacity(alloc, room as usize)?;
-        Ok(Journal { notes, room })
+        Ok(Journal {
+            notes: SealedVec::sealed(notes),
+            room,
+            reserved: room,
+        })
     }
 
     /// The journal of these notes, the oldest first, which has room for no other.
@@ -47,21 +53,33 @@ impl<T: Copy> Journal<T> {
         ensures room { result.room ≡ length notes.items }
     {
         let room = notes.len() as u32;
-        Journal { notes, room }
+        Journal {
+            notes: SealedVec::sealed(notes),
+            room,
+            reserved: room,
+        }
+    }
+
+    /// One more journal, of no note, which has room for none. It takes no memory.
+    pub fn emptied(&self) -> Self
+        ensures { result ≡ record { notes = []; passed = []; room = 0 } }
+    {
+        Journal {
+            notes: self.notes.emptied(),
+            room: 0,
+            reserved: 0,
+        }
     }
 
     /// Writes to the memory of all notes that there may be, so that none of them is the first to touch its page. No note is added.
     pub fn prefault(&mut self)
         ensures { self.new ≡ self.old }
     {
-        let count = self.notes.len();
-        let Ok(()) = self.notes.resize(self.room as usize, Note::default()) else {
-            unreachable!()
-        };
-        self.notes.truncate(count);
+        self.notes.prefault(Note::default());
     }
 
     /// Adds the newest note.
+    #[inline(always)]
     pub fn push(&mut self, note: Note<T>)
         requires free { length self.old.notes < self.old.room }
         ensures notes { self.new ≡ record self.old { notes = note ∷ self.old.notes } }
@@ -71,30 +89,31 @@ impl<T: Copy> Journal<T> {
     }
 
     /// Adds the newest note, also where no room is left. The room is asked for as the notes grow: where it is used up, for twice as many.
-    pub fn try_push(&mut self, note: Note<T>) -> Result<(), AllocError>
+    pub fn try_push(&mut self, alloc: Global, note: Note<T>) -> Result<(), AllocError>
         requires few { length self.old.notes < most_notes }
         ensures ok { OnOk result (self.new.notes ≡ note ∷ self.old.notes) }
         ensures room { OnOk result (length self.new.notes ≤ self.new.room) }
         ensures err { OnErr result (self.new ≡ self.old) }
     {
-        self.notes.push(note)?;
-        self.room = self.room.max(self.notes.len() as u32);
+        self.try_reserve(alloc, 1)?;
+        self.push(note);
         Ok(())
     }
 
     /// Makes room for this many more notes, and takes their memory.
-    pub fn try_reserve(&mut self, more: u32) -> Result<(), AllocError>
+    pub fn try_reserve(&mut self, alloc: Global, more: u32) -> Result<(), AllocError>
         requires few { length self.old.notes + more ≤ most_notes }
         ensures ok { OnOk result (self.new ≡ record self.old { room = max (length self.old.notes + more) self.old.room }) }
         ensures err { OnErr result (self.new ≡ self.old) }
     {
-        self.notes.reserve(more as usize)?;
         let room = self.notes.len() as u32 + more;
+        self.reserved = reserve(alloc, &mut self.notes, self.reserved, room)?;
         self.room = room.max(self.room);
         Ok(())
     }
 
     /// Adds these notes one after another, so that the last of them is the newest.
+    #[inline(always)]
     pub fn push_all(&mut self, notes: &[Note<T>])
         requires free { length self.old.notes + length notes.now ≤ self.old.room }
         ensures notes { self.new ≡ record self.old { notes = reverse notes.now ++ self.old.notes } }
@@ -141,14 +160,14 @@ impl<T: Copy> Journal<T> {
     pub fn is_empty(&self) -> bool
         ensures { IsTrue result ↔ (self.now.notes ≡ []) }
     {
-        self.notes.is_empty()
+        self.as_slice().is_empty()
     }
 
     /// The note of this place, counted from the oldest, whose place is 0.
     pub fn get(&self, index: usize) -> Option<Note<T>>
         ensures { result ≡ slice_get (reverse self.now.notes) index }
     {
-        self.notes.get(index).copied()
+        self.as_slice().get(index).copied()
     }
 
     /// All notes, the oldest first.
@@ -157,4 +176,28 @@ impl<T: Copy> Journal<T> {
     {
         self.notes.as_slice()
     }
+}
+
+/// Sees that so many notes have their memory. If they don't, the notes move into a vector of at least twice the room. Answers how many have their memory.
+fn reserve<T: Copy>(
+    alloc: Global,
+    notes: &mut SealedVec<Note<T>, Global>,
+    reserved: u32,
+    room: u32,
+) -> Result<u32, AllocError>
+    requires held { length notes.old.items ≤ reserved }
+    requires reserved { reserved ≤ notes.old.cap }
+    requires few { room ≤ most_notes }
+    ensures items { notes.new.items ≡ notes.old.items }
+    ensures room { IfOk result (λ reserved. room ≤ reserved) }
+    ensures more { IfOk result (λ more. reserved ≤ more) }
+    ensures capacity { IfOk result (λ reserved. reserved ≤ notes.new.cap) }
+    ensures err { OnErr result (notes.new ≡ notes.old) }
+{
+    if room <= reserved {
+        return Ok(reserved);
+    }
+    let reserved = room.max(2 * reserved);
+    *notes = notes.with_more_room(alloc, reserved as usize)?;
+    Ok(reserved)
 }

@@ -11,7 +11,7 @@ use rt_ids::Note;
 use std::alloc::{AllocError, Global};
 use std::marker::Model;
 
-/// The notes of one actor that runs. Those that were passed on are kept no more, and their places are free again. The opening asks for memory, and no other call does; no clause says so.
+/// The notes of one actor that runs. Those that were passed on are kept no more, and their places are free again. The opening is handed an allocator. No other call has one in reach, since the notes stand in a sealed vector.
 ///
 /// A contract sees the list of all notes, the newest first, those of them that were passed on, and how many there may be in all, until more are passed on.
 #[derive(Drop)]
@@ -43,13 +43,13 @@ impl<T: Copy> RunningJournal<T> {
         })
     }
 
-    /// The journal of no note, which has room for none.
-    pub fn nothing(alloc: Global) -> Self
+    /// One more journal, of no note, which has room for none. It takes no memory.
+    pub fn emptied(&self) -> Self
         ensures { result ≡ record { notes = []; passed = []; room = 0 } }
     {
         RunningJournal {
             passed: History::new(),
-            kept: Journal::of(Vec::new(alloc)),
+            kept: self.kept.emptied(),
         }
     }
 
@@ -61,6 +61,7 @@ impl<T: Copy> RunningJournal<T> {
     }
 
     /// Adds the newest note.
+    #[inline(always)]
     pub fn push(&mut self, note: Note<T>)
         requires free { length self.old.notes < self.old.room }
         ensures notes { self.new ≡ record self.old { notes = note ∷ self.old.notes } }
@@ -70,6 +71,7 @@ impl<T: Copy> RunningJournal<T> {
     }
 
     /// Adds these notes one after another, so that the last of them is the newest.
+    #[inline(always)]
     pub fn push_all(&mut self, notes: &[Note<T>])
         requires free { length self.old.notes + length notes.now ≤ self.old.room }
         ensures notes { self.new ≡ record self.old { notes = reverse notes.now ++ self.old.notes } }

@@ -29,7 +29,7 @@ fn a_journal_is_made_of_notes(rt: HostRuntime) -> Result<(), Fail> {
 fn a_journal_grows_past_its_room(rt: HostRuntime) -> Result<(), Fail> {
     let mut journal = Journal::try_with_room(rt.alloc(), 1)?;
     journal.push(pick(1));
-    journal.try_push(pick(2))?;
+    journal.try_push(rt.alloc(), pick(2))?;
     assert!(rt; has_two(&journal, 2));
     Ok(())
 }
@@ -37,10 +37,10 @@ fn a_journal_grows_past_its_room(rt: HostRuntime) -> Result<(), Fail> {
 #[test]
 fn a_journal_makes_room(rt: HostRuntime) -> Result<(), Fail> {
     let mut journal = Journal::of(vec![in rt.alloc(); pick(1)]?);
-    journal.try_reserve(4)?;
+    journal.try_reserve(rt.alloc(), 4)?;
     journal.push(pick(2));
     assert!(rt; has_two(&journal, 5) && journal.free() == 3);
-    journal.try_reserve(2)?;
+    journal.try_reserve(rt.alloc(), 2)?;
     journal.clear();
     assert!(rt; journal.is_empty() && journal.room() == 5);
     Ok(())

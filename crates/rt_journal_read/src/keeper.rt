@@ -70,7 +70,7 @@ impl NoteTaker for Keeper {
     }
 
     fn take(&mut self, note: &Note<u64>) -> Result<(), AllocError> {
-        self.notes.try_push(*note)
+        self.notes.try_push(self.alloc, *note)
     }
 
     fn next_actor(&mut self) -> Result<(), AllocError> {

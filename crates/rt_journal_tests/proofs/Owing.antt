@@ -1,7 +1,7 @@
 -- What a pick that hands a job back leaves owed, and to whom.
 use Rattle.std.proofs.Common.{◌≡◌, ◌≢◌, ℕ, Ok, Some, None, sym, subst, cond}
 use Rattle.std.specs.Prelude.{Option}
-use Rattle.std.proofs.lemmas.Bool.{eq-eqb, ne_eqb}
+use Rattle.std.proofs.lemmas.Bool.{eq-eqb}
 use Rattle.rt_ids.specs.declared.names.JobId.{JobId}
 use Rattle.rt_ids.specs.declared.note.OutcomeNote.{OutcomeNote}
 use Rattle.rt_ids.specs.declared.order.Order.{Order}
@@ -19,16 +19,11 @@ use Rattle.rt_journal.specs.Ends.{IsInOf, IsInOwing, LeavesOwed, told_under}
 use Rattle.rt_journal.proofs.DeliveredEnds.{told_elsewhere}
 use Rattle.rt_jobs.specs.Meanings.{Meaning}
 
-module _ {J T : Type 0} (old new : RecordedView J T) (name : JobId) (what : JobId × OutcomeNote T) (end : Inward J T) where
-  -- to its sender
-  pub owes_sender : (sender : ℕ) → name.from ≡ sender → LeavesOwed sender (if_from sender name what) old new → IsInOf sender old end → IsInOwing name.from (Some what) new end
-  owes_sender sender from leaves is =
-      subst (λ at. IsInOwing at (Some what) new end) (sym from)
-      (subst (λ test. IsInOwing sender (cond test (Some what) None) new end) (eq-eqb name.from sender from) (leaves.each end is))
-
-  -- and to nobody else
-  pub owes_nobody : (sender : ℕ) → name.from ≢ sender → LeavesOwed sender (if_from sender name what) old new → IsInOf sender old end → IsInOf sender new end
-  owes_nobody sender apart leaves is = subst (λ test. IsInOwing sender (cond test (Some what) None) new end) (ne_eqb name.from sender apart) (leaves.each end is)
+-- what is owed to the sender of a name is owed under that name
+pub owed_to : {J T : Type 0} (view : RecordedView J T) (name : JobId) (what : JobId × OutcomeNote T) (end : Inward J T) (sender : ℕ) → name.from ≡ sender → IsInOwing sender (if_from sender name what) view end →
+    IsInOwing name.from (Some what) view end
+owed_to view name what end sender from owes =
+    subst (λ at. IsInOwing at (Some what) view end) (sym from) (subst (λ test. IsInOwing sender (cond test (Some what) None) view end) (eq-eqb name.from sender from) owes)
 
 -- an order that is handed back is one that was sent under its name
 pub hands_sent : {J T : Type 0} {meaning : Meaning J T} (old new : RecordedView J T) (turn : Turn J) (name : JobId) (reason : Reason) (order : Order J) → turn ≡ Back name reason order → Picks meaning old (Ok turn) new → IsSentUnder meaning new.took name order

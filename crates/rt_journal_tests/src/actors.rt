@@ -1,14 +1,18 @@
 //! Actors with the ends of their links, whatever kind of links these are.
 
-ghost use Rattle.std.specs.Prelude.{◌≡◌, ℕ, None};
-ghost use Rattle.rt_journal.specs.Ends.{IsSameSeat, KeepsIn};
+ghost use Rattle.std.specs.Prelude.{◌≡◌, ◌<◌, ℕ, None, IsTrue, length};
+ghost use Rattle.rt_ids.specs.Filters.{if_from};
+ghost use Rattle.rt_ids.specs.declared.note.OutcomeNote.TheVariants as outcomes;
+ghost use Rattle.rt_journal.specs.Ends.{IsInOf, IsInOwing, IsSameSeat, KeepsIn};
+ghost use Rattle.rt_journal.specs.Owed.{IsSentUnder};
 ghost use Rattle.rt_journal.specs.Recorded.{desk_of};
+ghost use Rattle.rt_journal.specs.Turns.{IsOut, IsOutUnder};
 ghost use Rattle.rt_journal_desk.specs.Ends.{KeepsOuts};
-ghost use Rattle.rt_jobs.specs.Ready.{HasReadyJob};
+ghost use Rattle.rt_jobs.specs.Ready.{HasReadyJob, IsReady};
 ghost use Rattle.rt_link.specs.Whole.{fresh, inward_of, out_of};
 
 use rt_core::Turn;
-use rt_ids::{ActorNo, CoreNo, JobId, Note, Order, Outcome, QueueNo, Ticket, TicketError};
+use rt_ids::{ActorNo, CoreNo, JobId, Note, Order, Outcome, QueueNo, Reason, Ticket, TicketError};
 use rt_jobs::{NoPost, Ran, ScriptJob, Task};
 use rt_journal::{Recorded, RecordedDesk, RunningJournal};
 use rt_link::{InEnd, OutEnd, PlainLink};
@@ -85,6 +89,53 @@ pub fn ends_turn(core: &mut Recorded<ScriptJob>) -> bool
     }
 }
 
+/// Polls the job that is out, and settles it, if the outside actor sent it, whose end this is. Whether it did.
+fn runs<I: InEnd<ScriptJob>>(
+    core: &mut Recorded<ScriptJob>,
+    outside: &mut I,
+    name: JobId,
+    job: ScriptJob,
+) -> bool
+    requires out { IsOut core.old.core.out job }
+    requires named { IsOutUnder core.old.core.out name }
+    requires ready { IsReady ⟦<ScriptJob as Task>⟧.meaning job }
+    requires beside { IsInOf 1 core.old (I.inward outside.old) }
+    requires room { length core.old.journal.notes < core.old.journal.room }
+    ensures beside { IsInOf 1 core.new (I.inward outside.new) }
+    ensures own { KeepsIn 0 core.old core.new }
+    ensures rest { IsTrue result → core.new.core.out ≡ None }
+{
+    if name.from != OUTSIDE {
+        return false;
+    }
+    let ran = Ran::poll(job, &mut NoPost);
+    drop(core.settle(outside, name, ran, 5));
+    true
+}
+
+/// Gives the outcome of a job that was handed back, on the end of its sender.
+fn goes_back<I: InEnd<ScriptJob>>(
+    core: &Recorded<ScriptJob>,
+    own: &mut I,
+    outside: &mut I,
+    name: JobId,
+    reason: Reason,
+    order: Order<ScriptJob>,
+) -> bool
+    requires own { IsInOwing 0 (if_from 0 name (name, outcomes.Returned reason)) core.now (I.inward own.old) }
+    requires outside { IsInOwing 1 (if_from 1 name (name, outcomes.Returned reason)) core.now (I.inward outside.old) }
+    requires sent { IsSentUnder ⟦<ScriptJob as Task>⟧.meaning core.now.took name order }
+    ensures own { IsInOf 0 core.now (I.inward own.new) }
+    ensures outside { IsInOf 1 core.now (I.inward outside.new) }
+{
+    if name.from == OUTSIDE {
+        core.give_back(outside, name, reason, order);
+    } else if name.from == OWN {
+        core.give_back(own, name, reason, order);
+    }
+    true
+}
+
 /// What a core is to do.
 #[derive(Clone, Copy)]
 pub enum Act {
@@ -154,29 +205,17 @@ impl<I: InEnd<ScriptJob> + Drop> Receiver<I> {
             return false;
         }
         match self.core.pick() {
-            Ok(Turn::Start(name, _, job)) => {
-                if name.from != OUTSIDE {
-                    return false;
-                }
-                let ran = Ran::poll(job, &mut NoPost);
-                drop(self.core.settle(&mut self.outside, name, ran, 5));
-                true
-            }
+            Ok(Turn::Start(name, _, job)) => runs(&mut self.core, &mut self.outside, name, job),
+            Ok(Turn::Resume(name, _, job)) => runs(&mut self.core, &mut self.outside, name, job),
             Ok(Turn::Back(name, reason, order)) => {
-                if name.from == OUTSIDE {
-                    self.core.give_back(&mut self.outside, name, reason, order);
-                } else if name.from == OWN {
-                    self.core.give_back(&mut self.own, name, reason, order);
-                }
-                true
-            }
-            Ok(Turn::Resume(name, _, job)) => {
-                if name.from != OUTSIDE {
-                    return false;
-                }
-                let ran = Ran::poll(job, &mut NoPost);
-                drop(self.core.settle(&mut self.outside, name, ran, 5));
-                true
+                goes_back(
+                    &self.core,
+                    &mut self.own,
+                    &mut self.outside,
+                    name,
+                    reason,
+                    order,
+                )
             }
             Ok(Turn::Idle) => false,
             Err(_) => false,
@@ -189,12 +228,7 @@ impl<I: InEnd<ScriptJob> + Drop> Receiver<I> {
         }
         match self.core.follow() {
             Some(Turn::Resume(name, _, job)) => {
-                if name.from != OUTSIDE {
-                    return false;
-                }
-                let ran = Ran::poll(job, &mut NoPost);
-                drop(self.core.settle(&mut self.outside, name, ran, 5));
-                ends_turn(&mut self.core)
+                runs(&mut self.core, &mut self.outside, name, job) && ends_turn(&mut self.core)
             }
             Some(_) => false,
             None => false,

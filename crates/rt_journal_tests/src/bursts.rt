@@ -90,10 +90,7 @@ fn posts_twice(alloc: Global, job: Order<ScriptJob>) -> bool
 {
     match poster(alloc, job) {
         Ok(mut poster) => {
-            poster.deliver(OUTSIDE)
-                && poster.turns(alloc, 1)
-                && poster.further(alloc)
-                && poster.tells(&TURNED)
+            poster.deliver(OUTSIDE) && poster.turns(1) && poster.further() && poster.tells(&TURNED)
         }
         Err(_) => false,
     }

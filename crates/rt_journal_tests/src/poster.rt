@@ -10,6 +10,7 @@ ghost use Rattle.rt_link.specs.Whole.{fresh, inward_of, out_of};
 
 use crate::actors::{CORE, OUTSIDE, OWN, ends_turn, tells};
 use rt_core::Ahead;
+use rt_fixed::SealedVec;
 use rt_ids::{ActorNo, Note};
 use rt_jobs::{ScriptJob, Task};
 use rt_journal::Recorded;
@@ -21,7 +22,7 @@ use std::marker::Model;
 #[derive(Drop)]
 pub struct Poster<O: OutEnd<ScriptJob> + Drop, I: InEnd<ScriptJob> + Drop> {
     core: Recorded<ScriptJob>,
-    outs: Vec<O, Global>,
+    outs: SealedVec<O, Global>,
     own: I,
     outside: I,
 }
@@ -61,7 +62,7 @@ impl<O: OutEnd<ScriptJob> + Drop, I: InEnd<ScriptJob> + Drop> Poster<O, I> {
         outs.push_reserved(out);
         Ok(Poster {
             core,
-            outs,
+            outs: SealedVec::sealed(outs),
             own,
             outside,
         })
@@ -107,7 +108,7 @@ impl<O: OutEnd<ScriptJob> + Drop, I: InEnd<ScriptJob> + Drop> Poster<O, I> {
     }
 
     /// Whether a job was polled in its place in the core.
-    fn turn(&mut self, alloc: Global) -> bool {
+    fn turn(&mut self) -> bool {
         let cap = self.core.cap();
         if self.core.journal().free() < 3 * cap as u32 + 3 {
             return false;
@@ -118,7 +119,7 @@ impl<O: OutEnd<ScriptJob> + Drop, I: InEnd<ScriptJob> + Drop> Poster<O, I> {
         let mut spent = 5;
         let settled = self
             .core
-            .turn_posting(alloc, &mut self.outs, &mut (), &next, &mut spent);
+            .turn_posting(&mut self.outs, &mut (), &next, &mut spent);
         if next.name.from == OWN {
             self.core.give_done(&mut self.own, next.name, &settled);
         } else if next.name.from == OUTSIDE {
@@ -128,7 +129,7 @@ impl<O: OutEnd<ScriptJob> + Drop, I: InEnd<ScriptJob> + Drop> Poster<O, I> {
     }
 
     /// Whether a further job of the open turn was polled in its place, and the turn ended behind it.
-    pub fn further(&mut self, alloc: Global) -> bool {
+    pub fn further(&mut self) -> bool {
         let cap = self.core.cap();
         if self.core.journal().free() < 3 * cap as u32 + 2 {
             return false;
@@ -142,15 +143,15 @@ impl<O: OutEnd<ScriptJob> + Drop, I: InEnd<ScriptJob> + Drop> Poster<O, I> {
         let mut spent = 5;
         let settled = self
             .core
-            .further_posting(alloc, &mut self.outs, &mut (), &next, &mut spent);
+            .further_posting(&mut self.outs, &mut (), &next, &mut spent);
         self.core.give_done(&mut self.outside, next.name, &settled);
         ends_turn(&mut self.core)
     }
 
     /// Whether so many jobs were polled so.
-    pub fn turns(&mut self, alloc: Global, count: u64) -> bool {
+    pub fn turns(&mut self, count: u64) -> bool {
         for _ in 0..count {
-            if !self.turn(alloc) {
+            if !self.turn() {
                 return false;
             }
         }

@@ -93,16 +93,13 @@ fn plain_poster_with(
 }
 
 /// Whether the job's polls over plain links come to these notes.
-fn polls_over_plain_links(
-    alloc: Global,
-    poster: &mut Poster<PlainLink<ScriptJob>, PlainLink<ScriptJob>>,
-) -> bool {
-    poster.deliver(OUTSIDE) && poster.turns(alloc, 4) && poster.tells(&NOTED[..15])
+fn polls_over_plain_links(poster: &mut Poster<PlainLink<ScriptJob>, PlainLink<ScriptJob>>) -> bool {
+    poster.deliver(OUTSIDE) && poster.turns(4) && poster.tells(&NOTED[..15])
 }
 
 fn posts_over_plain_links(rt: &impl Abort, alloc: Global) -> bool {
     match plain_poster_with(alloc, job(rt)) {
-        Ok(mut poster) => polls_over_plain_links(alloc, &mut poster),
+        Ok(mut poster) => polls_over_plain_links(&mut poster),
         Err(_) => false,
     }
 }
@@ -138,21 +135,18 @@ fn ring_actors(
 }
 
 /// Whether the job's polls over rings come to these notes, and then the poll of the job that it submitted.
-fn polls_over_rings(
-    alloc: Global,
-    poster: &mut Poster<RingOut<ScriptJob>, RingIn<ScriptJob>>,
-) -> bool {
+fn polls_over_rings(poster: &mut Poster<RingOut<ScriptJob>, RingIn<ScriptJob>>) -> bool {
     poster.deliver(OUTSIDE)
-        && poster.turns(alloc, 4)
+        && poster.turns(4)
         && poster.deliver(OWN)
-        && poster.turns(alloc, 1)
+        && poster.turns(1)
         && poster.tells(&NOTED)
 }
 
 fn posts_over_rings(rt: &impl Abort, alloc: Global) -> bool {
     match ring_actors(alloc) {
         Some((mut sender, mut poster)) => {
-            sender.submit(job(rt)) && polls_over_rings(alloc, &mut poster)
+            sender.submit(job(rt)) && polls_over_rings(&mut poster)
         }
         None => false,
     }

@@ -2,9 +2,8 @@
 use Rattle.std.proofs.Common.{◌≡◌, ℕ, ◌+◌, ◌^◌, ◌<◌, ◌≤◌, true, false, List, [], ◌∷◌, ◌++◌, length, set, get_or, eqb, refl, sym, ap, ◌∙◌, arith, subst, length-append}
 use lib.ListN.{get_elem?}
 use mathlib.Core.Option.{some}
-use native.Mathlib.Decide.{dec_le}
 use prog.Atomic.{either}
-use Rattle.atomic_table.specs.Table.{State, keeps, gives, chain, rest, Allows}
+use Rattle.atomic_table.specs.Table.{State, keeps, gives, rest, Allows}
 use Rattle.atomic_table.proofs.Lists.{exchanged}
 use Rattle.rt_ids.specs.declared.order.Order.{Order}
 use Rattle.rt_ids.specs.declared.order.Outcome.{Outcome}
@@ -13,20 +12,19 @@ use Rattle.rt_link.specs.declared.ends.Inward.{Inward}
 use Rattle.rt_link.specs.declared.plain.Whole.{Whole}
 use Rattle.rt_ids.proofs.Prefixes.{IsPrefix-append}
 use Rattle.rt_link.proofs.WholeLaws.{IsLink-send}
-use Rattle.rt_ring.specs.Carried.{Place, spare}
+use Rattle.rt_ring.specs.Carried.{Place}
 use Rattle.rt_ring.specs.Rule.{gate_bit, two_words}
-use Rattle.rt_ring.specs.Slots.{Homes, AreInPlace, order_slot, outcome_slot}
+use Rattle.rt_ring.specs.Slots.{Homes, AreInPlace, place_of}
 use Rattle.rt_ring.specs.After.{with_sent, with_closed}
 use Rattle.rt_ring.specs.Told.{Accepts}
 use Rattle.rt_ring.specs.Views.{KnowsOut, KnowsInward}
 use Rattle.rt_ring.specs.declared.board.Known.{Known}
 use Rattle.rt_ring.specs.declared.board.Slot.{Slot}
-use Rattle.rt_ring.specs.Slots.{Empty, Sent}
+use Rattle.rt_ring.specs.Slots.{Sent}
 use Rattle.rt_ring.specs.declared.board.Terms.{Terms}
-use Rattle.rt_ring.proofs.CarriedSlots.{spare-early, spare-late}
 use Rattle.rt_ring.proofs.SeatViews.{AreTold-sender}
 use Rattle.rt_ring.proofs.Fronts.{front_order}
-use Rattle.rt_ring.proofs.SentSlots.{AreInPlace-sent_early, AreInPlace-sent_late}
+use Rattle.rt_ring.proofs.SentSlots.{AreInPlace-sent}
 use Rattle.rt_ring.proofs.Stepping.{Rule, Owes, gate-open, gate-shut, accept-word}
 use Rattle.rt_ring.proofs.Probing.{not_closed, misses}
 
@@ -87,58 +85,27 @@ module _ {J T : Type 0} (fits : Order J → Outcome J T → Type 0) (ready : Ord
     abbrev knows : KnowsOut r.link view.out
     knows = ((r.views seat view at).sends go).1
 
-    capacity-is : view.out.capacity ≡ n
-    capacity-is = ap (λ (o : Outward J T). o.capacity) knows.knows
-
-    count-is : length view.out.sent ≡ k
-    count-is = ap (λ (o : Outward J T). length o.sent) knows.knows
-
     ungated : r.link.shut ≡ false
     ungated = gate-open expected (r.link.base + k) r.link.shut (sym hit ∙ accept-word fits ready terms s r) is
 
-    abbrev Sends : List (ℕ × Slot J T) → Type 0
-    Sends carried = Owes fits ready terms s 0 seat (view, carried) (Accepts expected (view, carried)) next
-
-    accepts-early : k < n → Sends ((order_slot n k, Sent order) ∷ more)
-    accepts-early early = (
+    accepts-one : Owes fits ready terms s 0 seat (view, (place_of n k, Sent order) ∷ more) (Accepts expected (view, (place_of n k, Sent order) ∷ more)) next
+    accepts-one = (
       with_sent view order,
       gives,
       tt,
-      sends s r seat next view order (set s.homes (order_slot n k) (some (Sent order))) at go used ungated is_ready (omega arith) small room
-          (AreInPlace-sent_early fits ready r.link r.law r.credits s.homes r.slots order room early),
+      sends s r seat next view order (set s.homes (place_of n k) (some (Sent order))) at go used ungated is_ready (omega arith) small room
+          (AreInPlace-sent fits ready r.link r.law r.credits s.homes r.slots order room),
       record {
         hit = λ _. (
           not_closed view.out.closed r.link.shut knows.gate ungated,
-          λ other rests e. let both = e ∙ ap (λ (z : List (ℕ × Slot J T)). (order_slot view.out.capacity (length view.out.sent), Sent other) ∷ (z ++ rests)) (spare-early view.out.capacity (length view.out.sent) (omega (arith, capacity-is, count-is))) in
-              let same = front_order _ _ order other _ _ both in λ i. (with_sent view (same i), rest (both i)),
+          λ other rests e. let same = front_order _ _ order other _ _ e in λ i. (with_sent view (same i), rest (e i)),
         );
         miss = λ miss. absurd (miss hit);
       },
     )
-
-    accepts-late : n ≤ k → Sends ((order_slot n k, Sent order) ∷ (outcome_slot n k, Empty) ∷ more)
-    accepts-late late = (
-      with_sent view order,
-      chain gives gives,
-      (tt, tt),
-      sends s r seat next view order (set (set s.homes (order_slot n k) (some (Sent order))) (outcome_slot n k) (some Empty)) at go used ungated is_ready (omega arith) small room
-          (AreInPlace-sent_late fits ready r.link r.law r.credits s.homes r.slots order room late),
-      record {
-        hit = λ _. (
-          not_closed view.out.closed r.link.shut knows.gate ungated,
-          λ other rests e. let both = e ∙ ap (λ (z : List (ℕ × Slot J T)). (order_slot view.out.capacity (length view.out.sent), Sent other) ∷ (z ++ rests)) (spare-late view.out.capacity (length view.out.sent) (omega (arith, capacity-is, count-is))) in
-              let same = front_order _ _ order other _ _ both in λ i. (with_sent view (same i), rest (rest (both i))),
-        );
-        miss = λ miss. absurd (miss hit);
-      },
-    )
-
-    accepts-one : Dec (n ≤ k) → Sends ((order_slot n k, Sent order) ∷ (spare n k ++ more))
-    accepts-one (yes late) = subst (λ (z : List (ℕ × Slot J T)). Sends ((order_slot n k, Sent order) ∷ (z ++ more))) (sym (spare-late n k late)) (accepts-late late)
-    accepts-one (no early) = subst (λ (z : List (ℕ × Slot J T)). Sends ((order_slot n k, Sent order) ∷ (z ++ more))) (sym (spare-early n k (omega arith))) (accepts-early (omega arith))
 
   pub accepts : (slots seat expected next : ℕ) (me : Place J T) (order : Order J) (more : List (ℕ × Slot J T)) → me.0.sends ≡ true → me.0.fresh ≡ false
-      → me.1 ≡ (order_slot me.0.out.capacity (length me.0.out.sent), Sent order) ∷ (spare me.0.out.capacity (length me.0.out.sent) ++ more)
+      → me.1 ≡ (place_of me.0.out.capacity (length me.0.out.sent), Sent order) ∷ more
       → expected ≡ me.0.out.base + length me.0.out.sent → next ≡ expected + 1 → next < 2 ^ 63 → length me.0.out.sent < me.0.out.got + me.0.out.capacity → ready order
       → Allows (Rule fits ready terms) slots seat me 0 (λ y. either (eqb y expected) next y) (Accepts expected me)
   accepts slots seat expected next me order more go used carried is follows small room is_ready s r wide at _ =
@@ -149,11 +116,11 @@ module _ {J T : Type 0} (fits : Order J → Outcome J T → Type 0) (ready : Ord
       let base : out.base ≡ r.link.base = ap (λ (o : Outward J T). o.base) k.knows in
       let got : out.got ≡ r.link.got = ap (λ (o : Outward J T). o.got) k.knows in
       let was : expected ≡ r.link.base + length r.link.sent = omega arith in
-      let holds : me.1 ≡ (order_slot r.link.capacity (length r.link.sent), Sent order) ∷ (spare r.link.capacity (length r.link.sent) ++ more) = carried ∙ λ i. (order_slot (capacity i) (count i), Sent order) ∷ (spare (capacity i) (count i) ++ more) in
+      let holds : me.1 ≡ (place_of r.link.capacity (length r.link.sent), Sent order) ∷ more = carried ∙ λ i. (place_of (capacity i) (count i), Sent order) ∷ more in
       subst (λ (c : List (ℕ × Slot J T)). Owes fits ready terms s 0 seat (view, c) (Accepts expected (view, c)) (either (eqb (get_or s.words 0 0) expected) next (get_or s.words 0 0))) (sym holds)
       (exchanged (get_or s.words 0 0) expected next
-      (Owes fits ready terms s 0 seat (view, (order_slot r.link.capacity (length r.link.sent), Sent order) ∷ (spare r.link.capacity (length r.link.sent) ++ more)) (Accepts expected (view, (order_slot r.link.capacity (length r.link.sent), Sent order) ∷ (spare r.link.capacity (length r.link.sent) ++ more))))
-      (λ hit. accepts-one slots seat expected next view order more s r at go used is_ready hit was follows small (omega arith) (dec_le r.link.capacity (length r.link.sent)))
+      (Owes fits ready terms s 0 seat (view, (place_of r.link.capacity (length r.link.sent), Sent order) ∷ more) (Accepts expected (view, (place_of r.link.capacity (length r.link.sent), Sent order) ∷ more)))
+      (λ hit. accepts-one slots seat expected next view order more s r at go used is_ready hit was follows small (omega arith))
       (λ miss. (
         with_closed view,
         keeps,

@@ -32,25 +32,18 @@ module _ {X : Type 0} where
   pub begins : (l : List (ℕ × X)) (x : ℕ × X) (xs : List (ℕ × X)) → l ≡ x ∷ xs → l ≡ x ∷ rest l
   begins l x xs e = e ∙ ap (λ (z : List (ℕ × X)). x ∷ z) (sym (ap rest e))
 
--- two slots were taken, and the seat turns the one that was taken last to the back; then the slot at the front is written, and turned to the back too
-module _ {X V : Type 0} (i j : ℕ) (a b : X) (l : List (ℕ × X)) (view : V) (took turn : V × List (ℕ × X))
-    (took_is : took ≡ (view, (i, a) ∷ (j, b) ∷ l)) (turn_is : turn ≡ (took.0, turned took.1)) (k : ℕ) (is : k ≡ j) where
-  after_turn : turn ≡ (view, (k, b) ∷ l ++ (i, a) ∷ [])
-  after_turn = turn_is ∙ (ap (λ (z : V × List (ℕ × X)). (z.0, turned z.1)) took_is ∙ ap (λ (z : ℕ). (view, (z, b) ∷ l ++ (i, a) ∷ [])) (sym is))
+-- a slot was taken; it is written, and turned to the back
+module _ {X V : Type 0} (j : ℕ) (b : X) (l : List (ℕ × X)) (view : V) (took : V × List (ℕ × X)) (took_is : took ≡ (view, (j, b) ∷ l)) (k : ℕ) (is : k ≡ j) where
+  front_taken : took.1 ≡ (k, b) ∷ l
+  front_taken = ap (λ (z : V × List (ℕ × X)). z.1) took_is ∙ ap (λ (z : ℕ). (z, b) ∷ l) (sym is)
 
-  front_turned : turn.1 ≡ (k, b) ∷ l ++ (i, a) ∷ []
-  front_turned = ap (λ (z : V × List (ℕ × X)). z.1) after_turn
+  pub taken_slot : took.1 ≡ (k, b) ∷ rest took.1
+  taken_slot = begins took.1 (k, b) l front_taken
 
-  pub turned_slot : turn.1 ≡ (k, b) ∷ rest turn.1
-  turned_slot = begins turn.1 (k, b) (l ++ (i, a) ∷ []) front_turned
-
-  pub read_slot : (y : X) → turn.1 ≡ (k, y) ∷ rest turn.1 → y ≡ b
-  read_slot y found = same_front k k y b (rest turn.1) (l ++ (i, a) ∷ []) (sym found ∙ front_turned)
-
-  pub kept_slots : (z : X) (wrote last : V × List (ℕ × X)) → wrote ≡ (turn.0, (k, z) ∷ rest turn.1) → last ≡ (wrote.0, turned wrote.1)
-      → last ≡ (view, (l ++ (i, a) ∷ []) ++ (k, z) ∷ [])
+  pub kept_slots : (z : X) (wrote last : V × List (ℕ × X)) → wrote ≡ (took.0, (k, z) ∷ rest took.1) → last ≡ (wrote.0, turned wrote.1)
+      → last ≡ (view, l ++ (k, z) ∷ [])
   kept_slots z wrote last wrote_is last_is =
-      last_is ∙ (ap (λ (q : V × List (ℕ × X)). (q.0, turned q.1)) wrote_is ∙ ap (λ (q : V × List (ℕ × X)). (q.0, rest q.1 ++ (k, z) ∷ [])) after_turn)
+      last_is ∙ (ap (λ (q : V × List (ℕ × X)). (q.0, turned q.1)) wrote_is ∙ ap (λ (q : V × List (ℕ × X)). (q.0, rest q.1 ++ (k, z) ∷ [])) took_is)
 
 -- an order is what it is without its job and without the number of a wake, with both
 module _ {J : Type 0} where

@@ -2,7 +2,7 @@
 use Rattle.std.proofs.Common.{◌≡◌, ℕ, ◌+◌, ◌<◌, ◌≤◌, true, false, List, ◌∷◌, length, set, get_or, refl, sym, ap, ◌∙◌, arith, subst}
 use lib.ListN.{get_elem?}
 use mathlib.Core.Option.{some, none}
-use Rattle.atomic_table.specs.Table.{State, keeps, takes, chain, Allows}
+use Rattle.atomic_table.specs.Table.{State, keeps, takes, Allows}
 use Rattle.rt_ids.specs.declared.order.Order.{Order}
 use Rattle.rt_ids.specs.declared.order.Outcome.{Outcome}
 use Rattle.rt_link.specs.declared.ends.Outward.{Outward}
@@ -15,16 +15,15 @@ use Rattle.rt_ids.proofs.Prefixes.{IsPrefix-self, IsPrefix-length}
 use Rattle.rt_link.proofs.Lists.{slice_get-starts, slice_get-seen}
 use Rattle.rt_link.proofs.WholeLaws.{IsLink-collect, IsLink-credit}
 use Rattle.rt_ring.specs.Carried.{Place}
-use Rattle.rt_ring.specs.Slots.{order_slot, outcome_slot, slot_of_outcome, outcome_at}
+use Rattle.rt_ring.specs.Slots.{place_of, slot_of_outcome, outcome_at}
 use Rattle.rt_ring.specs.After.{with_got}
 use Rattle.rt_ring.specs.Told.{SeesOutcomes, Gathers, LiftsOutcome}
 use Rattle.rt_ring.specs.Views.{KnowsOut, KnowsInward}
 use Rattle.rt_ring.specs.declared.board.Known.{Known}
 use Rattle.rt_ring.specs.declared.board.Slot.{Slot}
-use Rattle.rt_ring.specs.Slots.{Empty}
 use Rattle.rt_ring.specs.declared.board.Terms.{Terms}
 use Rattle.rt_ring.proofs.SeatViews.{AreTold-sender}
-use Rattle.rt_ring.proofs.GotSlots.{outcome-there, emptied-there, AreInPlace-got}
+use Rattle.rt_ring.proofs.GotSlots.{outcome-there, AreInPlace-got}
 use Rattle.rt_ring.proofs.Stepping.{Rule, Owes, return-word, return-same, accept-same, Rule-sender_learns}
 
 -- what is of these orders is so in each beginning
@@ -108,8 +107,8 @@ module _ {J T : Type 0} (fits : Order J → Outcome J T → Type 0) (ready : Ord
       let collected : IsLink fits ready (record r.link { got = r.link.got + 1 }) = IsLink-collect r.law more in
       let later : Whole J T = record r.link { got = r.link.got + 1; credited = r.link.credited + 1 } in (
         with_got me.0 out.seen (out.got + 1),
-        chain (takes (outcome_slot r.link.capacity r.link.got) (outcome_at r.link.given r.link.got)) (takes (order_slot r.link.capacity r.link.got) Empty),
-        (outcome-there fits ready r.link r.law r.credits s.homes r.slots more, emptied-there fits ready r.link r.law r.credits s.homes r.slots more),
+        takes (place_of r.link.capacity r.link.got) (outcome_at r.link.given r.link.got),
+        outcome-there fits ready r.link r.law r.credits s.homes r.slots more,
         record {
           link = later;
           sender = r.sender;
@@ -119,12 +118,12 @@ module _ {J T : Type 0} (fits : Order J → Outcome J T → Type 0) (ready : Ord
           terms_are = r.terms_are;
           words = accept-same fits ready terms s r ∙ r.words;
           slots = AreInPlace-got fits ready r.link r.law r.credits s.homes r.slots more;
-          views = AreTold-sender r.link later s.homes (set (set s.homes (outcome_slot r.link.capacity r.link.got) none) (order_slot r.link.capacity r.link.got) none) r.sender r.receiver seat s.views me.0 r.views at used
+          views = AreTold-sender r.link later s.homes (set s.homes (place_of r.link.capacity r.link.got) none) r.sender r.receiver seat s.views me.0 r.views at used
               (record out { got = out.got + 1 }) go (KnowsOut-got r.link out k (omega arith)) (KnowsInward-got r.link);
         },
         record {
           sees = saw;
-          lifted = λ i. (with_got me.0 out.seen (out.got + 1), (order_slot (sym capacity i) (sym got i), Empty) ∷ (outcome_slot (sym capacity i) (sym got i), same i) ∷ me.1);
+          lifted = λ i. (with_got me.0 out.seen (out.got + 1), (place_of (sym capacity i) (sym got i), same i) ∷ me.1);
         },
       )
 

@@ -2,7 +2,7 @@
 use Rattle.std.proofs.Common.{◌≡◌, ℕ, ◌+◌, ◌-◌, ◌<◌, ◌≤◌, true, false, List, [], ◌∷◌, ◌++◌, length, set, sym, ap, ◌∙◌, arith, subst, length-append, Option}
 use Rattle.std.specs.Prelude.{slice_get, IfSome}
 use mathlib.Core.Option.{some}
-use Rattle.atomic_table.specs.Table.{gives, chain, rest, Allows}
+use Rattle.atomic_table.specs.Table.{gives, rest, Allows}
 use Rattle.rt_ids.specs.declared.order.Order.{Order}
 use Rattle.rt_ids.specs.declared.order.Outcome.{Outcome}
 use Rattle.rt_link.specs.declared.ends.Outward.{Outward}
@@ -15,13 +15,13 @@ use Rattle.rt_link.proofs.Lists.{slice_get-starts}
 use Rattle.rt_link.proofs.WholeLaws.{IsLink-give, IsLink-awaits}
 use Rattle.rt_ring.specs.Carried.{Place}
 use Rattle.rt_ring.specs.Rule.{gate_bit, two_words}
-use Rattle.rt_ring.specs.Slots.{order_slot, outcome_slot}
+use Rattle.rt_ring.specs.Slots.{place_of}
 use Rattle.rt_ring.specs.After.{with_given}
 use Rattle.rt_ring.specs.Told.{Gives}
 use Rattle.rt_ring.specs.Views.{KnowsOut, KnowsInward}
 use Rattle.rt_ring.specs.declared.board.Known.{Known}
 use Rattle.rt_ring.specs.declared.board.Slot.{Slot}
-use Rattle.rt_ring.specs.Slots.{Empty, Back}
+use Rattle.rt_ring.specs.Slots.{Back}
 use Rattle.rt_ring.specs.declared.board.Terms.{Terms}
 use Rattle.rt_ring.proofs.SeatViews.{AreTold-receiver}
 use Rattle.rt_ring.proofs.Fronts.{front_outcome}
@@ -63,7 +63,7 @@ module _ {J T : Type 0} where
 
 module _ {J T : Type 0} (fits : Order J → Outcome J T → Type 0) (ready : Order J → Type 0) (terms : Terms) where
   pub gives-one : (slots seat given : ℕ) (me : Place J T) (number : ℕ) (outcome : Outcome J T) (more : List (ℕ × Slot J T)) → me.0.takes ≡ true → me.0.fresh ≡ false
-      → me.1 ≡ (outcome_slot me.0.inward.capacity (length me.0.inward.given), Back number outcome) ∷ (order_slot me.0.inward.capacity (length me.0.inward.given), Empty) ∷ more
+      → me.1 ≡ (place_of me.0.inward.capacity (length me.0.inward.given), Back number outcome) ∷ more
       → given ≡ me.0.inward.base + length me.0.inward.given + 1 → MayGive fits me.0.inward number outcome
       → Allows (Rule fits ready terms) slots seat me 16 (λ _. given) (Gives me)
   gives-one slots seat given me number outcome more go used carried is may s r wide at _ =
@@ -75,12 +75,12 @@ module _ {J T : Type 0} (fits : Order J → Outcome J T → Type 0) (ready : Ord
       let may' : MayGive fits (inward_of r.link) number outcome = MayGive-whole fits r.link inward number outcome k may in
       let longer : length (r.link.given ++ (number, outcome) ∷ []) ≡ length r.link.given + 1 = length-append r.link.given ((number, outcome) ∷ []) in
       let later : Whole J T = record r.link { given = r.link.given ++ (number, outcome) ∷ [] } in
-      let o : ℕ = outcome_slot r.link.capacity (length r.link.given) in let e : ℕ = order_slot r.link.capacity (length r.link.given) in
-      let holds : me.1 ≡ (o, Back number outcome) ∷ (e, Empty) ∷ more = carried ∙ λ i. (outcome_slot (capacity i) (count i), Back number outcome) ∷ (order_slot (capacity i) (count i), Empty) ∷ more in
+      let o : ℕ = place_of r.link.capacity (length r.link.given) in
+      let holds : me.1 ≡ (o, Back number outcome) ∷ more = carried ∙ λ i. (place_of (capacity i) (count i), Back number outcome) ∷ more in
       subst (λ (c : List (ℕ × Slot J T)). Owes fits ready terms s 16 seat (view, c) (Gives (view, c)) given) (sym holds) (
         with_given view number outcome,
-        chain gives gives,
-        (tt, tt),
+        gives,
+        tt,
         record {
           link = later;
           sender = r.sender;
@@ -91,8 +91,8 @@ module _ {J T : Type 0} (fits : Order J → Outcome J T → Type 0) (ready : Ord
           words = ap (λ (words : List ℕ). set words 16 given) r.words
               ∙ (let e : given ≡ r.link.base + length (r.link.given ++ (number, outcome) ∷ []) = omega arith in ap (λ (z : ℕ). two_words (r.link.base + length r.link.sent + gate_bit r.link.shut) z) e);
           slots = AreInPlace-given fits ready r.link r.law r.credits s.homes r.slots number outcome (IsLink-awaits r.law number outcome may');
-          views = AreTold-receiver r.link later s.homes (set (set s.homes o (some (Back number outcome))) e (some Empty)) r.sender r.receiver seat s.views view r.views at used
+          views = AreTold-receiver r.link later s.homes (set s.homes o (some (Back number outcome))) r.sender r.receiver seat s.views view r.views at used
               (record inward { given = inward.given ++ (number, outcome) ∷ [] }) go (KnowsInward-given r.link number outcome inward k) (KnowsOut-given r.link number outcome);
         },
-        record { gave = λ number' outcome' more' both. let same = front_outcome _ _ (number, outcome) (number', outcome') _ _ both in λ i. (with_given view (same i).0 (same i).1, rest (rest (both i))) },
+        record { gave = λ number' outcome' more' both. let same = front_outcome _ _ (number, outcome) (number', outcome') _ _ both in λ i. (with_given view (same i).0 (same i).1, rest (both i)) },
       )

@@ -5,7 +5,7 @@ use Rattle.std.proofs.lemmas.Nat.{or_block}
 use Rattle.std.specs.Int.Bits.{or_zero_r}
 use lib.ListN.{get_elem?}
 use mathlib.Core.Option.{some, none}
-use Rattle.atomic_table.specs.Table.{State, keeps, takes, chain, Allows}
+use Rattle.atomic_table.specs.Table.{State, keeps, takes, Allows}
 use Rattle.rt_ids.specs.declared.order.Order.{Order}
 use Rattle.rt_ids.specs.declared.order.Outcome.{Outcome}
 use Rattle.rt_link.specs.declared.ends.Inward.{Inward}
@@ -15,16 +15,15 @@ use Rattle.rt_link.proofs.Lists.{slice_get-starts, slice_get-seen}
 use Rattle.rt_link.proofs.WholeLaws.{IsLink-take, IsLink-shut}
 use Rattle.rt_ring.specs.Carried.{Place}
 use Rattle.rt_ring.specs.Rule.{gate_bit, two_words}
-use Rattle.rt_ring.specs.Slots.{order_slot, outcome_slot, slot_of_order, order_at}
+use Rattle.rt_ring.specs.Slots.{place_of, slot_of_order, order_at}
 use Rattle.rt_ring.specs.After.{with_taken, with_shut}
 use Rattle.rt_ring.specs.Told.{SeesOrders, Looks, LiftsOrder, Closes}
 use Rattle.rt_ring.specs.Views.{KnowsInward}
 use Rattle.rt_ring.specs.declared.board.Known.{Known}
 use Rattle.rt_ring.specs.declared.board.Slot.{Slot}
-use Rattle.rt_ring.specs.Slots.{Empty}
 use Rattle.rt_ring.specs.declared.board.Terms.{Terms}
 use Rattle.rt_ring.proofs.SeatViews.{AreTold-receiver}
-use Rattle.rt_ring.proofs.TakenSlots.{order-there, vacant-there, AreInPlace-taken}
+use Rattle.rt_ring.proofs.TakenSlots.{order-there, AreInPlace-taken}
 use Rattle.rt_ring.proofs.Stepping.{Rule, Owes, accept-word, accept-same, return-same, Rule-receiver_learns}
 use Rattle.rt_ring.proofs.TakenViews.{KnowsInward-seen, KnowsInward-taken, KnowsInward-shut, KnowsOut-taken, KnowsOut-shut}
 
@@ -95,8 +94,8 @@ module _ {J T : Type 0} (fits : Order J → Outcome J T → Type 0) (ready : Ord
       ap (λ (n : ℕ). order_at r.link.sent n) (sym taken) ∙ ap slot_of_order (slice_get-starts r.link.sent inward.seen inward.taken k.sees within) in
       let later : Whole J T = record r.link { taken = r.link.taken + 1 } in (
         with_taken me.0 inward.seen (inward.taken + 1),
-        chain (takes (order_slot r.link.capacity r.link.taken) (order_at r.link.sent r.link.taken)) (takes (outcome_slot r.link.capacity r.link.taken) Empty),
-        (order-there fits ready r.link r.law r.credits s.homes r.slots more, vacant-there fits ready r.link r.law r.credits s.homes r.slots more),
+        takes (place_of r.link.capacity r.link.taken) (order_at r.link.sent r.link.taken),
+        order-there fits ready r.link r.law r.credits s.homes r.slots more,
         record {
           link = later;
           sender = r.sender;
@@ -106,12 +105,12 @@ module _ {J T : Type 0} (fits : Order J → Outcome J T → Type 0) (ready : Ord
           terms_are = r.terms_are;
           words = return-same fits ready terms s r ∙ r.words;
           slots = AreInPlace-taken fits ready r.link r.law r.credits s.homes r.slots more;
-          views = AreTold-receiver r.link later s.homes (set (set s.homes (order_slot r.link.capacity r.link.taken) none) (outcome_slot r.link.capacity r.link.taken) none) r.sender r.receiver seat s.views me.0 r.views at used
+          views = AreTold-receiver r.link later s.homes (set s.homes (place_of r.link.capacity r.link.taken) none) r.sender r.receiver seat s.views me.0 r.views at used
               (record inward { taken = inward.taken + 1 }) go (KnowsInward-taken r.link inward k (omega arith)) (KnowsOut-taken r.link);
         },
         record {
           sees = saw;
-          lifted = λ i. (with_taken me.0 inward.seen (inward.taken + 1), (outcome_slot (sym capacity i) (sym taken i), Empty) ∷ (order_slot (sym capacity i) (sym taken i), same i) ∷ me.1);
+          lifted = λ i. (with_taken me.0 inward.seen (inward.taken + 1), (place_of (sym capacity i) (sym taken i), same i) ∷ me.1);
         },
       )
 
@@ -130,7 +129,7 @@ module _ {J T : Type 0} (fits : Order J → Outcome J T → Type 0) (ready : Ord
           terms_are = r.terms_are;
           words = ap (λ (words : List ℕ). set words 0 (bit_or (get_or words 0 0) gate)) r.words
               ∙ ap (λ (z : ℕ). two_words z (r.link.base + length r.link.given)) (count-or_gate (r.link.base + length r.link.sent) gate r.link.shut r.law.numbered is);
-          slots = record { count = r.slots.count; orders = r.slots.orders; emptied = r.slots.emptied; vacant = r.slots.vacant; outcomes = r.slots.outcomes };
+          slots = record { count = r.slots.count; orders = r.slots.orders; outcomes = r.slots.outcomes };
           views = AreTold-receiver r.link later s.homes s.homes r.sender r.receiver seat s.views me.0 r.views at used (record inward { seen = r.link.sent; shut = true }) go
               (KnowsInward-shut r.link inward k r.law.taken_sent) (KnowsOut-shut r.link);
         },

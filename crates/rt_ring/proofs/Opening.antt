@@ -1,5 +1,5 @@
 -- The table at the start, the first gather, and the seat that is parted.
-use Rattle.std.proofs.Common.{◌≡◌, ℕ, zero, suc, ◌+◌, ◌*◌, ◌%◌, ◌^◌, ◌<◌, ⊎_elim, true, false, List, [], map, replicate, length, set, get_or, refl, sym, ap, ap₂, ◌∙◌, arith, subst, mod-lt}
+use Rattle.std.proofs.Common.{◌≡◌, ℕ, zero, suc, ◌+◌, ◌%◌, ◌^◌, ◌<◌, ⊎_elim, true, false, List, [], map, replicate, length, set, get_or, refl, sym, ap, ap₂, ◌∙◌, arith, subst, mod-lt}
 use native.Mathlib.Nat.{mod-eq_of_lt}
 use mathlib.Core.Option.{some}
 use lib.ListN.{get_elem?}
@@ -10,9 +10,9 @@ use Rattle.rt_ids.specs.declared.order.Outcome.{Outcome}
 use Rattle.rt_link.specs.declared.ends.Outward.{Outward}
 use Rattle.rt_ids.proofs.Prefixes.{IsPrefix-self}
 use Rattle.rt_link.proofs.WholeLaws.{IsLink-fresh}
-use Rattle.rt_ring.specs.Carried.{Place, out_slots}
+use Rattle.rt_ring.specs.Carried.{Place, emptied_slots}
 use Rattle.rt_ring.specs.Rule.{two_words}
-use Rattle.rt_ring.specs.Slots.{Homes, order_slot, outcome_slot}
+use Rattle.rt_ring.specs.Slots.{Homes, place_of}
 use Rattle.rt_ring.specs.Told.{Stocks}
 use Rattle.rt_ring.specs.Views.{IsTold, fresh_link, first_view, out_part, inward_part}
 use Rattle.rt_ring.specs.declared.board.Known.{Known}
@@ -22,7 +22,7 @@ use Rattle.rt_ring.specs.declared.board.Terms.{Terms}
 use Rattle.rt_ring.proofs.Seats.{at_end, only_one, one_sender, one_receiver, fresh_sender}
 use Rattle.rt_ring.proofs.SeatViews.{true-not_false}
 use Rattle.rt_ring.proofs.Stepping.{Rule, Owes, return-same}
-use Rattle.rt_ring.proofs.FirstGather.{take_all, carried-take_all, homes-take_all, length-take_all, Valid-take_all}
+use Rattle.rt_ring.proofs.FirstGather.{take_all, carried-take_all, length-take_all, Valid-take_all}
 
 module _ {X : Type 0} where
   home-replicate : (k i : ℕ) (x : X) → i < k → get_elem? (map some (replicate k x)) i ≡ some (some x)
@@ -35,7 +35,7 @@ module _ {X : Type 0} where
   length-homes (suc k) x = ap suc (length-homes k x)
 
 module _ {J T : Type 0} (fits : Order J → Outcome J T → Type 0) (ready : Order J → Type 0) (terms : Terms) where
-  pub starts : (k : ℕ) → k ≡ terms.capacity + terms.capacity → terms.base < 2 ^ 63
+  pub starts : (k : ℕ) → k ≡ terms.capacity → terms.base < 2 ^ 63
       → Rule fits ready terms (opening (two_words terms.base terms.base) (replicate k Empty) (first_view terms))
   starts k is small = record {
     link = fresh_link terms;
@@ -48,19 +48,17 @@ module _ {J T : Type 0} (fits : Order J → Outcome J T → Type 0) (ready : Ord
     slots = record {
       count = length-homes k Empty ∙ is;
       orders = λ i a b. absurd (omega arith);
-      emptied = λ i a b. absurd (omega arith);
-      vacant = λ i a b. let some_slot : 0 < terms.capacity = omega arith in let h : i % terms.capacity < terms.capacity = mod-lt i some_slot in home-replicate k (outcome_slot terms.capacity i) Empty (omega arith);
       outcomes = λ i a b. absurd (omega arith);
     };
     views = λ seat view here. let one = only_one (first_view terms) view seat here in
         subst (IsTold (fresh_link terms) (map some (replicate k Empty)) 0 0 seat) one.1 (record {
           sends = λ _. (one.0, record { knows = refl; sees = IsPrefix-self []; got_seen = omega arith; gate = λ shut. shut });
           takes = λ _. (one.0, record { knows = refl; sees = IsPrefix-self []; taken_seen = omega arith; final = λ _. refl });
-          fresh = λ _. (one.0, one.0, refl, λ i a b. let some_slot : 0 < terms.capacity = omega arith in let h : i % terms.capacity < terms.capacity = mod-lt i some_slot in home-replicate k (order_slot terms.capacity i) Empty (omega arith));
+          fresh = λ _. (one.0, one.0, refl, λ i a b. let some_slot : 0 < terms.capacity = omega arith in let h : i % terms.capacity < terms.capacity = mod-lt i some_slot in home-replicate k (place_of terms.capacity i) Empty (omega arith));
         });
   }
 
-  -- the first gather takes all order slots
+  -- the first gather takes all slots
   pub stocks : (slots seat : ℕ) (me : Place J T) → me.0.fresh ≡ true → me.0.sends ≡ true → me.1 ≡ [] → Allows (Rule fits ready terms) slots seat me 16 (λ y. y) (Stocks me)
   stocks slots seat me new go none_yet s r wide at _ =
       let view : Known J T = me.0 in let told = r.views seat view at in let first = told.fresh new in let n : ℕ = r.link.capacity in
@@ -69,7 +67,7 @@ module _ {J T : Type 0} (fits : Order J → Outcome J T → Type 0) (ready : Ord
       subst (λ (c : List (ℕ × Slot J T)). Owes fits ready terms s 16 seat (view, c) (Stocks (view, c)) (get_or s.words 16 0)) (sym none_yet) (
         record view { fresh = false },
         act,
-        Valid-take_all s.homes 0 n (λ j a b. subst (λ (z : ℕ). get_elem? s.homes (2 * z) ≡ some (some Empty)) (mod-eq_of_lt (let h : j < n = omega arith in h)) (first.3 j (omega arith) (omega arith))),
+        Valid-take_all s.homes 0 n (λ j a b. subst (λ (z : ℕ). get_elem? s.homes z ≡ some (some Empty)) (mod-eq_of_lt (let h : j < n = omega arith in h)) (first.3 j (omega arith) (omega arith))),
         record {
           link = r.link;
           sender = r.sender;
@@ -81,8 +79,6 @@ module _ {J T : Type 0} (fits : Order J → Outcome J T → Type 0) (ready : Ord
           slots = record {
             count = length-take_all s.homes 0 n ∙ r.slots.count;
             orders = λ i a b. absurd (omega arith);
-            emptied = λ i a b. absurd (omega arith);
-            vacant = λ i a b. homes-take_all s.homes 0 n (outcome_slot n i) (λ k _ _. omega arith) ∙ r.slots.vacant i a b;
             outcomes = λ i a b. absurd (omega arith);
           };
           views = λ id now here. ⊎_elim
@@ -99,7 +95,7 @@ module _ {J T : Type 0} (fits : Order J → Outcome J T → Type 0) (ready : Ord
               (at_set s.views seat id (record view { fresh = false }) now here);
         },
         λ _. let capacity : view.out.capacity ≡ n = ap (λ (o : Outward J T). o.capacity) (told.sends go).1.knows in
-            λ i. (record view { fresh = false }, (carried-take_all n 0 n (omega arith) ∙ ap (λ (z : ℕ). out_slots z 0 z) (sym capacity)) i),
+            λ i. (record view { fresh = false }, (carried-take_all n 0 n (omega arith) ∙ ap (λ (z : ℕ). emptied_slots z 0 z) (sym capacity)) i),
       )
 
   -- the seat is parted into the sender's and the receiver's

@@ -6,16 +6,16 @@ use Rattle.rt_ids.specs.declared.order.Order.{Order}
 use Rattle.rt_ids.specs.declared.order.Outcome.{Outcome}
 use Rattle.rt_link.specs.Calls.{MayGive, SeesMore}
 use Rattle.rt_link.specs.Ends.{SoundIn}
-use Rattle.rt_ring.specs.Carried.{Place, IsReceiver, inward_slots}
+use Rattle.rt_ring.specs.Carried.{Place, IsReceiver, emptied_slots}
 use Rattle.rt_ring.specs.Rule.{gate_bit}
-use Rattle.rt_ring.specs.Slots.{order_slot, outcome_slot, slot_of_order}
+use Rattle.rt_ring.specs.Slots.{place_of, slot_of_order}
 use Rattle.rt_ring.specs.After.{with_taken, with_shut, with_given}
 use Rattle.rt_ring.specs.Told.{SeesOrders, Looks, LiftsOrder, Gives}
 use Rattle.rt_ring.specs.declared.board.Known.{Known}
 use Rattle.rt_ring.specs.declared.board.Slot.{Slot}
 use Rattle.rt_ring.specs.Slots.{Empty, Sent, Back}
 use Rattle.rt_ring.specs.declared.board.Terms.{Terms}
-use Rattle.rt_ring.proofs.CarriedSlots.{inward_slots-next, inward_slots-more}
+use Rattle.rt_ring.proofs.CarriedSlots.{emptied_slots-next, emptied_slots-taken}
 use Rattle.rt_ring.proofs.Fronts.{slice_get-there}
 use Rattle.rt_ring.proofs.Giving.{gives-one}
 use Rattle.rt_ring.proofs.Stepping.{Rule}
@@ -23,15 +23,15 @@ use Rattle.rt_ring.proofs.Stepping.{Rule}
 module _ {J T : Type 0} where
   -- the slots that stay behind those of the next outcome
   abbrev pub owed_slots : Place J T → List (ℕ × Slot J T)
-  owed_slots me = inward_slots me.0.inward.capacity (length me.0.inward.given + 1) (me.0.inward.taken - length me.0.inward.given - 1)
+  owed_slots me = emptied_slots me.0.inward.capacity (length me.0.inward.given + 1) (me.0.inward.taken - length me.0.inward.given - 1)
 
   module _ (old : Place J T) (is : IsReceiver old) (owed : length old.0.inward.given < old.0.inward.taken) where
-    all_slots : old.1 ≡ (outcome_slot old.0.inward.capacity (length old.0.inward.given), Empty) ∷ (order_slot old.0.inward.capacity (length old.0.inward.given), Empty) ∷ owed_slots old
-    all_slots = is.carries ∙ inward_slots-next old.0.inward.capacity (length old.0.inward.given) (old.0.inward.taken - length old.0.inward.given) (omega arith)
+    all_slots : old.1 ≡ (place_of old.0.inward.capacity (length old.0.inward.given), Empty) ∷ owed_slots old
+    all_slots = is.carries ∙ emptied_slots-next old.0.inward.capacity (length old.0.inward.given) (old.0.inward.taken - length old.0.inward.given) (omega arith)
 
     -- the slot of the next outcome is in front
-    pub outcome-front : old.1 ≡ (outcome_slot old.0.inward.capacity (length old.0.inward.given), Empty) ∷ rest old.1
-    outcome-front = all_slots ∙ ap (λ (z : List (ℕ × Slot J T)). (outcome_slot old.0.inward.capacity (length old.0.inward.given), Empty) ∷ z) (sym (ap rest all_slots))
+    pub outcome-front : old.1 ≡ (place_of old.0.inward.capacity (length old.0.inward.given), Empty) ∷ rest old.1
+    outcome-front = all_slots ∙ ap (λ (z : List (ℕ × Slot J T)). (place_of old.0.inward.capacity (length old.0.inward.given), Empty) ∷ z) (sym (ap rest all_slots))
 
   -- after a give
   pub IsReceiver-given : (me new : Place J T) (number : ℕ) (outcome : Outcome J T) → IsReceiver me → new ≡ (with_given me.0 number outcome, owed_slots me) → IsReceiver new
@@ -41,7 +41,7 @@ module _ {J T : Type 0} where
         takes = is.takes;
         alone = is.alone;
         used = is.used;
-        carries = ap₂ (inward_slots me.0.inward.capacity) (sym longer) (omega arith);
+        carries = ap₂ (emptied_slots me.0.inward.capacity) (sym longer) (omega arith);
       })
 
   -- where no order was taken
@@ -54,24 +54,24 @@ module _ {J T : Type 0} where
 
   -- after an order was taken
   pub IsReceiver-taken : (me new : Place J T) (seen : List (Order J)) (slot : ℕ) → IsReceiver me → length me.0.inward.given ≤ me.0.inward.taken
-      → slot ≡ order_slot me.0.inward.capacity me.0.inward.taken
-      → new ≡ (with_taken me.0 seen (me.0.inward.taken + 1), (me.1 ++ (outcome_slot me.0.inward.capacity me.0.inward.taken, Empty) ∷ []) ++ (slot, Empty) ∷ []) → IsReceiver new
+      → slot ≡ place_of me.0.inward.capacity me.0.inward.taken
+      → new ≡ (with_taken me.0 seen (me.0.inward.taken + 1), me.1 ++ (slot, Empty) ∷ []) → IsReceiver new
   IsReceiver-taken me new seen slot is owed at now = subst IsReceiver (sym now) (record {
     takes = is.takes;
     alone = is.alone;
     used = is.used;
-    carries = ap₂ (λ (l : List (ℕ × Slot J T)) (k : ℕ). (l ++ (outcome_slot me.0.inward.capacity me.0.inward.taken, Empty) ∷ []) ++ (k, Empty) ∷ []) is.carries at
-        ∙ inward_slots-more me.0.inward.capacity (length me.0.inward.given) me.0.inward.taken owed;
+    carries = ap₂ (λ (l : List (ℕ × Slot J T)) (k : ℕ). l ++ (k, Empty) ∷ []) is.carries at
+        ∙ emptied_slots-taken me.0.inward.capacity (length me.0.inward.given) me.0.inward.taken owed;
   })
 
 -- an outcome was put into the slot at the front of `old`, which is `me` then, and given
 module _ {J T : Type 0} (old me : Place J T) (slot number : ℕ) (outcome : Outcome J T) (is : IsReceiver old) (now : me ≡ (old.0, (slot, Back number outcome) ∷ rest old.1))
-    (at : slot ≡ outcome_slot old.0.inward.capacity (length old.0.inward.given)) (owed : length old.0.inward.given < old.0.inward.taken) where
+    (at : slot ≡ place_of old.0.inward.capacity (length old.0.inward.given)) (owed : length old.0.inward.given < old.0.inward.taken) where
   abbrev offered : Place J T
   offered = (old.0, (slot, Back number outcome) ∷ rest old.1)
 
   in_front : (slot, Back number outcome) ∷ rest old.1
-      ≡ (outcome_slot old.0.inward.capacity (length old.0.inward.given), Back number outcome) ∷ (order_slot old.0.inward.capacity (length old.0.inward.given), Empty) ∷ owed_slots old
+      ≡ (place_of old.0.inward.capacity (length old.0.inward.given), Back number outcome) ∷ owed_slots old
   in_front = ap₂ (λ (k : ℕ) (l : List (ℕ × Slot J T)). (k, Back number outcome) ∷ l) at (ap rest (all_slots old is owed))
 
   pub give-allowed : (fits : Order J → Outcome J T → Type 0) (ready : Order J → Type 0) (terms : Terms) (slots seat given : ℕ)
@@ -116,20 +116,20 @@ module _ {J T : Type 0} (ready : Order J → Type 0) (old new : Place J T) (foun
       let shown : found ≡ old.0.inward.base + length told.seen + gate_bit false = told.found_is ∙ ap (λ (b : Bool). old.0.inward.base + length told.seen + gate_bit b) is_open in
       let same : length new.0.inward.seen ≡ length told.seen = ap (λ (m : Place J T). length m.0.inward.seen) told.saw in omega arith
 
--- the slots of the next order were taken
+-- the slot of the next order was taken
 module _ {J T : Type 0} (ready : Order J → Type 0) (old new : Place J T) (found : ℕ) (told : LiftsOrder ready old found new) (is : IsReceiver old)
     (within : old.0.inward.taken < length old.0.inward.seen) where
   -- the order lies in its slot
   pub lift-order : (order : Order J) × (slice_get old.0.inward.seen old.0.inward.taken ≡ Some order)
-      × (new ≡ (with_taken old.0 old.0.inward.seen (old.0.inward.taken + 1), (outcome_slot old.0.inward.capacity old.0.inward.taken, Empty) ∷ (order_slot old.0.inward.capacity old.0.inward.taken, Sent order) ∷ old.1))
+      × (new ≡ (with_taken old.0 old.0.inward.seen (old.0.inward.taken + 1), (place_of old.0.inward.capacity old.0.inward.taken, Sent order) ∷ old.1))
   lift-order = let order = slice_get-there old.0.inward.seen old.0.inward.taken within in (
     order.0,
     order.1,
-    told.lifted ∙ ap (λ (z : Option (Order J)). (with_taken old.0 old.0.inward.seen (old.0.inward.taken + 1), (outcome_slot old.0.inward.capacity old.0.inward.taken, Empty) ∷ (order_slot old.0.inward.capacity old.0.inward.taken, slot_of_order z) ∷ old.1)) order.1,
+    told.lifted ∙ ap (λ (z : Option (Order J)). (with_taken old.0 old.0.inward.seen (old.0.inward.taken + 1), (place_of old.0.inward.capacity old.0.inward.taken, slot_of_order z) ∷ old.1)) order.1,
   )
 
-  -- the slots went behind the others, the order's with nothing in it
-  pub lift-keeps : (slot : ℕ) (last : Place J T) → slot ≡ order_slot old.0.inward.capacity old.0.inward.taken → length old.0.inward.given ≤ old.0.inward.taken
-      → last ≡ (with_taken old.0 old.0.inward.seen (old.0.inward.taken + 1), (old.1 ++ (outcome_slot old.0.inward.capacity old.0.inward.taken, Empty) ∷ []) ++ (slot, Empty) ∷ [])
+  -- the slot went behind the others, with nothing in it
+  pub lift-keeps : (slot : ℕ) (last : Place J T) → slot ≡ place_of old.0.inward.capacity old.0.inward.taken → length old.0.inward.given ≤ old.0.inward.taken
+      → last ≡ (with_taken old.0 old.0.inward.seen (old.0.inward.taken + 1), old.1 ++ (slot, Empty) ∷ [])
       → IsReceiver last
   lift-keeps slot last at owed after = IsReceiver-taken old last old.0.inward.seen slot is owed at after

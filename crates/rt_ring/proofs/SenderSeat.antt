@@ -5,8 +5,8 @@ use prog.Atomic.{either}
 use Rattle.atomic_table.specs.Table.{rest, Allows}
 use Rattle.rt_ids.specs.declared.order.Order.{Order}
 use Rattle.rt_ids.specs.declared.order.Outcome.{Outcome}
-use Rattle.rt_ring.specs.Carried.{Place, IsSender, spare, out_slots}
-use Rattle.rt_ring.specs.Slots.{order_slot, outcome_slot, slot_of_outcome}
+use Rattle.rt_ring.specs.Carried.{Place, IsSender, emptied_slots}
+use Rattle.rt_ring.specs.Slots.{place_of, slot_of_outcome}
 use Rattle.rt_ring.specs.After.{with_sent, with_closed, with_got}
 use Rattle.rt_ring.specs.Told.{Accepts, SeesOutcomes, Gathers, LiftsOutcome}
 use Rattle.rt_ring.specs.declared.board.Slot.{Slot}
@@ -15,20 +15,20 @@ use Rattle.rt_ring.specs.declared.board.Terms.{Terms}
 use Rattle.rt_ring.proofs.Accepting.{accepts}
 use Rattle.rt_ring.proofs.Fronts.{slice_get-there}
 use Rattle.rt_ring.proofs.Stepping.{Rule}
-use Rattle.rt_ring.proofs.CarriedSlots.{out_slots-next, out_slots-more}
+use Rattle.rt_ring.proofs.CarriedSlots.{emptied_slots-next, emptied_slots-got}
 
 module _ {J T : Type 0} where
   -- the slots that stay behind those of the next order
   abbrev pub later_slots : Place J T → List (ℕ × Slot J T)
-  later_slots me = out_slots me.0.out.capacity (length me.0.out.sent + 1) (me.0.out.got + me.0.out.capacity - length me.0.out.sent - 1)
+  later_slots me = emptied_slots me.0.out.capacity (length me.0.out.sent + 1) (me.0.out.got + me.0.out.capacity - length me.0.out.sent - 1)
 
   module _ (old : Place J T) (is : IsSender old) (room : length old.0.out.sent < old.0.out.got + old.0.out.capacity) where
-    all_slots : old.1 ≡ (order_slot old.0.out.capacity (length old.0.out.sent), Empty) ∷ (spare old.0.out.capacity (length old.0.out.sent) ++ later_slots old)
-    all_slots = is.carries ∙ out_slots-next old.0.out.capacity (length old.0.out.sent) (old.0.out.got + old.0.out.capacity - length old.0.out.sent) (omega arith)
+    all_slots : old.1 ≡ (place_of old.0.out.capacity (length old.0.out.sent), Empty) ∷ later_slots old
+    all_slots = is.carries ∙ emptied_slots-next old.0.out.capacity (length old.0.out.sent) (old.0.out.got + old.0.out.capacity - length old.0.out.sent) (omega arith)
 
     -- the slot of the next order is in front
-    pub order-front : old.1 ≡ (order_slot old.0.out.capacity (length old.0.out.sent), Empty) ∷ rest old.1
-    order-front = all_slots ∙ ap (λ (z : List (ℕ × Slot J T)). (order_slot old.0.out.capacity (length old.0.out.sent), Empty) ∷ z) (sym (ap rest all_slots))
+    pub order-front : old.1 ≡ (place_of old.0.out.capacity (length old.0.out.sent), Empty) ∷ rest old.1
+    order-front = all_slots ∙ ap (λ (z : List (ℕ × Slot J T)). (place_of old.0.out.capacity (length old.0.out.sent), Empty) ∷ z) (sym (ap rest all_slots))
 
   -- after an accept
   pub IsSender-sent : (me new : Place J T) (order : Order J) → IsSender me → new ≡ (with_sent me.0 order, later_slots me) → IsSender new
@@ -37,7 +37,7 @@ module _ {J T : Type 0} where
       subst IsSender (sym now) (record {
         sends = is.sends;
         used = is.used;
-        carries = ap₂ (out_slots me.0.out.capacity) (sym longer) (omega arith);
+        carries = ap₂ (emptied_slots me.0.out.capacity) (sym longer) (omega arith);
       })
 
   -- where the gate was found shut
@@ -50,22 +50,22 @@ module _ {J T : Type 0} where
 
   -- after an outcome was got
   pub IsSender-got : (me new : Place J T) (seen : List (ℕ × Outcome J T)) (slot : ℕ) → IsSender me → length me.0.out.sent ≤ me.0.out.got + me.0.out.capacity
-      → slot ≡ outcome_slot me.0.out.capacity me.0.out.got
-      → new ≡ (with_got me.0 seen (me.0.out.got + 1), (me.1 ++ (order_slot me.0.out.capacity me.0.out.got, Empty) ∷ []) ++ (slot, Empty) ∷ []) → IsSender new
+      → slot ≡ place_of me.0.out.capacity me.0.out.got
+      → new ≡ (with_got me.0 seen (me.0.out.got + 1), me.1 ++ (slot, Empty) ∷ []) → IsSender new
   IsSender-got me new seen slot is room at now = subst IsSender (sym now) (record {
     sends = is.sends;
     used = is.used;
-    carries = ap₂ (λ (l : List (ℕ × Slot J T)) (k : ℕ). (l ++ (order_slot me.0.out.capacity me.0.out.got, Empty) ∷ []) ++ (k, Empty) ∷ []) is.carries at
-        ∙ out_slots-more me.0.out.capacity (length me.0.out.sent) me.0.out.got room;
+    carries = ap₂ (λ (l : List (ℕ × Slot J T)) (k : ℕ). l ++ (k, Empty) ∷ []) is.carries at
+        ∙ emptied_slots-got me.0.out.capacity (length me.0.out.sent) me.0.out.got room;
   })
 
 -- an order was put into the slot at the front of `old`, which is `me` then, and offered
 module _ {J T : Type 0} (old me : Place J T) (slot last : ℕ) (order : Order J) (is : IsSender old) (now : me ≡ (old.0, (slot, Sent order) ∷ rest old.1))
-    (at : slot ≡ order_slot old.0.out.capacity (length old.0.out.sent)) (room : length old.0.out.sent < old.0.out.got + old.0.out.capacity) where
+    (at : slot ≡ place_of old.0.out.capacity (length old.0.out.sent)) (room : length old.0.out.sent < old.0.out.got + old.0.out.capacity) where
   abbrev offered : Place J T
   offered = (old.0, (slot, Sent order) ∷ rest old.1)
 
-  in_front : (slot, Sent order) ∷ rest old.1 ≡ (order_slot old.0.out.capacity (length old.0.out.sent), Sent order) ∷ (spare old.0.out.capacity (length old.0.out.sent) ++ later_slots old)
+  in_front : (slot, Sent order) ∷ rest old.1 ≡ (place_of old.0.out.capacity (length old.0.out.sent), Sent order) ∷ later_slots old
   in_front = ap₂ (λ (k : ℕ) (l : List (ℕ × Slot J T)). (k, Sent order) ∷ l) at (ap rest (all_slots old is room))
 
   pub offer-allowed : (fits : Order J → Outcome J T → Type 0) (ready : Order J → Type 0) (terms : Terms) (slots seat : ℕ)
@@ -103,20 +103,20 @@ module _ {J T : Type 0} (fits : Order J → Outcome J T → Type 0) (old new : P
   pub gather-found : found ≡ old.0.out.base + length new.0.out.seen
   gather-found = told.found_is ∙ ap (λ (m : Place J T). old.0.out.base + length m.0.out.seen) (sym told.saw)
 
--- the slots of the next outcome were taken
+-- the slot of the next outcome was taken
 module _ {J T : Type 0} (fits : Order J → Outcome J T → Type 0) (old new : Place J T) (found : ℕ) (told : LiftsOutcome fits old found new) (is : IsSender old)
     (within : old.0.out.got < length old.0.out.seen) where
   -- the outcome lies in its slot
   pub lift-outcome : (outcome : ℕ × Outcome J T) × (slice_get old.0.out.seen old.0.out.got ≡ Some outcome)
-      × (new ≡ (with_got old.0 old.0.out.seen (old.0.out.got + 1), (order_slot old.0.out.capacity old.0.out.got, Empty) ∷ (outcome_slot old.0.out.capacity old.0.out.got, Back outcome.0 outcome.1) ∷ old.1))
+      × (new ≡ (with_got old.0 old.0.out.seen (old.0.out.got + 1), (place_of old.0.out.capacity old.0.out.got, Back outcome.0 outcome.1) ∷ old.1))
   lift-outcome = let outcome = slice_get-there old.0.out.seen old.0.out.got within in (
     outcome.0,
     outcome.1,
-    told.lifted ∙ ap (λ (z : Option (ℕ × Outcome J T)). (with_got old.0 old.0.out.seen (old.0.out.got + 1), (order_slot old.0.out.capacity old.0.out.got, Empty) ∷ (outcome_slot old.0.out.capacity old.0.out.got, slot_of_outcome z) ∷ old.1)) outcome.1,
+    told.lifted ∙ ap (λ (z : Option (ℕ × Outcome J T)). (with_got old.0 old.0.out.seen (old.0.out.got + 1), (place_of old.0.out.capacity old.0.out.got, slot_of_outcome z) ∷ old.1)) outcome.1,
   )
 
-  -- the slots went behind the others, the outcome's with nothing in it
-  pub lift-keeps : (slot : ℕ) (last : Place J T) → slot ≡ outcome_slot old.0.out.capacity old.0.out.got → length old.0.out.sent ≤ old.0.out.got + old.0.out.capacity
-      → last ≡ (with_got old.0 old.0.out.seen (old.0.out.got + 1), (old.1 ++ (order_slot old.0.out.capacity old.0.out.got, Empty) ∷ []) ++ (slot, Empty) ∷ [])
+  -- the slot went behind the others, with nothing in it
+  pub lift-keeps : (slot : ℕ) (last : Place J T) → slot ≡ place_of old.0.out.capacity old.0.out.got → length old.0.out.sent ≤ old.0.out.got + old.0.out.capacity
+      → last ≡ (with_got old.0 old.0.out.seen (old.0.out.got + 1), old.1 ++ (slot, Empty) ∷ [])
       → IsSender last
   lift-keeps slot last at room after = IsSender-got old last old.0.out.seen slot is room at after

@@ -7,7 +7,7 @@ use mathlib.Core.Logic.{dite}
 use native.Mathlib.Decide.{ℕ_discrete}
 use lib.ListN.{get_elem?}
 use Rattle.atomic_table.proofs.Lists.{set_here, set_else, one_turn}
-use Rattle.rt_ring.specs.Slots.{Homes, AreHome, order_slot, outcome_slot}
+use Rattle.rt_ring.specs.Slots.{Homes, AreHome, place_of}
 use Rattle.rt_ring.specs.declared.board.Slot.{Slot}
 
 -- the last element of a list
@@ -19,21 +19,11 @@ slice_get-last (x ∷ xs) last = slice_get-last xs last
 abbrev pub HasLaps : (ℕ → ℕ) → ℕ → Type 0
 HasLaps slot n = (i j : ℕ) → i ≤ j → j < i + n → slot i ≡ slot j → i ≡ j
 
-pub order-laps : (n : ℕ) → HasLaps (order_slot n) n
-order-laps n i j low high same = one_turn i j n low high (omega arith)
+pub place-laps : (n : ℕ) → HasLaps (place_of n) n
+place-laps n i j low high same = one_turn i j n low high same
 
-pub outcome-laps : (n : ℕ) → HasLaps (outcome_slot n) n
-outcome-laps n i j low high same = one_turn i j n low high (omega arith)
-
-pub order-below : (n i : ℕ) → 0 < n → order_slot n i < n + n
-order-below n i some_slot = let h : i % n < n = mod-lt i some_slot in omega arith
-
-pub outcome-below : (n i : ℕ) → 0 < n → outcome_slot n i < n + n
-outcome-below n i some_slot = let h : i % n < n = mod-lt i some_slot in omega arith
-
--- no order has the slot of an outcome
-pub order-not_outcome : (n i j : ℕ) → 0 < n → order_slot n i ≢ outcome_slot n j
-order-not_outcome n i j some_slot same = omega arith
+pub place-below : (n i : ℕ) → 0 < n → place_of n i < n
+place-below n i some_slot = mod-lt i some_slot
 
 apart : (slot : ℕ → ℕ) (n lap i j : ℕ) → HasLaps slot n → lap ≤ i → i < lap + n → lap ≤ j → j < lap + n → i ≢ j → slot i ≢ slot j
 apart slot n lap i j laps a b c d differ same = differ (order (le_or i j))
@@ -73,11 +63,3 @@ module _ {J T : Type 0} (homes : Homes J T) where
       → ((i : ℕ) → low' ≤ i → i < high' → content i ≡ content' i) → AreHome homes slot low high content → AreHome homes slot low' high' content'
   AreHome-within slot low high low' high' content content' a b same home i c d =
       home i (omega arith) (omega arith) ∙ ap (λ (z : Slot J T). some (some z)) (same i c d)
-
--- the slot of an outcome goes or comes, and the orders' stay; and the other way round
-module _ {J T : Type 0} (homes : Homes J T) (n k : ℕ) (now : maybe.Option (Slot J T)) (low high : ℕ) (content : ℕ → Slot J T) (some_slot : 0 < n) where
-  pub orders-stay : AreHome homes (order_slot n) low high content → AreHome (set homes (outcome_slot n k) now) (order_slot n) low high content
-  orders-stay = AreHome-else homes (order_slot n) (outcome_slot n k) now low high content (λ i _ _. order-not_outcome n i k some_slot)
-
-  pub outcomes-stay : AreHome homes (outcome_slot n) low high content → AreHome (set homes (order_slot n k) now) (outcome_slot n) low high content
-  outcomes-stay = AreHome-else homes (outcome_slot n) (order_slot n k) now low high content (λ i _ _ same. order-not_outcome n k i some_slot (sym same))

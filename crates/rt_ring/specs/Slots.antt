@@ -1,5 +1,5 @@
 -- Which slots are at home, and what they hold.
-use Rattle.std.specs.Prelude.{◌≡◌, ℕ, ◌+◌, ◌*◌, ◌%◌, ◌<◌, ◌≤◌, List, length, max, Option, Some, None, slice_get}
+use Rattle.std.specs.Prelude.{◌≡◌, ℕ, ◌%◌, ◌<◌, ◌≤◌, List, length, Option, Some, None, slice_get}
 use mathlib.Core.Option as maybe
 use lib.ListN.{get_elem?}
 use Rattle.rt_ids.specs.declared.order.Order.{Order}
@@ -15,17 +15,9 @@ use Rattle.rt_ring.specs.declared.board.Label.{Label}
 use Rattle.rt_ring.specs.declared.board.Label.TheVariants as label
 use Rattle.rt_ring.specs.declared.board.Notice.TheVariants as notice
 
--- the place of an index; after the last place comes the first again
+-- the slot of an index, for the order at that index of those sent and for the outcome at that index of those given; after the last slot comes the first again
 abbrev pub place_of : ℕ → ℕ → ℕ
 place_of capacity index = index % capacity
-
--- the slot of the order at an index of those sent
-abbrev pub order_slot : ℕ → ℕ → ℕ
-order_slot capacity index = 2 * place_of capacity index
-
--- the slot of the outcome at an index of those given, behind the order slot of its place
-abbrev pub outcome_slot : ℕ → ℕ → ℕ
-outcome_slot capacity index = 2 * place_of capacity index + 1
 
 -- the slots of a table: each is at home with what it holds, or out with a seat
 abbrev pub Homes : Type 0 → Type 0 → Type 0
@@ -111,12 +103,9 @@ module _ {J T : Type 0} where
   abbrev pub AreHome : Homes J T → (ℕ → ℕ) → ℕ → ℕ → (ℕ → Slot J T) → Type 0
   AreHome homes slot low high content = (index : ℕ) → low ≤ index → index < high → get_elem? homes (slot index) ≡ maybe.some (maybe.some (content index))
 
-  -- At home are the slots of the orders that are not taken yet and of the outcomes that are not got yet, and, with nothing in them,
-  -- the order slots of those outcomes, the outcome slots of those orders, and the outcome slots that were never used. All other slots
-  -- are out: with the receiver those of the orders that have no outcome yet, with the sender those of the outcomes that were got.
+  -- At home are the slots of the orders that are not taken yet and of the outcomes that are not got yet. All other slots are out: with the
+  -- receiver those of the orders that have no outcome yet, with the sender those that wait for its next orders.
   pub record AreInPlace (link : Whole J T) (homes : Homes J T) : Type 0 where
-    pub count : length homes ≡ link.capacity + link.capacity
-    pub orders : AreHome homes (order_slot link.capacity) link.taken (length link.sent) (order_at link.sent)
-    pub emptied : AreHome homes (order_slot link.capacity) link.got (length link.given) nothing_at
-    pub vacant : AreHome homes (outcome_slot link.capacity) link.taken (max (length link.sent) link.capacity) nothing_at
-    pub outcomes : AreHome homes (outcome_slot link.capacity) link.got (length link.given) (outcome_at link.given)
+    pub count : length homes ≡ link.capacity
+    pub orders : AreHome homes (place_of link.capacity) link.taken (length link.sent) (order_at link.sent)
+    pub outcomes : AreHome homes (place_of link.capacity) link.got (length link.given) (outcome_at link.given)

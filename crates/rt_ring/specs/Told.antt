@@ -1,5 +1,5 @@
 -- What each step tells the seat that makes it: of the seat before, the word found, and the seat after.
-use Rattle.std.specs.Prelude.{◌≡◌, ◌≢◌, ℕ, ◌+◌, ◌^◌, ◌<◌, ◌≤◌, true, false, List, [], ◌∷◌, ◌++◌, length, take}
+use Rattle.std.specs.Prelude.{◌≡◌, ◌≢◌, ℕ, ◌+◌, ◌^◌, ◌<◌, ◌≤◌, true, false, List, [], ◌∷◌, length, take}
 use Rattle.rt_ids.specs.declared.order.Order.{Order}
 use Rattle.rt_ids.specs.declared.order.Outcome.{Outcome}
 use Rattle.rt_ids.specs.Assembly.{IsPrefix}
@@ -7,18 +7,18 @@ use Rattle.rt_link.specs.Ends.{AreOf, AreReady, Joined}
 use Rattle.rt_link.specs.declared.ends.Outward.{Outward}
 use Rattle.rt_link.specs.declared.ends.Inward.{Inward}
 use Rattle.rt_ring.specs.After.{with_sent, with_closed, with_got, with_taken, with_shut, with_given}
-use Rattle.rt_ring.specs.Carried.{Place, spare, out_slots}
+use Rattle.rt_ring.specs.Carried.{Place, emptied_slots}
 use Rattle.rt_ring.specs.Rule.{gate_bit}
-use Rattle.rt_ring.specs.Slots.{order_slot, outcome_slot, order_at, outcome_at}
+use Rattle.rt_ring.specs.Slots.{place_of, order_at, outcome_at}
 use Rattle.rt_ring.specs.declared.board.Slot.{Slot}
-use Rattle.rt_ring.specs.Slots.{Empty, Sent, Back}
+use Rattle.rt_ring.specs.Slots.{Sent, Back}
 
 module _ {J T : Type 0} where
-  -- accept: where the word was as expected, the gate was open, the order in the slot at the front is sent, and its slots are home; otherwise the gate is shut
+  -- accept: where the word was as expected, the gate was open, the order in the slot at the front is sent, and that slot is home; otherwise the gate is shut
   pub record Accepts (expected : ℕ) (old : Place J T) (found : ℕ) (new : Place J T) : Type 0 where
     pub hit : found ≡ expected
         → (old.0.out.closed ≡ false)
-        × ((order : Order J) (more : List (ℕ × Slot J T)) → old.1 ≡ (order_slot old.0.out.capacity (length old.0.out.sent), Sent order) ∷ (spare old.0.out.capacity (length old.0.out.sent) ++ more)
+        × ((order : Order J) (more : List (ℕ × Slot J T)) → old.1 ≡ (place_of old.0.out.capacity (length old.0.out.sent), Sent order) ∷ more
         → new ≡ (with_sent old.0 order, more))
     pub miss : found ≢ expected → new ≡ (with_closed old.0, old.1)
 
@@ -43,12 +43,12 @@ module _ {J T : Type 0} where
     pub found_is : found ≡ old.0.inward.base + length seen + gate_bit old.0.inward.shut
     pub saw : new ≡ (with_taken old.0 seen old.0.inward.taken, old.1)
 
-  -- lift an order: of the orders that were seen, the slots of the next one were taken
+  -- lift an order: of the orders that were seen, the slot of the next one was taken
   pub record LiftsOrder (ready : Order J → Type 0) (old : Place J T) (found : ℕ) (new : Place J T) : Type 0 where
     pub sees : SeesOrders ready old.0.inward old.0.inward.seen
     pub lifted : new ≡ (
       with_taken old.0 old.0.inward.seen (old.0.inward.taken + 1),
-      (outcome_slot old.0.inward.capacity old.0.inward.taken, Empty) ∷ (order_slot old.0.inward.capacity old.0.inward.taken, order_at old.0.inward.seen old.0.inward.taken) ∷ old.1,
+      (place_of old.0.inward.capacity old.0.inward.taken, order_at old.0.inward.seen old.0.inward.taken) ∷ old.1,
     )
 
   -- shut: all orders so far were seen, and no other will come
@@ -58,10 +58,10 @@ module _ {J T : Type 0} where
     pub found_is : found ≡ old.0.inward.base + length seen + gate_bit old.0.inward.shut
     pub shut : new ≡ (with_shut old.0 seen, old.1)
 
-  -- give: the outcome in the slot at the front is given, and that slot and the order slot behind it are home
+  -- give: the outcome in the slot at the front is given, and that slot is home
   pub record Gives (old : Place J T) (found : ℕ) (new : Place J T) : Type 0 where
     pub gave : (number : ℕ) (outcome : Outcome J T) (more : List (ℕ × Slot J T))
-        → old.1 ≡ (outcome_slot old.0.inward.capacity (length old.0.inward.given), Back number outcome) ∷ (order_slot old.0.inward.capacity (length old.0.inward.given), Empty) ∷ more
+        → old.1 ≡ (place_of old.0.inward.capacity (length old.0.inward.given), Back number outcome) ∷ more
         → new ≡ (with_given old.0 number outcome, more)
 
   -- the sender sees as many outcomes or more, each of an order that it sent
@@ -78,17 +78,17 @@ module _ {J T : Type 0} where
     pub found_is : found ≡ old.0.out.base + length seen
     pub saw : new ≡ (with_got old.0 seen old.0.out.got, old.1)
 
-  -- lift an outcome: of the outcomes that were seen, the slots of the next one were taken
+  -- lift an outcome: of the outcomes that were seen, the slot of the next one was taken
   pub record LiftsOutcome (fits : Order J → Outcome J T → Type 0) (old : Place J T) (found : ℕ) (new : Place J T) : Type 0 where
     pub sees : SeesOutcomes fits old.0.out old.0.out.seen
     pub lifted : new ≡ (
       with_got old.0 old.0.out.seen (old.0.out.got + 1),
-      (order_slot old.0.out.capacity old.0.out.got, Empty) ∷ (outcome_slot old.0.out.capacity old.0.out.got, outcome_at old.0.out.seen old.0.out.got) ∷ old.1,
+      (place_of old.0.out.capacity old.0.out.got, outcome_at old.0.out.seen old.0.out.got) ∷ old.1,
     )
 
-  -- the first gather: a seat with no slot has taken all order slots
+  -- the first gather: a seat with no slot has taken all slots
   abbrev pub Stocks : Place J T → ℕ → Place J T → Type 0
-  Stocks old found new = old.1 ≡ [] → new ≡ (record old.0 { fresh = false }, out_slots old.0.out.capacity 0 old.0.out.capacity)
+  Stocks old found new = old.1 ≡ [] → new ≡ (record old.0 { fresh = false }, emptied_slots old.0.out.capacity 0 old.0.out.capacity)
 
   -- a load by a seat that knows both ends: they are the ends of one link
   pub record Compares (fits : Order J → Outcome J T → Type 0) (old : Place J T) (found : ℕ) (new : Place J T) : Type 0 where

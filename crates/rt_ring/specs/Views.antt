@@ -7,7 +7,7 @@ use Rattle.rt_link.specs.Whole.{fresh, out_of, inward_of}
 use Rattle.rt_link.specs.declared.ends.Outward.{Outward}
 use Rattle.rt_link.specs.declared.ends.Inward.{Inward}
 use Rattle.rt_link.specs.declared.plain.Whole.{Whole}
-use Rattle.rt_ring.specs.Slots.{Homes, AreHome, order_slot, nothing_at}
+use Rattle.rt_ring.specs.Slots.{Homes, AreHome, place_of, nothing_at}
 use Rattle.rt_ring.specs.declared.board.Known.{Known}
 use Rattle.rt_ring.specs.declared.board.Terms.{Terms}
 
@@ -26,11 +26,11 @@ module _ {J T : Type 0} where
     pub taken_seen : link.taken ≤ length inward.seen
     pub final : link.shut ≡ true → inward.seen ≡ link.sent
 
-  -- what a seat knows is true, and as long as it is fresh, both ends are its own, nothing was sent, and all order slots are at home
+  -- what a seat knows is true, and as long as it is fresh, both ends are its own, nothing was sent, and all slots are at home
   pub record IsTold (link : Whole J T) (homes : Homes J T) (sender receiver : ℕ) (seat : ℕ) (view : Known J T) : Type 0 where
     pub sends : view.sends ≡ true → (seat ≡ sender) × KnowsOut link view.out
     pub takes : view.takes ≡ true → (seat ≡ receiver) × KnowsInward link view.inward
-    pub fresh : view.fresh ≡ true → (seat ≡ sender) × (seat ≡ receiver) × (length link.sent ≡ 0) × AreHome homes (order_slot link.capacity) 0 link.capacity nothing_at
+    pub fresh : view.fresh ≡ true → (seat ≡ sender) × (seat ≡ receiver) × (length link.sent ≡ 0) × AreHome homes (place_of link.capacity) 0 link.capacity nothing_at
 
   abbrev pub AreTold : Whole J T → Homes J T → ℕ → ℕ → List (Known J T) → Type 0
   AreTold link homes sender receiver views =

@@ -1,4 +1,4 @@
-//! The table that the two ends of a ring share: two words and twice as many slots as orders may be outstanding.
+//! The table that the two ends of a ring share: two words and as many slots as orders may be outstanding.
 //!
 //! **The accept word.** Its low 63 bits are the number of the order that was accepted last, at first the number before
 //! the first order. Only the sender raises them, by one, and only by a compare-and-exchange that finds the whole word as
@@ -77,9 +77,10 @@ pub enum Notice {
 
 /// What a slot holds.
 ///
-/// The place of index `i` is `i % capacity`, and a place has two slots side by side: of the orders sent, the one at index `i`
-/// goes through the first slot of its place; of the outcomes given, the one at index `i` goes through the second. So who
-/// answers an order writes where it just read.
+/// The slot of index `i` is `i % capacity`. Of the orders sent, the one at index `i` goes through it, and of the outcomes given, the one at
+/// index `i` comes back through it: by then that order was taken, since no more outcomes are given than orders were taken. So who
+/// answers an order writes where it read, and who sends the next one writes where it last collected: neither asks for a cache line that
+/// the other end has.
 ///
 /// A job lies apart from the rest, since it may be large: an outcome that hands none back is given and got without a byte of
 /// its place.
@@ -104,7 +105,7 @@ pub struct Terms {
 
 /// What a seat at the table knows. No value of it is made.
 pub struct Known<J, T> {
-    /// The order slots have not been taken out of the table yet.
+    /// The slots have not been taken out of the table yet.
     pub fresh: bool,
     /// It is the sender's seat, so `out` is true.
     pub sends: bool,

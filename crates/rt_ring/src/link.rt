@@ -2,7 +2,7 @@
 
 ghost use Rattle.std.specs.Prelude.{◌≡◌, ◌+◌, ◌^◌, ◌<◌, false, [], IfOk, replicate, OnOk};
 ghost use Rattle.rt_link.specs.Whole.{fresh, out_of, inward_of};
-ghost use Rattle.rt_ring.specs.Carried.{out_slots};
+ghost use Rattle.rt_ring.specs.Carried.{emptied_slots};
 ghost use Rattle.rt_ring.specs.Views.{first_view, out_part, inward_part};
 ghost use Rattle.rt_ring.specs.Slots.{Empty};
 
@@ -115,21 +115,21 @@ impl RingLink {
     }
 }
 
-// The table and its two seats, the sender's with all order slots.
+// The table and its two seats, the sender's with all slots.
 fn lay<J: Task>(alloc: Global, terms: &Terms) -> Result<(Board<J>, Place<J>, Place<J>), AllocError>
     requires { (terms.now.base < 2 ^ 63) × (terms.now.capacity < 2 ^ 16) }
     ensures table { IfOk result (λ laid. (laid.1.table_id ≡ laid.0.shared.table_id) × (laid.2.table_id ≡ laid.0.shared.table_id) × (laid.0.shared.table_id.words ≡ 32)) }
-    ensures sender { IfOk result (λ laid. laid.1.me ≡ (record (out_part (first_view terms.now)) { fresh = false }, out_slots terms.now.capacity 0 terms.now.capacity)) }
+    ensures sender { IfOk result (λ laid. laid.1.me ≡ (record (out_part (first_view terms.now)) { fresh = false }, emptied_slots terms.now.capacity 0 terms.now.capacity)) }
     ensures receiver { IfOk result (λ laid. laid.2.me ≡ (record (inward_part (first_view terms.now)) { fresh = false }, [])) }
 {
-    let slots = empty_slots::<J>(alloc, 2 * terms.capacity as usize)?;
+    let slots = empty_slots::<J>(alloc, terms.capacity as usize)?;
     let mut words = [0; WORDS];
     words[ACCEPT] = terms.base;
     words[RETURN] = terms.base;
     let Ok((table, mut seat)) = Table::new(alloc, &words, slots, terms) else {
         return Err(AllocError);
     };
-    // step: the first gather, which takes all order slots. No other thread has the table yet.
+    // step: the first gather, which takes all slots. No other thread has the table yet.
     let _none_given = table.shared.load::<Stock>(&mut seat, RETURN);
     let other = table.shared.split_seat::<Halves>(&mut seat);
     Ok((table, seat, other))

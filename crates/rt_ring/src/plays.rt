@@ -31,7 +31,7 @@ impl<J: Task> Play<Slot<J, J::Out>, Known<J, J::Out>> for Look {
     ghost then = { λ _. Looks (HasReadyJob J.meaning) };
 }
 
-/// The receiver's load of the return word, which it alone changes, for the slots of the next order that it saw.
+/// The receiver's load of the return word, which it alone changes, for the slot of the next order that it saw.
 pub(crate) struct LiftOrder;
 
 impl<J: Task> Play<Slot<J, J::Out>, Known<J, J::Out>> for LiftOrder {
@@ -68,7 +68,7 @@ impl<J: Task> Play<Slot<J, J::Out>, Known<J, J::Out>> for Gather {
     ghost then = { λ _. Gathers (Fits J.meaning) };
 }
 
-/// The sender's load of the accept word, whose count it alone changes, for the slots of the next outcome that it saw.
+/// The sender's load of the accept word, whose count it alone changes, for the slot of the next outcome that it saw.
 pub(crate) struct LiftOutcome;
 
 impl<J: Task> Play<Slot<J, J::Out>, Known<J, J::Out>> for LiftOutcome {
@@ -78,7 +78,7 @@ impl<J: Task> Play<Slot<J, J::Out>, Known<J, J::Out>> for LiftOutcome {
     ghost then = { λ _. LiftsOutcome (Fits J.meaning) };
 }
 
-/// The load of the return word at the opening, which takes all order slots.
+/// The load of the return word at the opening, which takes all slots.
 pub(crate) struct Stock;
 
 impl<J, T> Play<Slot<J, T>, Known<J, T>> for Stock {

@@ -1,4 +1,4 @@
-//! The steps of the receiver's seat, each with the slots that it moves.
+//! The steps of the receiver's seat, each with the slot that it moves.
 
 ghost use Rattle.std.specs.Prelude.{◌≡◌, ◌+◌, ◌<◌, ◌≤◌, length, Some, slice_get};
 ghost use Rattle.rt_jobs.specs.Ready.{HasReadyJob};
@@ -7,7 +7,7 @@ ghost use Rattle.rt_link.specs.Ends.{SoundIn};
 ghost use Rattle.rt_link.specs.Fits.{Fits};
 ghost use Rattle.rt_ring.specs.Carried.{IsReceiver};
 ghost use Rattle.rt_ring.specs.Rule.{gate_bit};
-ghost use Rattle.rt_ring.specs.Slots.{order_slot, outcome_slot};
+ghost use Rattle.rt_ring.specs.Slots.{place_of};
 ghost use Rattle.rt_ring.specs.After.{with_taken, with_shut, with_given};
 ghost use Rattle.rt_ring.specs.Told.{SeesOrders};
 
@@ -18,6 +18,7 @@ use rt_ids::{Order, Outcome};
 use rt_jobs::Task;
 
 /// The number of the last order that this end sees. If all that it saw before is taken, it looks, unless the gate is shut: then no other comes.
+#[inline(always)]
 pub(crate) fn seen_orders<J: Task>(
     board: &Board<J>,
     seat: &mut Place<J>,
@@ -45,6 +46,7 @@ pub(crate) fn seen_orders<J: Task>(
 }
 
 /// The next order of those that this end saw. `lone` where no other order waits.
+#[inline(always)]
 pub(crate) fn lift_order<J: Task>(
     board: &Board<J>,
     seat: &mut Place<J>,
@@ -53,7 +55,7 @@ pub(crate) fn lift_order<J: Task>(
 ) -> Order<J>
     requires board { (seat.old.table_id ≡ board.now.shared.table_id) × (board.now.shared.table_id.words ≡ 32) }
     requires receiver { IsReceiver seat.old.me }
-    requires slot { slot ≡ order_slot seat.old.me.0.inward.capacity seat.old.me.0.inward.taken }
+    requires slot { slot ≡ place_of seat.old.me.0.inward.capacity seat.old.me.0.inward.taken }
     requires owed { length seat.old.me.0.inward.given ≤ seat.old.me.0.inward.taken }
     requires seen { seat.old.me.0.inward.taken < length seat.old.me.0.inward.seen }
     ensures table { seat.new.table_id ≡ seat.old.table_id }
@@ -64,7 +66,6 @@ pub(crate) fn lift_order<J: Task>(
 {
     // step: lift an order. What the word holds is known: the receiver alone changes it.
     let _given = board.shared.load::<LiftOrder>(seat, RETURN);
-    seat.turn();
     let order = take_order(board, seat, slot, lone);
     seat.turn();
     order
@@ -85,6 +86,7 @@ pub(crate) fn close<J: Task>(board: &Board<J>, seat: &mut Place<J>) -> u64
 }
 
 /// Gives the outcome of the order of this number. `given` is the return word from then on.
+#[inline(always)]
 pub(crate) fn give<J: Task>(
     board: &Board<J>,
     seat: &mut Place<J>,
@@ -95,7 +97,7 @@ pub(crate) fn give<J: Task>(
 )
     requires board { (seat.old.table_id ≡ board.now.shared.table_id) × (board.now.shared.table_id.words ≡ 32) }
     requires receiver { IsReceiver seat.old.me }
-    requires slot { slot ≡ outcome_slot seat.old.me.0.inward.capacity (length seat.old.me.0.inward.given) }
+    requires slot { slot ≡ place_of seat.old.me.0.inward.capacity (length seat.old.me.0.inward.given) }
     requires given { given ≡ seat.old.me.0.inward.base + length seat.old.me.0.inward.given + 1 }
     requires owed { length seat.old.me.0.inward.given < seat.old.me.0.inward.taken }
     requires may { MayGive (Fits J.meaning) seat.old.me.0.inward number outcome }

@@ -83,6 +83,7 @@ impl<J: Task> InEnd<J> for RingIn<J> {
 
     ghost inward = { λ s. s.inward };
 
+    #[inline(always)]
     fn take(&mut self) -> Option<Envelope<J>> {
         let before = self.seen;
         let taken = self.base + self.taken;
@@ -91,7 +92,7 @@ impl<J: Task> InEnd<J> for RingIn<J> {
         if seen == taken {
             return None;
         }
-        let slot = 2 * self.next_order as usize;
+        let slot = self.next_order as usize;
         let lone = before == taken && seen - taken == 1;
         let order = lift_order(&self.board, &mut self.seat, slot, lone);
         self.taken += 1;
@@ -106,12 +107,13 @@ impl<J: Task> InEnd<J> for RingIn<J> {
         })
     }
 
+    #[inline(always)]
     fn give(&mut self, number: u64, outcome: Outcome<J, J::Out>)
         requires { MayGive (Fits J.meaning) self.old.inward number outcome }
         ensures link { self.new.link ≡ self.old.link }
         ensures gives { self.new.inward ≡ record self.old.inward { given = self.old.inward.given ++ (number, outcome) ∷ [] } }
     {
-        let slot = 2 * self.next_outcome as usize + 1;
+        let slot = self.next_outcome as usize;
         let given = self.base + self.given + 1;
         give(&self.board, &mut self.seat, slot, given, number, outcome);
         self.given += 1;

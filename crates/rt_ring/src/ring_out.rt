@@ -83,6 +83,7 @@ impl<J: Task> OutEnd<J> for RingOut<J> {
 
     ghost credited = { λ s. s.credited };
 
+    #[inline(always)]
     fn send(&mut self, order: Order<J>) -> Result<u64, SendError<J>>
         requires ready { HasReadyJob J.meaning order }
         ensures link { self.new.link ≡ self.old.link }
@@ -100,7 +101,7 @@ impl<J: Task> OutEnd<J> for RingOut<J> {
             }
             return Err(SendError::Spent(order));
         }
-        let slot = 2 * self.next_order as usize;
+        let slot = self.next_order as usize;
         match offer(&self.board, &mut self.seat, slot, last, order) {
             Ok(()) => {
                 self.count += 1;
@@ -111,6 +112,7 @@ impl<J: Task> OutEnd<J> for RingOut<J> {
         }
     }
 
+    #[inline(always)]
     fn collect(&mut self) -> Option<(u64, Outcome<J, J::Out>)> {
         let before = self.seen;
         let got = self.base + self.collected;
@@ -119,7 +121,7 @@ impl<J: Task> OutEnd<J> for RingOut<J> {
         if seen == got {
             return None;
         }
-        let slot = 2 * self.next_outcome as usize + 1;
+        let slot = self.next_outcome as usize;
         let lone = before == got && seen - got == 1;
         let found = lift_outcome(&self.board, &mut self.seat, slot, lone);
         self.collected += 1;

@@ -1,11 +1,11 @@
-//! The steps of the sender's seat, each with the slots that it moves.
+//! The steps of the sender's seat, each with the slot that it moves.
 
 ghost use Rattle.std.specs.Prelude.{◌≡◌, ◌+◌, ◌^◌, ◌<◌, ◌≤◌, true, false, length, Some, slice_get, IfOk, IfErr};
 ghost use Rattle.rt_ids.specs.Assembly.{IsPrefix};
 ghost use Rattle.rt_jobs.specs.Ready.{HasReadyJob};
 ghost use Rattle.rt_link.specs.Fits.{Fits};
 ghost use Rattle.rt_ring.specs.Carried.{IsSender};
-ghost use Rattle.rt_ring.specs.Slots.{order_slot, outcome_slot};
+ghost use Rattle.rt_ring.specs.Slots.{place_of};
 ghost use Rattle.rt_ring.specs.After.{with_sent, with_closed, with_got};
 ghost use Rattle.rt_ring.specs.Told.{SeesOutcomes};
 
@@ -16,6 +16,7 @@ use rt_ids::{Order, Outcome};
 use rt_jobs::Task;
 
 /// One try to have an order accepted under the number after `last`. The order comes back where the gate is shut.
+#[inline(always)]
 pub(crate) fn offer<J: Task>(
     board: &Board<J>,
     seat: &mut Place<J>,
@@ -25,7 +26,7 @@ pub(crate) fn offer<J: Task>(
 ) -> Result<(), Order<J>>
     requires board { (seat.old.table_id ≡ board.now.shared.table_id) × (board.now.shared.table_id.words ≡ 32) }
     requires sender { IsSender seat.old.me }
-    requires slot { slot ≡ order_slot seat.old.me.0.out.capacity (length seat.old.me.0.out.sent) }
+    requires slot { slot ≡ place_of seat.old.me.0.out.capacity (length seat.old.me.0.out.sent) }
     requires number { (last ≡ seat.old.me.0.out.base + length seat.old.me.0.out.sent) × (last + 1 < 2 ^ 63) }
     requires room { length seat.old.me.0.out.sent < seat.old.me.0.out.got + seat.old.me.0.out.capacity }
     requires ready { HasReadyJob J.meaning order }
@@ -61,6 +62,7 @@ pub(crate) fn is_open<J: Task>(board: &Board<J>, seat: &mut Place<J>, last: u64)
 }
 
 /// The return word as this end saw it last. It looks if all that it saw before is got.
+#[inline(always)]
 pub(crate) fn seen_outcomes<J: Task>(
     board: &Board<J>,
     seat: &mut Place<J>,
@@ -88,6 +90,7 @@ pub(crate) fn seen_outcomes<J: Task>(
 }
 
 /// The next outcome of those that this end saw, with its order's number. `lone` where no other outcome waits.
+#[inline(always)]
 pub(crate) fn lift_outcome<J: Task>(
     board: &Board<J>,
     seat: &mut Place<J>,
@@ -96,7 +99,7 @@ pub(crate) fn lift_outcome<J: Task>(
 ) -> (u64, Outcome<J, J::Out>)
     requires board { (seat.old.table_id ≡ board.now.shared.table_id) × (board.now.shared.table_id.words ≡ 32) }
     requires sender { IsSender seat.old.me }
-    requires slot { slot ≡ outcome_slot seat.old.me.0.out.capacity seat.old.me.0.out.got }
+    requires slot { slot ≡ place_of seat.old.me.0.out.capacity seat.old.me.0.out.got }
     requires room { length seat.old.me.0.out.sent ≤ seat.old.me.0.out.got + seat.old.me.0.out.capacity }
     requires seen { seat.old.me.0.out.got < length seat.old.me.0.out.seen }
     ensures table { seat.new.table_id ≡ seat.old.table_id }
@@ -107,7 +110,6 @@ pub(crate) fn lift_outcome<J: Task>(
 {
     // step: lift an outcome. The sender alone changes the word's count, so it learns nothing by it.
     let _sent = board.shared.load::<LiftOutcome>(seat, ACCEPT);
-    seat.turn();
     let found = take_outcome(board, seat, slot, lone);
     seat.turn();
     found

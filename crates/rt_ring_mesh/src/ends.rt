@@ -2,6 +2,7 @@
 
 ghost use Rattle.std.specs.Prelude.{◌≡◌, ◌<◌, [], ◌∷◌, ◌++◌, length, IfOk, OnOk, IfSome, IsSome};
 
+use rt_fixed::SealedVec;
 use rt_ids::ActorNo;
 use rt_jobs::Task;
 use rt_ring::{RingIn, RingOut};
@@ -17,13 +18,14 @@ const APART: usize = 2;
 /// One actor's ends of the links, by the number of the actor at the other side. They may go to any thread.
 ///
 /// The outside actor receives from nobody, so it has no `ins`.
+/// Both lists have their room for good, and lend no allocator.
 #[derive(Drop)]
 pub struct Ends<J: Task> {
     pub number: ActorNo,
     /// The end of the link to each core.
-    pub outs: Vec<RingOut<J>>,
+    pub outs: SealedVec<RingOut<J>, Global>,
     /// The end of the link from each actor.
-    pub ins: Vec<RingIn<J>>,
+    pub ins: SealedVec<RingIn<J>, Global>,
 }
 
 impl<J: Task> Model for Ends<J> {
@@ -35,6 +37,40 @@ impl<J: Task> Model for Ends<J> {
 }
 
 impl<J: Task> Ends<J> {
+    // Takes out the end of the link to the last core.
+    pub(crate) fn pop_out(&mut self) -> Option<RingOut<J>>
+        ensures some { IfSome result (λ end. self.old ≡ record self.new { outs = self.new.outs ++ end ∷ [] }) }
+        ensures there { 0 < length self.old.outs → IsSome result }
+    {
+        self.outs.pop()
+    }
+
+    // Takes out the end of the link from the last actor.
+    pub(crate) fn pop_in(&mut self) -> Option<RingIn<J>>
+        ensures some { IfSome result (λ end. self.old ≡ record self.new { ins = self.new.ins ++ end ∷ [] }) }
+        ensures there { 0 < length self.old.ins → IsSome result }
+    {
+        self.ins.pop()
+    }
+}
+
+/// One actor's ends while they are made.
+#[derive(Drop)]
+pub(crate) struct Unsealed<J: Task> {
+    number: ActorNo,
+    outs: Vec<RingOut<J>>,
+    ins: Vec<RingIn<J>>,
+}
+
+impl<J: Task> Model for Unsealed<J> {
+    ghost use Rattle.rt_ring_mesh.specs.Ends.{EndsView};
+
+    ghost Value = { EndsView J J.Out };
+
+    ghost view = { λ e. record { number = e.number; outs = e.outs.items; ins = e.ins.items } };
+}
+
+impl<J: Task> Unsealed<J> {
     // An actor without an end, with room for as many as it will have.
     pub(crate) fn bare(
         alloc: Global,
@@ -44,7 +80,7 @@ impl<J: Task> Ends<J> {
     ) -> Result<Self, AllocError>
         ensures { IfOk result (λ ends. ends ≡ record { number = number; outs = []; ins = [] }) }
     {
-        Ok(Ends {
+        Ok(Unsealed {
             number,
             outs: Vec::with_capacity(alloc, outs as usize + APART)?,
             ins: Vec::with_capacity(alloc, ins as usize + APART)?,
@@ -65,19 +101,14 @@ impl<J: Task> Ends<J> {
         Ok(())
     }
 
-    // Takes out the end of the link to the last core.
-    pub(crate) fn pop_out(&mut self) -> Option<RingOut<J>>
-        ensures some { IfSome result (λ end. self.old ≡ record self.new { outs = self.new.outs ++ end ∷ [] }) }
-        ensures there { 0 < length self.old.outs → IsSome result }
+    // The same ends, with no way to more.
+    pub(crate) fn sealed(self) -> Ends<J>
+        ensures { result ≡ self }
     {
-        self.outs.pop()
-    }
-
-    // Takes out the end of the link from the last actor.
-    pub(crate) fn pop_in(&mut self) -> Option<RingIn<J>>
-        ensures some { IfSome result (λ end. self.old ≡ record self.new { ins = self.new.ins ++ end ∷ [] }) }
-        ensures there { 0 < length self.old.ins → IsSome result }
-    {
-        self.ins.pop()
+        Ends {
+            number: self.number,
+            outs: SealedVec::sealed(self.outs),
+            ins: SealedVec::sealed(self.ins),
+        }
     }
 }

@@ -3,7 +3,7 @@
 ghost use Rattle.std.specs.Prelude.{◌≡◌, ◌+◌, ◌<◌, ◌≤◌, OnOk, IfOk};
 ghost use Rattle.rt_ring_mesh.specs.Grid.{IsOpening, IsGrid, AreAllFresh};
 
-use crate::ends::Ends;
+use crate::ends::{Ends, Unsealed};
 use rt_ids::{ActorNo, CoreNo};
 use rt_jobs::Task;
 use rt_ring::{OpenError, RingLink};
@@ -12,7 +12,7 @@ use std::alloc::{AllocError, Global};
 // Opens the link from a sender to a core, and gives each of the two its end.
 fn connect<J: Task>(
     alloc: Global,
-    all: &mut Vec<Ends<J>>,
+    all: &mut Vec<Unsealed<J>>,
     cores: u8,
     cap: u16,
     sender: usize,
@@ -35,7 +35,7 @@ fn connect<J: Task>(
 // Opens the links from a sender to all cores.
 fn connect_row<J: Task>(
     alloc: Global,
-    all: &mut Vec<Ends<J>>,
+    all: &mut Vec<Unsealed<J>>,
     cores: u8,
     cap: u16,
     sender: usize,
@@ -51,7 +51,7 @@ fn connect_row<J: Task>(
 }
 
 // The actors without an end.
-fn bare<J: Task>(alloc: Global, cores: u8, cap: u16) -> Result<Vec<Ends<J>>, AllocError>
+fn bare<J: Task>(alloc: Global, cores: u8, cap: u16) -> Result<Vec<Unsealed<J>>, AllocError>
     ensures { IfOk result (λ all. IsOpening cores cap 0 0 all.items) }
 {
     let _ = cap;
@@ -59,13 +59,13 @@ fn bare<J: Task>(alloc: Global, cores: u8, cap: u16) -> Result<Vec<Ends<J>>, All
     let mut all = Vec::with_capacity(alloc, count as usize)?;
     for number in 0..count {
         let ins = if number < cores as u16 { count } else { 0 };
-        all.push(Ends::bare(alloc, ActorNo(number as u8), cores, ins)?)?;
+        all.push(Unsealed::bare(alloc, ActorNo(number as u8), cores, ins)?)?;
     }
     Ok(all)
 }
 
 // Opens all links, row by row.
-fn open_rows<J: Task>(alloc: Global, cores: u8, cap: u16) -> Result<Vec<Ends<J>>, AllocError>
+fn open_rows<J: Task>(alloc: Global, cores: u8, cap: u16) -> Result<Vec<Unsealed<J>>, AllocError>
     ensures { IfOk result (λ all. IsOpening cores cap (cores + 1) 0 all.items) }
 {
     let mut all = bare::<J>(alloc, cores, cap)?;
@@ -73,6 +73,25 @@ fn open_rows<J: Task>(alloc: Global, cores: u8, cap: u16) -> Result<Vec<Ends<J>>
         connect_row(alloc, &mut all, cores, cap, sender)?;
     }
     Ok(all)
+}
+
+// Each actor's ends, sealed.
+fn seal_all<J: Task>(alloc: Global, all: Vec<Unsealed<J>>) -> Result<Vec<Ends<J>>, AllocError>
+    ensures { IfOk result (λ dealt. dealt.items ≡ all.items) }
+{
+    let mut dealt = Vec::with_capacity(alloc, all.len())?;
+    for ends in all {
+        dealt.push(ends.sealed())?;
+    }
+    Ok(dealt)
+}
+
+// Opens all links, and seals the ends of each actor.
+fn open_sealed<J: Task>(alloc: Global, cores: u8, cap: u16) -> Result<Vec<Ends<J>>, AllocError>
+    ensures { IfOk result (λ all. IsOpening cores cap (cores + 1) 0 all.items) }
+{
+    let all = open_rows::<J>(alloc, cores, cap)?;
+    seal_all(alloc, all)
 }
 
 /// Opens a link from each actor to each core, and deals their ends to the actors. The outside actor is the last one.
@@ -87,7 +106,7 @@ pub fn open_all<J: Task>(alloc: Global, cores: u8, cap: u16) -> Result<Vec<Ends<
     ensures grid { IfOk result (λ all. IsGrid cores all.items) }
     ensures fresh { IfOk result (λ all. AreAllFresh cores cap all.items) }
 {
-    match open_rows::<J>(alloc, cores, cap) {
+    match open_sealed::<J>(alloc, cores, cap) {
         Ok(all) => Ok(all),
         Err(_) => Err(OpenError::Memory),
     }

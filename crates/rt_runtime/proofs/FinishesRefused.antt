@@ -1,5 +1,5 @@
 -- Finishes that are refused: of a core that isn't closed, without a note of the caller, without an outcome, and with a note that is kept and was never refused.
-use Rattle.std.proofs.Common.{◌≡◌, ℕ, ◌<◌, ◌≤◌, [], ◌∷◌, sym, ◌∙◌, inl, inr, subst, arith}
+use Rattle.std.proofs.Common.{◌≡◌, ℕ, ◌<◌, ◌≤◌, [], ◌∷◌, inl, inr, subst, arith}
 use Rattle.std.specs.Prelude.{true, false, Some, None, Ok, Err, IfSome, length}
 use Rattle.std.specs.Option.{IsSome}
 use Rattle.rt_ids.specs.declared.names.JobId.{JobId}

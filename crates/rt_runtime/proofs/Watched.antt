@@ -1,8 +1,7 @@
 -- Watchers, each beside the worker of its place.
-use Rattle.std.proofs.Common.{◌≡◌, ◌≢◌, ℕ, zero, suc, ◌+◌, ◌<◌, ◌≤◌, List, [], length, map, set, get_or, refl, sym, ◌∙◌, ap, subst, arith, ⊎_elim}
+use Rattle.std.proofs.Common.{◌≡◌, ◌≢◌, ℕ, ◌+◌, ◌<◌, ◌≤◌, List, [], length, map, set, get_or, sym, ◌∙◌, ap, subst, arith, ⊎_elim}
 use Rattle.std.proofs.lemmas.Bool.{cases_eq}
 use Rattle.std.proofs.lemmas.List.{get_or-map, get_or-set_same, get_or_default, length-map, set-get_or}
-use Rattle.std.proofs.Math.Seq.{map-set_same}
 use Rattle.rt_watch.specs.Growth.{Grows}
 use Rattle.rt_watch.specs.declared.watcher.Watching.{Watching}
 use Rattle.rt_runtime_worker.specs.Ended.{EndedView}

@@ -1,19 +1,20 @@
 //! Houses that outlive the room of their journals.
 
-ghost use Rattle.std.specs.Prelude.{◌≡◌, All, [], IfOk};
+ghost use Rattle.std.specs.Prelude.{◌≡◌, All, [], IfSome};
 
-use crate::house::{House, LEAST_ROOM, all_end, begin, finish};
-use crate::journals::{Keeps, assembly_of, is_sound};
+use crate::house::{LEAST_ROOM, leaves};
+use crate::journals::{Keeps, are_sound};
 use rt_runtime::Passed;
 use rt_sinks::{Discard, Keep};
-use std::alloc::{AllocError, Global};
-use std::test::Fail;
+use std::alloc::Global;
+use std::sync::Wait;
+use std::thread::Threads;
 
 /// A sink for each of two cores and for the outside actor. They keep nothing.
-fn discards(alloc: Global) -> Result<Vec<Discard>, AllocError>
-    ensures { IfOk result (λ sinks. All (λ sink. sink ≡ []) sinks.items) }
+fn discards(alloc: Global) -> Option<Vec<Discard>>
+    ensures { IfSome result (λ sinks. All (λ sink. sink ≡ []) sinks.items) }
 {
-    Ok(vec![in alloc; Discard::new(), Discard::new(), Discard::new()]?)
+    vec![in alloc; Discard::new(), Discard::new(), Discard::new()].ok()
 }
 
 /// Whether each actor passed on so many notes at least, and all of them.
@@ -26,29 +27,27 @@ fn have_passed(passed: &Passed<Discard>, least: u64) -> bool {
     true
 }
 
+/// Whether a house ends 500 jobs of each core, and so passes on twenty rooms' worth of notes. None if it doesn't end them.
+fn outlives<R>(rt: R, alloc: Global) -> Option<bool>
+where
+    R: Threads + Wait + Copy + Drop + Send + 'static,
+{
+    let sinks = discards(alloc)?;
+    // Each job makes three notes of the outside actor. No submission is refused, no job goes back, and no core has closed by itself.
+    let passed = leaves(rt, alloc, LEAST_ROOM, sinks, 500)?;
+    Some(have_passed(&passed, 20 * LEAST_ROOM as u64))
+}
+
 #[test]
-fn a_house_outlives_twenty_rooms(rt: HostRuntime) -> Result<(), Fail> {
-    let sinks = discards(rt.alloc())?;
-    let Some(mut house) = begin(rt, rt.alloc(), LEAST_ROOM, sinks)? else {
-        assert!(rt; false, "no house");
-        return Ok(());
-    };
-    // Each job makes three notes of the outside actor. No submission is refused, and no job goes back.
-    assert!(rt; all_end(&rt, &mut house, 500));
-    // No core has closed by itself.
-    let Some(passed) = finish(&rt, house) else {
-        assert!(rt; false, "closed already");
-        return Ok(());
-    };
-    assert!(rt; have_passed(&passed, 20 * LEAST_ROOM as u64));
-    Ok(())
+fn a_house_outlives_twenty_rooms(rt: HostRuntime) {
+    assert!(rt; outlives(rt, rt.alloc()) == Some(true));
 }
 
 /// The same, which keep all notes.
-fn keeps(alloc: Global) -> Result<Vec<Keep>, AllocError>
-    ensures { IfOk result (λ sinks. All (λ sink. sink.has ≡ []) sinks.items) }
+fn keeps(alloc: Global) -> Option<Vec<Keep>>
+    ensures { IfSome result (λ sinks. All (λ sink. sink.has ≡ []) sinks.items) }
 {
-    Ok(vec![in alloc; Keep::new(alloc), Keep::new(alloc), Keep::new(alloc)]?)
+    vec![in alloc; Keep::new(alloc), Keep::new(alloc), Keep::new(alloc)].ok()
 }
 
 /// Whether no sink refused, and each has all notes.
@@ -61,23 +60,17 @@ fn has_all<S: Keeps>(passed: &Passed<S>) -> bool {
     true
 }
 
+/// Whether a house ends 100 jobs of each core, and its sinks have the journals of a sound run. None if it doesn't end them.
+fn is_kept<R>(rt: R, alloc: Global) -> Option<bool>
+where
+    R: Threads + Wait + Copy + Drop + Send + 'static,
+{
+    let sinks = keeps(alloc)?;
+    let passed = leaves(rt, alloc, LEAST_ROOM, sinks, 100)?;
+    Some(has_all(&passed) && are_sound(alloc, passed))
+}
+
 #[test]
-fn what_sinks_keep_is_sound(rt: HostRuntime) -> Result<(), Fail> {
-    let sinks = keeps(rt.alloc())?;
-    let Some(mut house) = begin(rt, rt.alloc(), LEAST_ROOM, sinks)? else {
-        assert!(rt; false, "no house");
-        return Ok(());
-    };
-    assert!(rt; all_end(&rt, &mut house, 100));
-    let Some(passed) = finish(&rt, house) else {
-        assert!(rt; false, "closed already");
-        return Ok(());
-    };
-    assert!(rt; has_all(&passed));
-    let Some(assembly) = assembly_of(rt.alloc(), passed) else {
-        assert!(rt; false, "no memory");
-        return Ok(());
-    };
-    assert!(rt; is_sound(rt.alloc(), &assembly));
-    Ok(())
+fn what_sinks_keep_is_sound(rt: HostRuntime) {
+    assert!(rt; is_kept(rt, rt.alloc()) == Some(true));
 }

@@ -7,7 +7,7 @@ use rt_ids::{CoreNo, Mode, Order, Outcome, QueueNo, Ticket};
 use rt_jobs::example::Work;
 use rt_runtime::{Passed, Sink, SubmitError};
 use rt_runtime_test_house::{PassingHouse, begin_with_sinks, new_mark, plain};
-use std::alloc::{AllocError, Global};
+use std::alloc::Global;
 use std::sync::Wait;
 use std::thread::Threads;
 
@@ -16,23 +16,18 @@ pub const LEAST_ROOM: u32 = 144;
 
 pub type House<S> = PassingHouse<Work, S>;
 
-/// A house of two cores with two places on each link and so much room, whose actors pass their notes on to these sinks. None if there is no
-/// thread, or not enough memory.
-pub fn begin<S, R>(
-    rt: R,
-    alloc: Global,
-    room: u32,
-    sinks: Vec<S>,
-) -> Result<Option<House<S>>, AllocError>
+/// A house of two cores with two places on each link and so much room, whose actors pass their notes on to these sinks. None if it doesn't
+/// begin.
+pub fn begin<S, R>(rt: R, alloc: Global, room: u32, sinks: Vec<S>) -> Option<House<S>>
 where
     S: Sink + Send + 'static,
     R: Threads + Wait + Copy + Drop + Send + 'static,
     requires { All (λ sink. S.has sink ≡ []) sinks.items }
 {
-    let asked = new_mark(alloc)?;
+    let asked = new_mark(alloc).ok()?;
     let config = plain(alloc, 2, 2, room);
-    let house = begin_with_sinks::<Work, S, R>(rt, alloc, config, &asked, sinks)?;
-    Ok(house.ok())
+    let begun = begin_with_sinks::<Work, S, R>(rt, alloc, config, &asked, sinks).ok()?;
+    begun.ok()
 }
 
 /// A job of four polls that answers 9.
@@ -65,14 +60,14 @@ pub fn one_ends<S: Sink, R: Wait>(rt: &R, house: &mut House<S>) -> bool {
 
 /// Whether each core accepts a job and ends it.
 fn both_end<S: Sink, R: Wait>(rt: &R, house: &mut House<S>) -> bool {
-    let (Ok(first), Ok(second)) = (submit(house, 0), submit(house, 1)) else {
-        return false;
-    };
-    is_done(rt, house, first) && is_done(rt, house, second)
+    match (submit(house, 0), submit(house, 1)) {
+        (Ok(first), Ok(second)) => is_done(rt, house, first) && is_done(rt, house, second),
+        _ => false,
+    }
 }
 
 /// Whether each core accepts so many jobs, one after another, and ends them.
-pub fn all_end<S: Sink, R: Wait>(rt: &R, house: &mut House<S>, count: u32) -> bool {
+fn all_end<S: Sink, R: Wait>(rt: &R, house: &mut House<S>, count: u32) -> bool {
     for _ in 0..count {
         if !both_end(rt, house) {
             return false;
@@ -90,4 +85,19 @@ pub fn finish<S: Sink, R: Threads + Wait>(rt: &R, house: House<S>) -> Option<Pas
         }
     }
     house.finish_with_sinks(rt).ok()
+}
+
+/// What a house leaves each of whose cores ended so many jobs. None if it didn't begin, a job went back, or a core closed by itself.
+pub fn leaves<S, R>(rt: R, alloc: Global, room: u32, sinks: Vec<S>, count: u32) -> Option<Passed<S>>
+where
+    S: Sink + Send + 'static,
+    R: Threads + Wait + Copy + Drop + Send + 'static,
+    requires { All (λ sink. S.has sink ≡ []) sinks.items }
+{
+    let mut house = begin(rt, alloc, room, sinks)?;
+    if all_end(&rt, &mut house, count) {
+        finish(&rt, house)
+    } else {
+        None
+    }
 }

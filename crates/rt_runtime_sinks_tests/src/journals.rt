@@ -58,6 +58,14 @@ pub fn is_sound(alloc: Global, assembly: &Assembly) -> bool {
     matches!(audit(alloc, assembly), Ok(Verdict::Sound))
 }
 
+/// Whether what a house leaves is sound.
+pub fn are_sound<S: Keeps>(alloc: Global, passed: Passed<S>) -> bool {
+    match assembly_of(alloc, passed) {
+        Some(assembly) => is_sound(alloc, &assembly),
+        None => false,
+    }
+}
+
 /// How many orders the outside actor sent. 0 if one of them has no outcome.
 pub fn count_outcomes(assembly: &Assembly) -> u64 {
     let mut count: u64 = 0;

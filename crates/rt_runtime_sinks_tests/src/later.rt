@@ -1,26 +1,27 @@
 //! Sinks that refuse, and take again later.
 
-ghost use Rattle.std.specs.Prelude.{◌≡◌, All, [], IfOk};
+ghost use Rattle.std.specs.Prelude.{◌≡◌, All, [], IfSome};
 
 use crate::faulty::Faulty;
-use crate::house::{House, LEAST_ROOM, all_end, begin, finish, one_ends, submit};
-use crate::journals::{Keeps, assembly_of, is_sound};
+use crate::house::{House, LEAST_ROOM, begin, finish, leaves, one_ends, submit};
+use crate::journals::{Keeps, are_sound};
 use rt_ids::Order;
 use rt_jobs::example::Work;
 use rt_runtime::{Passed, SubmitError};
-use std::alloc::{AllocError, Global};
+use std::alloc::Global;
 use std::sync::Wait;
-use std::test::Fail;
+use std::thread::Threads;
 
 /// A sink for each core, which refuses so many takes from its second on, and one for the outside actor, which refuses so many from its first on.
-fn faulty(alloc: Global, cores: u64, outside: u64) -> Result<Vec<Faulty>, AllocError>
-    ensures { IfOk result (λ sinks. All (λ sink. sink.keep.has ≡ []) sinks.items) }
+fn faulty(alloc: Global, cores: u64, outside: u64) -> Option<Vec<Faulty>>
+    ensures { IfSome result (λ sinks. All (λ sink. sink.keep.has ≡ []) sinks.items) }
 {
-    Ok(vec![in alloc;
+    vec![in alloc;
         Faulty::new(alloc, 2, cores),
         Faulty::new(alloc, 2, cores),
         Faulty::new(alloc, 1, outside),
-    ]?)
+    ]
+    .ok()
 }
 
 /// Whether each core's sink refused so often, that of the outside actor so often, and each has all notes.
@@ -36,29 +37,20 @@ fn refused(passed: &Passed<Faulty>, cores: u64, outside: u64) -> bool {
     true
 }
 
-/// Whether what a house leaves is sound.
-fn are_sound(alloc: Global, passed: Passed<Faulty>) -> bool {
-    match assembly_of(alloc, passed) {
-        Some(assembly) => is_sound(alloc, &assembly),
-        None => false,
-    }
+/// Whether a house whose cores' sinks refuse once ends 200 jobs of each core, and all notes are in its sinks. None if it doesn't end them.
+fn outlives<R>(rt: R, alloc: Global) -> Option<bool>
+where
+    R: Threads + Wait + Copy + Drop + Send + 'static,
+{
+    let sinks = faulty(alloc, 1, 0)?;
+    // With four times the least room a journal that is passed on a round later isn't short.
+    let passed = leaves(rt, alloc, 4 * LEAST_ROOM, sinks, 200)?;
+    Some(refused(&passed, 1, 0) && are_sound(alloc, passed))
 }
 
 #[test]
-fn a_core_outlives_a_refusal(rt: HostRuntime) -> Result<(), Fail> {
-    let sinks = faulty(rt.alloc(), 1, 0)?;
-    // With four times the least room a journal that is passed on a round later isn't short.
-    let Some(mut house) = begin(rt, rt.alloc(), 4 * LEAST_ROOM, sinks)? else {
-        assert!(rt; false, "no house");
-        return Ok(());
-    };
-    assert!(rt; all_end(&rt, &mut house, 200));
-    let Some(passed) = finish(&rt, house) else {
-        assert!(rt; false, "closed already");
-        return Ok(());
-    };
-    assert!(rt; refused(&passed, 1, 0) && are_sound(rt.alloc(), passed));
-    Ok(())
+fn a_core_outlives_a_refusal(rt: HostRuntime) {
+    assert!(rt; outlives(rt, rt.alloc()) == Some(true));
 }
 
 /// Whether a submission is refused since the journal is full, and its job comes back as it was.
@@ -97,19 +89,30 @@ fn takes_again<R: Wait>(rt: &R, house: &mut House<Faulty>) -> bool {
         && house.sink().times_refused() == 2
 }
 
+/// What a house leaves whose outside sink refused twice, and took again. None if one of these steps went otherwise.
+fn leaves_later<R>(rt: R, alloc: Global) -> Option<Passed<Faulty>>
+where
+    R: Threads + Wait + Copy + Drop + Send + 'static,
+{
+    let sinks = faulty(alloc, 0, 2)?;
+    let mut house = begin(rt, alloc, LEAST_ROOM, sinks)?;
+    if takes_again(&rt, &mut house) && house.pass_on().is_ok() && house.kept().is_empty() {
+        finish(&rt, house)
+    } else {
+        None
+    }
+}
+
+/// Whether the sinks have all notes of that, and these are sound. None if it went otherwise before.
+fn is_accepted_later<R>(rt: R, alloc: Global) -> Option<bool>
+where
+    R: Threads + Wait + Copy + Drop + Send + 'static,
+{
+    let passed = leaves_later(rt, alloc)?;
+    Some(refused(&passed, 0, 2) && are_sound(alloc, passed))
+}
+
 #[test]
-fn a_refused_submission_is_accepted_later(rt: HostRuntime) -> Result<(), Fail> {
-    let sinks = faulty(rt.alloc(), 0, 2)?;
-    let Some(mut house) = begin(rt, rt.alloc(), LEAST_ROOM, sinks)? else {
-        assert!(rt; false, "no house");
-        return Ok(());
-    };
-    assert!(rt; takes_again(&rt, &mut house));
-    assert!(rt; house.pass_on().is_ok() && house.kept().is_empty());
-    let Some(passed) = finish(&rt, house) else {
-        assert!(rt; false, "closed already");
-        return Ok(());
-    };
-    assert!(rt; refused(&passed, 0, 2) && are_sound(rt.alloc(), passed));
-    Ok(())
+fn a_refused_submission_is_accepted_later(rt: HostRuntime) {
+    assert!(rt; is_accepted_later(rt, rt.alloc()) == Some(true));
 }

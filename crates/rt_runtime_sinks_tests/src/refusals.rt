@@ -1,15 +1,14 @@
 //! Sinks that refuse from a take on: nothing is lost.
 
-ghost use Rattle.std.specs.Prelude.{◌≡◌, ◌≤◌, All, [], IfOk};
+ghost use Rattle.std.specs.Prelude.{◌≡◌, ◌≤◌, All, [], IfSome};
 
 use crate::faulty::Faulty;
 use crate::house::{House, LEAST_ROOM, begin, submit};
 use crate::journals::{are_known, assembly_of, count_outcomes, is_sound};
 use rt_ids::{CoreNo, Mode, Ticket};
 use rt_runtime::Passed;
-use std::alloc::{AllocError, Global};
+use std::alloc::Global;
 use std::sync::Wait;
-use std::test::Fail;
 use std::thread::Threads;
 
 /// So many takes are tried as the first that is refused.
@@ -19,16 +18,17 @@ const TAKES: u64 = 200;
 const ROUNDS: u32 = 20;
 
 /// Sinks that refuse each take from one on. So the outside actor's refuses early where those of the cores refuse late.
-fn faulty(alloc: Global, first: u64) -> Result<Vec<Faulty>, AllocError>
+fn faulty(alloc: Global, first: u64) -> Option<Vec<Faulty>>
     requires { first ≤ 200 }
-    ensures { IfOk result (λ sinks. All (λ sink. sink.keep.has ≡ []) sinks.items) }
+    ensures { IfSome result (λ sinks. All (λ sink. sink.keep.has ≡ []) sinks.items) }
 {
     let of_core = TAKES + 1 - first;
-    Ok(vec![in alloc;
+    vec![in alloc;
         Faulty::new(alloc, of_core, u64::MAX),
         Faulty::new(alloc, 2 * of_core, u64::MAX),
         Faulty::new(alloc, first, u64::MAX),
-    ]?)
+    ]
+    .ok()
 }
 
 /// Passes on what the outside actor keeps, and submits a job to a core. Its ticket, if it was accepted.
@@ -82,46 +82,44 @@ fn count_accepted<R: Wait>(rt: &R, house: &mut House<Faulty>) -> u64 {
 }
 
 /// What a house leaves whose sinks refuse, and how many orders were accepted. None if it didn't begin, or doesn't finish.
-fn run<R>(rt: R, alloc: Global, first: u64) -> Result<Option<(Passed<Faulty>, u64)>, AllocError>
+fn run<R>(rt: R, alloc: Global, first: u64) -> Option<(Passed<Faulty>, u64)>
 where
     R: Threads + Wait + Copy + Drop + Send + 'static,
     requires { first ≤ 200 }
 {
     let sinks = faulty(alloc, first)?;
-    let Some(mut house) = begin(rt, alloc, LEAST_ROOM, sinks)? else {
-        return Ok(None);
-    };
+    let mut house = begin(rt, alloc, LEAST_ROOM, sinks)?;
     let accepted = count_accepted(&rt, &mut house);
-    match house.finish_with_sinks(&rt) {
-        Ok(passed) => Ok(Some((passed, accepted))),
-        Err(_) => Ok(None),
+    let passed = house.finish_with_sinks(&rt).ok()?;
+    Some((passed, accepted))
+}
+
+/// Whether each order that was accepted has an outcome in the journals, which are audited where that is asked for.
+fn has_all(alloc: Global, passed: Passed<Faulty>, accepted: u64, audited: bool) -> bool {
+    match assembly_of(alloc, passed) {
+        Some(assembly) => {
+            count_outcomes(&assembly) == accepted && (!audited || is_sound(alloc, &assembly))
+        }
+        None => false,
     }
 }
 
-/// Whether each order that was accepted has an outcome in the journals, and kept notes tell which sinks refused. The journals of some runs are
-/// audited.
-fn loses_nothing<R>(rt: R, alloc: Global, first: u64) -> Result<bool, AllocError>
+/// Whether nothing is lost, and kept notes tell which sinks refused. The journals of each eighth run are audited. None if it didn't end.
+fn loses_nothing<R>(rt: R, alloc: Global, first: u64) -> Option<bool>
 where
     R: Threads + Wait + Copy + Drop + Send + 'static,
     requires { first ≤ 200 }
 {
-    let Some((passed, accepted)) = run(rt, alloc, first)? else {
-        return Ok(false);
-    };
-    if !are_known(&passed) {
-        return Ok(false);
-    }
-    let Some(assembly) = assembly_of(alloc, passed) else {
-        return Ok(false);
-    };
-    let audited = first % 8 == 0;
-    Ok(count_outcomes(&assembly) == accepted && (!audited || is_sound(alloc, &assembly)))
+    let (passed, accepted) = run(rt, alloc, first)?;
+    Some(are_known(&passed) && has_all(alloc, passed, accepted, first % 8 == 0))
 }
 
 #[test]
-fn sinks_that_refuse_lose_nothing(rt: HostRuntime) -> Result<(), Fail> {
+fn sinks_that_refuse_lose_nothing(rt: HostRuntime) {
     for first in 1..TAKES + 1 {
-        assert!(rt; loses_nothing(rt, rt.alloc(), first)?, "at {first}");
+        assert!(rt;
+            loses_nothing(rt, rt.alloc(), first) == Some(true),
+            "at {first}"
+        );
     }
-    Ok(())
 }

@@ -1,8 +1,9 @@
 //! A house of cores on threads, and what its journals say.
 
 ghost use Rattle.std.specs.Prelude.{◌≡◌, All, []};
+ghost use Rattle.rt_jobs.specs.Ready.{IsReady};
 
-use rt_ids::{ActorNo, CoreNo, JobId, Note};
+use rt_ids::{ActorNo, CoreNo, JobId, Mode, Note, Order, Outcome, QueueNo, Ticket};
 use rt_jobs::{Job, Task};
 use rt_journal::Journal;
 use rt_runtime::{Clock, Config, Gate, Runtime, Sink, StartError};
@@ -117,6 +118,24 @@ where
     Ok(House::start(rt, alloc, config, clocks, gates))
 }
 
+/// A house on threads with so many cores that have queue 0 alone, and with a clock and a gate for each. None if it doesn't begin.
+pub fn started<J, R>(
+    rt: R,
+    alloc: Global,
+    cores: u8,
+    cap: u16,
+    room: u32,
+    asked: &Mark,
+) -> Option<House<J>>
+where
+    J: Job + Task<Out = u64, Local = ()> + Send + 'static,
+    R: Threads + Wait + Copy + Drop + Send + 'static,
+{
+    let config = plain(alloc, cores, cap, room);
+    let begun = begin::<J, R>(rt, alloc, config, cores, asked).ok()?;
+    begun.ok()
+}
+
 /// A house on threads whose jobs share these states, or why there is none.
 pub fn begin_with_locals<J, R>(
     rt: R,
@@ -152,6 +171,45 @@ where
     let clocks = clocks(alloc, config.cores)?;
     let gates = gates(alloc, config.cores, asked)?;
     Ok(PassingHouse::start_with_sinks(rt, alloc, config, clocks, gates, sinks))
+}
+
+/// Submits a job to queue 0 of a core. Its ticket, if it is accepted.
+pub fn submits<J: Task<Out = u64>>(house: &mut House<J>, core: CoreNo, job: J) -> Option<Ticket>
+    requires { IsReady J.meaning job }
+{
+    house.submit(core, Order::Job(QueueNo(0), job)).ok()
+}
+
+/// Waits until the outcome of this submission is there. Whether it is finished with this answer.
+pub fn answers<J: Task<Out = u64>, R: Wait>(
+    rt: &R,
+    house: &mut House<J>,
+    ticket: Ticket,
+    answer: u64,
+) -> bool {
+    matches!(house.wait(rt, ticket), Ok(Outcome::Finished(number)) if number == answer)
+}
+
+/// Closes so many cores in mode `Finish`, and waits until all comes to its end. Whether it does.
+pub fn ends<J: Job + Task<Out = u64>, R: Threads + Wait>(
+    rt: &R,
+    house: House<J>,
+    cores: u8,
+) -> bool {
+    let mut house = house;
+    for core in 0..cores {
+        if house.close_core(CoreNo(core), Mode::Finish).is_err() {
+            return false;
+        }
+    }
+    house.finish(rt).is_ok()
+}
+
+/// Reads a mark so often that time passes.
+pub fn lets_pass(mark: &AtomicU64, looks: u32) {
+    for _ in 0..looks {
+        let _seen = mark.load(Ordering::SeqCst);
+    }
 }
 
 /// Whether a mark comes to be 1, within so many tries.

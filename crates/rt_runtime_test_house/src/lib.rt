@@ -4,6 +4,7 @@
 mod house;
 
 pub use house::{
-    Counter, House, Mark, PassingHouse, Ticks, begin, begin_with_locals, begin_with_sinks,
-    collects, is_set_soon, named, new_mark, plain, says, with_burst, with_queue,
+    Counter, House, Mark, PassingHouse, Ticks, answers, begin, begin_with_locals, begin_with_sinks,
+    collects, ends, is_set_soon, lets_pass, named, new_mark, plain, says, started, submits,
+    with_burst, with_queue,
 };

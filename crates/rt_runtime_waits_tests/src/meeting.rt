@@ -1,16 +1,15 @@
 //! Two jobs on two cores that see each other while they are polled.
 
-ghost use Rattle.std.specs.Prelude.{◌≡◌, false};
+ghost use Rattle.std.specs.Prelude.{◌≡◌, false, IfSome};
 
-use rt_ids::{ActorNo, CoreNo, JobId, Mode, Note, Order, QueueNo};
+use rt_ids::{ActorNo, CoreNo, Mode, Note, Order, QueueNo};
 use rt_jobs::{Job, Post, Step, Task};
 use rt_journal::Assembly;
-use rt_runtime::{Config, NoGate, Runtime, SystemClock};
-use rt_runtime_test_house::{Mark, is_set_soon, new_mark};
-use std::alloc::{AllocError, Global};
+use rt_runtime::{NoGate, Runtime, SystemClock};
+use rt_runtime_test_house::{Mark, is_set_soon, named, new_mark, plain};
+use std::alloc::Global;
 use std::sync::atomic::Ordering;
 use std::sync::{Arc, Wait};
-use std::test::Fail;
 use std::thread::Threads;
 use std::time::Clock;
 
@@ -66,42 +65,38 @@ impl Job for Meeter {
 
 type House<R> = Runtime<Meeter, SystemClock<R>, NoGate>;
 
-/// A house of two cores.
-fn start<R>(rt: R, alloc: Global) -> Result<Option<House<R>>, AllocError>
+/// A house of two cores. None if it doesn't begin.
+fn start<R>(rt: R, alloc: Global) -> Option<House<R>>
 where
     R: Threads + Wait + Clock + Copy + Drop + Send + 'static,
 {
-    let config = Config {
-        cores: 2,
-        cap: 2,
-        burst: 1,
-        room: 1000,
-        queues: Vec::new(alloc),
-    };
-    let (mut clocks, mut gates) = (Vec::new(alloc), Vec::new(alloc));
-    for _ in 0..2 {
-        clocks.push(SystemClock::new(rt))?;
-        gates.push(NoGate)?;
-    }
-    Ok(House::start(rt, alloc, config, clocks, gates).ok())
+    let mut clocks = Vec::new(alloc);
+    clocks.push(SystemClock::new(rt)).ok()?;
+    clocks.push(SystemClock::new(rt)).ok()?;
+    let gates = vec![in alloc; NoGate, NoGate].ok()?;
+    House::start(rt, alloc, plain(alloc, 2, 2, 1000), clocks, gates).ok()
 }
 
-/// Submits a job to this core, and closes it.
-fn submit<R: Drop>(
-    house: &mut House<R>,
-    core: CoreNo,
-    mine: &Mark,
-    other: &Mark,
-) -> Result<bool, AllocError> {
-    let job = Meeter {
-        mine: Arc::try_clone(mine)?,
-        other: Arc::try_clone(other)?,
+/// A job that meets another one. None if a mark can't be shared once more.
+fn new_meeter(mine: &Mark, other: &Mark) -> Option<Meeter>
+    ensures { IfSome result (λ job. job.ended ≡ false) }
+{
+    let mine = Arc::try_clone(mine).ok()?;
+    let other = Arc::try_clone(other).ok()?;
+    Some(Meeter {
+        mine,
+        other,
         ended: false,
+    })
+}
+
+/// Submits a job to this core, and closes it. Whether both orders were accepted.
+fn submit<R: Drop>(house: &mut House<R>, core: CoreNo, mine: &Mark, other: &Mark) -> bool {
+    let Some(job) = new_meeter(mine, other) else {
+        return false;
     };
-    Ok(
-        house.submit(core, Order::Job(QueueNo(0), job)).is_ok()
-            && house.close_core(core, Mode::Finish).is_ok(),
-    )
+    house.submit(core, Order::Job(QueueNo(0), job)).is_ok()
+        && house.close_core(core, Mode::Finish).is_ok()
 }
 
 /// Whether the job of this core answered 1.
@@ -109,11 +104,7 @@ fn saw(assembly: &Assembly, core: u8) -> bool {
     if core > assembly.cores() {
         return false;
     }
-    let name = JobId {
-        from: ActorNo(2),
-        to: CoreNo(core),
-        number: 1,
-    };
+    let name = named(2, core, 1);
     for note in assembly.journal(ActorNo(core)).as_slice() {
         if let Note::Done(of, _, answer) = note {
             return *of == name && *answer == 1;
@@ -122,33 +113,32 @@ fn saw(assembly: &Assembly, core: u8) -> bool {
     false
 }
 
-/// Submits to each of two cores a job that meets the other's, and closes both.
-fn submit_both<R: Drop>(house: &mut House<R>, alloc: Global) -> Result<bool, AllocError> {
-    let (one, two) = (new_mark(alloc)?, new_mark(alloc)?);
-    Ok(submit(house, CoreNo(0), &one, &two)? && submit(house, CoreNo(1), &two, &one)?)
-}
-
-/// The journals of two cores whose jobs met, if all was accepted.
-fn journals_of<R>(rt: R, alloc: Global) -> Result<Option<Assembly>, AllocError>
+/// The journals of two cores whose jobs met. None if there is no house, or an order was refused.
+fn journals_of<R>(rt: R, alloc: Global) -> Option<Assembly>
 where
     R: Threads + Wait + Clock + Copy + Drop + Send + 'static,
 {
-    let Some(mut house) = start(rt, alloc)? else {
-        return Ok(None);
-    };
-    if submit_both(&mut house, alloc)? {
-        Ok(house.finish(&rt).ok())
+    let (one, two) = (new_mark(alloc).ok()?, new_mark(alloc).ok()?);
+    let mut house = start(rt, alloc)?;
+    if submit(&mut house, CoreNo(0), &one, &two) && submit(&mut house, CoreNo(1), &two, &one) {
+        house.finish(&rt).ok()
     } else {
-        Ok(None)
+        None
+    }
+}
+
+/// Whether the jobs of two cores saw each other.
+fn met<R>(rt: R, alloc: Global) -> bool
+where
+    R: Threads + Wait + Clock + Copy + Drop + Send + 'static,
+{
+    match journals_of(rt, alloc) {
+        Some(assembly) => saw(&assembly, 0) && saw(&assembly, 1),
+        None => false,
     }
 }
 
 #[test]
-fn two_polls_at_once(rt: HostRuntime) -> Result<(), Fail> {
-    let Some(assembly) = journals_of(rt, rt.alloc())? else {
-        assert!(rt; false, "no journals");
-        return Ok(());
-    };
-    assert!(rt; saw(&assembly, 0) && saw(&assembly, 1));
-    Ok(())
+fn two_polls_at_once(rt: HostRuntime) {
+    assert!(rt; met(rt, rt.alloc()));
 }

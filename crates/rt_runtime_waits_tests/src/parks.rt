@@ -1,16 +1,16 @@
 //! Jobs that are parked, and woken by the caller or by a job of another core. None of them is polled in vain.
 
-ghost use Rattle.std.specs.Prelude.{◌≡◌, true};
+ghost use Rattle.std.specs.Prelude.{◌≡◌, true, false, IfSome};
+ghost use Rattle.rt_jobs.specs.Asking.{MakesSome};
 ghost use Rattle.rt_jobs.specs.declared.job.Step.TheVariants.{Done};
 
 use rt_ids::{ActorNo, Answer, CoreNo, Mode, Order, Outcome, QueueNo, Reason, Ticket};
 use rt_jobs::{Asks, Job, Post, Step, Task, poll_asking, submit_and_detach};
-use rt_runtime_test_house::{House, Mark, begin, new_mark, plain};
-use std::alloc::AllocError;
+use rt_runtime_test_house::{House, Mark, answers, ends, lets_pass, new_mark, started, submits};
+use std::alloc::Global;
 use std::snapshot::Snapshot;
 use std::sync::atomic::Ordering;
 use std::sync::{Arc, Wait};
-use std::test::Fail;
 use std::thread::Threads;
 
 /// How often a job parks and is woken.
@@ -54,6 +54,27 @@ impl Napper {
         self.ended = true;
         Step::Done(answer)
     }
+
+    /// Whether core 1 accepts a job that wakes this one.
+    fn asks<P: Post<Napper, u64>>(&self, begun: &Snapshot<P>, post: &mut P) -> bool
+        requires some { MakesSome P.Does begun.now.value post.old }
+        ensures some { MakesSome P.Does begun.now.value post.new }
+    {
+        let Some(waker) = new_napper(&self.mark, Part::Wakes(self.number), 0) else {
+            return false;
+        };
+        let order = Order::Job(QueueNo(0), waker);
+        submit_and_detach(begun, post, CoreNo(1), order).is_ok()
+    }
+
+    /// Whether core 0 accepts a wake of the caller's job of this number.
+    fn wakes<P: Post<Napper, u64>>(&self, begun: &Snapshot<P>, post: &mut P, number: u64) -> bool
+        requires some { MakesSome P.Does begun.now.value post.old }
+        ensures some { MakesSome P.Does begun.now.value post.new }
+    {
+        lets_pass(&self.mark, LOOKS);
+        submit_and_detach(begun, post, CoreNo(0), Order::Wake(CALLER, number)).is_ok()
+    }
 }
 
 impl Task for Napper {
@@ -82,13 +103,6 @@ impl Job for Napper {
     }
 }
 
-/// Lets so much time pass that an idle worker parks.
-fn lets_pass(mark: &Mark) {
-    for _ in 0..LOOKS {
-        let _seen = mark.load(Ordering::SeqCst);
-    }
-}
-
 impl Asks for Napper {
     fn ask<P: Post<Self, u64>>(&mut self, begun: &Snapshot<P>, post: &mut P) -> Step<u64> {
         if let Part::Spins = self.part {
@@ -101,64 +115,45 @@ impl Asks for Napper {
         match self.part {
             Part::Naps | Part::Spins => Step::Park,
             Part::Asks => {
-                let Ok(mark) = Arc::try_clone(&self.mark) else {
-                    return self.end(0);
-                };
-                let waker = Napper {
-                    part: Part::Wakes(self.number),
-                    number: 0,
-                    polls: 0,
-                    mark,
-                    ended: false,
-                };
-                let order = Order::Job(QueueNo(0), waker);
-                match submit_and_detach(begun, post, CoreNo(1), order) {
-                    Ok(_) => Step::Park,
-                    Err(_) => self.end(0),
+                if self.asks(begun, post) {
+                    Step::Park
+                } else {
+                    self.end(0)
                 }
             }
             Part::Wakes(number) => {
-                lets_pass(&self.mark);
-                let wake = Order::Wake(CALLER, number);
-                let sent = submit_and_detach(begun, post, CoreNo(0), wake).is_ok();
+                let sent = self.wakes(begun, post, number);
                 self.end(sent as u64)
             }
         }
     }
 }
 
-/// Submits to core 0 a job that parks. Its number there is `number`.
-fn submit(
-    house: &mut House<Napper>,
-    mark: &Mark,
-    part: Part,
-    number: u64,
-) -> Result<Option<Ticket>, AllocError> {
-    let job = Napper {
+/// A job of this part and number. None if its mark can't be shared once more.
+fn new_napper(mark: &Mark, part: Part, number: u64) -> Option<Napper>
+    ensures { IfSome result (λ job. job.ended ≡ false) }
+{
+    let mark = Arc::try_clone(mark).ok()?;
+    Some(Napper {
         part,
         number,
         polls: 0,
-        mark: Arc::try_clone(mark)?,
+        mark,
         ended: false,
-    };
-    Ok(house.submit(CoreNo(0), Order::Job(QueueNo(0), job)).ok())
+    })
 }
 
-/// Whether the job of this ticket is done behind two polls: the one that parked, and the one that answers.
-fn took_two<R: Wait>(rt: &R, house: &mut House<Napper>, ticket: Ticket) -> bool {
-    matches!(house.wait(rt, ticket), Ok(Outcome::Finished(2)))
+/// Submits to core 0 a job that parks. Its number there is `number`.
+fn submit(house: &mut House<Napper>, mark: &Mark, part: Part, number: u64) -> Option<Ticket> {
+    let job = new_napper(mark, part, number)?;
+    submits(house, CoreNo(0), job)
 }
 
-/// Whether a job parks until a job of another core wakes it.
-fn is_woken_by_a_job<R: Wait>(
-    rt: &R,
-    house: &mut House<Napper>,
-    mark: &Mark,
-    number: u64,
-) -> Result<bool, AllocError> {
-    match submit(house, mark, Part::Asks, number)? {
-        Some(ticket) => Ok(took_two(rt, house, ticket)),
-        None => Ok(false),
+/// Whether a job parks until a job of another core wakes it: it is done behind two polls, the one that parked and the one that answers.
+fn is_woken_by_a_job<R: Wait>(rt: &R, house: &mut House<Napper>, mark: &Mark, number: u64) -> bool {
+    match submit(house, mark, Part::Asks, number) {
+        Some(ticket) => answers(rt, house, ticket, 2),
+        None => false,
     }
 }
 
@@ -174,23 +169,21 @@ fn is_answered<R: Wait>(rt: &R, house: &mut House<Napper>, number: u64, woken: b
     }
 }
 
-/// Whether a job parks until the caller wakes it, and isn't inside any more then.
-fn is_woken_by_the_caller<R: Wait>(
-    rt: &R,
-    house: &mut House<Napper>,
-    mark: &Mark,
-) -> Result<bool, AllocError> {
-    let Some(ticket) = submit(house, mark, Part::Naps, 0)? else {
-        return Ok(false);
-    };
-    lets_pass(mark);
+/// Whether the parked job of this ticket is woken by the caller, behind two polls, and isn't inside any more then.
+fn wakes<R: Wait>(rt: &R, house: &mut House<Napper>, ticket: Ticket) -> bool {
     let number = ticket.name().number;
-    Ok(
-        house.collect(CoreNo(0)) == 0
-            && is_answered(rt, house, number, true)
-            && took_two(rt, house, ticket)
-            && is_answered(rt, house, number, false),
-    )
+    is_answered(rt, house, number, true)
+        && answers(rt, house, ticket, 2)
+        && is_answered(rt, house, number, false)
+}
+
+/// Whether a job parks until the caller wakes it.
+fn is_woken_by_the_caller<R: Wait>(rt: &R, house: &mut House<Napper>, mark: &Mark) -> bool {
+    let Some(ticket) = submit(house, mark, Part::Naps, 0) else {
+        return false;
+    };
+    lets_pass(mark, LOOKS);
+    house.collect(CoreNo(0)) == 0 && wakes(rt, house, ticket)
 }
 
 /// Whether the job of this ticket goes back, since its core hands all back.
@@ -202,91 +195,90 @@ fn goes_back<R: Wait>(rt: &R, house: &mut House<Napper>, ticket: Ticket) -> bool
 }
 
 /// Whether a parked job goes back, and so does one that yields until the journal of their core is short.
-fn both_go_back<R: Wait>(
-    rt: &R,
-    house: &mut House<Napper>,
-    mark: &Mark,
-) -> Result<bool, AllocError> {
-    let parked = submit(house, mark, Part::Naps, 0)?;
-    let spinning = submit(house, mark, Part::Spins, 0)?;
-    let (Some(parked), Some(spinning)) = (parked, spinning) else {
-        return Ok(false);
-    };
-    Ok(goes_back(rt, house, parked) && goes_back(rt, house, spinning))
-}
-
-/// Whether both cores are closed, and all comes to its end.
-fn ends<R: Threads + Wait>(rt: &R, house: House<Napper>) -> bool {
-    let mut house = house;
-    house.close_core(CoreNo(0), Mode::Finish).is_ok()
-        && house.close_core(CoreNo(1), Mode::Finish).is_ok()
-        && house.finish(rt).is_ok()
+fn both_go_back<R: Wait>(rt: &R, house: &mut House<Napper>, mark: &Mark) -> bool {
+    let parked = submit(house, mark, Part::Naps, 0);
+    let spinning = submit(house, mark, Part::Spins, 0);
+    match (parked, spinning) {
+        (Some(parked), Some(spinning)) => {
+            goes_back(rt, house, parked) && goes_back(rt, house, spinning)
+        }
+        _ => false,
+    }
 }
 
 /// Whether each job is woken by a job of another core.
-fn jobs_wake<R: Wait>(rt: &R, house: &mut House<Napper>, mark: &Mark) -> Result<bool, AllocError> {
+fn jobs_wake<R: Wait>(rt: &R, house: &mut House<Napper>, mark: &Mark) -> bool {
     for round in 0..ROUNDS {
-        if !is_woken_by_a_job(rt, house, mark, round + 1)? {
-            return Ok(false);
+        if !is_woken_by_a_job(rt, house, mark, round + 1) {
+            return false;
         }
     }
-    Ok(true)
+    true
 }
 
 /// Whether each job is woken by the caller.
-fn the_caller_wakes<R: Wait>(
-    rt: &R,
-    house: &mut House<Napper>,
-    mark: &Mark,
-) -> Result<bool, AllocError> {
+fn the_caller_wakes<R: Wait>(rt: &R, house: &mut House<Napper>, mark: &Mark) -> bool {
     for _ in 0..ROUNDS {
-        if !is_woken_by_the_caller(rt, house, mark)? {
-            return Ok(false);
+        if !is_woken_by_the_caller(rt, house, mark) {
+            return false;
         }
     }
-    Ok(true)
+    true
 }
 
-#[test]
-fn a_job_of_another_core_wakes_a_parked_job(rt: HostRuntime) -> Result<(), Fail> {
-    let (asked, mark) = (new_mark(rt.alloc())?, new_mark(rt.alloc())?);
-    let config = plain(rt.alloc(), 2, 4, 20_000);
-    let Ok(mut house) = begin::<Napper, _>(rt, rt.alloc(), config, 2, &asked)? else {
-        assert!(rt; false, "no house");
-        return Ok(());
-    };
-    assert!(rt; jobs_wake(&rt, &mut house, &mark)?);
-    assert!(rt; ends(&rt, house));
-    // Two polls of each job, and one of the job that wakes it.
-    assert!(rt; asked.load(Ordering::SeqCst) == 3 * ROUNDS);
-    Ok(())
+/// How often the gates were asked where jobs woke all others. None if one wasn't woken.
+fn asked_where_jobs_wake<R>(rt: R, alloc: Global) -> Option<u64>
+where
+    R: Threads + Wait + Copy + Drop + Send + 'static,
+{
+    let (asked, mark) = (new_mark(alloc).ok()?, new_mark(alloc).ok()?);
+    let mut house = started(rt, alloc, 2, 4, 20_000, &asked)?;
+    if jobs_wake(&rt, &mut house, &mark) && ends(&rt, house, 2) {
+        Some(asked.load(Ordering::SeqCst))
+    } else {
+        None
+    }
 }
 
-#[test]
-fn the_caller_wakes_a_parked_job(rt: HostRuntime) -> Result<(), Fail> {
-    let (asked, mark) = (new_mark(rt.alloc())?, new_mark(rt.alloc())?);
-    let config = plain(rt.alloc(), 2, 4, 20_000);
-    let Ok(mut house) = begin::<Napper, _>(rt, rt.alloc(), config, 2, &asked)? else {
-        assert!(rt; false, "no house");
-        return Ok(());
-    };
-    assert!(rt; the_caller_wakes(&rt, &mut house, &mark)?);
-    assert!(rt; ends(&rt, house));
-    assert!(rt; asked.load(Ordering::SeqCst) == 2 * ROUNDS);
-    Ok(())
+/// How often they were asked where the caller woke all jobs. None if one wasn't woken.
+fn asked_where_the_caller_wakes<R>(rt: R, alloc: Global) -> Option<u64>
+where
+    R: Threads + Wait + Copy + Drop + Send + 'static,
+{
+    let (asked, mark) = (new_mark(alloc).ok()?, new_mark(alloc).ok()?);
+    let mut house = started(rt, alloc, 2, 4, 20_000, &asked)?;
+    if the_caller_wakes(&rt, &mut house, &mark) && ends(&rt, house, 2) {
+        Some(asked.load(Ordering::SeqCst))
+    } else {
+        None
+    }
 }
 
-#[test]
-fn a_short_journal_hands_back_a_parked_job(rt: HostRuntime) -> Result<(), Fail> {
-    let (asked, mark) = (new_mark(rt.alloc())?, new_mark(rt.alloc())?);
-    let config = plain(rt.alloc(), 1, 2, 96);
-    let Ok(mut house) = begin::<Napper, _>(rt, rt.alloc(), config, 1, &asked)? else {
-        assert!(rt; false, "no house");
-        return Ok(());
-    };
-    assert!(rt; both_go_back(&rt, &mut house, &mark)?);
+/// Whether the core of a short journal hands both jobs back, and has closed by itself then. None if there is no house.
+fn hands_both_back<R>(rt: R, alloc: Global) -> Option<bool>
+where
+    R: Threads + Wait + Copy + Drop + Send + 'static,
+{
+    let mark = new_mark(alloc).ok()?;
+    let mut house = started(rt, alloc, 1, 2, 96, &mark)?;
+    let back = both_go_back(&rt, &mut house, &mark);
     // The core has closed by itself, so that its gate refuses this.
-    assert!(rt; house.close_core(CoreNo(0), Mode::Finish).is_err());
-    assert!(rt; house.finish(&rt).is_ok());
-    Ok(())
+    let refused = house.close_core(CoreNo(0), Mode::Finish).is_err();
+    Some(back && refused && house.finish(&rt).is_ok())
+}
+
+#[test]
+fn a_job_of_another_core_wakes_a_parked_job(rt: HostRuntime) {
+    // Two polls of each job, and one of the job that wakes it.
+    assert!(rt; asked_where_jobs_wake(rt, rt.alloc()) == Some(3 * ROUNDS));
+}
+
+#[test]
+fn the_caller_wakes_a_parked_job(rt: HostRuntime) {
+    assert!(rt; asked_where_the_caller_wakes(rt, rt.alloc()) == Some(2 * ROUNDS));
+}
+
+#[test]
+fn a_short_journal_hands_back_a_parked_job(rt: HostRuntime) {
+    assert!(rt; hands_both_back(rt, rt.alloc()) == Some(true));
 }

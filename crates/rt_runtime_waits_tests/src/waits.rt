@@ -1,16 +1,14 @@
 //! A caller that waits, and is parked meanwhile.
 
-ghost use Rattle.std.specs.Prelude.{◌≡◌, false, IfOk};
+ghost use Rattle.std.specs.Prelude.{◌≡◌, false, IfSome};
 
-use rt_ids::{CoreNo, Mode, Order, Outcome, QueueNo, Ticket, TicketError};
+use rt_ids::{CoreNo, Order, Outcome, QueueNo, Ticket, TicketError};
 use rt_jobs::{Asks, Job, Post, Step, Task, poll_asking};
-use rt_runtime::SubmitError;
-use rt_runtime_test_house::{House, Mark, begin, new_mark, plain};
-use std::alloc::AllocError;
+use rt_runtime_test_house::{House, Mark, answers, ends, new_mark, started, submits};
+use std::alloc::Global;
 use std::snapshot::Snapshot;
 use std::sync::atomic::Ordering;
 use std::sync::{Arc, Wait};
-use std::test::Fail;
 use std::thread::Threads;
 
 /// How often the caller waits for one outcome.
@@ -70,12 +68,12 @@ impl Asks for Slow {
     }
 }
 
-/// A job that answers this number.
-fn new_slow(mark: &Mark, number: u64, looks: u32) -> Result<Slow, AllocError>
-    ensures { IfOk result (λ job. job.ended ≡ false) }
+/// A job that answers this number. None if its mark can't be shared once more.
+fn new_slow(mark: &Mark, number: u64, looks: u32) -> Option<Slow>
+    ensures { IfSome result (λ job. job.ended ≡ false) }
 {
-    let mark = Arc::try_clone(mark)?;
-    Ok(Slow {
+    let mark = Arc::try_clone(mark).ok()?;
+    Some(Slow {
         number,
         looks,
         mark,
@@ -83,183 +81,173 @@ fn new_slow(mark: &Mark, number: u64, looks: u32) -> Result<Slow, AllocError>
     })
 }
 
-/// Submits a job that answers this number.
+/// Submits a job that answers this number. Its ticket, if it is accepted.
 fn submit(
     house: &mut House<Slow>,
     core: CoreNo,
     mark: &Mark,
     number: u64,
     looks: u32,
-) -> Result<Result<Ticket, SubmitError<Slow>>, AllocError> {
+) -> Option<Ticket> {
     let job = new_slow(mark, number, looks)?;
-    Ok(house.submit(core, Order::Job(QueueNo(0), job)))
+    submits(house, core, job)
 }
 
-/// Submits one to core 0 as soon as there is a place.
-fn submit_wait<R: Wait>(
-    rt: &R,
-    house: &mut House<Slow>,
-    mark: &Mark,
-    number: u64,
-) -> Result<Result<Ticket, SubmitError<Slow>>, AllocError> {
-    let job = new_slow(mark, number, LOOKS)?;
-    Ok(house.submit_wait(rt, CoreNo(0), Order::Job(QueueNo(0), job)))
+/// Submits one to core 0 as soon as there is a place. Its ticket, if it is accepted.
+fn submit_wait<R: Wait>(rt: &R, house: &mut House<Slow>, mark: &Mark) -> Option<Ticket> {
+    let job = new_slow(mark, 5, LOOKS)?;
+    let order = Order::Job(QueueNo(0), job);
+    house.submit_wait(rt, CoreNo(0), order).ok()
 }
 
-/// Whether this submission is finished with this answer, and its ticket is gone then.
-fn finishes<R: Wait>(rt: &R, house: &mut House<Slow>, ticket: Ticket, answer: u64) -> bool {
-    let got = matches!(house.wait(rt, ticket), Ok(Outcome::Finished(number)) if number == answer);
-    got && matches!(house.wait(rt, ticket), Err(TicketError::Gone))
-}
-
-/// Whether the caller gets the outcome of a slow job.
-fn is_awaited<R: Wait>(
-    rt: &R,
-    house: &mut House<Slow>,
-    mark: &Mark,
-    number: u64,
-) -> Result<bool, AllocError> {
-    match submit(house, CoreNo(0), mark, number, LOOKS)? {
-        Ok(ticket) => Ok(finishes(rt, house, ticket, number)),
-        Err(_) => Ok(false),
-    }
-}
-
-/// Whether the caller gets both outcomes of two cores, each at its place.
-fn are_awaited<R: Wait>(
-    rt: &R,
-    house: &mut House<Slow>,
-    mark: &Mark,
-    looks: u32,
-) -> Result<bool, AllocError> {
-    let first = submit(house, CoreNo(0), mark, 1, looks)?;
-    let second = submit(house, CoreNo(1), mark, 2, looks)?;
-    let (Ok(first), Ok(second)) = (first, second) else {
-        return Ok(false);
+/// Whether core 0 refuses a job since the link is full.
+fn is_full(house: &mut House<Slow>, mark: &Mark, looks: u32) -> bool {
+    let Some(job) = new_slow(mark, 4, looks) else {
+        return false;
     };
-    let tickets = [first, second];
-    match house.wait_any(rt, &tickets) {
-        Some((0, Ok(Outcome::Finished(1)))) => Ok(finishes(rt, house, second, 2)),
-        Some((1, Ok(Outcome::Finished(2)))) => Ok(finishes(rt, house, first, 1)),
-        _ => Ok(false),
-    }
-}
-
-/// Whether an order that is let go fills the link of one place, and the next one waits until its outcome is there.
-fn is_placed<R: Wait>(
-    rt: &R,
-    house: &mut House<Slow>,
-    mark: &Mark,
-    looks: u32,
-) -> Result<bool, AllocError> {
-    let Ok(ticket) = submit(house, CoreNo(0), mark, 3, looks)? else {
-        return Ok(false);
-    };
-    if house.detach(ticket).is_err() || !is_full(submit(house, CoreNo(0), mark, 4, looks)?) {
-        return Ok(false);
-    }
-    match submit_wait(rt, house, mark, 5)? {
-        Ok(ticket) => Ok(finishes(rt, house, ticket, 5)),
-        Err(_) => Ok(false),
-    }
-}
-
-/// Whether a submission was refused since the link is full.
-fn is_full(answer: Result<Ticket, SubmitError<Slow>>) -> bool {
-    match answer {
+    match house.submit(CoreNo(0), Order::Job(QueueNo(0), job)) {
         Ok(_) => false,
         Err(error) => error.is_full(),
     }
 }
 
+/// Whether the ticket of this submission is gone.
+fn is_gone<R: Wait>(rt: &R, house: &mut House<Slow>, ticket: Ticket) -> bool {
+    matches!(house.wait(rt, ticket), Err(TicketError::Gone))
+}
+
+/// Whether this submission is finished with this answer, and its ticket is gone then.
+fn finishes<R: Wait>(rt: &R, house: &mut House<Slow>, ticket: Ticket, answer: u64) -> bool {
+    answers(rt, house, ticket, answer) && is_gone(rt, house, ticket)
+}
+
+/// Whether the caller gets the outcome of a slow job.
+fn is_awaited<R: Wait>(rt: &R, house: &mut House<Slow>, mark: &Mark, number: u64) -> bool {
+    match submit(house, CoreNo(0), mark, number, LOOKS) {
+        Some(ticket) => finishes(rt, house, ticket, number),
+        None => false,
+    }
+}
+
+/// The place of the outcome that is there first. None if it isn't that of the job which was to answer there.
+fn first_of<R: Wait>(rt: &R, house: &mut House<Slow>, tickets: &[Ticket]) -> Option<usize> {
+    match house.wait_any(rt, tickets) {
+        Some((0, Ok(Outcome::Finished(1)))) => Some(0),
+        Some((1, Ok(Outcome::Finished(2)))) => Some(1),
+        _ => None,
+    }
+}
+
+/// Whether the caller gets both outcomes, each at its place.
+fn both_finish<R: Wait>(rt: &R, house: &mut House<Slow>, first: Ticket, second: Ticket) -> bool {
+    match first_of(rt, house, &[first, second]) {
+        Some(0) => finishes(rt, house, second, 2),
+        Some(_) => finishes(rt, house, first, 1),
+        None => false,
+    }
+}
+
+/// Whether the caller gets both outcomes of two cores.
+fn are_awaited<R: Wait>(rt: &R, house: &mut House<Slow>, mark: &Mark, looks: u32) -> bool {
+    let first = submit(house, CoreNo(0), mark, 1, looks);
+    let second = submit(house, CoreNo(1), mark, 2, looks);
+    match (first, second) {
+        (Some(first), Some(second)) => both_finish(rt, house, first, second),
+        _ => false,
+    }
+}
+
+/// Whether a job gets its place, and is finished.
+fn gets_a_place<R: Wait>(rt: &R, house: &mut House<Slow>, mark: &Mark) -> bool {
+    match submit_wait(rt, house, mark) {
+        Some(ticket) => finishes(rt, house, ticket, 5),
+        None => false,
+    }
+}
+
+/// Whether an order that is let go fills the link of one place, and the next one waits until its outcome is there.
+fn is_placed<R: Wait>(rt: &R, house: &mut House<Slow>, mark: &Mark, looks: u32) -> bool {
+    match submit(house, CoreNo(0), mark, 3, looks) {
+        Some(ticket) => {
+            house.detach(ticket).is_ok()
+                && is_full(house, mark, looks)
+                && gets_a_place(rt, house, mark)
+        }
+        None => false,
+    }
+}
+
 /// Whether each outcome of so many wakes the caller.
-fn are_all_awaited<R: Wait>(
-    rt: &R,
-    house: &mut House<Slow>,
-    mark: &Mark,
-) -> Result<bool, AllocError> {
+fn are_all_awaited<R: Wait>(rt: &R, house: &mut House<Slow>, mark: &Mark) -> bool {
     for number in 0..WAKES {
-        if !is_awaited(rt, house, mark, number)? {
-            return Ok(false);
-        }
-    }
-    Ok(true)
-}
-
-/// Whether one of two cores wakes the caller, each time, and where there is nothing to wait for it doesn't wait.
-fn either_is_awaited<R: Wait>(
-    rt: &R,
-    house: &mut House<Slow>,
-    mark: &Mark,
-) -> Result<bool, AllocError> {
-    for round in 0..ROUNDS {
-        if !are_awaited(rt, house, mark, round * MORE)? {
-            return Ok(false);
-        }
-    }
-    Ok(house.wait_any(rt, &[]).is_none())
-}
-
-/// Whether each order gets its place.
-fn are_all_placed<R: Wait>(
-    rt: &R,
-    house: &mut House<Slow>,
-    mark: &Mark,
-) -> Result<bool, AllocError> {
-    for round in 0..ROUNDS {
-        if !is_placed(rt, house, mark, round * MORE)? {
-            return Ok(false);
-        }
-    }
-    Ok(true)
-}
-
-/// Whether the cores are closed, and all comes to its end.
-fn ends<R: Threads + Wait>(rt: &R, house: House<Slow>, cores: u8) -> bool {
-    let mut house = house;
-    for core in 0..cores {
-        if house.close_core(CoreNo(core), Mode::Finish).is_err() {
+        if !is_awaited(rt, house, mark, number) {
             return false;
         }
     }
-    house.finish(rt).is_ok()
+    true
+}
+
+/// Whether one of two cores wakes the caller, each time, and where there is nothing to wait for it doesn't wait.
+fn either_is_awaited<R: Wait>(rt: &R, house: &mut House<Slow>, mark: &Mark) -> bool {
+    for round in 0..ROUNDS {
+        if !are_awaited(rt, house, mark, round * MORE) {
+            return false;
+        }
+    }
+    house.wait_any(rt, &[]).is_none()
+}
+
+/// Whether each order gets its place.
+fn are_all_placed<R: Wait>(rt: &R, house: &mut House<Slow>, mark: &Mark) -> bool {
+    for round in 0..ROUNDS {
+        if !is_placed(rt, house, mark, round * MORE) {
+            return false;
+        }
+    }
+    true
+}
+
+/// Whether each outcome of one core wakes the caller. None if there is no house.
+fn each_wakes<R>(rt: R, alloc: Global) -> Option<bool>
+where
+    R: Threads + Wait + Copy + Drop + Send + 'static,
+{
+    let mark = new_mark(alloc).ok()?;
+    let mut house = started(rt, alloc, 1, 2, 100_000, &mark)?;
+    Some(are_all_awaited(&rt, &mut house, &mark) && ends(&rt, house, 1))
+}
+
+/// Whether either of two cores wakes the caller. None if there is no house.
+fn either_wakes<R>(rt: R, alloc: Global) -> Option<bool>
+where
+    R: Threads + Wait + Copy + Drop + Send + 'static,
+{
+    let mark = new_mark(alloc).ok()?;
+    let mut house = started(rt, alloc, 2, 2, 20_000, &mark)?;
+    Some(either_is_awaited(&rt, &mut house, &mark) && ends(&rt, house, 2))
+}
+
+/// Whether a place of a full link wakes the caller. None if there is no house.
+fn a_place_wakes<R>(rt: R, alloc: Global) -> Option<bool>
+where
+    R: Threads + Wait + Copy + Drop + Send + 'static,
+{
+    let mark = new_mark(alloc).ok()?;
+    let mut house = started(rt, alloc, 1, 1, 20_000, &mark)?;
+    Some(are_all_placed(&rt, &mut house, &mark) && ends(&rt, house, 1))
 }
 
 #[test]
-fn each_outcome_wakes_the_caller(rt: HostRuntime) -> Result<(), Fail> {
-    let (asked, mark) = (new_mark(rt.alloc())?, new_mark(rt.alloc())?);
-    let config = plain(rt.alloc(), 1, 2, 100_000);
-    let Ok(mut house) = begin::<Slow, _>(rt, rt.alloc(), config, 1, &asked)? else {
-        assert!(rt; false, "no house");
-        return Ok(());
-    };
-    assert!(rt; are_all_awaited(&rt, &mut house, &mark)?);
-    assert!(rt; ends(&rt, house, 1));
-    Ok(())
+fn each_outcome_wakes_the_caller(rt: HostRuntime) {
+    assert!(rt; each_wakes(rt, rt.alloc()) == Some(true));
 }
 
 #[test]
-fn either_core_wakes_the_caller(rt: HostRuntime) -> Result<(), Fail> {
-    let (asked, mark) = (new_mark(rt.alloc())?, new_mark(rt.alloc())?);
-    let config = plain(rt.alloc(), 2, 2, 20_000);
-    let Ok(mut house) = begin::<Slow, _>(rt, rt.alloc(), config, 2, &asked)? else {
-        assert!(rt; false, "no house");
-        return Ok(());
-    };
-    assert!(rt; either_is_awaited(&rt, &mut house, &mark)?);
-    assert!(rt; ends(&rt, house, 2));
-    Ok(())
+fn either_core_wakes_the_caller(rt: HostRuntime) {
+    assert!(rt; either_wakes(rt, rt.alloc()) == Some(true));
 }
 
 #[test]
-fn a_place_of_a_full_link_wakes_the_caller(rt: HostRuntime) -> Result<(), Fail> {
-    let (asked, mark) = (new_mark(rt.alloc())?, new_mark(rt.alloc())?);
-    let config = plain(rt.alloc(), 1, 1, 20_000);
-    let Ok(mut house) = begin::<Slow, _>(rt, rt.alloc(), config, 1, &asked)? else {
-        assert!(rt; false, "no house");
-        return Ok(());
-    };
-    assert!(rt; are_all_placed(&rt, &mut house, &mark)?);
-    assert!(rt; ends(&rt, house, 1));
-    Ok(())
+fn a_place_of_a_full_link_wakes_the_caller(rt: HostRuntime) {
+    assert!(rt; a_place_wakes(rt, rt.alloc()) == Some(true));
 }

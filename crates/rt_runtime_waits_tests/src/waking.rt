@@ -1,18 +1,20 @@
 //! Cores that have parked, of which one is woken by the caller and the other by a job of the first.
 
-ghost use Rattle.std.specs.Prelude.{◌≡◌, true};
+ghost use Rattle.std.specs.Prelude.{◌≡◌, true, false, IfSome};
+ghost use Rattle.rt_jobs.specs.Asking.{MakesSome};
 ghost use Rattle.rt_jobs.specs.declared.job.Step.TheVariants.{Done};
 
-use rt_ids::{CoreNo, Mode, Order, Outcome, QueueNo, Ticket};
+use rt_ids::{CoreNo, Order, Outcome, QueueNo, Ticket};
 use rt_jobs::{
     Asks, Job, Post, Redeemed, Step, Task, poll_asking, redeem_if_there, submit_and_keep,
 };
-use rt_runtime_test_house::{House, Mark, begin, collects, is_set_soon, new_mark, plain};
-use std::alloc::AllocError;
+use rt_runtime_test_house::{
+    House, Mark, collects, ends, is_set_soon, lets_pass, new_mark, started, submits,
+};
+use std::alloc::Global;
 use std::snapshot::Snapshot;
 use std::sync::atomic::Ordering;
 use std::sync::{Arc, Wait};
-use std::test::Fail;
 use std::thread::Threads;
 
 /// How often both cores park and are woken.
@@ -67,10 +69,42 @@ impl Job for Waker {
     }
 }
 
-/// Lets some time pass, so that a job that asks in vain is polled less often.
-fn lets_pass(mark: &Mark) {
-    for _ in 0..1024 {
-        let _seen = mark.load(Ordering::SeqCst);
+/// A new job. None if its mark can't be shared once more.
+fn new_waker(mark: &Mark, other: Option<CoreNo>) -> Option<Waker>
+    ensures { IfSome result (λ job. job.ended ≡ false) }
+{
+    let mark = Arc::try_clone(mark).ok()?;
+    Some(Waker {
+        mark,
+        other,
+        kept: None,
+        ended: false,
+    })
+}
+
+/// Submits this job to the other core. Its ticket, if it is accepted.
+fn has_set<P: Post<Waker, u64>>(
+    begun: &Snapshot<P>,
+    post: &mut P,
+    other: CoreNo,
+    setter: Waker,
+) -> Option<Ticket>
+    requires open { setter.ended ≡ false }
+    requires some { MakesSome P.Does begun.now.value post.old }
+    ensures some { MakesSome P.Does begun.now.value post.new }
+{
+    submit_and_keep(begun, post, other, Order::Job(QueueNo(0), setter)).ok()
+}
+
+/// The answer that came back: 0 if no answer will come. None if it isn't there yet.
+fn came_back<P: Post<Waker, u64>>(begun: &Snapshot<P>, post: &mut P, ticket: Ticket) -> Option<u64>
+    requires some { MakesSome P.Does begun.now.value post.old }
+    ensures some { MakesSome P.Does begun.now.value post.new }
+{
+    match redeem_if_there(begun, post, ticket) {
+        Redeemed::NotYet => None,
+        Redeemed::There(Outcome::Finished(answer)) => Some(answer),
+        _ => Some(0),
     }
 }
 
@@ -81,29 +115,23 @@ impl Asks for Waker {
             return self.end(1);
         };
         let Some(ticket) = self.kept else {
-            let Ok(mark) = Arc::try_clone(&self.mark) else {
+            let Some(setter) = new_waker(&self.mark, None) else {
                 return self.end(0);
             };
-            let setter = Waker {
-                mark,
-                other: None,
-                kept: None,
-                ended: false,
-            };
-            self.kept = submit_and_keep(begun, post, other, Order::Job(QueueNo(0), setter)).ok();
+            self.kept = has_set(begun, post, other, setter);
             return Step::Yield;
         };
         // The other core has parked. Unless this core rang its bell behind the first poll, the mark is never set.
         if !is_set_soon(&self.mark) {
             return self.end(0);
         }
-        match redeem_if_there(begun, post, ticket) {
-            Redeemed::NotYet => {
-                lets_pass(&self.mark);
+        match came_back(begun, post, ticket) {
+            Some(answer) => self.end(answer),
+            None => {
+                // A job that asks in vain is polled less often so.
+                lets_pass(&self.mark, 1024);
                 Step::Yield
             }
-            Redeemed::There(Outcome::Finished(answer)) => self.end(answer),
-            _ => self.end(0),
         }
     }
 }
@@ -118,48 +146,44 @@ fn lets_both_park(house: &mut House<Waker>) -> bool {
     true
 }
 
-/// Submits to core 0 a job that has core 1 set the mark. Whether it answers 1.
-fn wakes_both(house: &mut House<Waker>, mark: &Mark) -> Result<bool, AllocError> {
+/// Submits to core 0 a job that has core 1 set the mark. Its ticket, if it is accepted.
+fn submit(house: &mut House<Waker>, mark: &Mark) -> Option<Ticket> {
     mark.store(0, Ordering::SeqCst);
-    let job = Waker {
-        mark: Arc::try_clone(mark)?,
-        other: Some(CoreNo(1)),
-        kept: None,
-        ended: false,
-    };
-    let Ok(ticket) = house.submit(CoreNo(0), Order::Job(QueueNo(0), job)) else {
-        return Ok(false);
-    };
-    Ok(collects(house, CoreNo(0)) && matches!(house.redeem(ticket), Ok(Outcome::Finished(1))))
+    let job = new_waker(mark, Some(CoreNo(1)))?;
+    submits(house, CoreNo(0), job)
+}
+
+/// Whether such a job answers 1.
+fn wakes_both(house: &mut House<Waker>, mark: &Mark) -> bool {
+    match submit(house, mark) {
+        Some(ticket) => {
+            collects(house, CoreNo(0)) && matches!(house.redeem(ticket), Ok(Outcome::Finished(1)))
+        }
+        None => false,
+    }
 }
 
 /// Whether both cores are woken, each time that they have parked.
-fn wakes_each_time(house: &mut House<Waker>, mark: &Mark) -> Result<bool, AllocError> {
+fn wakes_each_time(house: &mut House<Waker>, mark: &Mark) -> bool {
     for _ in 0..ROUNDS {
-        if !lets_both_park(house) || !wakes_both(house, mark)? {
-            return Ok(false);
+        if !lets_both_park(house) || !wakes_both(house, mark) {
+            return false;
         }
     }
-    Ok(true)
+    true
 }
 
-/// Whether both cores are closed, and all comes to its end.
-fn ends<R: Threads + Wait>(rt: &R, house: House<Waker>) -> bool {
-    let mut house = house;
-    house.close_core(CoreNo(0), Mode::Finish).is_ok()
-        && house.close_core(CoreNo(1), Mode::Finish).is_ok()
-        && house.finish(rt).is_ok()
+/// Whether both cores wake, and end. None if there is no house.
+fn both_wake<R>(rt: R, alloc: Global) -> Option<bool>
+where
+    R: Threads + Wait + Copy + Drop + Send + 'static,
+{
+    let (asked, mark) = (new_mark(alloc).ok()?, new_mark(alloc).ok()?);
+    let mut house = started(rt, alloc, 2, 2, 20_000, &asked)?;
+    Some(wakes_each_time(&mut house, &mark) && ends(&rt, house, 2))
 }
 
 #[test]
-fn parked_cores_wake(rt: HostRuntime) -> Result<(), Fail> {
-    let (asked, mark) = (new_mark(rt.alloc())?, new_mark(rt.alloc())?);
-    let config = plain(rt.alloc(), 2, 2, 20_000);
-    let Ok(mut house) = begin::<Waker, _>(rt, rt.alloc(), config, 2, &asked)? else {
-        assert!(rt; false, "no house");
-        return Ok(());
-    };
-    assert!(rt; wakes_each_time(&mut house, &mark)?);
-    assert!(rt; ends(&rt, house));
-    Ok(())
+fn parked_cores_wake(rt: HostRuntime) {
+    assert!(rt; both_wake(rt, rt.alloc()) == Some(true));
 }

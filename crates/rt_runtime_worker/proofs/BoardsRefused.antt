@@ -1,7 +1,7 @@
--- Publications that are refused: left out, too early, stale, or on another board.
-use Rattle.std.proofs.Common.{◌≡◌, ◌⊎◌, inl, inr, ℕ, ◌≤◌, [], ◌∷◌, length, refl, ap, arith}
+-- Publications that are refused: left out, too early, once too often, stale, or on another board.
+use Rattle.std.proofs.Common.{◌≡◌, ◌⊎◌, Bool, true, false, inl, inr, ℕ, ◌≤◌, [], ◌∷◌, length, refl, ap, arith}
 use Rattle.rt_ids.specs.Journal.{Journal}
-use Rattle.rt_runtime_worker.specs.Serves.{ShowsAgain}
+use Rattle.rt_runtime_worker.specs.Serves.{ShowsAgain, ShowsEnd}
 use Rattle.rt_runtime_worker.specs.Shown.{CantShow, IsShownWhole, ShownView, Shows}
 use Rattle.rt_runtime_worker.proofs.SmallWorkers.{SmallWorker, board_of, linked_of, one_note, small_worker}
 
@@ -60,3 +60,22 @@ round_not_counted (inr none) = let same = ap (λ (worker : SmallWorker). worker.
 published_stale : ShowsAgain (counting 1024 (board_of [] 0)) (counting 0 (board_of [] 1)) → ⊥
 published_stale (inl did) = stale_numbers did.1.shows
 published_stale (inr none) = omega (arith, none.0)
+
+-- a worker with one note, at its end or not
+abbrev at_end : Bool → ShownView ℕ → SmallWorker
+at_end ending shown = record (small_worker (linked_of one_note [] 9) [] 4) { ending = ending; shown = shown }
+
+-- it came to its end, and nothing is published
+end_unpublished : ShowsEnd false (at_end true (board_of [] 0)) (at_end true (board_of [] 0)) → ⊥
+end_unpublished (inl (_, _, did)) = nothing_published did.shows
+end_unpublished (inr (late, _)) = late (refl, refl)
+
+-- it isn't at its end, and the numbers are published
+published_before_its_end : ShowsEnd false (at_end false (board_of [] 0)) (at_end false (board_of one_note 1)) → ⊥
+published_before_its_end (inl (_, ends, _)) = cc
+published_before_its_end (inr (_, is)) = let same = ap (λ (worker : SmallWorker). worker.shown.count) is in omega (arith, same)
+
+-- it was at its end before, and the numbers are published again
+published_twice : ShowsEnd true (at_end true (board_of [] 0)) (at_end true (board_of one_note 1)) → ⊥
+published_twice (inl (was, _, _)) = cc
+published_twice (inr (_, is)) = let same = ap (λ (worker : SmallWorker). worker.shown.count) is in omega (arith, same)

@@ -1,5 +1,5 @@
 -- What small workers leave at their end that is refused: a core that closed by itself, notes that are kept, a board that is behind.
-use Rattle.std.proofs.Common.{◌≡◌, ◌⊎◌, inl, inr, ℕ, ◌-◌, [], ◌∷◌, length, sym, ◌∙◌, ap, arith}
+use Rattle.std.proofs.Common.{◌≡◌, ◌⊎◌, inl, inr, ℕ, [], ◌∷◌, length, sym, ◌∙◌, ap, arith}
 use Rattle.rt_ids.specs.declared.names.JobId.{JobId}
 use Rattle.rt_ids.specs.declared.note.Note.TheVariants.{CoreClosed, Pick, Start, Took, Yield}
 use Rattle.rt_ids.specs.declared.order.Mode.TheVariants.{Return}

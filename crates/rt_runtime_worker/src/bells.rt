@@ -5,6 +5,7 @@ ghost use Rattle.std.specs.Option.{option_map};
 ghost use Rattle.rt_runtime_worker.specs.Bells.{AreApart, bell_at, rung_at, rung_for, told_by};
 
 use crate::bell::Bell;
+use rt_fixed::SealedVec;
 use rt_ids::{ActorNo, CoreNo, Note};
 use std::alloc::{AllocError, Global};
 use std::marker::Model;
@@ -14,6 +15,7 @@ use std::marker::Model;
 const APART: usize = 8;
 
 /// Who has something from this note: the receiver of an order that was sent, or the sender of a job or command that has its outcome.
+#[inline(always)]
 fn told(note: &Note<u64>) -> Option<u8>
     ensures { result ≡ told_by note.now }
 {
@@ -31,7 +33,7 @@ fn told(note: &Note<u64>) -> Option<u8>
 /// often each was rung by these hands.
 #[derive(Drop)]
 pub struct Bells {
-    bells: Vec<Bell>,
+    bells: SealedVec<Bell, Global>,
 }
 
 impl Model for Bells {
@@ -54,7 +56,8 @@ impl Bells {
         ensures rings { IfOk result (λ bells. bells.rings ≡ replicate (cores + 1) 0) }
         ensures apart { IfOk result (λ bells. AreApart bells.names) }
     {
-        let mut bells = Vec::with_capacity(alloc, cores as usize + 1 + APART)?;
+        let room = Vec::with_capacity(alloc, cores as usize + 1 + APART)?;
+        let mut bells = SealedVec::sealed(room);
         for actor in 0..cores as usize + 1 {
             let bell = Bell::open(alloc, ActorNo(actor as u8))?;
             bells.push_reserved(bell);
@@ -71,7 +74,8 @@ impl Bells {
         ensures names { IfOk result (λ bells. bells.names ≡ self.now.names) }
         ensures rings { IfOk result (λ bells. bells.rings ≡ replicate (length self.now.rings) 0) }
     {
-        let mut bells = Vec::with_capacity(alloc, self.bells.len() + APART)?;
+        let room = Vec::with_capacity(alloc, self.bells.len().saturating_add(APART))?;
+        let mut bells = SealedVec::sealed(room);
         for place in 0..self.bells.len() {
             let bell = self.bells[place].again()?;
             bells.push_reserved(bell);
@@ -109,6 +113,7 @@ impl Bells {
     }
 
     /// Rings the bell of each actor that has something from these notes.
+    #[inline(always)]
     pub(crate) fn ring_for(&mut self, notes: &[Note<u64>])
         ensures { self.new ≡ record self.old { rings = rung_for notes.now self.old.rings } }
     {

@@ -18,7 +18,6 @@ use rt_journal::Recorded;
 use rt_ring_mesh::Ends;
 use rt_runtime_config::Gate;
 use rt_taskqueue::Meter;
-use std::alloc::Global;
 
 // The number of the core that has these ends.
 fn number_of<J: Task<Out = u64>>(ends: &Ends<J>) -> u8
@@ -29,7 +28,6 @@ fn number_of<J: Task<Out = u64>>(ends: &Ends<J>) -> u8
 
 // Asks the gate for the first poll of a turn, and makes it.
 fn poll_first<J: Job + Task<Out = u64>, M: Meter, G: Gate>(
-    alloc: Global,
     recorded: &mut Recorded<J>,
     ends: &mut Ends<J>,
     local: &mut J::Local,
@@ -46,12 +44,11 @@ fn poll_first<J: Job + Task<Out = u64>, M: Meter, G: Gate>(
 {
     let core = number_of(ends);
     let leave = ask(gate, core, &next.name);
-    turn_on(alloc, recorded, ends, local, next, leave, meter);
+    turn_on(recorded, ends, local, next, leave, meter);
 }
 
 // Asks the gate for a further poll of the open turn, and makes it.
 fn poll_further<J: Job + Task<Out = u64>, M: Meter, G: Gate>(
-    alloc: Global,
     recorded: &mut Recorded<J>,
     ends: &mut Ends<J>,
     local: &mut J::Local,
@@ -68,12 +65,11 @@ fn poll_further<J: Job + Task<Out = u64>, M: Meter, G: Gate>(
 {
     let core = number_of(ends);
     let leave = ask(gate, core, &next.name);
-    further_on(alloc, recorded, ends, local, next, leave, meter);
+    further_on(recorded, ends, local, next, leave, meter);
 }
 
 // Makes further polls of the open turn, as long as it may go on.
 fn poll_on<J: Job + Task<Out = u64>, M: Meter, G: Gate>(
-    alloc: Global,
     recorded: &mut Recorded<J>,
     ends: &mut Ends<J>,
     local: &mut J::Local,
@@ -91,7 +87,7 @@ fn poll_on<J: Job + Task<Out = u64>, M: Meter, G: Gate>(
     ensures stays { StaysLinked (record { recorded = recorded.old; ends = ends.old }) (record { recorded = recorded.new; ends = ends.new }) }
 {
     while let Some(next) = recorded.ahead_in_turn() {
-        poll_further(alloc, recorded, ends, local, &next, meter, gate);
+        poll_further(recorded, ends, local, &next, meter, gate);
     }
 }
 
@@ -113,7 +109,6 @@ fn end_on<J: Task<Out = u64>>(recorded: &mut Recorded<J>, ends: &Ends<J>)
 /// Makes the turn of the job that was told ahead of its pick: its poll, and if a turn may have several polls, further ones and its end.
 /// Each outcome is given before the next poll.
 pub(crate) fn poll_through<J: Job + Task<Out = u64>, M: Meter, G: Gate>(
-    alloc: Global,
     recorded: &mut Recorded<J>,
     ends: &mut Ends<J>,
     local: &mut J::Local,
@@ -130,10 +125,10 @@ pub(crate) fn poll_through<J: Job + Task<Out = u64>, M: Meter, G: Gate>(
     ensures between { IsBetweenTurns recorded.new }
     ensures stays { StaysLinked (record { recorded = recorded.old; ends = ends.old }) (record { recorded = recorded.new; ends = ends.new }) }
 {
-    poll_first(alloc, recorded, ends, local, next, meter, gate);
+    poll_first(recorded, ends, local, next, meter, gate);
     if !recorded.has_open_turn() {
         return;
     }
-    poll_on(alloc, recorded, ends, local, meter, gate);
+    poll_on(recorded, ends, local, meter, gate);
     end_on(recorded, ends);
 }

@@ -100,7 +100,8 @@ impl<J: Task<Out = u64>> Linked<J> {
 
     /// Whether a link shows an order or an outcome that wasn't seen yet: one load for each link. No clause says that the answer is right.
     pub(crate) fn shows(&self) -> bool {
-        self.ends.ins.iter().any(|end| end.shows()) || self.ends.outs.iter().any(|end| end.shows())
+        self.ends.ins.as_slice().iter().any(|end| end.shows())
+            || self.ends.outs.as_slice().iter().any(|end| end.shows())
     }
 
     /// Whether a turn would poll a job or hand one back. Nothing changes.

@@ -149,7 +149,7 @@ impl<J: Task<Out = u64>, C: Drop, G: Drop, S: Sink> Worker<J, C, G, S> {
             places: PLACES,
         };
         let (publisher, watcher) = rt_watch::open(alloc, terms)?;
-        let worker = Worker::of(alloc, served, clock, gate, own, all, sink, local, publisher);
+        let worker = Worker::of(served, clock, gate, own, all, sink, local, publisher);
         Ok((worker, watcher))
     }
 }

@@ -22,11 +22,9 @@ use rt_jobs::{Job, Task};
 use rt_journal::Recorded;
 use rt_ring_mesh::Ends;
 use rt_taskqueue::Meter;
-use std::alloc::Global;
 
 // Makes the first poll of a turn, for which the gate was asked. What it owes to the job's sender isn't given yet.
 fn post_turn<J: Job + Task<Out = u64>, M: Meter>(
-    alloc: Global,
     recorded: &mut Recorded<J>,
     ends: &mut Ends<J>,
     local: &mut J::Local,
@@ -51,12 +49,11 @@ fn post_turn<J: Job + Task<Out = u64>, M: Meter>(
     ensures sound { IsRecorded J.meaning recorded.new }
 {
     let _leave = leave;
-    recorded.turn_posting(alloc, &mut ends.outs, local, next, meter)
+    recorded.turn_posting(&mut ends.outs, local, next, meter)
 }
 
 // Makes a further poll of the open turn, for which the gate was asked. What it owes to the job's sender isn't given yet.
 fn post_further<J: Job + Task<Out = u64>, M: Meter>(
-    alloc: Global,
     recorded: &mut Recorded<J>,
     ends: &mut Ends<J>,
     local: &mut J::Local,
@@ -81,7 +78,7 @@ fn post_further<J: Job + Task<Out = u64>, M: Meter>(
     ensures sound { IsRecorded J.meaning recorded.new }
 {
     let _leave = leave;
-    recorded.further_posting(alloc, &mut ends.outs, local, next, meter)
+    recorded.further_posting(&mut ends.outs, local, next, meter)
 }
 
 // Gives the outcome of a poll on the end of the job's sender, if the job is done.
@@ -107,7 +104,6 @@ fn done_on<J: Job + Task<Out = u64>>(
 
 /// Makes the first poll of the turn of the job that was told ahead, for which the gate was asked, and gives its outcome.
 pub(crate) fn turn_on<J: Job + Task<Out = u64>, M: Meter>(
-    alloc: Global,
     recorded: &mut Recorded<J>,
     ends: &mut Ends<J>,
     local: &mut J::Local,
@@ -126,13 +122,12 @@ pub(crate) fn turn_on<J: Job + Task<Out = u64>, M: Meter>(
     ensures linked { IsLinked J.meaning (record { recorded = recorded.new; ends = ends.new }) }
     ensures stays { StaysLinked (record { recorded = recorded.old; ends = ends.old }) (record { recorded = recorded.new; ends = ends.new }) }
 {
-    let settled = post_turn(alloc, recorded, ends, local, next, leave, meter);
+    let settled = post_turn(recorded, ends, local, next, leave, meter);
     done_on(recorded, ends, next.name, &settled);
 }
 
 /// Makes a further poll of the open turn, of the job that was told ahead, for which the gate was asked, and gives its outcome.
 pub(crate) fn further_on<J: Job + Task<Out = u64>, M: Meter>(
-    alloc: Global,
     recorded: &mut Recorded<J>,
     ends: &mut Ends<J>,
     local: &mut J::Local,
@@ -151,6 +146,6 @@ pub(crate) fn further_on<J: Job + Task<Out = u64>, M: Meter>(
     ensures linked { IsLinked J.meaning (record { recorded = recorded.new; ends = ends.new }) }
     ensures stays { StaysLinked (record { recorded = recorded.old; ends = ends.old }) (record { recorded = recorded.new; ends = ends.new }) }
 {
-    let settled = post_further(alloc, recorded, ends, local, next, leave, meter);
+    let settled = post_further(recorded, ends, local, next, leave, meter);
     done_on(recorded, ends, next.name, &settled);
 }

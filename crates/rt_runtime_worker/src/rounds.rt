@@ -23,7 +23,6 @@ use rt_jobs::{Job, Task};
 use rt_journal::Recorded;
 use rt_journal_notes::{RunningJournal, Sink};
 use rt_runtime_config::{Clock, Gate};
-use std::alloc::Global;
 
 /// How many turns a worker makes at most before it looks at its links again, if they had nothing.
 const MOST_TURNS: u32 = 16;
@@ -46,6 +45,7 @@ fn is_quiet(worked: bool, came: bool) -> bool
 }
 
 /// Wakes the workers that have something from the notes behind the first `count` that are kept.
+#[inline(always)]
 fn ring_since(bells: &mut Bells, journal: &RunningJournal<u64>, count: usize)
     requires { length journal.now.passed + count ≤ length journal.now.notes }
     ensures { bells.new ≡ record bells.old { rings = rung_for (drop (length journal.now.passed + count) (reverse journal.now.notes)) bells.old.rings } }
@@ -56,7 +56,6 @@ fn ring_since(bells: &mut Bells, journal: &RunningJournal<u64>, count: usize)
 /// A core beside its journal, over its actor's ends of the links, with a clock and a gate of its own, and the bells of all cores.
 #[derive(Drop)]
 pub(crate) struct Rounds<J: Task<Out = u64>, C: Drop, G: Drop> {
-    alloc: Global,
     served: Served<J>,
     watch: Stopwatch<C>,
     gate: G,
@@ -69,7 +68,7 @@ pub(crate) struct Rounds<J: Task<Out = u64>, C: Drop, G: Drop> {
 
 impl<J: Task<Out = u64>, C: Drop, G: Drop> Rounds<J, C, G> {
     /// Before the first round.
-    pub(crate) fn of(alloc: Global, served: Served<J>, clock: C, gate: G, bells: Bells) -> Self
+    pub(crate) fn of(served: Served<J>, clock: C, gate: G, bells: Bells) -> Self
         ensures served { result.served ≡ served }
         ensures clock { result.watch.clock ≡ clock }
         ensures gate { result.gate ≡ gate }
@@ -78,7 +77,6 @@ impl<J: Task<Out = u64>, C: Drop, G: Drop> Rounds<J, C, G> {
         ensures taken { result.watch.taken ≡ 0 }
     {
         Rounds {
-            alloc,
             served,
             watch: Stopwatch::new(clock),
             gate,
@@ -267,7 +265,7 @@ impl<J: Job + Task<Out = u64>, C: Clock + Drop, G: Gate + Drop> Rounds<J, C, G> 
         let before = self.served.journal().kept_count();
         let turned = self
             .served
-            .take_turn(self.alloc, local, &mut self.watch, &mut self.gate);
+            .take_turn(local, &mut self.watch, &mut self.gate);
         ring_since(&mut self.bells, self.served.journal(), before);
         turned
     }

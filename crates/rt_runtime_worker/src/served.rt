@@ -23,7 +23,6 @@ use rt_journal::Recorded;
 use rt_journal_notes::{RunningJournal, Sink};
 use rt_runtime_config::Gate;
 use rt_taskqueue::Meter;
-use std::alloc::Global;
 use std::marker::Model;
 
 /// Whether there was work for a turn.
@@ -282,7 +281,6 @@ impl<J: Job + Task<Out = u64>> Served<J> {
     /// Makes one turn. Whether there was work.
     pub(crate) fn take_turn<M: Meter, G: Gate>(
         &mut self,
-        alloc: Global,
         local: &mut J::Local,
         meter: &mut M,
         gate: &mut G,
@@ -293,6 +291,6 @@ impl<J: Job + Task<Out = u64>> Served<J> {
         ensures asks { AsksSince G.Asked self.old.linked.recorded.core.core self.old.linked.recorded.journal.notes self.new.linked.recorded.journal.notes gate.old gate.new }
     {
         self.look();
-        is_work(self.linked.turn(alloc, local, meter, gate))
+        is_work(self.linked.turn(local, meter, gate))
     }
 }

@@ -12,7 +12,6 @@ use rt_core::{Ahead, PickError};
 use rt_jobs::{Job, Task};
 use rt_runtime_config::Gate;
 use rt_taskqueue::Meter;
-use std::alloc::Global;
 
 /// What a turn came to.
 #[derive(Clone, Copy)]
@@ -32,11 +31,9 @@ impl<J: Job + Task<Out = u64>> Linked<J> {
     /// have several polls, jobs of the same queue are polled as long as the turn may go on, and a note of its own ends the turn.
     ///
     /// A job that is polled may submit, redeem and detach as this core, and is lent what the jobs of the core share. The gate is asked just
-    /// before each poll, and the meter is told that the poll begins, and asked how long it took. `alloc` gives no memory: what is lent leaves
-    /// an empty list of it behind.
+    /// before each poll, and the meter is told that the poll begins, and asked how long it took.
     pub fn turn<M: Meter, G: Gate>(
         &mut self,
-        alloc: Global,
         local: &mut J::Local,
         meter: &mut M,
         gate: &mut G,
@@ -50,7 +47,6 @@ impl<J: Job + Task<Out = u64>> Linked<J> {
         match self.recorded.ahead() {
             Ok(Ahead::Job(next)) => {
                 poll_through(
-                    alloc,
                     &mut self.recorded,
                     &mut self.ends,
                     local,

@@ -22,7 +22,6 @@ use rt_journal_notes::{Sink, Whole};
 use rt_runtime_config::{Clock, Gate};
 use rt_runtime_team::{Promised, Work};
 use rt_watch::Publisher;
-use std::alloc::Global;
 use std::marker::Model;
 use std::sync::Wait;
 
@@ -85,7 +84,6 @@ impl<J: Task<Out = u64>, C: Drop, G: Drop, S: Sink> Model for Worker<J, C, G, S>
 impl<J: Task<Out = u64>, C: Drop, G: Drop, S: Sink> Worker<J, C, G, S> {
     /// A worker that has not begun. It parks on its own bell, rings those of all cores, and passes on its notes to this sink.
     pub(crate) fn of(
-        alloc: Global,
         served: Served<J>,
         clock: C,
         gate: G,
@@ -112,7 +110,7 @@ impl<J: Task<Out = u64>, C: Drop, G: Drop, S: Sink> Worker<J, C, G, S> {
     {
         Worker {
             own,
-            rounds: Rounds::of(alloc, served, clock, gate, bells),
+            rounds: Rounds::of(served, clock, gate, bells),
             sink,
             tries: TRIES,
             idle: 0,

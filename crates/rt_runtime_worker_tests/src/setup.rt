@@ -165,10 +165,10 @@ pub(crate) fn ends<J: Task<Out = u64>>(alloc: Global) -> Result<(Ends<J>, Ends<J
 pub(crate) fn send<J: Task<Out = u64>>(outside: &mut Ends<J>, order: Order<J>) -> bool
     requires { HasReadyJob J.meaning order }
 {
-    match outside.outs.get_mut(0) {
-        Some(end) => end.send(order).is_ok(),
-        None => false,
+    if outside.outs.len() == 0 {
+        return false;
     }
+    outside.outs[0].send(order).is_ok()
 }
 
 /// A worker over these ends, which parks after each round in which nothing was done, and the watcher of its numbers. A turn may have so many polls. Its jobs

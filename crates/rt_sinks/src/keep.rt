@@ -18,6 +18,7 @@ use std::marker::Model;
 /// A contract sees the notes that it took, the newest first, its room, and how often it refused.
 #[derive(Drop)]
 pub struct Keep {
+    alloc: Global,
     journal: Journal<u64>,
     refusals: u64,
 }
@@ -41,6 +42,7 @@ impl Keep {
         ensures { result ≡ record { has = []; room = 0; refusals = 0 } }
     {
         Keep {
+            alloc,
             journal: Journal::of(Vec::new(alloc)),
             refusals: 0,
         }
@@ -57,6 +59,7 @@ impl Keep {
     {
         let journal = Journal::try_with_room(alloc, room)?;
         Ok(Keep {
+            alloc,
             journal,
             refusals: 0,
         })
@@ -92,7 +95,7 @@ impl Keep {
 /// # Errors
 ///
 /// `Refused` for want of memory, and where there would be more than 2^24 notes. The journal is as it was.
-fn make_room(journal: &mut Journal<u64>, count: usize) -> Result<(), Refused>
+fn make_room(alloc: Global, journal: &mut Journal<u64>, count: usize) -> Result<(), Refused>
     requires { journal.old.room ≤ most_notes }
     ensures ok { OnOk result (MakesRoom count journal.old journal.new) }
     ensures err { OnErr result (journal.new ≡ journal.old) }
@@ -104,7 +107,7 @@ fn make_room(journal: &mut Journal<u64>, count: usize) -> Result<(), Refused>
     if count > MOST_NOTES - journal.len() {
         return Err(Refused);
     }
-    match journal.try_reserve(count as u32) {
+    match journal.try_reserve(alloc, count as u32) {
         Ok(()) => Ok(()),
         Err(_) => Err(Refused),
     }
@@ -126,7 +129,7 @@ impl Sink for Keep {
         ensures uncounted { OnOk result (self.new.refusals ≡ self.old.refusals) }
         ensures most { OnOk result (length self.new.has ≤ most_notes) }
     {
-        if make_room(&mut self.journal, notes.len()).is_err() {
+        if make_room(self.alloc, &mut self.journal, notes.len()).is_err() {
             self.refusals = self.refusals.saturating_add(1);
             return Err(Refused);
         }

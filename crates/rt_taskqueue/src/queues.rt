@@ -118,6 +118,7 @@ impl<J: Drop, A: Allocator + Clone> Queues<J, A> {
     }
 
     /// A job that was never started joins the tail of an open queue.
+    #[inline(always)]
     pub fn admit(&mut self, queue: QueueNo, name: JobId, job: J)
         requires exists { queue < queue_count self.old }
         requires is_open { mode_of queue self.old ≡ None }
@@ -130,6 +131,7 @@ impl<J: Drop, A: Allocator + Clone> Queues<J, A> {
     }
 
     /// Takes the job at the head, with its name, whether it was started, and whether a wake of it is kept.
+    #[inline(always)]
     pub fn pop_front(&mut self, queue: QueueNo) -> Option<(JobId, bool, bool, J)>
         requires exists { queue < queue_count self.old }
         ensures empty { IfNone result (waiting_of queue self.old ≡ []) }
@@ -257,6 +259,7 @@ impl<J: Drop, A: Allocator + Clone> Queues<J, A> {
 
 impl<J: Drop, A: Allocator + Clone> Queues<J, A> {
     /// A job joins the tail.
+    #[inline(always)]
     fn join(&mut self, queue: QueueNo, name: JobId, started: bool, woken: bool, job: J)
         requires exists { queue < queue_count self.old }
         requires room { held_count self.old < self.old.room }

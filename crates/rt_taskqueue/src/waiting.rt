@@ -28,6 +28,7 @@ pub struct Waiting<J> {
 }
 
 /// Tells the entry at the tail of a line the key of the one that comes behind it.
+#[inline(always)]
 pub fn link<J, A: Allocator>(jobs: &mut SealedSlab<Waiting<J>, A>, tail: usize, next: usize)
     requires { ContainsKey jobs.old tail }
     ensures { Relinks jobs.old tail next jobs.new }
@@ -36,6 +37,7 @@ pub fn link<J, A: Allocator>(jobs: &mut SealedSlab<Waiting<J>, A>, tail: usize, 
 }
 
 /// A job comes behind the tail of a line. The answer: the line with it.
+#[inline(always)]
 pub fn append<J, A: Allocator>(
     jobs: &mut SealedSlab<Waiting<J>, A>,
     line: Line,
@@ -59,6 +61,7 @@ pub fn append<J, A: Allocator>(
 }
 
 /// Marks the entry at the head of a line as started, and whether a wake of it is kept. The answer: the key of the next one.
+#[inline(always)]
 pub fn start<J, A: Allocator>(
     jobs: &mut SealedSlab<Waiting<J>, A>,
     head: usize,
@@ -75,6 +78,7 @@ pub fn start<J, A: Allocator>(
 
 /// The head of a line goes behind its tail, as started, with this wake. The answer: the line with it there. Only keys and marks are
 /// written.
+#[inline(always)]
 pub fn requeue<J, A: Allocator>(
     jobs: &mut SealedSlab<Waiting<J>, A>,
     line: Line,
@@ -124,6 +128,7 @@ pub fn move_head<J, A: Allocator>(
 
 /// Polls the job of an entry where it stands. The answer: what the poll came to, the time that the job told, and the time that the
 /// meter told.
+#[inline(always)]
 pub fn poll_at<J: Job, A: Allocator, P: Post<J, J::Out>, M: Meter>(
     jobs: &mut SealedSlab<Waiting<J>, A>,
     key: usize,

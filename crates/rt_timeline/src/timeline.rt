@@ -53,6 +53,7 @@ impl<A: Allocator> Timeline<A> {
     }
 
     /// The least key.
+    #[inline(always)]
     pub fn least(&self) -> Option<Key>
         ensures { result ≡ first_key self.now.keys }
     {

@@ -11,3 +11,4 @@ pub mod Turns
 pub mod Runs
 pub mod Inside
 pub mod Opening
+pub mod Lending

@@ -1,6 +1,7 @@
 //! What the model of an executor is made of: events and replies, a journal for each actor, a link between any two.
 #![tactic(auto)]
 
+mod closed;
 pub mod event;
 pub mod model;
 

@@ -6,6 +6,7 @@ ghost use Rattle.rt_ids.specs.Sound.{IsSound};
 ghost use Rattle.rt_journal.specs.Recorded.{IsRecorded};
 ghost use Rattle.rt_world.specs.State.{journal_at, assembly_of};
 
+use crate::closed::Closed;
 use rt_ids::{ActorNo, CoreNo};
 use rt_jobs::Task;
 use rt_journal::{Recorded, RecordedDesk};
@@ -34,11 +35,11 @@ pub struct World<J: Task<Out = u64>, A: Allocator + Clone = Global> {
     burst: u8,
     room: u32,
     /// The cores by number, each beside its journal.
-    inside: Vec<Recorded<J, A>>,
+    inside: Closed<Recorded<J, A>>,
     outside: RecordedDesk<J>,
     links: Links<J>,
     /// Without a journal. It has the memory for those that a run ends with.
-    gathered: Vec<Journal<u64>>,
+    gathered: Closed<Journal<u64>>,
 }
 
 impl<J: Task<Out = u64>, A: Allocator + Clone> Model for World<J, A> {
@@ -47,7 +48,7 @@ impl<J: Task<Out = u64>, A: Allocator + Clone> Model for World<J, A> {
 
     ghost Value = { WorldView J ℕ };
 
-    ghost use Rattle.std.specs.Prelude.{◌+◌, vec_capacity};
+    ghost use Rattle.std.specs.Prelude.{◌+◌};
     ghost use Rattle.rt_world.specs.Inside.{world_of, IsWorld, IsAtRest, HasRoomFor};
     ghost use Rattle.rt_world.specs.Opening.{IsConfig};
 
@@ -57,7 +58,7 @@ impl<J: Task<Out = u64>, A: Allocator + Clone> Model for World<J, A> {
         IsConfig w.cores w.cap w.burst w.room
         × IsWorld J.meaning
         (record { cores = w.cores; cap = w.cap; burst = w.burst; room = w.room; inside = w.inside.items; outside = w.outside; links = w.links })
-        × HasRoomFor (w.cores + 1) w.gathered.items (vec_capacity w.gathered)
+        × HasRoomFor (w.cores + 1) w.gathered.items w.gathered.cap
         × IsAtRest (record { cores = w.cores; cap = w.cap; burst = w.burst; room = w.room; inside = w.inside.items; outside = w.outside; links = w.links }) };
 }
 
@@ -91,8 +92,9 @@ impl<J: Task<Out = u64>, A: Allocator + Clone> World<J, A> {
         ensures sound { IsSound result }
         ensures joined { AreJoined result }
     {
-        let mut gathered = self.gathered;
-        for core in self.inside {
+        let mut gathered = self.gathered.opened();
+        let inside = self.inside.opened();
+        for core in inside {
             gathered.push_reserved(core.into_journal().into_kept());
         }
         gathered.push_reserved(self.outside.into_journal().into_kept());

@@ -1,4 +1,5 @@
 -- Rows of links, of which one link changes.
+use Rattle.rt_fixed.specs.Views.{SealedView}
 use Rattle.rt_world_links.proofs.Words.{◌≡◌, ◌≢◌, ℕ, ◌<◌, List, [], length, get_or, set, map, refl, sym, ap, ◌∙◌, arith, length-map, length-set, map-set}
 use Rattle.rt_world_links.proofs.Words.{get_or-set_same, get_or-set_other, set-get_or, Order, Whole, no_link, row_of, link_at, ChangesLink}
 use Rattle.std.proofs.lemmas.List.{get_or-map}
@@ -64,10 +65,14 @@ module _ {J T : Type 0} (links : List (List (Whole J T))) (s d : ℕ) (link : Wh
       ∙ set-get_or (sent_lists links) s []
       )
 
--- the rows that a value holds, and one that a call borrows
-module _ {J T V : Type 0} (items : V → List (Whole J T)) (rows : List V) (links : List (List (Whole J T))) (are : map items rows ≡ links) (s : ℕ) (in_rows : s < length links) where
-  pub row_there : s < length rows
-  row_there = omega (arith, ap length are, length-map rows items, in_rows)
+-- the links of a row
+abbrev pub row_links : {A : Type 0} → SealedView A → List A
+row_links row = row.items
 
-  pub row_lent : (row : V) → row ≡ get_or rows s row → items row ≡ row_of s links
-  row_lent row row_is = ap items row_is ∙ (sym (get_or-map items rows s row [] row_there) ∙ ap (row_of s) are)
+-- the rows that are held, and one that a call borrows
+module _ {J T : Type 0} (rows : List (SealedView (Whole J T))) (links : List (List (Whole J T))) (are : map row_links rows ≡ links) (s : ℕ) (in_rows : s < length links) where
+  pub row_there : s < length rows
+  row_there = omega (arith, ap length are, length-map rows (row_links {A = Whole J T}), in_rows)
+
+  pub row_lent : (row : SealedView (Whole J T)) → row ≡ get_or rows s row → row.items ≡ row_of s links
+  row_lent row row_is = ap row_links row_is ∙ (sym (get_or-map row_links rows s row [] row_there) ∙ ap (row_of s) are)

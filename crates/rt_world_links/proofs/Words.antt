@@ -28,10 +28,10 @@ pub use Rattle.rt_link.specs.declared.plain.Whole.{Whole}
 pub use Rattle.rt_world_links.specs.Links.{ChangesLink, GivesOnOne, IsFreshRow, link_at, no_link, row_of}
 pub use Rattle.rt_world_links.specs.OneTurn.{IsBesideAll, IsKeptBeside, none_owed, owed_settled}
 pub use Rattle.std.proofs.Common.{Bool, List, [], ap, arith, cond, false, get_or, get_or-set_other, get_or-set_same, inl, inr, length, refl, set, subst, sym}
-pub use Rattle.std.proofs.Common.{true, vec_capacity, vec_items, ℕ, ⊎_elim, ◌++◌, ◌+◌, ◌-◌, ◌<◌, ◌∙◌, ◌∷◌, ◌≡◌, ◌≢◌, ◌≤◌, ◌⊎◌}
+pub use Rattle.std.proofs.Common.{true, vec_capacity, ℕ, ⊎_elim, ◌++◌, ◌+◌, ◌-◌, ◌<◌, ◌∙◌, ◌∷◌, ◌≡◌, ◌≢◌, ◌≤◌, ◌⊎◌}
 pub use Rattle.std.proofs.lemmas.Bool.{cases_eq, cases_lt, eq-eqb, true≢false}
 pub use Rattle.std.proofs.lemmas.List.{append-nil, get_or_append_left, get_or_default, get_or_past, get_or_push, length-map, length-set, length_push}
 pub use Rattle.std.proofs.lemmas.List.{map-append, map-set, set-get_or}
 pub use Rattle.std.proofs.lemmas.Option.{none-some, same_Some}
 pub use Rattle.std.specs.Prelude.{Err, None, Ok, Option, Result, Some, map, slice_get}
-pub use Rattle.std.specs.Vec.{with_item}
+pub use Rattle.rt_fixed.specs.Lending.{with_item}

@@ -4,6 +4,7 @@ ghost use Rattle.std.specs.Prelude.{◌≡◌, ◌<◌, length, IfOk};
 ghost use Rattle.std.specs.Borrow.{sem};
 ghost use Rattle.rt_world_links.specs.Links.{link_at, row_of, IsFreshRow, AreFresh};
 
+use rt_fixed::SealedVec;
 use rt_ids::{ActorNo, CoreNo};
 use rt_jobs::Task;
 use rt_link::PlainLink;
@@ -11,9 +12,11 @@ use std::alloc::{AllocError, Global};
 use std::marker::Model;
 
 /// A row of links for each sender, with a link for each core. A contract sees the links.
+///
+/// The rows and their list have their room for good, and lend no allocator.
 #[derive(Drop)]
 pub struct Links<J: Task<Out = u64>> {
-    pub(crate) rows: Vec<Vec<PlainLink<J>>>,
+    pub(crate) rows: SealedVec<SealedVec<PlainLink<J>, Global>, Global>,
 }
 
 impl<J: Task<Out = u64>> Model for Links<J> {
@@ -22,9 +25,9 @@ impl<J: Task<Out = u64>> Model for Links<J> {
 
     ghost Value = { List (List (Whole J ℕ)) };
 
-    ghost use Rattle.std.specs.Prelude.{map, vec_items};
+    ghost use Rattle.std.specs.Prelude.{map};
 
-    ghost view = { λ links. map vec_items links.rows.items };
+    ghost view = { λ links. map (λ row. row.items) links.rows.items };
 }
 
 impl<J: Task<Out = u64>> Links<J> {
@@ -38,9 +41,11 @@ impl<J: Task<Out = u64>> Links<J> {
         let mut rows = Vec::with_capacity(alloc, count)?;
         for sender in 0..count {
             let row = open_row(alloc, ActorNo(sender as u8), cores, cap)?;
-            rows.push_reserved(row);
+            rows.push_reserved(SealedVec::sealed(row));
         }
-        Ok(Links { rows })
+        Ok(Links {
+            rows: SealedVec::sealed(rows),
+        })
     }
 
     /// The link from the actor to the core.

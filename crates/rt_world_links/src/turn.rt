@@ -151,15 +151,8 @@ fn post_first<J: Job + Task<Out = u64>, A: Allocator + Clone>(
     ensures left { HasTurnLeft J.meaning core.new }
     ensures outs { one.HasOuts (Fits J.meaning) number core.new links.new }
 {
-    let alloc = *links.rows.allocator();
     let mut meter = spent;
-    core.turn_posting(
-        alloc,
-        &mut links.rows[number.0 as usize],
-        local,
-        next,
-        &mut meter,
-    )
+    core.turn_posting(&mut links.rows[number.0 as usize], local, next, &mut meter)
 }
 
 // Makes a further poll of the open turn, of the job that was told ahead, in the same way.
@@ -179,15 +172,8 @@ fn post_further<J: Job + Task<Out = u64>, A: Allocator + Clone>(
     ensures outs { one.HasOuts (Fits J.meaning) number core.new links.new }
     ensures fewer { polls_left core.new < polls_left core.old }
 {
-    let alloc = *links.rows.allocator();
     let mut meter = spent;
-    core.further_posting(
-        alloc,
-        &mut links.rows[number.0 as usize],
-        local,
-        next,
-        &mut meter,
-    )
+    core.further_posting(&mut links.rows[number.0 as usize], local, next, &mut meter)
 }
 
 // Gives the outcome of a poll on the link of the job's sender, if the job is done.

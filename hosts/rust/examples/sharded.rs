@@ -2,7 +2,7 @@
 //! 900 shares of a core, and the compaction of its log has 100. Clients are tasks on all cores: each sends its requests to the core of their
 //! key, as tasks of their own, and awaits the answers. At the end it tells the shares, the waits and the audit's verdict.
 //!
-//!     cargo run --release --offline --example sharded
+//!     cargo run --release --offline --example sharded [ROUNDS]
 
 use fairexec::linked::{spawn, yield_now, Answer, Config, Core, House, Outcome, Outside, Task, Ticket};
 use fairexec::{Error, Mode};
@@ -14,6 +14,7 @@ use std::time::{Duration, Instant};
 const CORES: u32 = 2;
 const CLIENTS: u64 = 8;
 const KEYS: u64 = 250;
+/// How often each key is put and asked for, if that isn't told.
 const ROUNDS: u64 = 6;
 const REQUESTS: u32 = 0;
 const COMPACTION: u32 = 1;
@@ -80,9 +81,9 @@ async fn compact() {
 }
 
 /// Puts the keys of this client and gets them. The answer: how many answers were right.
-async fn client(number: u64) -> u64 {
+async fn client(number: u64, rounds: u64) -> u64 {
     let mut right = 0;
-    for round in 0..ROUNDS {
+    for round in 0..rounds {
         for is_put in [true, false] {
             for first in (0..KEYS).step_by(WINDOW as usize) {
                 let asked: Vec<_> = (first..first + WINDOW)
@@ -131,12 +132,13 @@ fn make_queues(outside: &mut Outside<Task>, core: u32) -> Result<(), Error> {
 }
 
 fn main() -> Result<(), Error> {
+    let rounds = std::env::args().nth(1).map_or(ROUNDS, |it| it.parse().expect("a number of rounds"));
     let (house, cores, mut outside) = House::open(&Config { cores: CORES, places: 256, ..Config::default() })?;
     let threads: Vec<_> = cores.into_iter().map(|core| thread::spawn(|| serve(core))).collect();
     for core in 0..CORES {
         make_queues(&mut outside, core)?;
     }
-    let clients: Vec<(Ticket, _)> = (0..CLIENTS).map(|number| outside.spawn(core_of(number), REQUESTS, client(number))).collect::<Result<_, _>>()?;
+    let clients: Vec<(Ticket, _)> = (0..CLIENTS).map(|number| outside.spawn(core_of(number), REQUESTS, client(number, rounds))).collect::<Result<_, _>>()?;
     let mut right = 0;
     for (ticket, join) in &clients {
         outside.wait_for(ticket)?;
@@ -145,7 +147,7 @@ fn main() -> Result<(), Error> {
     outside.close_all(Mode::Finish)?;
     let cores = threads.into_iter().map(|it| it.join().expect("a core ends")).collect::<Result<_, _>>()?;
     let verdict = house.end(cores, outside).map_err(|(error, ..)| error)?.audit()?;
-    let all = 2 * CLIENTS * KEYS * ROUNDS;
+    let all = 2 * CLIENTS * KEYS * rounds;
     println!("{right} of {all} answers were right, and the journals are {}", if verdict.is_sound { "sound" } else { "not sound" });
     assert!(right == all && verdict.is_sound);
     Ok(())

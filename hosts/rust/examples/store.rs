@@ -1,7 +1,7 @@
 //! A key-value store on two cores. Each core has a thread, and a part of the keys in a map without a lock. Reads and writes have 900 shares
 //! of the core, and the compaction of its log has 100. Clients are threads, which send their requests to the core of their key.
 //!
-//!     cargo run --release --offline --example store
+//!     cargo run --release --offline --example store [ROUNDS]
 
 use fairexec::{House, Job, Mode, Step, Turn};
 use std::cell::RefCell;
@@ -13,6 +13,7 @@ use std::time::{Duration, Instant};
 const CORES: u64 = 2;
 const CLIENTS: u64 = 4;
 const KEYS: u64 = 500;
+/// How often each key is put and asked for, if that isn't told.
 const ROUNDS: u64 = 6;
 const REQUESTS: u32 = 0;
 /// How many requests a client has outstanding.
@@ -151,11 +152,11 @@ fn tell(core: u64, house: &mut House<Job>, compaction: u32) -> Result<(), fairex
 }
 
 /// Puts the keys of this client and gets them. The answer: how many answers were right.
-fn drive(client: u64, cores: &[Sender<Request>]) -> u64 {
+fn drive(client: u64, cores: &[Sender<Request>], rounds: u64) -> u64 {
     let (answers, answered) = channel();
     let value_of = |key: u64, round: u64| key * 7 + round;
     let mut right = 0;
-    for round in 0..ROUNDS {
+    for round in 0..rounds {
         for is_put in [true, false] {
             let (mut sent, mut received) = (0, 0);
             while received < KEYS {
@@ -176,6 +177,7 @@ fn drive(client: u64, cores: &[Sender<Request>]) -> u64 {
 }
 
 fn main() {
+    let rounds = std::env::args().nth(1).map_or(ROUNDS, |it| it.parse().expect("a number of rounds"));
     let (cores, servers): (Vec<_>, Vec<_>) = (0..CORES)
         .map(|core| {
             let (send, receive) = channel();
@@ -185,7 +187,7 @@ fn main() {
     let clients: Vec<_> = (0..CLIENTS)
         .map(|client| {
             let cores = cores.clone();
-            thread::spawn(move || drive(client, &cores))
+            thread::spawn(move || drive(client, &cores, rounds))
         })
         .collect();
     let right: u64 = clients.into_iter().map(|it| it.join().expect("a client ends")).sum();
@@ -193,7 +195,7 @@ fn main() {
     for server in servers {
         server.join().expect("a core ends").expect("no call is refused");
     }
-    let all = 2 * CLIENTS * KEYS * ROUNDS;
+    let all = 2 * CLIENTS * KEYS * rounds;
     println!("{right} of {all} answers were right");
     assert_eq!(right, all);
 }

@@ -50,6 +50,8 @@ pub enum Error {
     Mixed,
     /// Notes were passed on, so the house can't judge its journals.
     PassedOn,
+    /// The actor has ended: its house has its journal.
+    Ended,
 }
 
 impl Error {
@@ -77,7 +79,9 @@ impl Error {
             raw::FX_NOT_DRAINED => Error::NotDrained,
             raw::FX_MIXED => Error::Mixed,
             raw::FX_PASSED_ON => Error::PassedOn,
-            // Whoever has a `Core` has an open one, so FX_EMPTY and FX_OCCUPIED don't come here. FX_SHORT ends in a call with more room.
+            // Handles are open but those of actors that have ended.
+            raw::FX_EMPTY => Error::Ended,
+            // No open handle is handed in for an empty one, so FX_OCCUPIED doesn't come here. FX_SHORT ends in a call with more room.
             _ => unreachable!("the library answered code {code}"),
         }
     }
@@ -108,6 +112,7 @@ impl fmt::Display for Error {
             Error::NotDrained => "the core isn't drained",
             Error::Mixed => "the journals can't be those of one house",
             Error::PassedOn => "notes were passed on",
+            Error::Ended => "the actor has ended",
         })
     }
 }

@@ -1,21 +1,11 @@
 //! A core that keeps what its jobs are.
 
+use crate::clock::{wall_clock, Clock};
 use crate::core::{start_with, Core, Mode, Next, Settled, Step};
 use crate::error::Error;
 use crate::stats::{CoreStats, QueueStats};
 use std::panic::{catch_unwind, AssertUnwindSafe};
-use std::sync::OnceLock;
 use std::thread::JoinHandle;
-use std::time::Instant;
-
-/// A clock that jobs are measured by, in nanoseconds from any start. It may be the time of the wall or that of the thread.
-pub type Clock = fn() -> u64;
-
-/// The time of the wall since the first call.
-pub fn wall_clock() -> u64 {
-    static START: OnceLock<Instant> = OnceLock::new();
-    START.get_or_init(Instant::now).elapsed().as_nanos() as u64
-}
 
 /// What a turn came to.
 #[derive(PartialEq, Eq, Debug)]

@@ -21,6 +21,7 @@
 //! - [`Tasks`]: a house whose jobs are futures.
 //! - [`linked`]: cores on threads of their own, with links between them, and an outside actor.
 
+mod clock;
 mod core;
 mod error;
 mod house;
@@ -29,8 +30,9 @@ pub mod raw;
 mod stats;
 mod tasks;
 
+pub use crate::clock::{wall_clock, Clock};
 pub use crate::core::{Core, Mode, Next, Settled, Step};
 pub use error::Error;
 pub use stats::{CoreStats, QueueStats};
-pub use house::{wall_clock, Clock, Cx, House, Job, Turn};
+pub use house::{Cx, House, Job, Turn};
 pub use tasks::{again, Tasks};

@@ -196,8 +196,8 @@ impl Tasks {
 fn poll(slot: &mut Option<Task>) {
     let Some(mut task) = slot.take() else { return };
     let Some(mut future) = task.future.take() else { return };
-    // A waker that is called from here on, also during the poll, makes a job of its own.
-    task.waking.is_queued.store(false, Ordering::Release);
+    // This poll sees what was done before each call of the waker until now. One that comes later, also during the poll, makes a job of its own.
+    task.waking.is_queued.swap(false, Ordering::AcqRel);
     let waker = Waker::from(Arc::clone(&task.waking));
     if future.as_mut().poll(&mut Context::from_waker(&waker)) == Poll::Pending {
         task.future = Some(future);

@@ -4,6 +4,7 @@ use fairexec::{Core, Cx, Error, House, Job, Mode, Next, Settled, Step, Turn};
 use std::panic::{catch_unwind, AssertUnwindSafe};
 use std::sync::atomic::{AtomicBool, AtomicUsize, Ordering};
 use std::sync::Arc;
+use std::time::{Duration, Instant};
 
 /// Counts itself, and drops.
 struct Counted(Arc<AtomicUsize>, u32);
@@ -224,4 +225,25 @@ fn a_wake_before_a_park_lets_the_job_stay() -> Result<(), Error> {
     core.close(Mode::Return)?;
     assert_eq!(core.next_job()?, Next::Back(7));
     Ok(())
+}
+
+#[test]
+fn the_clock_goes_with_the_wall() {
+    // Of each moment: the system's time before and behind it, and that of the clock between.
+    let moment = || {
+        let before = Instant::now();
+        let told = fairexec::wall_clock();
+        (before, told, Instant::now())
+    };
+    // Some readings of the clock are told by the processor's counter alone.
+    let slack = Duration::from_micros(100);
+    let first = moment();
+    let mut last = first.1;
+    while first.0.elapsed() < Duration::from_millis(50) {
+        let (before, told, behind) = moment();
+        assert!(told >= last);
+        last = told;
+        let passed = Duration::from_nanos(told - first.1);
+        assert!(passed + slack >= before - first.2 && passed <= behind - first.0 + slack);
+    }
 }

@@ -1,11 +1,10 @@
-//! A house of cores: who has the jobs, what comes back, and what two threads do with it.
+//! A house of cores: who has the jobs, and what comes back.
 
-use fairexec::linked::{spawn, yield_now, Answer, Cancelled, Config, Core, Cx, House, Job, Name, Opened, Outcome, Outside, Reason, Step, Task, Ticket, Turn};
+use fairexec::linked::{Answer, Config, Core, Cx, House, Name, Opened, Outcome, Outside, Reason, Step, Task, Ticket, Turn};
 use fairexec::{Error, Mode};
 use std::panic::{catch_unwind, AssertUnwindSafe};
 use std::sync::atomic::{AtomicUsize, Ordering};
 use std::sync::{Arc, Mutex};
-use std::thread::JoinHandle;
 
 /// A value that counts how many of it are alive.
 struct Counted(Arc<AtomicUsize>, u64);
@@ -24,7 +23,7 @@ impl Drop for Counted {
 }
 
 fn config(cores: u32, places: u32) -> Config {
-    Config { cores, places, ..Config::default() }
+    Config { cores, places, notes: 1 << 12, ..Config::default() }
 }
 
 fn sent<T, J>(told: Result<T, (Error, J)>) -> Result<T, Error> {
@@ -242,217 +241,10 @@ fn the_wrong_actors_end_no_house() -> Result<(), Error> {
     Ok(())
 }
 
-/// Ends a house whose cores run on threads. Whether its journals are sound.
-fn end<J>(house: House<J>, threads: Vec<JoinHandle<Result<Core<J>, Error>>>, outside: Outside<J>) -> Result<bool, Error> {
-    let cores = threads.into_iter().map(|it| it.join().expect("a core ends")).collect::<Result<_, _>>()?;
-    Ok(house.end(cores, outside).map_err(|(error, ..)| error)?.audit()?.is_sound)
-}
-
-/// A job that asks the other core for half of its number, until the number is odd.
-struct Halving {
-    number: u64,
-    asked: Option<Ticket>,
-}
-
-fn halve(job: &mut Halving, cx: &mut Cx<'_, Halving>) -> Step {
-    if job.number % 2 == 1 {
-        return Step::Done(job.number);
-    }
-    let Some(ticket) = &job.asked else {
-        let half = Halving { number: job.number / 2, asked: None };
-        // A link that is full is tried again in the next run.
-        job.asked = cx.submit(1 - cx.core(), 0, half).ok();
-        return Step::Yield;
-    };
-    match cx.redeem(ticket) {
-        Ok(Outcome::Done(answer)) => Step::Done(answer),
-        Ok(_) => Step::Done(0),
-        Err(_) => {
-            // Each run takes notes of the journal, and the other thread may be set aside.
-            std::thread::sleep(std::time::Duration::from_micros(50));
-            Step::Yield
-        }
-    }
-}
-
-#[test]
-fn jobs_of_two_cores_ask_each_other() -> Result<(), Error> {
-    let (house, cores, mut outside) = House::open(&config(2, 32))?;
-    let threads: Vec<_> = cores.into_iter().map(|mut core| std::thread::spawn(move || core.run(halve).map(|()| core))).collect();
-    let mut tickets = Vec::new();
-    for number in 1..=20 {
-        tickets.push(sent(outside.submit((number % 2) as u32, 0, Halving { number, asked: None }))?);
-    }
-    for (number, ticket) in (1..).zip(&tickets) {
-        assert!(matches!(outside.wait_for(ticket)?, Outcome::Done(odd) if odd == number >> u64::trailing_zeros(number)));
-    }
-    outside.close_all(Mode::Finish)?;
-    assert!(end(house, threads, outside)?);
-    Ok(())
-}
-
-#[test]
-fn closures_wake_each_other() -> Result<(), Error> {
-    let (house, cores, mut outside) = House::open(&config(2, 8))?;
-    let threads: Vec<_> = cores.into_iter().map(|mut core| std::thread::spawn(move || core.run_jobs().map(|()| core))).collect();
-    let runs = Arc::new(AtomicUsize::new(0));
-    let counts = Arc::clone(&runs);
-    let waits = sent(outside.submit(0, 0, Job::new(move |_| if counts.fetch_add(1, Ordering::SeqCst) == 0 { Step::Park } else { Step::Done(7) })))?;
-    let name = waits.name();
-    // A wake may come before the job: it is answered so, and sent again.
-    let mut asked = None;
-    let wakes = Job::new(move |cx| {
-        match asked.as_ref().map(|ticket| cx.redeem(ticket)) {
-            Some(Ok(Outcome::Answered(Answer::Woken))) => return Step::Done(0),
-            Some(Err(_)) => {}
-            Some(Ok(_)) | None => asked = cx.wake(name).ok(),
-        }
-        std::thread::sleep(std::time::Duration::from_micros(50));
-        Step::Yield
-    });
-    let wakes = sent(outside.submit(1, 0, wakes))?;
-    assert_eq!(outside.wait_for(&wakes).map(|_| ()), Ok(()));
-    assert!(matches!(outside.wait_for(&waits)?, Outcome::Done(7)));
-    assert_eq!(runs.load(Ordering::SeqCst), 2);
-    outside.close_all(Mode::Finish)?;
-    assert!(end(house, threads, outside)?);
-    Ok(())
-}
-
-fn serve(cores: Vec<Core<Task>>) -> Vec<JoinHandle<Result<Core<Task>, Error>>> {
-    cores.into_iter().map(|mut core| std::thread::spawn(move || core.run_tasks().map(|()| core))).collect()
-}
-
-#[test]
-fn tasks_of_two_cores_await_each_other() -> Result<(), Error> {
-    // Links of few places: what is spawned waits for them.
-    for places in [2, 3, 64] {
-        let (house, cores, mut outside) = House::open(&config(2, places))?;
-        let threads = serve(cores);
-        let (ticket, join) = outside.spawn(0, 0, async {
-            let mut sum = 0;
-            let parts: Vec<_> = (0..40u64)
-                .map(|part| {
-                    spawn(part as u32 % 2, 0, async move {
-                        yield_now().await;
-                        spawn(1 - part as u32 % 2, 0, async move { part }).await
-                    })
-                })
-                .collect();
-            for part in parts {
-                sum += part.await.expect("it ends").expect("it ends");
-            }
-            sum
-        })?;
-        assert_eq!(outside.wait_for(&ticket).map(|_| ()), Ok(()));
-        assert_eq!(join.take(), Some(Ok(40 * 39 / 2)));
-        outside.close_all(Mode::Finish)?;
-        assert!(end(house, threads, outside)?);
-    }
-    Ok(())
-}
-
-#[test]
-fn a_task_that_comes_back_is_told_as_cancelled() -> Result<(), Error> {
-    let (house, cores, mut outside) = House::open(&config(1, 8))?;
-    let threads = serve(cores);
-    let (_, waits) = outside.spawn(0, 0, std::future::pending::<u64>())?;
-    let (refused, nowhere) = outside.spawn(0, 9, async { 7 })?;
-    let (ticket, both) = outside.spawn(0, 0, async move { (nowhere.await, spawn(0, 9, async { 8 }).await) })?;
-    assert!(matches!(outside.wait_for(&refused)?, Outcome::Back(Reason::NoQueue, _)));
-    assert_eq!(outside.wait_for(&ticket).map(|_| ()), Ok(()));
-    assert_eq!(both.take(), Some(Ok((Err(Cancelled), Err(Cancelled)))));
-    outside.close_all(Mode::Return)?;
-    assert!(end(house, threads, outside)?);
-    // What comes back is the outside actor's until it asks, and went with it.
-    assert_eq!(waits.take(), Some(Err(Cancelled)));
-    Ok(())
-}
-
-#[test]
-fn a_closed_core_wakes_its_tasks() -> Result<(), Error> {
-    let (house, cores, mut outside) = House::open(&config(2, 8))?;
-    let threads = serve(cores);
-    let (_, first) = outside.spawn(0, 0, async {
-        for _ in 0..1000 {
-            yield_now().await;
-        }
-        spawn(0, 0, async { 5 }).await
-    })?;
-    outside.close_all(Mode::Finish)?;
-    assert!(end(house, threads, outside)?);
-    assert_eq!(first.take(), Some(Ok(Ok(5))));
-    Ok(())
-}
-
-#[test]
-fn what_a_task_spawned_runs_behind_its_end() -> Result<(), Error> {
-    let count = Arc::new(AtomicUsize::new(0));
-    let (house, cores, mut outside) = House::open(&config(1, 2))?;
-    let threads = serve(cores);
-    let counts = Arc::clone(&count);
-    let (_, join) = outside.spawn(0, 0, async move {
-        for _ in 0..100 {
-            let counts = Arc::clone(&counts);
-            drop(spawn(0, 0, async move { counts.fetch_add(1, Ordering::SeqCst) }));
-        }
-    })?;
-    outside.close_all(Mode::Finish)?;
-    assert!(end(house, threads, outside)?);
-    assert_eq!((join.take(), count.load(Ordering::SeqCst)), (Some(Ok(())), 100));
-    Ok(())
-}
-
 #[test]
 fn tasks_want_two_places() -> Result<(), Error> {
     let (_house, mut core, _outside) = single::<Task>(1)?;
     assert_eq!(core.run_tasks(), Err(Error::BadNumber));
-    Ok(())
-}
-
-/// The text that an actor passed on.
-#[derive(Clone, Default)]
-struct Part(Arc<Mutex<Vec<u8>>>);
-
-impl Part {
-    fn keeper(&self) -> impl FnMut(&[u8]) + Send + 'static {
-        let part = self.clone();
-        move |text| part.0.lock().expect("no panic").extend_from_slice(text)
-    }
-
-    fn lines(&self) -> usize {
-        self.0.lock().expect("no panic").iter().filter(|byte| **byte == b'\n').count()
-    }
-}
-
-#[test]
-fn a_house_runs_on_over_journals_of_few_notes() -> Result<(), Error> {
-    let (house, cores, mut outside): Opened<Task> = House::open(&Config { cores: 2, places: 8, notes: 48, ..Config::default() })?;
-    let parts: [Part; 3] = Default::default();
-    outside.keep_notes_by(parts[2].keeper());
-    let threads: Vec<_> = cores
-        .into_iter()
-        .map(|mut core| {
-            core.keep_notes_by(parts[core.number() as usize].keeper());
-            std::thread::spawn(move || core.run_tasks().map(|()| core))
-        })
-        .collect();
-    for number in 0..200 {
-        // Each task asks one of the other core.
-        let (ticket, join) = outside.spawn(number % 2, 0, async move { 2 * spawn(1 - number % 2, 0, async move { number }).await.unwrap_or(0) })?;
-        outside.wait_for(&ticket)?;
-        assert_eq!(join.take(), Some(Ok(2 * number)));
-    }
-    outside.close_all(Mode::Finish)?;
-    let mut cores = threads.into_iter().map(|it| it.join().expect("a core ends")).collect::<Result<Vec<_>, _>>()?;
-    for core in &mut cores {
-        core.pass_on(&mut parts[core.number() as usize].0.lock().expect("no panic"))?;
-    }
-    outside.pass_on(&mut parts[2].0.lock().expect("no panic"))?;
-    assert!(parts[0].lines() + parts[1].lines() >= 200 * 16 && parts[2].lines() >= 200 * 3);
-    let mut journals = house.end(cores, outside).map_err(|(error, ..)| error)?;
-    assert_eq!(journals.audit().err(), Some(Error::PassedOn));
-    assert_eq!(journals.text()?, "journal 1\ncores 2 cap 8\nend\n");
     Ok(())
 }
 
@@ -469,5 +261,107 @@ fn notes_are_passed_on_behind_what_a_text_has() -> Result<(), Error> {
     assert!(text[52..].starts_with(b"0 done 1>0#1 ") && text.ends_with(b" = 20\n"));
     assert!(matches!(outside.wait_for(&ticket)?, Outcome::Done(20)));
     drop((house, core, outside));
+    Ok(())
+}
+
+#[test]
+fn a_detach_behind_a_full_journal_is_made_later() -> Result<(), Error> {
+    let (_house, mut cores, mut outside): Opened<u64> = House::open(&Config { cores: 1, places: 2, notes: 4, ..Config::default() })?;
+    cores[0].keep_notes_by(|_| {});
+    for _ in 0..10 {
+        let tickets = [sent(outside.submit(0, 0, 1))?, sent(outside.submit(0, 0, 2))?];
+        while cores[0].round(|job, _| Step::Done(*job))? {}
+        assert_eq!(outside.collect()?, 2);
+        let [first, second] = tickets;
+        assert_eq!(outside.redeem(&first), Err(Error::JournalFull));
+        outside.detach(first)?;
+        outside.pass_on(&mut Vec::new())?;
+        outside.detach(second)?;
+        // Both have left their places by now.
+        assert_eq!(outside.collect()?, 0);
+        outside.pass_on(&mut Vec::new())?;
+    }
+    // An order has no place of a job, and one of the link.
+    for _ in 0..10 {
+        let orders = [outside.set_shares(0, 0, 900)?, outside.set_shares(0, 0, 800)?];
+        while cores[0].round(|job, _| Step::Done(*job))? {}
+        assert_eq!(outside.collect()?, 2);
+        for order in orders {
+            outside.detach(order)?;
+        }
+        outside.pass_on(&mut Vec::new())?;
+        assert_eq!(outside.collect()?, 0);
+        outside.pass_on(&mut Vec::new())?;
+    }
+    Ok(())
+}
+
+/// The text that both actors of a house passed on. Those who take it panic where this says so.
+fn text_of_two(panics: fn(usize) -> bool) -> Result<[String; 2], Error> {
+    let (_house, mut cores, mut outside): Opened<u64> = House::open(&Config { cores: 1, places: 2, notes: 8, ..Config::default() })?;
+    let texts: [Arc<Mutex<Vec<u8>>>; 2] = Default::default();
+    let keeper = |number: usize| {
+        let (text, mut calls) = (Arc::clone(&texts[number]), 0);
+        move |part: &[u8]| {
+            calls += 1;
+            assert!(!panics(calls - 1), "a keeper's own");
+            text.lock().expect("no panic").extend_from_slice(part);
+        }
+    };
+    let core = &mut cores[0];
+    core.set_clock(|| 0);
+    core.keep_notes_by(keeper(0));
+    outside.keep_notes_by(keeper(1));
+    for job in 0..12 {
+        let ticket = sent(again(|| outside.submit(0, 0, job)))?;
+        while again(|| core.round(|job, _| Step::Done(*job)))? {}
+        assert_eq!(again(|| outside.wait_for(&ticket))?, Outcome::Done(job));
+    }
+    core.pass_on(&mut texts[0].lock().expect("no panic"))?;
+    outside.pass_on(&mut texts[1].lock().expect("no panic"))?;
+    Ok(texts.map(|text| String::from_utf8(text.lock().expect("no panic").clone()).expect("a journal is ASCII")))
+}
+
+/// A call that is made again behind each panic.
+fn again<T>(mut call: impl FnMut() -> T) -> T {
+    loop {
+        if let Ok(told) = catch_unwind(AssertUnwindSafe(&mut call)) {
+            return told;
+        }
+    }
+}
+
+#[test]
+fn notes_that_were_not_taken_go_first_the_next_time() -> Result<(), Error> {
+    let texts = text_of_two(|_| false)?;
+    assert_eq!(texts.each_ref().map(|text| text.lines().count()), [48, 36]);
+    for panics in [|call| call == 0, |call| call % 3 == 1, |call| call > 2, |_| true] {
+        assert_eq!(text_of_two(panics)?, texts);
+    }
+    Ok(())
+}
+
+#[test]
+fn who_takes_notes_from_now_on_gets_those_that_were_not_taken() -> Result<(), Error> {
+    let (_house, mut cores, mut outside): Opened<u64> = House::open(&Config { cores: 1, places: 2, notes: 4, ..Config::default() })?;
+    cores[0].keep_notes_by(|_| {});
+    outside.keep_notes_by(|_| panic!("a keeper's own"));
+    let text = Arc::new(Mutex::new(Vec::new()));
+    let takes = Arc::clone(&text);
+    let mut submit = |outside: &mut Outside<u64>| {
+        let tickets = [sent(outside.submit(0, 0, 1))?, sent(outside.submit(0, 0, 2))?];
+        while cores[0].round(|job, _| Step::Done(*job))? {}
+        assert_eq!(outside.collect()?, 2);
+        Ok::<_, Error>(tickets)
+    };
+    let [first, second] = submit(&mut outside)?;
+    assert!(catch_unwind(AssertUnwindSafe(|| outside.redeem(&first))).is_err());
+    outside.keep_notes_by(move |part| takes.lock().expect("no panic").extend_from_slice(part));
+    assert_eq!((outside.redeem(&first)?, outside.redeem(&second)?), (Outcome::Done(1), Outcome::Done(2)));
+    assert!(text.lock().expect("no panic").is_empty());
+    submit(&mut outside)?;
+    let text = String::from_utf8(text.lock().expect("no panic").clone()).expect("a journal is ASCII");
+    let lines: Vec<_> = text.lines().map(|line| line.split(' ').nth(1)).collect();
+    assert_eq!(lines, ["sent", "sent", "collected", "collected", "redeemed", "redeemed", "sent", "sent"].map(Some));
     Ok(())
 }

@@ -46,6 +46,7 @@ impl<J: Task, A: Allocator + Clone> Core<J, A> {
         !self.queues.is_empty(queue) || is_of_queue(&self.out, queue)
     }
 
+    #[inline(always)]
     pub(super) fn deliver_job(
         &mut self,
         name: JobId,
@@ -78,6 +79,7 @@ impl<J: Task, A: Allocator + Clone> Core<J, A> {
     }
 
     /// A job enters an open queue.
+    #[inline(always)]
     fn take_in(&mut self, name: JobId, queue: QueueNo, job: J)
         requires room { inside_count self.old < self.old.queues.room }
         requires sender { name.from ≤ self.old.cores }
@@ -95,6 +97,7 @@ impl<J: Task, A: Allocator + Clone> Core<J, A> {
     }
 
     /// A job enters a queue that has work.
+    #[inline(always)]
     pub(super) fn join(&mut self, name: JobId, queue: QueueNo, job: J)
         requires room { inside_count self.old < self.old.queues.room }
         requires sender { name.from ≤ self.old.cores }
@@ -111,6 +114,7 @@ impl<J: Task, A: Allocator + Clone> Core<J, A> {
     }
 
     /// A job enters a queue without work, which is placed at the floor.
+    #[inline(always)]
     pub(super) fn activate(&mut self, name: JobId, queue: QueueNo, job: J)
         requires room { inside_count self.old < self.old.queues.room }
         requires sender { name.from ≤ self.old.cores }

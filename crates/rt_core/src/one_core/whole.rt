@@ -33,6 +33,7 @@ impl<J: Task, A: Allocator + Clone> Core<J, A> {
     /// # Errors
     ///
     /// Those of `pick`: `Busy` where a job is out or a turn is open, else `Spent` where a queue has work and no turn is left.
+    #[inline(always)]
     pub fn ahead(&self) -> Result<Ahead, PickError>
         ensures { TellsAhead self.now result }
     {
@@ -56,6 +57,7 @@ impl<J: Task, A: Allocator + Clone> Core<J, A> {
     }
 
     /// The same where a job waits, none is out, no turn is open, and a turn is left.
+    #[inline(always)]
     fn first_ahead(&self) -> Ahead
         requires free { self.now.out ≡ None }
         requires no_turn { self.now.bursts.open ≡ None }
@@ -110,6 +112,7 @@ impl<J: Job, A: Allocator + Clone> Core<J, A> {
 
     /// Makes that poll. The meter is started right before the poll, and asked right behind the poll. The meter's time counts if the job
     /// told none.
+    #[inline(always)]
     pub fn turn_metered<P: Post<J, J::Out>, M: Meter>(
         &mut self,
         next: &Next,
@@ -131,6 +134,7 @@ impl<J: Job, A: Allocator + Clone> Core<J, A> {
     }
 
     /// Polls the next job where it stands, and settles the poll, which ends the turn. The answer: what the poll came to, and the time that counts.
+    #[inline(always)]
     fn turn_first<P: Post<J, J::Out>, M: Meter>(
         &mut self,
         post: &mut P,

@@ -23,6 +23,7 @@ ghost use Rattle.rt_journal.specs.Whole.{IsPostingTurn, LeavesTurn, MayAnswer, T
 use super::Recorded;
 use crate::given::{give_if, outcome_done};
 use rt_core::{Ahead, Core, Next, PickError, Settled};
+use rt_fixed::SealedVec;
 use rt_ids::{JobId, Note};
 use rt_jobs::{Job, Step, Task};
 use rt_journal_desk::{RecordedDesk, RecordedPost};
@@ -32,6 +33,7 @@ use std::alloc::{Allocator, Global};
 use std::mem;
 
 /// The notes of the pick of this job.
+#[inline(always)]
 fn picked_notes(next: &Next) -> [Note<u64>; 2]
     ensures { result ≡ pick_notes next.now.queue next.now.vr next.now.name next.now.started }
 {
@@ -54,6 +56,7 @@ fn followed_notes(next: &Next) -> [Note<u64>; 1]
 }
 
 /// The note of a settled poll. A job that asks to be parked stays if a wake of it is kept.
+#[inline(always)]
 fn settled_notes(name: &JobId, time: u64, step: &Step<u64>, woken: bool) -> [Note<u64>; 1]
     ensures { result ≡ settle_notes name.now time step.now woken }
 {
@@ -71,6 +74,7 @@ fn settled_notes(name: &JobId, time: u64, step: &Step<u64>, woken: bool) -> [Not
 }
 
 /// What a poll of this step settles to.
+#[inline(always)]
 fn settled(step: &Step<u64>, woken: bool) -> Settled<u64>
     ensures { result ≡ settled_of step.now woken }
 {
@@ -88,6 +92,7 @@ fn settled(step: &Step<u64>, woken: bool) -> Settled<u64>
 }
 
 /// Notes the settling of the poll of this job. What the poll came to.
+#[inline(always)]
 fn note_settled<J: Task<Out = u64>>(
     said: &mut RecordedDesk<J>,
     next: &Next,
@@ -107,25 +112,28 @@ fn note_settled<J: Task<Out = u64>>(
 
 /// The desk and its ends, lent as a post beside what the jobs share. What stays in their places owns no memory, and nothing is dropped
 /// when they come back.
+#[inline(always)]
 fn lend_out<'a, J: Job<Out = u64>, O: OutEnd<J> + Drop>(
-    alloc: Global,
     said: &mut RecordedDesk<J>,
-    ends: &mut Vec<O, Global>,
+    ends: &mut SealedVec<O, Global>,
     local: &'a mut J::Local,
 ) -> RecordedPost<'a, J, O>
     requires outs { AreOutsOf (Fits J.meaning) O.out O.credited said.old ends.old.items }
     requires spare { length said.old.journal.notes + sum_by left_of said.old.lanes < said.old.journal.room }
     ensures { result ≡ lends said.old ends.old.items }
 {
-    let desk = mem::replace(said, RecordedDesk::nothing(alloc));
-    let lent = mem::replace(ends, Vec::new(alloc));
+    let nothing = said.emptied();
+    let desk = mem::replace(said, nothing);
+    let none = ends.emptied();
+    let lent = mem::replace(ends, none);
     RecordedPost::lend_further(desk, lent, local)
 }
 
 /// Puts the desk and its ends back.
+#[inline(always)]
 fn put_back<J: Job<Out = u64>, O: OutEnd<J> + Drop>(
     said: &mut RecordedDesk<J>,
-    ends: &mut Vec<O, Global>,
+    ends: &mut SealedVec<O, Global>,
     post: RecordedPost<'_, J, O>,
 )
     ensures back { lends said.new ends.new.items ≡ post.entry }
@@ -141,11 +149,11 @@ fn put_back<J: Job<Out = u64>, O: OutEnd<J> + Drop>(
 
 /// Polls the job that is told ahead where it stands, and settles its poll. The desk and the ends are lent to it for that long. The
 /// answer: what the poll came to, and the time that counts.
+#[inline(always)]
 fn turn_lent<J: Job<Out = u64>, A: Allocator + Clone, O: OutEnd<J> + Drop, M: Meter>(
-    alloc: Global,
     core: &mut Core<J, A>,
     said: &mut RecordedDesk<J>,
-    ends: &mut Vec<O, Global>,
+    ends: &mut SealedVec<O, Global>,
     local: &mut J::Local,
     next: &Next,
     meter: &mut M,
@@ -160,7 +168,7 @@ fn turn_lent<J: Job<Out = u64>, A: Allocator + Clone, O: OutEnd<J> + Drop, M: Me
     ensures room { length said.new.journal.notes < said.new.journal.room }
     ensures written { IsWritten (terms_of_desk said.new) said.new.journal.notes }
 {
-    let mut post = lend_out(alloc, said, ends, local);
+    let mut post = lend_out(said, ends, local);
     let (step, time) = core.turn_metered(next, &mut post, meter);
     put_back(said, ends, post);
     (step, time)
@@ -168,10 +176,9 @@ fn turn_lent<J: Job<Out = u64>, A: Allocator + Clone, O: OutEnd<J> + Drop, M: Me
 
 /// The same for a further poll, of the job that is told ahead in the open turn.
 fn further_lent<J: Job<Out = u64>, A: Allocator + Clone, O: OutEnd<J> + Drop, M: Meter>(
-    alloc: Global,
     core: &mut Core<J, A>,
     said: &mut RecordedDesk<J>,
-    ends: &mut Vec<O, Global>,
+    ends: &mut SealedVec<O, Global>,
     local: &mut J::Local,
     next: &Next,
     meter: &mut M,
@@ -186,7 +193,7 @@ fn further_lent<J: Job<Out = u64>, A: Allocator + Clone, O: OutEnd<J> + Drop, M:
     ensures room { length said.new.journal.notes < said.new.journal.room }
     ensures written { IsWritten (terms_of_desk said.new) said.new.journal.notes }
 {
-    let mut post = lend_out(alloc, said, ends, local);
+    let mut post = lend_out(said, ends, local);
     let (step, time) = core.turn_further_metered(next, &mut post, meter);
     put_back(said, ends, post);
     (step, time)
@@ -198,6 +205,7 @@ impl<J: Task<Out = u64>, A: Allocator + Clone> Recorded<J, A> {
     /// # Errors
     ///
     /// Those of `pick`.
+    #[inline(always)]
     pub fn ahead(&self) -> Result<Ahead, PickError>
         ensures { TellsAhead self.now.core result }
     {
@@ -219,10 +227,10 @@ impl<J: Job<Out = u64>, A: Allocator + Clone> Recorded<J, A> {
     /// stays open: `further_posting` makes the next poll, and `end_turn` ends the turn. The job's pick is noted, it is polled once and lent the desk and
     /// its ends for that long, what it posts is noted, and its settling. If the job told no time of its own, that of the meter counts,
     /// which is started right before the poll and asked right after it. The outcome of a job that is done is owed: `give_done` gives it.
+    #[inline(always)]
     pub fn turn_posting<O: OutEnd<J> + Drop, M: Meter>(
         &mut self,
-        alloc: Global,
-        ends: &mut Vec<O, Global>,
+        ends: &mut SealedVec<O, Global>,
         local: &mut J::Local,
         next: &Next,
         meter: &mut M,
@@ -245,14 +253,14 @@ impl<J: Job<Out = u64>, A: Allocator + Clone> Recorded<J, A> {
         ensures seat { IsSameSeat self.old self.new }
         ensures sound { IsRecorded J.meaning self.new }
     {
-        self.turn_noted(alloc, ends, local, next, meter)
+        self.turn_noted(ends, local, next, meter)
     }
 
     /// Notes the pick, makes the turn, and notes its settling.
+    #[inline(always)]
     fn turn_noted<O: OutEnd<J> + Drop, M: Meter>(
         &mut self,
-        alloc: Global,
-        ends: &mut Vec<O, Global>,
+        ends: &mut SealedVec<O, Global>,
         local: &mut J::Local,
         next: &Next,
         meter: &mut M,
@@ -266,15 +274,7 @@ impl<J: Job<Out = u64>, A: Allocator + Clone> Recorded<J, A> {
         self.said.see_lanes();
         let picked = picked_notes(next);
         self.said.write(&picked);
-        let (step, time) = turn_lent(
-            alloc,
-            &mut self.core,
-            &mut self.said,
-            ends,
-            local,
-            next,
-            meter,
-        );
+        let (step, time) = turn_lent(&mut self.core, &mut self.said, ends, local, next, meter);
         note_settled(&mut self.said, next, &step, time)
     }
 
@@ -283,8 +283,7 @@ impl<J: Job<Out = u64>, A: Allocator + Clone> Recorded<J, A> {
     /// before the next outcome is collected, and for two more.
     pub fn further_posting<O: OutEnd<J> + Drop, M: Meter>(
         &mut self,
-        alloc: Global,
-        ends: &mut Vec<O, Global>,
+        ends: &mut SealedVec<O, Global>,
         local: &mut J::Local,
         next: &Next,
         meter: &mut M,
@@ -307,14 +306,13 @@ impl<J: Job<Out = u64>, A: Allocator + Clone> Recorded<J, A> {
         ensures seat { IsSameSeat self.old self.new }
         ensures sound { IsRecorded J.meaning self.new }
     {
-        self.further_noted(alloc, ends, local, next, meter)
+        self.further_noted(ends, local, next, meter)
     }
 
     /// Notes the beginning, makes the poll, and notes its settling.
     fn further_noted<O: OutEnd<J> + Drop, M: Meter>(
         &mut self,
-        alloc: Global,
-        ends: &mut Vec<O, Global>,
+        ends: &mut SealedVec<O, Global>,
         local: &mut J::Local,
         next: &Next,
         meter: &mut M,
@@ -328,19 +326,12 @@ impl<J: Job<Out = u64>, A: Allocator + Clone> Recorded<J, A> {
         self.said.see_lanes();
         let begun = followed_notes(next);
         self.said.write(&begun);
-        let (step, time) = further_lent(
-            alloc,
-            &mut self.core,
-            &mut self.said,
-            ends,
-            local,
-            next,
-            meter,
-        );
+        let (step, time) = further_lent(&mut self.core, &mut self.said, ends, local, next, meter);
         note_settled(&mut self.said, next, &step, time)
     }
 
     /// Gives the outcome of a turn on the end of the job's sender, if the job is done.
+    #[inline(always)]
     pub fn give_done<I: InEnd<J>>(&self, end: &mut I, name: JobId, settled: &Settled<u64>)
         requires owed { IsInOwing name.from (told_under name (option_map outcome_note (outcome_settled {J = J} settled.now)) name.from) self.now (I.inward end.old) }
         requires may_answer { MayAnswer J.meaning self.now.took name settled.now }

@@ -13,6 +13,7 @@ use std::alloc::Allocator;
 
 impl<J: Drop, A: Allocator + Clone> Queues<J, A> {
     /// The name of the job at the head, whether it was started, and whether a wake of it is kept.
+    #[inline(always)]
     pub fn front(&self, queue: QueueNo) -> Option<(JobId, bool, bool)>
         requires exists { queue < queue_count self.now }
         ensures empty { IfNone result (waiting_of queue self.now ≡ []) }
@@ -28,6 +29,7 @@ impl<J: Drop, A: Allocator + Clone> Queues<J, A> {
     }
 
     /// The job at the head goes to the tail of its line, as started. The job isn't moved.
+    #[inline(always)]
     pub fn requeue(&mut self, queue: QueueNo)
         requires exists { queue < queue_count self.old }
         requires some { waiting_of queue self.old ≡ [] → ⊥ }
@@ -68,6 +70,7 @@ impl<J: Drop, A: Allocator + Clone> Queues<J, A> {
 impl<J: Job, A: Allocator + Clone> Queues<J, A> {
     /// Polls the job at the head where it stands. The answer: what the poll came to, the time that the job told, and the time that the
     /// meter told.
+    #[inline(always)]
     pub fn poll_front<P: Post<J, J::Out>, M: Meter>(
         &mut self,
         queue: QueueNo,

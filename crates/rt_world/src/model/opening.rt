@@ -5,6 +5,7 @@ ghost use Rattle.rt_world.specs.State.{journal_at};
 ghost use Rattle.rt_world.specs.Opening.{IsConfig, IsUnbegun, Opens, CreatesAtOpening};
 
 use super::{World, WorldError};
+use crate::closed::Closed;
 use rt_ids::{ActorNo, CoreNo, MOST_BURST, MOST_CAPACITY, MOST_CORES, MOST_NOTES, QueueNo};
 use rt_jobs::Task;
 use rt_journal::RecordedDesk;
@@ -73,10 +74,10 @@ impl<J: Task<Out = u64>, A: Allocator + Clone> World<J, A> {
             cap,
             burst,
             room,
-            inside,
+            inside: Closed::of(inside),
             outside,
             links,
-            gathered,
+            gathered: Closed::of(gathered),
         })
     }
 

@@ -23,6 +23,11 @@ impl Ticket {
     pub fn name(&self) -> Name {
         self.name
     }
+
+    /// The same ticket once more.
+    fn again(&self) -> Ticket {
+        Ticket { ..*self }
+    }
 }
 
 /// What an actor knows of its submissions to one core.
@@ -31,7 +36,7 @@ struct Sent {
     vacant: VecDeque<u32>,
     // Submissions whose outcome wasn't collected.
     pending: u64,
-    // Jobs for whose outcome nobody asks. They are redeemed once they are collected, since a job that comes back has a place.
+    // Submissions for whose outcome nobody asks. They are redeemed once they are collected, since a job that comes back has a place.
     loose: VecDeque<Ticket>,
 }
 
@@ -42,7 +47,7 @@ pub(super) struct Actor<J> {
     pub(super) lanes: Arc<Lanes<J>>,
     // By the core.
     sent: Vec<Sent>,
-    // Whether the journal was too full to redeem one of those for which nobody asks.
+    // Whether the last collection ended before it redeemed each of those for which nobody asks: the journal was too full, or it panicked.
     misses: bool,
 }
 
@@ -89,9 +94,9 @@ impl<J> Actor<J> {
         // SAFETY: a vacant place is the sender's.
         unsafe { self.lanes.exchange(self.number, to, place, Some(job)) };
         match self.seat.submit(to, queue, place) {
-            Ok(name) => {
+            Ok(number) => {
                 sent.vacant.pop_front();
-                Ok(self.accepted(name, Some(place)))
+                Ok(self.accepted(Name { from: self.number, to, number }, Some(place)))
             }
             Err(error) => {
                 // SAFETY: the order wasn't accepted, so the place still is the sender's.
@@ -115,53 +120,39 @@ impl<J> Actor<J> {
 
     /// Collects what the links show. How many outcomes there were.
     pub(super) fn collect(&mut self) -> Result<u64, Error> {
-        let mut all = 0;
-        let missed = std::mem::take(&mut self.misses);
+        let (mut all, mut misses) = (0, false);
+        let missed = std::mem::replace(&mut self.misses, true);
         for core in 0..self.lanes.cores() {
-            match self.collect_from(core, missed) {
-                Ok(count) => all += count,
-                Err(error) => {
-                    self.misses |= missed;
-                    return Err(error);
-                }
-            }
+            let count = self.collect_from(core)?;
+            misses |= !self.redeem_loose(core, if missed { u64::MAX } else { count });
+            all += count;
         }
+        self.misses = misses;
         Ok(all)
     }
 
-    fn collect_from(&mut self, core: u32, missed: bool) -> Result<u64, Error> {
+    fn collect_from(&mut self, core: u32) -> Result<u64, Error> {
         let sent = &mut self.sent[core as usize];
         let count = if sent.pending > 0 { self.seat.collect(core)? } else { 0 };
         sent.pending -= count;
-        self.redeem_loose(core, if missed { u64::MAX } else { count });
         Ok(count)
     }
 
-    /// Redeems so many of the jobs for which nobody asks, if their outcomes were collected.
-    fn redeem_loose(&mut self, core: u32, most: u64) {
-        let mut loose = std::mem::take(&mut self.sent[core as usize].loose);
+    /// Redeems so many of the submissions for which nobody asks, if their outcomes were collected. Whether the journal had room.
+    fn redeem_loose(&mut self, core: u32, most: u64) -> bool {
         let (mut at, mut left) = (0, most);
-        while left > 0 && !self.misses && at < loose.len() {
-            if self.stays_loose(&loose[at]) {
-                at += 1;
-            } else {
-                loose.remove(at);
-                left -= 1;
+        while left > 0 {
+            let Some(ticket) = self.sent[core as usize].loose.get(at).map(Ticket::again) else { return true };
+            match self.redeem(&ticket) {
+                Err(Error::JournalFull) => return false,
+                Err(Error::Pending) => at += 1,
+                _ => {
+                    self.sent[core as usize].loose.remove(at);
+                    left -= 1;
+                }
             }
         }
-        self.sent[core as usize].loose = loose;
-    }
-
-    /// Whether the outcome of this job is still to be asked for.
-    fn stays_loose(&mut self, ticket: &Ticket) -> bool {
-        match self.redeem(ticket) {
-            Err(Error::JournalFull) => {
-                self.misses = true;
-                true
-            }
-            Err(Error::Pending) => true,
-            _ => false,
-        }
+        true
     }
 
     pub(super) fn redeem(&mut self, ticket: &Ticket) -> Result<Outcome<J>, Error> {
@@ -186,17 +177,15 @@ impl<J> Actor<J> {
     }
 
     pub(super) fn detach(&mut self, ticket: Ticket) -> Result<(), Error> {
-        if ticket.place.is_none() && ticket.house == self.lanes.house() {
-            return self.seat.detach(ticket.name);
+        let is_order = ticket.place.is_none() && ticket.house == self.lanes.house();
+        let told = if is_order { self.seat.detach(ticket.name) } else { self.redeem(&ticket).map(|_| ()) };
+        if !matches!(told, Err(Error::Pending | Error::JournalFull)) {
+            return told;
         }
-        match self.redeem(&ticket) {
-            Ok(_) => Ok(()),
-            Err(Error::Pending) => {
-                self.sent[ticket.name.to as usize].loose.push_back(ticket);
-                Ok(())
-            }
-            Err(error) => Err(error),
-        }
+        // The next collection looks for it, also if its outcome was collected before.
+        self.misses |= told == Err(Error::JournalFull);
+        self.sent[ticket.name.to as usize].loose.push_back(ticket);
+        Ok(())
     }
 
     /// Whether one more task may go to this core: on the link to the own core a place stays free for wakes.
@@ -204,9 +193,9 @@ impl<J> Actor<J> {
         to != self.number || self.sent[to as usize].loose.len() + 1 < self.lanes.places() as usize
     }
 
-    pub(super) fn sleep(&mut self, is_awake: impl FnOnce() -> bool) {
+    pub(super) fn sleep(&mut self) {
         let Actor { seat, number, lanes, .. } = self;
-        lanes.sleep(*number, || is_awake() || seat.shows());
+        lanes.sleep(*number, || seat.shows());
     }
 }
 
@@ -285,11 +274,12 @@ macro_rules! submissions {
             self.$($entered)+.redeem(ticket)
         }
 
-        /// Nobody will ask for the outcome of a submission. A job that comes back is dropped.
+        /// Nobody will ask for the outcome of a submission. A job that comes back is dropped. If the journal is too full for the note, `collect`
+        /// makes it later.
         ///
         /// # Errors
         ///
-        /// `JournalFull`, `Unknown`, `Gone`.
+        /// `Unknown`, `Gone`.
         pub fn detach(&mut self, ticket: Ticket) -> Result<(), Error> {
             self.$($entered)+.detach(ticket)
         }
@@ -306,6 +296,7 @@ macro_rules! submissions {
 
         /// Whenever the journal is full from now on, the text of its notes goes to `takes`, and the call that needs room is made again. So
         /// `JournalFull` comes only if the journal has room for fewer notes than one call may need. What is kept at the end goes out by `pass_on`.
+        /// If `takes` panics, the text goes first to who takes notes the next time, or out by `pass_on`.
         pub fn keep_notes_by(&mut self, takes: impl FnMut(&[u8]) + Send + 'static) {
             self.$($entered)+.seat.keep_notes_by(Box::new(takes));
         }
@@ -331,7 +322,7 @@ impl<J> Outside<J> {
         loop {
             actor.collect()?;
             match actor.redeem(ticket) {
-                Err(Error::Pending) => actor.sleep(|| false),
+                Err(Error::Pending) => actor.sleep(),
                 told => return told,
             }
         }

@@ -3,10 +3,11 @@
 use super::actor::{submissions, Actor, Ticket};
 use super::names::{Name, Outcome, Step};
 use super::seat::{Next, Settled};
+use crate::clock::{wall_clock, Clock};
 use crate::core::Mode;
 use crate::error::Error;
-use crate::house::{wall_clock, Clock};
 use crate::stats::{CoreStats, QueueStats};
+use std::collections::VecDeque;
 use std::marker::PhantomData;
 use std::panic::catch_unwind;
 
@@ -42,6 +43,8 @@ pub struct Core<J> {
     clock: Clock,
     // It may be closed: it was when it was asked last, or took in something since.
     may_be_closed: bool,
+    // Of each core what tasks of this one spawned there and isn't submitted yet, with its queue.
+    pub(super) spawned: Vec<VecDeque<(u32, J)>>,
 }
 
 /// What a job may do while it runs. It stays on the thread of its core.
@@ -169,15 +172,10 @@ where
     Ok(true)
 }
 
-/// Shuts the gates of a closed core: its own last, once no job is inside, since its jobs may still have to be woken, and not at all if more is to go
-/// through it. Whether one was shut, or `Open`.
-fn shut<J>(actor: &mut Actor<J>, needs_own_gate: bool) -> Result<bool, Error> {
-    let (own, cores) = (actor.number, actor.lanes.cores());
+/// Shuts the gates of these actors in a closed core. Whether one was shut, or `Open`.
+fn shut<J>(actor: &mut Actor<J>, senders: impl Iterator<Item = u32>) -> Result<bool, Error> {
     let mut did = false;
-    for sender in (0..=cores).rev() {
-        if sender == own && (needs_own_gate || actor.seat.stats().held > 0) {
-            continue;
-        }
+    for sender in senders {
         match actor.seat.shut(sender) {
             Ok(()) => did = true,
             Err(Error::Shut) => {}
@@ -191,7 +189,8 @@ impl<J> Core<J> {
     submissions!(actor.enter());
 
     pub(super) fn new(actor: Actor<J>) -> Core<J> {
-        Core { actor, clock: wall_clock, may_be_closed: true }
+        let spawned = (0..actor.lanes.cores()).map(|_| VecDeque::new()).collect();
+        Core { actor, clock: wall_clock, may_be_closed: true, spawned }
     }
 
     /// Runs are measured by this clock from now on. At first it is the wall's time.
@@ -217,8 +216,8 @@ impl<J> Core<J> {
         Ok(turn)
     }
 
-    /// Delivers one order of each actor. If the core is closed, it shuts the gates first: its own last, once no job is inside, since its jobs
-    /// may still have to be woken. Whether anything happened.
+    /// Delivers one order of each actor. If the core is closed, it shuts the gates of the others first, and its own once no actor's order shows
+    /// and no job is inside, since its jobs may still have to be woken. Whether anything happened.
     ///
     /// # Errors
     ///
@@ -230,21 +229,27 @@ impl<J> Core<J> {
     /// The same, and its own gate stays open if more is to go through it. Of each actor it delivers so many orders at most.
     fn deliver_with(&mut self, needs_own_gate: bool, most: u32) -> Result<bool, Error> {
         let mut actor = self.actor.enter();
+        let (own, cores) = (actor.number, actor.lanes.cores());
         let mut did = false;
+        let mut may_shut_own = self.may_be_closed && !needs_own_gate;
         if self.may_be_closed {
-            match shut(&mut actor, needs_own_gate) {
-                Err(Error::Open) => self.may_be_closed = false,
+            match shut(&mut actor, (0..=cores).filter(|sender| *sender != own)) {
+                Err(Error::Open) => (self.may_be_closed, may_shut_own) = (false, false),
                 told => did = told?,
             }
         }
-        for sender in 0..=actor.lanes.cores() {
-            for _ in 0..most {
-                if !actor.seat.deliver(sender)? {
-                    break;
-                }
+        for sender in 0..=cores {
+            let mut left = most;
+            while left > 0 && actor.seat.deliver(sender)? {
+                left -= 1;
                 self.may_be_closed = true;
                 did = true;
             }
+            // Else there may be more.
+            may_shut_own &= left > 0;
+        }
+        if may_shut_own && actor.seat.stats().held == 0 {
+            did |= shut(&mut actor, std::iter::once(own))?;
         }
         Ok(did)
     }
@@ -292,11 +297,7 @@ impl<J> Core<J> {
 
     /// Sleeps until another actor submits to this core or gives it an outcome, for 10 ms at most.
     pub fn sleep(&mut self) {
-        self.sleep_unless(|| false);
-    }
-
-    pub(super) fn sleep_unless(&mut self, is_awake: impl FnOnce() -> bool) {
-        self.actor.enter().sleep(is_awake);
+        self.actor.enter().sleep();
     }
 
     /// Closes the core by itself.

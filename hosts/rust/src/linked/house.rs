@@ -87,21 +87,24 @@ impl<J> House<J> {
     ///
     /// # Errors
     ///
-    /// `NoActor` if they aren't the cores of this house, each once, or the actor is another house's; `NotDrained`. Nothing changes.
+    /// `NoActor` if they aren't the cores of this house, each once, or the actor is another house's; `NotDrained`. Then nothing changes.
+    ///
+    /// Else the first code of `fx_house_end` that isn't `FX_OK`, such as `NoMemory`. Then the actors before that have ended: a call on one of them
+    /// is answered `Ended`, and `stats` panics. The house ends with the others if this is called again with all of them.
     pub fn end(mut self, mut cores: Vec<Core<J>>, mut outside: Outside<J>) -> Ended<J> {
         cores.sort_by_key(Core::number);
         let actors = || cores.iter().map(|core| &core.actor).chain([&outside.actor]);
         if actors().count() as u32 != self.lanes.cores() + 1 || !actors().all(|actor| Arc::ptr_eq(&actor.lanes, &self.lanes)) {
             return Err((Error::NoActor, self, cores, outside));
         }
-        if !cores.iter_mut().all(Core::is_drained) {
+        if !cores.iter_mut().all(|core| core.actor.seat.has_ended() || core.is_drained()) {
             return Err((Error::NotDrained, self, cores, outside));
         }
-        let seats = cores.iter_mut().map(|core| &mut core.actor.seat).chain([&mut outside.actor.seat]);
-        for seat in seats {
-            seat.end(&mut self.handle.0).expect("a drained core of this house ends");
+        let told = cores.iter_mut().map(|core| &mut core.actor.seat).chain([&mut outside.actor.seat]).try_for_each(|it| it.end(&mut self.handle.0));
+        match told {
+            Ok(()) => Ok(Journals { handle: self.handle }),
+            Err(error) => Err((error, self, cores, outside)),
         }
-        Ok(Journals { handle: self.handle })
     }
 }
 
@@ -153,5 +156,51 @@ impl Journals {
                 return Ok(String::from_utf8(text).expect("a journal is ASCII"));
             }
         }
+    }
+}
+
+#[cfg(test)]
+mod tests {
+    use super::{Config, House, Opened};
+    use crate::error::Error;
+    use crate::core::Mode;
+
+    /// A house of three cores that are drained.
+    fn drained() -> Result<Opened<u64>, Error> {
+        let (house, mut cores, outside) = House::open(&Config { cores: 3, places: 4, notes: 64, ..Config::default() })?;
+        for core in &mut cores {
+            core.close(Mode::Finish)?;
+            core.deliver()?;
+        }
+        Ok((house, cores, outside))
+    }
+
+    #[test]
+    fn the_first_code_that_refuses_an_end_is_answered() -> Result<(), Error> {
+        let (house, mut cores, outside) = drained()?;
+        // Core 1 ends nowhere, so its journal is missed behind that of core 0.
+        let (mut other, others, _outside) = drained()?;
+        let lost = &mut cores[1].actor.seat;
+        others.into_iter().next().map(|mut first| first.actor.seat.end(&mut other.handle.0)).expect("three cores")?;
+        lost.end(&mut other.handle.0)?;
+        let (error, house, mut cores, outside) = house.end(cores, outside).err().expect("core 1 is missed");
+        assert_eq!((error, cores.len()), (Error::NoActor, 3));
+        assert_eq!(cores[0].close(Mode::Return), Err(Error::Ended));
+        assert_eq!(cores[0].deliver(), Err(Error::Ended));
+        assert!(!cores[0].is_drained() && cores[2].is_drained());
+        let (error, ..) = house.end(cores, outside).err().expect("core 1 is missed");
+        assert_eq!(error, Error::NoActor);
+        Ok(())
+    }
+
+    #[test]
+    fn a_house_ends_with_what_has_not_ended() -> Result<(), Error> {
+        let (mut house, mut cores, outside) = drained()?;
+        // As an end leaves it that found no memory behind core 1.
+        for core in &mut cores[..2] {
+            core.actor.seat.end(&mut house.handle.0)?;
+        }
+        assert!(house.end(cores, outside).map_err(|(error, ..)| error)?.audit()?.is_sound);
+        Ok(())
     }
 }

@@ -1,8 +1,10 @@
 //! What all actors of a house share: where the jobs stand, and the bells of those that sleep.
 
+use super::names::Name;
 use std::cell::UnsafeCell;
+use std::collections::VecDeque;
 use std::sync::atomic::{AtomicBool, AtomicU64, Ordering};
-use std::sync::{Condvar, Mutex, MutexGuard, PoisonError};
+use std::sync::{Arc, Condvar, Mutex, MutexGuard, PoisonError};
 use std::time::Duration;
 
 fn lock<T>(of: &Mutex<T>) -> MutexGuard<'_, T> {
@@ -17,10 +19,37 @@ struct Place<J>(UnsafeCell<Option<J>>);
 
 /// Rung where an actor that sleeps has something to do.
 #[derive(Default)]
-struct Bell {
+pub(super) struct Bell {
     sleeps: AtomicBool,
     rung: Mutex<bool>,
     rings: Condvar,
+    // The tasks of this core whose wakers were called, and to whom no wake was sent yet.
+    woken: Mutex<VecDeque<Name>>,
+}
+
+impl Bell {
+    /// Tells the actor that there is something to do.
+    fn ring(&self) {
+        if self.sleeps.load(Ordering::SeqCst) {
+            *lock(&self.rung) = true;
+            self.rings.notify_one();
+        }
+    }
+
+    /// Tells the core that the waker of this task was called.
+    pub(super) fn list(&self, name: Name) {
+        lock(&self.woken).push_back(name);
+        self.ring();
+    }
+
+    /// The task whose waker was called first. It is told until `forget_first`, which the core calls once it sent the wake.
+    pub(super) fn first_woken(&self) -> Option<Name> {
+        lock(&self.woken).front().copied()
+    }
+
+    pub(super) fn forget_first(&self) {
+        lock(&self.woken).pop_front();
+    }
 }
 
 /// The places of a house, a lane of them from each actor to each core, and a bell for each actor.
@@ -29,7 +58,8 @@ pub(super) struct Lanes<J> {
     cores: u32,
     places: u32,
     lanes: Vec<Box<[Place<J>]>>,
-    bells: Vec<Bell>,
+    // Wakers have them, too. They have no jobs, so neither keeps the other, and who calls a waker drops no job.
+    bells: Arc<[Bell]>,
 }
 
 // SAFETY: each place is one actor's at a time, by the rule of its type. The library hands orders and outcomes over by sequentially consistent
@@ -79,22 +109,23 @@ impl<J> Lanes<J> {
         unsafe { std::mem::replace(&mut *place.0.get(), job) }
     }
 
-    /// Tells this actor that there is something to do.
-    pub(super) fn ring(&self, actor: u32) {
-        let bell = &self.bells[actor as usize];
-        if bell.sleeps.load(Ordering::SeqCst) {
-            *lock(&bell.rung) = true;
-            bell.rings.notify_one();
-        }
+    /// The bells of all actors, by their numbers.
+    pub(super) fn bells(&self) -> &Arc<[Bell]> {
+        &self.bells
     }
 
-    /// Sleeps until the bell of this actor is rung, unless `is_awake` finds that there is something to do.
-    pub(super) fn sleep(&self, actor: u32, is_awake: impl FnOnce() -> bool) {
+    /// Tells this actor that there is something to do.
+    pub(super) fn ring(&self, actor: u32) {
+        self.bells[actor as usize].ring();
+    }
+
+    /// Sleeps until the bell of this actor is rung, unless a waker was called or its seat shows something.
+    pub(super) fn sleep(&self, actor: u32, shows: impl FnOnce() -> bool) {
         // No clause says that a link shows at once what the other end did, so a sleeper looks again after this.
         const LONGEST: Duration = Duration::from_millis(10);
         let bell = &self.bells[actor as usize];
         bell.sleeps.store(true, Ordering::SeqCst);
-        if !is_awake() {
+        if lock(&bell.woken).is_empty() && !shows() {
             let rung = lock(&bell.rung);
             let (mut rung, _) = bell.rings.wait_timeout_while(rung, LONGEST, |rung| !*rung).unwrap_or_else(PoisonError::into_inner);
             *rung = false;

@@ -5,7 +5,8 @@ use crate::core::Mode;
 use crate::error::{refused, Error};
 use crate::raw;
 use crate::stats::{CoreStats, QueueStats};
-use std::sync::atomic::{AtomicBool, Ordering};
+use std::cell::Cell;
+use std::sync::atomic::{AtomicU64, Ordering};
 
 /// What comes next, with the host's number of a job.
 pub(super) enum Next {
@@ -29,9 +30,10 @@ pub(super) enum Told {
     Answered(u32, u32),
 }
 
-/// Who takes the notes that a seat hands on, and where their text stands meanwhile.
+/// Who takes the notes that a seat hands on.
 struct Keeper {
     takes: Box<dyn FnMut(&[u8]) + Send>,
+    // What was handed on and isn't taken, since `takes` panicked.
     text: Vec<u8>,
 }
 
@@ -40,21 +42,57 @@ pub(super) struct Seat {
     handle: raw::fx_seat,
     // Whoever takes the notes if the journal is full.
     keeper: Option<Keeper>,
-    // The library asks that a lock, the start or the join of a thread, or a sequentially consistent atomic stands between two calls on
-    // different threads. A channel may hand a value over by less. So whoever uses the seat begins and ends with such an atomic of it.
-    order: AtomicBool,
+    // The thread that used the seat last. The library asks that a lock, the start or the join of a thread, or a sequentially consistent atomic
+    // stands between two calls on different threads. A channel may hand a value over by less. So another thread begins with such an atomic,
+    // which finds what the last one left behind its calls.
+    user: AtomicU64,
 }
 
-// SAFETY: the handle is of this seat alone, `&mut self` keeps a second call away, and `order` stands between calls on different threads.
+// SAFETY: the handle is of this seat alone, `&mut self` keeps a second call away, and an exchange of `user` stands between calls on different
+// threads.
 unsafe impl Send for Seat {}
+
+/// A number of this thread, which no other has.
+#[inline]
+fn this_thread() -> u64 {
+    static THREADS: AtomicU64 = AtomicU64::new(0);
+    thread_local! {
+        static NUMBER: Cell<u64> = const { Cell::new(0) };
+    }
+    NUMBER.with(|number| {
+        if number.get() == 0 {
+            number.set(THREADS.fetch_add(1, Ordering::Relaxed) + 1);
+        }
+        number.get()
+    })
+}
+
+/// Puts the text of the notes that the journal of a seat keeps behind this text.
+fn pass_on(seat: &mut raw::fx_seat, text: &mut Vec<u8>) -> Result<(), Error> {
+    loop {
+        let (had, room) = (text.len(), text.capacity() - text.len());
+        let mut count = 0;
+        // SAFETY: as below; behind what it has the vector has room for as many bytes as the call is told.
+        match unsafe { raw::fx_seat_pass_on(seat, text.as_mut_ptr().add(had), room, &mut count) } {
+            raw::FX_SHORT => text.reserve(count as usize),
+            code => {
+                refused(code)?;
+                // SAFETY: the call wrote so many bytes there.
+                unsafe { text.set_len(had + count as usize) };
+                return Ok(());
+            }
+        }
+    }
+}
 
 // In each call below the handle is that of an open seat and of this `Seat` alone, and every pointer is to a local value that outlives the call.
 // The calls of one thread stand between `enter` and `leave`.
 impl Seat {
     /// The next seat of a house, with its number.
     pub(super) fn take(house: &mut raw::fx_house) -> Result<(u32, Seat), Error> {
-        let mut seat = Seat { handle: raw::fx_seat { at: std::ptr::null_mut() }, keeper: None, order: AtomicBool::new(false) };
+        let mut seat = Seat { handle: raw::fx_seat { at: std::ptr::null_mut() }, keeper: None, user: AtomicU64::new(0) };
         let mut actor = 0;
+        seat.enter();
         // SAFETY: the house is open, and the seat is empty.
         refused(seat.call(|it| unsafe { raw::fx_house_take(house, it, &mut actor) }))?;
         seat.leave();
@@ -64,17 +102,28 @@ impl Seat {
     /// Stands before the calls of a thread.
     #[inline]
     pub(super) fn enter(&self) {
-        self.order.load(Ordering::SeqCst);
+        let thread = this_thread();
+        if self.user.load(Ordering::Relaxed) != thread {
+            self.user.swap(thread, Ordering::SeqCst);
+        }
     }
 
-    /// Stands behind them.
+    /// Stands behind them, for the thread that finds it.
     #[inline]
     pub(super) fn leave(&self) {
-        self.order.store(true, Ordering::SeqCst);
+        self.user.store(self.user.load(Ordering::Relaxed), Ordering::Release);
     }
 
-    /// Hands the journal of this seat to its house.
+    /// Whether its journal went to its house.
+    pub(super) fn has_ended(&self) -> bool {
+        self.handle.at.is_null()
+    }
+
+    /// Hands the journal of this seat to its house, if it didn't before.
     pub(super) fn end(&mut self, house: &mut raw::fx_house) -> Result<(), Error> {
+        if self.has_ended() {
+            return Ok(());
+        }
         self.enter();
         // SAFETY: the house is open, and the seat is of it.
         refused(self.call(|it| unsafe { raw::fx_house_end(house, it) }))
@@ -90,39 +139,27 @@ impl Seat {
         code
     }
 
-    /// Whenever the journal is full, its notes go to whoever takes them.
+    /// Whenever the journal is full, its notes go to whoever takes them, behind those that who took them before didn't take.
     pub(super) fn keep_notes_by(&mut self, takes: Box<dyn FnMut(&[u8]) + Send>) {
-        self.keeper = Some(Keeper { takes, text: Vec::new() });
+        let text = self.keeper.take().map_or_else(Vec::new, |it| it.text);
+        self.keeper = Some(Keeper { takes, text });
     }
 
-    /// Hands the notes to whoever takes them, if there is one.
+    /// Hands the notes to whoever takes them, if there is one. A panic leaves their text where it is: it goes first the next time.
     fn hand_on(&mut self) -> Result<(), Error> {
-        let Some(mut keeper) = self.keeper.take() else { return Err(Error::JournalFull) };
-        let told = self.pass_on(&mut keeper.text);
-        if told.is_ok() {
-            (keeper.takes)(&keeper.text);
-        }
-        keeper.text.clear();
-        self.keeper = Some(keeper);
-        told
+        let Some(Keeper { takes, text }) = &mut self.keeper else { return Err(Error::JournalFull) };
+        pass_on(&mut self.handle, text)?;
+        takes(text);
+        text.clear();
+        Ok(())
     }
 
-    /// Puts the text of the notes that the journal keeps behind this text.
+    /// Puts the text of the notes that the journal keeps behind this text, and before it what wasn't taken.
     pub(super) fn pass_on(&mut self, text: &mut Vec<u8>) -> Result<(), Error> {
-        loop {
-            let (had, room) = (text.len(), text.capacity() - text.len());
-            let mut count = 0;
-            // SAFETY: as above; behind what it has the vector has room for as many bytes as the call is told.
-            match unsafe { raw::fx_seat_pass_on(&mut self.handle, text.as_mut_ptr().add(had), room, &mut count) } {
-                raw::FX_SHORT => text.reserve(count as usize),
-                code => {
-                    refused(code)?;
-                    // SAFETY: the call wrote so many bytes there.
-                    unsafe { text.set_len(had + count as usize) };
-                    return Ok(());
-                }
-            }
-        }
+        let Some(keeper) = &mut self.keeper else { return pass_on(&mut self.handle, text) };
+        pass_on(&mut self.handle, &mut keeper.text)?;
+        text.append(&mut keeper.text);
+        Ok(())
     }
 
     /// A call that tells the name of a submission.
@@ -179,10 +216,13 @@ impl Seat {
         Ok(count)
     }
 
+    /// The number of the submission. Who submits knows the rest of its name.
     #[inline]
-    pub(super) fn submit(&mut self, to: u32, queue: u32, job: u32) -> Result<Name, Error> {
+    pub(super) fn submit(&mut self, to: u32, queue: u32, job: u32) -> Result<u64, Error> {
+        let mut name = raw::fx_name::default();
         // SAFETY: as above.
-        self.named(|it, name| unsafe { raw::fx_seat_submit(it, to, queue, u64::from(job), name) })
+        refused(self.call(|it| unsafe { raw::fx_seat_submit(it, to, queue, u64::from(job), &mut name) }))?;
+        Ok(name.number)
     }
 
     pub(super) fn create(&mut self, to: u32, shares: u32) -> Result<Name, Error> {

@@ -1,17 +1,18 @@
 //! Futures on the cores of a house.
 
 use super::actor::{Outside, Ticket};
-use super::core::{Core, Cx};
-use super::lanes::Lanes;
+use super::core::Core;
+use super::lanes::Bell;
 use super::names::{Name, Step};
 use crate::error::Error;
 use std::cell::RefCell;
 use std::collections::VecDeque;
 use std::fmt;
 use std::future::Future;
+use std::panic::{catch_unwind, resume_unwind, AssertUnwindSafe};
 use std::pin::Pin;
 use std::sync::atomic::{AtomicBool, Ordering};
-use std::sync::{Arc, Mutex, MutexGuard, PoisonError, Weak};
+use std::sync::{Arc, Mutex, MutexGuard, PoisonError};
 use std::task::{Context, Poll, Wake, Waker};
 
 type BoxedFuture = Pin<Box<dyn Future<Output = ()> + Send>>;
@@ -22,19 +23,12 @@ pub struct Task {
     waking: Option<Arc<Waking>>,
 }
 
-/// The wakers of a core that were called since it looked.
-struct Woken {
-    list: Mutex<VecDeque<Arc<Waking>>>,
-    core: u32,
-    // Weak, since the lanes have tasks, whose wakers have this.
-    lanes: Weak<Lanes<Task>>,
-}
-
 /// The waker of one task.
 struct Waking {
     name: Name,
-    is_listed: AtomicBool,
-    woken: Arc<Woken>,
+    // Whether it was called since the task was polled last.
+    is_called: AtomicBool,
+    bells: Arc<[Bell]>,
 }
 
 fn lock<T>(of: &Mutex<T>) -> MutexGuard<'_, T> {
@@ -43,13 +37,12 @@ fn lock<T>(of: &Mutex<T>) -> MutexGuard<'_, T> {
 
 impl Wake for Waking {
     fn wake(self: Arc<Self>) {
-        if self.is_listed.swap(true, Ordering::AcqRel) {
-            return;
-        }
-        let woken = Arc::clone(&self.woken);
-        lock(&woken.list).push_back(self);
-        if let Some(lanes) = woken.lanes.upgrade() {
-            lanes.ring(woken.core);
+        self.wake_by_ref();
+    }
+
+    fn wake_by_ref(self: &Arc<Self>) {
+        if !self.is_called.swap(true, Ordering::AcqRel) {
+            self.bells[self.name.to as usize].list(self.name);
         }
     }
 }
@@ -132,8 +125,12 @@ impl Task {
     }
 
     /// One run.
-    fn poll(&mut self, name: Name, woken: &Arc<Woken>) -> Step {
-        let waking = self.waking.get_or_insert_with(|| Arc::new(Waking { name, is_listed: AtomicBool::new(false), woken: Arc::clone(woken) }));
+    fn poll(&mut self, name: Name, bells: &Arc<[Bell]>) -> Step {
+        // A task that came back may be submitted again, under another name and to another house.
+        let kept = self.waking.take().filter(|it| it.name == name && Arc::ptr_eq(&it.bells, bells));
+        let waking = self.waking.insert(kept.unwrap_or_else(|| Arc::new(Waking { name, is_called: AtomicBool::new(false), bells: Arc::clone(bells) })));
+        // This poll sees what was done before each call of the waker until now. One that comes later has a poll of its own.
+        waking.is_called.swap(false, Ordering::AcqRel);
         let waker = Waker::from(Arc::clone(waking));
         match self.future.as_mut().poll(&mut Context::from_waker(&waker)) {
             Poll::Ready(()) => Step::Done(0),
@@ -168,79 +165,11 @@ pub async fn yield_now() {
     .await
 }
 
-/// What a core has of its tasks between two rounds.
-struct Tasks {
-    woken: Arc<Woken>,
-    // What was spawned and isn't submitted yet, by its core, with its queue.
-    spawned: Vec<VecDeque<(u32, Task)>>,
-}
-
-impl Tasks {
-    fn of(core: &Core<Task>) -> Tasks {
-        let woken = Woken { list: Mutex::default(), core: core.number(), lanes: Arc::downgrade(&core.actor.lanes) };
-        let spawned = (0..core.actor.lanes.cores()).map(|_| VecDeque::new()).collect();
-        Tasks { woken: Arc::new(woken), spawned }
-    }
-
-    /// Sends a wake for each task whose waker was called. Those for which the link has no place wait.
-    fn send_wakes(&self, core: &mut Core<Task>) -> Result<bool, Error> {
-        let mut did = false;
-        loop {
-            let Some(next) = lock(&self.woken.list).pop_front() else { return Ok(did) };
-            // A waker that is called from here on is listed anew.
-            next.is_listed.store(false, Ordering::Release);
-            match core.wake(next.name) {
-                Ok(ticket) => core.detach(ticket)?,
-                // The core takes no order any more: its gate is shut.
-                Err(Error::Closed) => {}
-                Err(Error::Full) => {
-                    if !next.is_listed.swap(true, Ordering::AcqRel) {
-                        lock(&self.woken.list).push_front(next);
-                    }
-                    return Ok(did);
-                }
-                Err(error) => return Err(error),
-            }
-            did = true;
-        }
-    }
-
-    /// Submits what was spawned. A task that is refused for good is dropped, which its `Join` tells.
-    fn submit_spawned(&mut self, core: &mut Core<Task>) -> Result<bool, Error> {
-        let mut did = false;
-        for (to, spawned) in (0..).zip(&mut self.spawned) {
-            while core.actor.may_submit_task(to) {
-                let Some((queue, task)) = spawned.pop_front() else { break };
-                match core.submit(to, queue, task) {
-                    Ok(ticket) => core.detach(ticket)?,
-                    Err((Error::Full, task)) => {
-                        spawned.push_front((queue, task));
-                        break;
-                    }
-                    Err((Error::JournalFull, _)) => return Err(Error::JournalFull),
-                    Err(_) => {}
-                }
-                did = true;
-            }
-        }
-        Ok(did)
-    }
-
-    fn poll(&mut self, task: &mut Task, cx: &Cx<'_, Task>) -> Step {
-        SPAWNED.set(Some(VecDeque::new()));
-        let step = task.poll(cx.name(), &self.woken);
-        for (to, queue, task) in SPAWNED.take().into_iter().flatten() {
-            // There is no other core: the task is dropped.
-            if let Some(spawned) = self.spawned.get_mut(to as usize) {
-                spawned.push_back((queue, task));
-            }
-        }
-        step
-    }
-}
-
 impl Core<Task> {
     /// Runs tasks until the core is drained. A core that has nothing to do sleeps. A panic of a task goes on after the task was dropped.
+    ///
+    /// Behind a panic or an error this may be called again, and goes on: each waker that was called still wakes its task, and what tasks spawned
+    /// is still submitted.
     ///
     /// # Errors
     ///
@@ -249,19 +178,73 @@ impl Core<Task> {
         if self.actor.lanes.places() < 2 {
             return Err(Error::BadNumber);
         }
-        let mut tasks = Tasks::of(self);
-        let own = self.number() as usize;
-        while !self.has_ended() || tasks.spawned.iter().any(|it| !it.is_empty()) {
-            let mut did = tasks.send_wakes(self)?;
-            let needs_own_gate = !tasks.spawned[own].is_empty();
-            did |= self.round_with(needs_own_gate, |task, cx| tasks.poll(task, cx))?;
-            did |= tasks.submit_spawned(self)?;
+        let bells = Arc::clone(self.actor.lanes.bells());
+        while !self.has_ended() || self.spawned.iter().any(|it| !it.is_empty()) {
+            let mut did = self.send_wakes(&bells[self.number() as usize])?;
+            did |= self.round_of_tasks(&bells)?;
+            did |= self.submit_spawned()?;
             if !did {
-                let woken = Arc::clone(&tasks.woken);
-                self.sleep_unless(|| !lock(&woken.list).is_empty());
+                self.sleep();
             }
         }
         Ok(())
+    }
+
+    /// Sends a wake for each task whose waker was called. Those for which the link or the journal has no place wait.
+    fn send_wakes(&mut self, bell: &Bell) -> Result<bool, Error> {
+        let mut did = false;
+        while let Some(name) = bell.first_woken() {
+            match self.wake(name) {
+                Ok(ticket) => {
+                    bell.forget_first();
+                    self.detach(ticket)?;
+                }
+                // The core takes no order any more: its gate is shut.
+                Err(Error::Closed) => bell.forget_first(),
+                Err(Error::Full) => break,
+                Err(error) => return Err(error),
+            }
+            did = true;
+        }
+        Ok(did)
+    }
+
+    /// One round. What its tasks spawned waits to be submitted, also if one of them panics.
+    fn round_of_tasks(&mut self, bells: &Arc<[Bell]>) -> Result<bool, Error> {
+        let needs_own_gate = !self.spawned[self.number() as usize].is_empty();
+        // A task may run another house on this thread.
+        let outer = SPAWNED.replace(Some(VecDeque::new()));
+        let ended = catch_unwind(AssertUnwindSafe(|| self.round_with(needs_own_gate, |task, cx| task.poll(cx.name(), bells))));
+        for (to, queue, task) in SPAWNED.replace(outer).into_iter().flatten() {
+            // There is no other core: the task is dropped.
+            if let Some(spawned) = self.spawned.get_mut(to as usize) {
+                spawned.push_back((queue, task));
+            }
+        }
+        ended.unwrap_or_else(|panic| resume_unwind(panic))
+    }
+
+    /// Submits what was spawned. A task that is refused for good is dropped, which its `Join` tells.
+    fn submit_spawned(&mut self) -> Result<bool, Error> {
+        let mut did = false;
+        for to in 0..self.actor.lanes.cores() {
+            while self.actor.may_submit_task(to) {
+                let Some((queue, task)) = self.spawned[to as usize].pop_front() else { break };
+                match self.submit(to, queue, task) {
+                    Ok(ticket) => self.detach(ticket)?,
+                    Err((error @ (Error::Full | Error::JournalFull), task)) => {
+                        self.spawned[to as usize].push_front((queue, task));
+                        if error == Error::Full {
+                            break;
+                        }
+                        return Err(error);
+                    }
+                    Err(_) => {}
+                }
+                did = true;
+            }
+        }
+        Ok(did)
     }
 }
 
@@ -275,5 +258,58 @@ impl Outside<Task> {
         let (task, join) = Task::new(future);
         let ticket = self.submit(core, queue, task).map_err(|(error, _)| error)?;
         Ok((ticket, join))
+    }
+}
+
+#[cfg(test)]
+mod tests {
+    use super::lock;
+    use crate::linked::{Config, House};
+    use crate::{Error, Mode};
+    use std::future::poll_fn;
+    use std::sync::{Arc, Mutex};
+    use std::task::{Poll, Waker};
+
+    #[test]
+    fn a_waker_that_is_kept_frees_what_it_has() -> Result<(), Error> {
+        let (house, mut cores, mut outside) = House::open(&Config { places: 4, ..Config::default() })?;
+        let bells = Arc::downgrade(cores[0].actor.lanes.bells());
+        let kept = Arc::new(Mutex::new(None::<Waker>));
+        let keeps = Arc::clone(&kept);
+        let (_, join) = outside.spawn(0, 0, poll_fn(move |cx| {
+            // It wakes itself in its last run, too.
+            cx.waker().wake_by_ref();
+            lock(&keeps).replace(cx.waker().clone()).map_or(Poll::Pending, |_| Poll::Ready(7))
+        }))?;
+        outside.close_all(Mode::Finish)?;
+        cores[0].run_tasks()?;
+        drop(house.end(cores, outside).map_err(|(error, ..)| error)?);
+        assert_eq!(join.take(), Some(Ok(7)));
+        let waker = lock(&kept).take().expect("it was polled");
+        for _ in 0..3 {
+            waker.wake_by_ref();
+        }
+        assert_eq!(bells.strong_count(), 1);
+        waker.wake();
+        assert_eq!(bells.strong_count(), 0);
+        Ok(())
+    }
+
+    #[test]
+    fn the_waker_of_a_task_that_never_ends_frees_what_it_has() -> Result<(), Error> {
+        let (house, mut cores, mut outside) = House::open(&Config { places: 4, notes: 16, ..Config::default() })?;
+        let bells = Arc::downgrade(cores[0].actor.lanes.bells());
+        let alive = Arc::new(());
+        let held = Arc::clone(&alive);
+        drop(outside.spawn(0, 0, poll_fn(move |cx| {
+            cx.waker().wake_by_ref();
+            let _held = &held;
+            Poll::<()>::Pending
+        }))?);
+        assert_eq!(cores[0].run_tasks(), Err(Error::JournalFull));
+        assert_eq!((bells.upgrade().is_some(), Arc::strong_count(&alive)), (true, 2));
+        drop((house, cores, outside));
+        assert_eq!((bells.strong_count(), Arc::strong_count(&alive)), (0, 1));
+        Ok(())
     }
 }

@@ -2,6 +2,7 @@ use Rattle.std.proofs.Common.{◌∙◌, ap, Some}
 use Rattle.fairexec_threads_script.specs.Limits.{AreTold, HasSpare}
 use Rattle.fairexec_threads.proofs.Answered.{answered}
 use Rattle.fairexec_threads.proofs.Opened.{opened}
+use Rattle.fairexec_threads.proofs.Polled.{polled}
 use Rattle.fairexec_threads.proofs.Running.{own}
 use Rattle.fairexec_threads.proofs.Sending.{offers_both, grows, started_of}
 use Rattle.fairexec_threads.proofs.Walked.{heard}
@@ -40,4 +41,5 @@ returns-clause-ok g c =
       opened = opened script.cores script.cap script.burst script.queues.items _ c.in_ok-house.house c.close_all.new.house _ c.in_ok-house.ensures.ok offers c.in-Ok.ensures;
       heard = heard script.cores script.cap script.burst script.queues.items _ c.in_ok-house.house c.close_all.new.house _ c.in_ok-house.ensures.ok offers c.in-Ok.ensures;
       answered = answered script.cores script.cap script.burst script.queues.items _ c.in_ok-house.house c.close_all.new.house _ c.in_ok-house.ensures.ok offers c.in-Ok.ensures;
+      polled = polled script.cores script.cap script.burst script.queues.items _ c.in_ok-house.house c.close_all.new.house _ c.in_ok-house.ensures.ok offers c.in-Ok.ensures;
     }

@@ -1,4 +1,4 @@
-use Rattle.std.proofs.Common.{rules, ◌*◌, ◌∙◌, ap, sym, subst, arith}
+use Rattle.std.proofs.Common.{rules, ◌∙◌, refl, ap, sym, subst}
 use Rattle.atomic_table.specs.Table.{opening}
 use Rattle.rt_jobs.specs.Ready.{HasReadyJob}
 use Rattle.rt_link.specs.Fits.{Fits}
@@ -10,7 +10,7 @@ use Rattle.rt_ring.proofs.link.lay.Goals as goal
 pub new-requires : goal.new-requires
 new-requires g c = let terms = c.args.terms.now in
     subst (λ slots. IsRing (Fits g.J.Task.meaning) (HasReadyJob g.J.Task.meaning) terms (opening (two_words terms.base terms.base) slots (first_view terms))) (sym c.in_ok-slots.ensures)
-    (starts (Fits g.J.Task.meaning) (HasReadyJob g.J.Task.meaning) terms (2 * terms.capacity) (omega arith) c.requires.0)
+    (starts (Fits g.J.Task.meaning) (HasReadyJob g.J.Task.meaning) terms terms.capacity refl c.requires.0)
 
 pub load-none_given-requires : goal.load-none_given-requires
 load-none_given-requires g c = let laid = c.in-Ok.ensures.ok.4 in (

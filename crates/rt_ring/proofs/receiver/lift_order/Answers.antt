@@ -3,7 +3,7 @@ use Rattle.rt_jobs.specs.Ready.{HasReadyJob}
 use Rattle.rt_link.specs.Fits.{Fits}
 use Rattle.rt_ring.proofs.Looking.{lifts_order}
 use Rattle.rt_ring.proofs.ReceiverSeat.{lift-order, lift-keeps}
-use Rattle.rt_ring.proofs.Fronts.{turned_slot, kept_slots}
+use Rattle.rt_ring.proofs.Fronts.{taken_slot, kept_slots}
 use Rattle.rt_ring.proofs.receiver.lift_order.Goals as goal
 
 pub load-given-requires : goal.load-given-requires
@@ -17,10 +17,10 @@ pub take_order-order-requires-clause-full :
     goal.take_order-order-requires-clause-full
 take_order-order-requires-clause-full g c =
     let t = lift-order _ c.args.seat.now.me c.load-given.new.seat.me c.load-given.result c.load-given.ensures.2 c.requires.receiver c.requires.seen in
-    (t.0, turned_slot _ _ _ _ _ _ c.load-given.new.seat.me c.turn.new.self.me t.2 c.turn.ensures.2 c.args.slot c.requires.slot)
+    (t.0, taken_slot _ _ _ _ c.load-given.new.seat.me t.2 c.args.slot c.requires.slot)
 
 pub returns-clause-receiver : goal.returns-clause-receiver
 returns-clause-receiver g c =
     let t = lift-order _ c.args.seat.now.me c.load-given.new.seat.me c.load-given.result c.load-given.ensures.2 c.requires.receiver c.requires.seen in
-    let kept = kept_slots _ _ _ _ _ _ c.load-given.new.seat.me c.turn.new.self.me t.2 c.turn.ensures.2 c.args.slot c.requires.slot _ c.take_order-order.new.seat.me c.turn-2.new.self.me c.take_order-order.ensures.left c.turn-2.ensures.2 in
-    lift-keeps _ c.args.seat.now.me c.load-given.new.seat.me c.load-given.result c.load-given.ensures.2 c.requires.receiver c.requires.seen c.args.slot c.turn-2.new.self.me c.requires.slot c.requires.owed kept
+    let kept = kept_slots _ _ _ _ c.load-given.new.seat.me t.2 c.args.slot c.requires.slot _ c.take_order-order.new.seat.me c.turn.new.self.me c.take_order-order.ensures.left c.turn.ensures.2 in
+    lift-keeps _ c.args.seat.now.me c.load-given.new.seat.me c.load-given.result c.load-given.ensures.2 c.requires.receiver c.requires.seen c.args.slot c.turn.new.self.me c.requires.slot c.requires.owed kept

@@ -1,5 +1,4 @@
-use Rattle.std.proofs.Common.{◌≡◌, map, refl, sym, ◌∙◌, ap, subst, arith}
-use Rattle.rt_watch.specs.declared.watcher.Watching.{Watching}
+use Rattle.std.proofs.Common.{refl, arith}
 use Rattle.rt_runtime.proofs.Watched.{comparing_more}
 use Rattle.rt_runtime.proofs.finishing.compare_all.Goals as goal
 

@@ -1,4 +1,4 @@
-use Rattle.rt_world_links.proofs.Words.{◌≡◌, ◌<◌, length, refl, sym, ◌∙◌, ap, subst, arith, vec_items, map-set, get_or-set_same, [], Fits, out_of, desk_of, owed_settled, row_of}
+use Rattle.rt_world_links.proofs.Words.{◌≡◌, ◌<◌, length, refl, sym, ◌∙◌, ap, subst, arith, map-set, get_or-set_same, [], Fits, out_of, desk_of, owed_settled, row_of}
 use Rattle.rt_journal_desk.specs.Posts.{AreOutsOf}
 use Rattle.rt_journal.specs.Turns.{IsPick}
 use Rattle.rt_world_links.specs.OneTurn.{PollsOn}
@@ -12,13 +12,13 @@ use Rattle.rt_world_links.proofs.turn.post_first.Goals.{After-index_mut}
 pub index_mut-requires : goal.index_mut-requires
 index_mut-requires g c =
     let there : c.args.number < length c.args.links.now = c.requires.beside.rows c.args.number (omega (arith, c.requires.number)) in
-    omega (arith, c.number.view_is, row_there vec_items c.links.inside.rows.items c.args.links.now c.links.view_is c.args.number there, c.links.inside.rows.ok.0)
+    omega (arith, c.number.view_is, row_there c.links.inside.rows.items c.args.links.now c.links.view_is c.args.number there)
 
 -- the row that is borrowed is the core's
 row : (g : Over) (c : After-index_mut g) → c.index_mut.result.now.items ≡ row_of c.args.number c.args.links.now
 row g c =
     let there : c.args.number < length c.args.links.now = c.requires.beside.rows c.args.number (omega (arith, c.requires.number)) in
-    row_lent vec_items c.links.inside.rows.items c.args.links.now c.links.view_is c.number.inside.0 (omega (arith, c.number.view_is, there)) c.index_mut.result.now c.index_mut.ensures.value
+    row_lent c.links.inside.rows.items c.args.links.now c.links.view_is c.number.inside.0 (omega (arith, c.number.view_is, there)) c.index_mut.result.now c.index_mut.ensures.value
     ∙ ap (λ at. row_of at c.args.links.now) c.number.view_is
 
 pub turn_posting-requires-clause-outs : goal.turn_posting-requires-clause-outs

@@ -6,7 +6,7 @@ use Rattle.rt_journal_tests.proofs.poster.Poster.new.Goals as goal
 pub invariant_of-result : goal.invariant_of-result
 invariant_of-result g c = (
   c.requires.alone,
-  rw (c.push_reserved.ensures.items, c.in_ok-outs.ensures.items) (outs_of_one (desk_of c.args.core) c.args.out c.requires.alone c.requires.beside c.requires.lane),
+  rw (c.sealed.ensures.items, c.push_reserved.ensures.items, c.in_ok-outs.ensures.items) (outs_of_one (desk_of c.args.core) c.args.out c.requires.alone c.requires.beside c.requires.lane),
   c.requires.own,
   c.requires.outside,
 )

@@ -1,4 +1,4 @@
-use Rattle.std.proofs.Common.{◌<◌, ◌∙◌, length, arith}
+use Rattle.std.proofs.Common.{◌<◌, length, arith}
 use Rattle.rt_runtime_worker.proofs.Rung.{one_more_again}
 use Rattle.rt_runtime_worker.proofs.bells.Bells.again.Goals as goal
 
@@ -10,7 +10,7 @@ loop-place-preserved c =
     c.loop-place.invariant.count c.loop-place.invariant.unrung c.loop-place.invariant.named c.loop-place.invariant.in_place in
     record {
       count = more.0;
-      capacity = c.push_reserved.ensures.capacity ∙ c.loop-place.invariant.capacity;
+      enough = omega (arith, c.push_reserved.ensures.capacity, c.loop-place.invariant.enough);
       unrung = more.1;
       named = more.2;
       in_place = more.3;

@@ -1,11 +1,11 @@
-use Rattle.std.proofs.Common.{◌≡◌, ◌+◌, length, map, replicate, take, vec_capacity}
+use Rattle.std.proofs.Common.{◌≡◌, ◌≤◌, length, map, replicate, take}
 use Rattle.rt_runtime_worker.specs.Bells.{AreInPlace}
 use Rattle.rt_runtime_worker.proofs.bells.Bells.again.Given as goal
 
 abbrev pub invariant-loop-place : goal.invariant-loop-place
 invariant-loop-place l = record {
   count : length l.bells.items ≡ l.place;
-  capacity : vec_capacity l.bells ≡ length l.self-inside.bells.items + 8;
+  enough : length l.self-inside.bells.items ≤ l.bells.cap;
   unrung : map (λ bell. bell.rings) l.bells.items ≡ replicate l.place 0;
   named : map (λ bell. bell.name) l.bells.items ≡ take l.place (map (λ bell. bell.name) l.self-inside.bells.items);
   in_place : AreInPlace l.bells.items;

@@ -1,11 +1,11 @@
-use Rattle.std.proofs.Common.{◌≡◌, ◌+◌, length, map, replicate, vec_capacity}
+use Rattle.std.proofs.Common.{◌≡◌, ◌+◌, length, map, replicate}
 use Rattle.rt_runtime_worker.specs.Bells.{AreInPlace}
 use Rattle.rt_runtime_worker.proofs.bells.Bells.open.Given as goal
 
 abbrev pub invariant-loop-actor : goal.invariant-loop-actor
 invariant-loop-actor l = record {
   count : length l.bells.items ≡ l.actor;
-  capacity : vec_capacity l.bells ≡ l.cores + 1 + 8;
+  capacity : l.bells.cap ≡ l.cores + 1 + 8;
   end : l.actor-end ≡ l.cores + 1;
   unrung : map (λ bell. bell.rings) l.bells.items ≡ replicate l.actor 0;
   in_place : AreInPlace l.bells.items;

@@ -1,5 +1,4 @@
-use Rattle.std.proofs.Common.{refl, sym, subst}
-use Rattle.rt_runtime_worker.specs.Serves.{ShowsNow}
+use Rattle.std.proofs.Common.{sym, subst}
 use Rattle.rt_runtime_worker.specs.Shown.{IsShown, Shows, TellsAlone, shown_of}
 use Rattle.rt_runtime_worker.proofs.Published.{shown_now}
 use Rattle.rt_runtime_worker.proofs.worker.Worker.show.Goals as goal

@@ -1,4 +1,4 @@
-use Rattle.rt_world.proofs.Words.{◌≡◌, ◌+◌, ◌<◌, refl, [], ◌∷◌, ◌++◌, length, sym, ◌∙◌, ap, subst, arith, ℕ, map, YieldsList-from_vec, YieldsList-turn, YieldsList-end}
+use Rattle.rt_world.proofs.Words.{◌≡◌, ◌+◌, ◌<◌, ◌≤◌, refl, [], ◌∷◌, ◌++◌, length, sym, ◌∙◌, ap, subst, arith, ℕ, map, YieldsList-from_vec, YieldsList-turn, YieldsList-end}
 use Rattle.rt_world.proofs.Words.{map-id, map-append, length-map, AreJoined, IsSound, assembly_of, Parts, world_of}
 use Rattle.rt_world.proofs.Gathered.{journals_of, gathered_count, gathered_are}
 use Rattle.rt_world.proofs.CoreSteps.{viewed, whole_is}
@@ -8,9 +8,16 @@ use Rattle.rt_world.proofs.model.World.into_assembly.Given.{Over}
 use Rattle.rt_world.proofs.model.World.into_assembly.Goals as goal
 use Rattle.rt_world.proofs.model.World.into_assembly.Goals.{In-None, After-push_reserved-2, After-of_burst}
 
+pub loop-core-init : goal.loop-core-init
+loop-core-init g c =
+    let none : c.self.inside.gathered.items ≡ [] = c.self.invariant.2.no_item in
+    let enough : c.self.inside.cores + 1 ≤ c.self.inside.gathered.cap = c.self.invariant.2.reserved in
+    let cores : c.self.inside.cores ≡ c.args.self.cores = ap (λ world. world.cores) c.self.view_is in
+    (c.opened-gathered.ensures.items ∙ none, omega (arith, c.opened-gathered.ensures.capacity, enough, cores))
+
 pub push_reserved-requires : goal.push_reserved-requires
 push_reserved-requires g c =
-    let all = YieldsList-from_vec {s = c.into_iter-core-iterator.result} c.self.inside.inside.items c.into_iter-core-iterator.ensures.into_iter_gives.0 (c.into_iter-core-iterator.ensures.into_iter_gives.1 ∙ c.self.inside.inside.ok.0) in
+    let all = rw c.opened-inside.ensures.items at (YieldsList-from_vec {s = c.into_iter-core-iterator.result} c.opened-inside.result.items c.into_iter-core-iterator.ensures.into_iter_gives.0 (c.into_iter-core-iterator.ensures.into_iter_gives.1 ∙ c.opened-inside.result.ok.0)) in
     let turn = YieldsList-turn all c.loop-core.yielded c.loop-core.core-iterator c.loop-core.yielded_by _ c.next.new.self c.in-Some.core c.in-Some.is c.next.ensures.steps in
     omega (
       arith,
@@ -25,7 +32,7 @@ push_reserved-requires g c =
 
 pub loop-core-preserved : goal.loop-core-preserved
 loop-core-preserved g c =
-    let all = YieldsList-from_vec {s = c.into_iter-core-iterator.result} c.self.inside.inside.items c.into_iter-core-iterator.ensures.into_iter_gives.0 (c.into_iter-core-iterator.ensures.into_iter_gives.1 ∙ c.self.inside.inside.ok.0) in
+    let all = rw c.opened-inside.ensures.items at (YieldsList-from_vec {s = c.into_iter-core-iterator.result} c.opened-inside.result.items c.into_iter-core-iterator.ensures.into_iter_gives.0 (c.into_iter-core-iterator.ensures.into_iter_gives.1 ∙ c.opened-inside.result.ok.0)) in
     let turn = YieldsList-turn all c.loop-core.yielded c.loop-core.core-iterator c.loop-core.yielded_by _ c.next.new.self c.in-Some.core c.in-Some.is c.next.ensures.steps in
     let there : length c.loop-core.yielded < c.self.inside.cores = omega (arith, turn.0, c.self.invariant.1.all_there.cores_are) in
     let whole = ap (λ core. core.journal.passed) (viewed c.self.invariant.1 (length c.loop-core.yielded) there c.in-Some.core refl turn.1) ∙ whole_is c.self.invariant.1 (length c.loop-core.yielded) there in
@@ -39,7 +46,7 @@ loop-core-preserved g c =
 -- the loop has gone over all cores
 all_yielded : (g : Over) (c : In-None g) → c.loop-core.yielded ≡ c.self.inside.inside.items
 all_yielded g c =
-    let all = YieldsList-from_vec {s = c.into_iter-core-iterator.result} c.self.inside.inside.items c.into_iter-core-iterator.ensures.into_iter_gives.0 (c.into_iter-core-iterator.ensures.into_iter_gives.1 ∙ c.self.inside.inside.ok.0) in
+    let all = rw c.opened-inside.ensures.items at (YieldsList-from_vec {s = c.into_iter-core-iterator.result} c.opened-inside.result.items c.into_iter-core-iterator.ensures.into_iter_gives.0 (c.into_iter-core-iterator.ensures.into_iter_gives.1 ∙ c.opened-inside.result.ok.0)) in
     let end = YieldsList-end all c.loop-core.yielded c.loop-core.core-iterator c.loop-core.yielded_by _ c.next.new.self c.in-None.is c.next.ensures.steps in
     sym (map-id c.loop-core.yielded) ∙ end.0
 

@@ -1,0 +1,128 @@
+-- Each wrong answer and each wrong end is refused.
+use Rattle.std.proofs.Common.{◌≡◌, inl, inr, [], ◌∷◌, ℕ, List, Some, None, Ok, Err, true, false, refl, sym, ap, arith, codes}
+use Rattle.clap.specs.Kinds.{IsAmong}
+use Rattle.clap.specs.declared.error.kind.ErrorKind.{ErrorKind}
+use Rattle.clap.specs.declared.error.kind.ErrorKind.TheVariants.{DisplayHelp, UnknownArgument}
+use Rattle.fair_args.specs.Refusals.{IsReason, IsTold, IsWrong}
+use Rattle.fair_args.specs.declared.unasked.Unasked.{Unasked}
+use Rattle.fair_args.specs.declared.unasked.Unasked.TheVariants as unasked
+use Rattle.fairexec_args.specs.declared.asked.What.{What}
+use Rattle.fairexec_args.specs.declared.asked.What.TheVariants.{Run, Threads, Audit}
+use Rattle.fairexec_report.proofs.TextsRefused.{texts_refused}
+use Rattle.fairexec_report.specs.VerdictTexts.{is_sound, verdict_text}
+use Rattle.fairexec_run.proofs.OutputsRefused.{outputs_refused}
+use Rattle.fairexec_threads.proofs.RunsRefused.{runs_refused}
+use Rattle.fairexec_threads_script.specs.Faults.{status_of as threads_status}
+use Rattle.fairexec_threads_script.specs.declared.fault.ThreadsFault.TheVariants.{Of, Thread}
+use Rattle.rt_audit.specs.declared.judge.Verdict.{Verdict}
+use Rattle.rt_audit.specs.declared.judge.Verdict.TheVariants.{Sound, Fault}
+use Rattle.rt_text.specs.Statuses.{status_of}
+use Rattle.rt_text.specs.declared.fault.Fault.TheVariants.{Text, Read, Write, Memory}
+use Rattle.rt_text.specs.declared.status.Status.{Status}
+use Rattle.rt_text.specs.declared.status.Status.TheVariants as status
+use Rattle.fairexec.specs.Answers.{RunAnswer, ThreadsAnswer}
+use Rattle.fairexec.specs.BadEnds.{EndsAreRefused, EndsIn, RunIn, ThreadsIn}
+use Rattle.fairexec.specs.Ends.{EndsBy, status_unasked}
+use Rattle.fairexec.specs.Files.{IsUnopened, IsUnopenedScript}
+
+-- a verdict has a line
+written : (verdict : Verdict) → [] ≡ verdict_text verdict → ⊥
+written Sound is = cc
+written (Fault actor line rule) is = cc
+
+-- the first byte of a text
+abbrev first : List ℕ → ℕ
+first [] = 0
+first (byte ∷ others) = byte
+
+-- the letters s and f
+apart : (one other : ℕ) → one ≡ 115 → other ≡ 102 → one ≡ other → ⊥
+apart one other is_s is_f same = omega arith
+
+turned : (verdict : Verdict) → false ≡ is_sound verdict → codes "sound\n" ≡ verdict_text verdict → ⊥
+turned Sound answered is = cc
+turned (Fault actor line rule) answered is = apart _ _ refl refl (ap first is)
+
+turned_back : (verdict : Verdict) → true ≡ is_sound verdict → codes "fault actor 0 note 1 rule 2\n" ≡ verdict_text verdict → ⊥
+turned_back Sound answered is = apart _ _ refl refl (sym (ap first is))
+turned_back (Fault actor line rule) answered is = cc
+
+-- with a file the input stays
+stays : (what : What) (old new : List ℕ) (result : Status) → EndsIn (1 ∷ []) [] old new (Some (codes "a")) what result → ⊥
+stays (Run journal stats) old new result ends = cc ends.2.1
+stays (Threads journal stats) old new result ends = cc ends.2.1
+stays Audit old new result ends = cc ends.2.1
+
+-- a file that isn't opened isn't done
+unopened : {C : Type 0} → IsUnopened {C = C} (Ok true) → ⊥
+unopened (inl is) = cc
+unopened (inr is) = cc
+
+unopened_script : IsUnopenedScript (Ok true) → ⊥
+unopened_script (inl is) = cc
+unopened_script (inr is) = cc
+
+-- no answer of a run has status 1
+run_found : (source left old new : List ℕ) (answer : RunAnswer) → status.FaultFound ≡ status_of answer → RunIn source left old new answer → ⊥
+run_found source left old new (Ok true) is run = cc
+run_found source left old new (Ok false) is run = cc run.done.0
+run_found source left old new (Err (Text line cause)) is run = cc
+run_found source left old new (Err Read) is run = cc
+run_found source left old new (Err Write) is run = cc
+run_found source left old new (Err Memory) is run = cc
+
+threads_found : (source left old new : List ℕ) (answer : ThreadsAnswer) → status.FaultFound ≡ threads_status answer → ThreadsIn source left old new answer → ⊥
+threads_found source left old new (Ok true) is run = cc
+threads_found source left old new (Ok false) is run = cc run.sound
+threads_found source left old new (Err (Of (Text line cause))) is run = cc
+threads_found source left old new (Err (Of Read)) is run = cc
+threads_found source left old new (Err (Of Write)) is run = cc
+threads_found source left old new (Err (Of Memory)) is run = cc
+threads_found source left old new (Err Thread) is run = cc
+
+-- a mistake of the words is no call for help, and a call for help is no mistake
+told_mistake : (kind : ErrorKind) → IsAmong kind (UnknownArgument ∷ []) → IsTold kind → ⊥
+told_mistake kind (inl is) (inl help) = cc
+told_mistake kind (inl is) (inr version) = cc
+told_mistake kind (inr none) told = absurd none
+
+wrong_help : (kind : ErrorKind) → IsAmong kind (DisplayHelp ∷ []) → IsWrong kind → ⊥
+wrong_help kind (inl is) wrong = wrong.0 is
+wrong_help kind (inr none) wrong = absurd none
+
+mistake_ends : (why : Unasked) → IsReason (UnknownArgument ∷ []) why → status.Done ≡ status_unasked why → ⊥
+mistake_ends unasked.Told reason is = told_mistake reason.0 reason.1 reason.2
+mistake_ends unasked.Mistake reason is = cc
+mistake_ends unasked.Write reason is = cc
+mistake_ends unasked.Memory reason is = cc
+
+help_ends : (why : Unasked) → IsReason (DisplayHelp ∷ []) why → status.Refused ≡ status_unasked why → ⊥
+help_ends unasked.Told reason is = cc
+help_ends unasked.Mistake reason is = wrong_help reason.0 reason.1 reason.2
+help_ends unasked.Write reason is = cc
+help_ends unasked.Memory reason is = cc
+
+not_done : EndsBy (λ file what result. ⊥) (Unit {0}) [] (Some (Audit, None)) status.Done → ⊥
+not_done (inl ends) = absurd ends
+not_done (inr memory) = cc memory.0
+
+pub ends_refused : EndsAreRefused
+ends_refused = record {
+  empty_is_run = λ left old new run. outputs_refused.no_script false false (Some old) (Some new) run.done.1;
+  empty_is_run_on_threads = λ left old new run. runs_refused.no_script false false true (Some old) (Some new) run.done;
+  run_is_faulty = λ source left old new run. cc run.done.0;
+  threads_are_faulty = λ source left old new run. cc run.sound;
+  written_without_threads = λ source left run. cc run.silent;
+  no_verdict = λ source left judged. written judged.done.verdict judged.done.appends;
+  empty_is_sound = λ left old new judged. texts_refused.empty (judged.sound refl);
+  sound_is_a_fault = λ source left judged. turned judged.done.verdict judged.done.answered judged.done.appends;
+  fault_is_sound = λ source left judged. turned_back judged.done.verdict judged.done.answered judged.done.appends;
+  input_is_read = stays;
+  unopened = unopened;
+  unopened_script = unopened_script;
+  run_finds_a_fault = λ source left old new ends. run_found source left old new ends.0 ends.1 ends.2;
+  threads_find_a_fault = λ source left old new ends. threads_found source left old new ends.0 ends.1 ends.2;
+  mistake_is_done = λ ends. mistake_ends ends.why ends.reason ends.ended;
+  help_is_refused = λ ends. help_ends ends.why ends.reason ends.ended;
+  nothing_is_done = not_done;
+}

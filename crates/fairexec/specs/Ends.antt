@@ -1,0 +1,44 @@
+-- How a command line ends.
+use Rattle.std.specs.Prelude.{◌≡◌, ◌⊎◌, ℕ, List, [], Option, Some}
+use Rattle.clap.specs.Kinds.{Kinds}
+use Rattle.fair_args.specs.Asks.{Asking}
+use Rattle.fair_args.specs.Refusals.{IsReason}
+use Rattle.fair_args.specs.declared.unasked.Unasked.{Unasked}
+use Rattle.fair_args.specs.declared.unasked.Unasked.TheVariants as unasked
+use Rattle.fairexec_args.specs.declared.asked.What.{What}
+use Rattle.fairexec_args.specs.declared.asked.What.TheVariants.{Run, Threads, Audit}
+use Rattle.fairexec_threads_script.specs.Faults.{status_of as threads_status}
+use Rattle.rt_text.specs.Statuses.{status_of}
+use Rattle.rt_text.specs.declared.status.Status.{Status}
+use Rattle.rt_text.specs.declared.status.Status.TheVariants as status
+use Rattle.fairexec.specs.Answers.{AuditAnswer, Bytes, RunAnswer, ThreadsAnswer, Tries, Try}
+use Rattle.fairexec.specs.Files.{Judges, Runs, RunsOnThreads}
+
+module _ {R F S : Type 0} (remaining : Bytes R) (tries : Tries R) (reads : R → List ℕ → R → Type 0) (interrupts fails : Try R) (file_remaining : Bytes F) (contents : Bytes S) (writes : Tries S) (halts breaks : Try S) (source_old source_new : R) (sink_old sink_new : S) where
+  -- what is asked for is done with the file, or with the source; the status is that of an answer, which tells what was read and written
+  abbrev pub EndsFor : Option (List ℕ) → What → Status → Type 0
+  EndsFor file (Run journal stats) result =
+      (answer : RunAnswer) × (result ≡ status_of answer) × Runs remaining tries reads interrupts fails file_remaining contents writes halts breaks source_old source_new sink_old sink_new file journal stats answer
+  EndsFor file (Threads journal stats) result =
+      (answer : ThreadsAnswer) × (result ≡ threads_status answer) × RunsOnThreads remaining tries reads interrupts fails file_remaining contents writes halts breaks source_old source_new sink_old sink_new file journal stats answer
+  EndsFor file Audit result =
+      (answer : AuditAnswer) × (result ≡ status_of answer) × Judges remaining tries reads interrupts fails file_remaining contents writes halts breaks source_old source_new sink_old sink_new file answer
+
+-- the status of words that ask for nothing
+abbrev pub status_unasked : Unasked → Status
+status_unasked unasked.Told = status.Done
+status_unasked unasked.Mistake = status.Refused
+status_unasked unasked.Write = status.Device
+status_unasked unasked.Memory = status.Memory
+
+-- words with these faults end so, and nothing is read or written but help
+pub record EndsUnasked (faults : Kinds) (same : Type 0) (result : Status) : Type 0 where
+  pub why : Unasked
+  pub reason : IsReason faults why
+  pub ended : result ≡ status_unasked why
+  pub stays : same
+
+-- Faultless words end as what they ask for, and faulty ones by a fault. Memory may run out before either is known.
+abbrev pub EndsBy : (Option (List ℕ) → What → Status → Type 0) → Type 0 → Kinds → Option (Asking What) → Status → Type 0
+EndsBy ends same [] (Some asking) result = ends asking.1 asking.0 result ⊎ ((result ≡ status.Memory) × same)
+EndsBy ends same faults asked result = EndsUnasked faults same result

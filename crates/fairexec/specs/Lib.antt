@@ -1,0 +1,4 @@
+pub mod Answers
+pub mod BadEnds
+pub mod Ends
+pub mod Files
