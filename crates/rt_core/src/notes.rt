@@ -4,8 +4,8 @@ ghost use Rattle.std.specs.Prelude.{◌≡◌, ◌≤◌, [], ◌∷◌, length}
 use arrayvec::ArrayVec;
 use rt_ids::Note;
 
-/// The notes of one call, in their order.
-pub type Notes<T> = ArrayVec<Note<T>, 4>;
+/// The notes of one call, in their order: at most that of an answer and that of its effect.
+pub type Notes<T> = ArrayVec<Note<T>, 2>;
 
 #[inline(always)]
 pub(crate) fn one_note<T: Copy>(note: Note<T>) -> Notes<T>
