@@ -12,6 +12,7 @@ mod ServesRefused
 mod OnceRefused
 mod EndsRefused
 mod LooksRefused
+mod PollsRefused
 mod QueuesRefused
 mod ActsRefused
 mod BellsRefused
