@@ -15,6 +15,7 @@ mod LooksRefused
 mod PollsRefused
 mod QueuesRefused
 mod ActsRefused
+mod AsksRefused
 mod BellsRefused
 mod RestsRefused
 mod ParksRest
