@@ -368,7 +368,8 @@ uint32_t fx_house_take(fx_house *house, fx_seat *seat, uint32_t *actor) FX_NOT_N
 /*
  * Ends a seat, and hands its journal to the house. The seat is empty from then on. All seats have to be taken, and they end in the order of
  * their numbers: core 0 first, the outside actor last. The host hands in the seats of this house: nothing tests that, but an audit.
- * FX_EMPTY: house; FX_EMPTY: seat; FX_NO_ACTOR: another number is next; FX_NOT_DRAINED: a core; FX_NO_MEMORY; FX_OK.
+ * FX_EMPTY: house; FX_EMPTY: seat; FX_NO_ACTOR: another number is next; FX_NOT_DRAINED: a core; FX_NO_MEMORY; FX_OK. Since fx_house_open made
+ * room for all journals, it asks for no memory, and FX_NO_MEMORY isn't answered.
  */
 uint32_t fx_house_end(fx_house *house, fx_seat *seat) FX_NOT_NULL;
 
