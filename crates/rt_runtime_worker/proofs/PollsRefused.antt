@@ -1,5 +1,5 @@
 -- A look of a small worker that notes a poll for which no gate was asked is refused.
-use Rattle.std.proofs.Common.{◌≡◌, Bool, ℕ, List, [], ◌∷◌, ◌++◌, length, refl, ◌∙◌, sym, ap, arith}
+use Rattle.std.proofs.Common.{◌≡◌, Bool, ℕ, suc, List, [], ◌∷◌, ◌++◌, length, refl, ◌∙◌, sym, ap, arith}
 use Rattle.rt_ids.specs.declared.names.JobId.{JobId}
 use Rattle.rt_ids.specs.Journal.{Journal}
 use Rattle.rt_jobs.specs.Meanings.{Meaning}
@@ -37,5 +37,5 @@ polls_unasked : (meaning : Meaning ℕ ℕ) (reads : ℕ → ℕ → ℕ → Typ
 polls_unasked meaning reads name old new some turns looks noted =
     let since = look_asks meaning reads nobody old new some turns looks in
     let none = none_asked old.served.linked.recorded.core.core since.polls old.gate new.gate since.asks in
-    let longer = ap length (sym (since.told ∙ ap (λ polls. polls ++ polls_of (notes_in old)) none) ∙ noted) in
+    let longer : length (polls_of (notes_in old)) ≡ suc (length (polls_of (notes_in old))) = ap length (sym (since.told ∙ ap (λ polls. polls ++ polls_of (notes_in old)) none) ∙ noted) in
     omega (arith, longer)
