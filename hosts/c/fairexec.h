@@ -20,6 +20,10 @@
  * names first is. A call that answers FX_IDLE or a code above it, except FX_PARKED, changes nothing but the count for FX_SPENT, and writes
  * nothing to what its pointers point to, except the wanted count behind FX_SHORT.
  *
+ * Null: a call with a null among its pointers is answered FX_NULL before any other code, and the library isn't called. fairexec_null.h, which
+ * stands beside this header, tests each pointer that the compiler doesn't know not to be null. A host that defines FX_NO_NULL_CHECKS before it
+ * includes this header calls the library itself, which tests none. fx_house_text and fx_seat_pass_on take no null for no room either.
+ *
  * Threads: at most one call at a time runs on a handle. A handle may go to another thread between two calls. Between them stands a lock, the
  * start or the join of a thread, or a sequentially consistent atomic. Calls on different handles need no order, those on the seats of one
  * house neither. No call blocks, calls the host back, or knows a clock. No call may be made from a signal handler.
@@ -30,7 +34,8 @@
  * x86-64-v2.
  *
  * What no call can test is the host's duty, beside the threads' order above:
- * - Each pointer points to a value of its type, or to as many bytes as `room` tells, and none is null. Two pointers of one call don't overlap.
+ * - Each pointer points to a value of its type, or to as many bytes as `room` tells. Two pointers of one call don't overlap.
+ * - With FX_NO_NULL_CHECKS no pointer is null.
  * - A handle is empty, by FX_NO_CORE or its like, before its first call. Only one copy of it is used.
  * - The forked child of a process with threads makes no call.
  * - The program's malloc, realloc and free are of one allocator, and malloc aligns blocks to 16 bytes.
@@ -59,7 +64,7 @@ extern "C" {
  */
 #define FX_VERSION 1u
 
-/* No pointer that is handed in is null: compilers that know how warn of one, and none is tried at run time. */
+/* The library takes no null, and tests none. With FX_NO_NULL_CHECKS compilers that know how warn of a null that they see. */
 #if defined(__GNUC__)
 #define FX_NOT_NULL __attribute__((nonnull))
 #else
@@ -100,7 +105,8 @@ enum fx_code {
     FX_NOT_DRAINED = 28,  /* the core isn't drained, or a job of it runs, or a turn of it is open */
     FX_MIXED = 29,        /* the journals can't be those of one house, and have no text */
     FX_SHORT = 30,        /* the text has more bytes than there is room for */
-    FX_PASSED_ON = 31     /* notes were passed on: the house can't judge journals that lack them */
+    FX_PASSED_ON = 31,    /* notes were passed on: the house can't judge journals that lack them */
+    FX_NULL = 32          /* a pointer is null. The test of this header tells it, and no call of the library */
 };
 
 /* What the run of a job came to. */
@@ -362,7 +368,8 @@ uint32_t fx_house_take(fx_house *house, fx_seat *seat, uint32_t *actor) FX_NOT_N
 /*
  * Ends a seat, and hands its journal to the house. The seat is empty from then on. All seats have to be taken, and they end in the order of
  * their numbers: core 0 first, the outside actor last. The host hands in the seats of this house: nothing tests that, but an audit.
- * FX_EMPTY: house; FX_EMPTY: seat; FX_NO_ACTOR: another number is next; FX_NOT_DRAINED: a core; FX_NO_MEMORY; FX_OK.
+ * FX_EMPTY: house; FX_EMPTY: seat; FX_NO_ACTOR: another number is next; FX_NOT_DRAINED: a core; FX_NO_MEMORY; FX_OK. Since fx_house_open made
+ * room for all journals, it asks for no memory, and FX_NO_MEMORY isn't answered.
  */
 uint32_t fx_house_end(fx_house *house, fx_seat *seat) FX_NOT_NULL;
 
@@ -533,12 +540,17 @@ static inline const char *fx_text(uint32_t code) {
     case FX_MIXED: return "the journals can't be those of one house";
     case FX_SHORT: return "there is too little room for the text";
     case FX_PASSED_ON: return "notes were passed on";
+    case FX_NULL: return "a pointer is null";
     default: return "no code of this library";
     }
 }
 
 #ifdef __cplusplus
 }
+#endif
+
+#ifndef FX_NO_NULL_CHECKS
+#include "fairexec_null.h"
 #endif
 
 #endif

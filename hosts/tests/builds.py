@@ -82,11 +82,11 @@ class Builds:
             for name, flags in SANITIZERS.items():
                 self.works[compiler, name] = shutil.which(compiler) is not None and works(compiler, room, flags)
 
-    def program(self, compiler, standard, file, *words, sanitizer="", links=(), under=(), into=(), wanted=0, tells="", shares="", fewer=()):
+    def program(self, compiler, standard, file, *words, sanitizer="", links=(), under=(), into=(), wanted=0, tells="", shares="", fewer=(), made=""):
         """Compiles a file, and runs it with these words. What it prints goes to `into`, if that is there, which has to be content with it.
 
         `shares` says that both queues of each core have work all the time, or at times; then what is told of them is looked at. `fewer` is a text of
-        the file and what stands there instead.
+        the file and what stands there instead. `made` is what the file makes, and is compiled in its place.
         """
         if sanitizer == "thread" and file.name in OF_HOUSE:
             links = [*links, *LINKS]
@@ -96,15 +96,18 @@ class Builds:
             if not self.works[compiler, sanitizer]:
                 return f"{what}: there is no {compiler}{f' with the sanitizer {sanitizer}' if sanitizer else ''}"
             to, source = f"{self.room}/{re.sub(r'[^a-z0-9]', '_', what)}", file
+            if made:
+                source = Path(f"{to}{'.cpp' if '++' in compiler else '.c'}")
+                source.write_text(made)
             if fewer:
                 text = file.read_text()
                 if text.count(fewer[0]) != 1:
                     return what, f"{text.count(fewer[0])} times {fewer[0]}", "once"
                 source = Path(f"{to}{file.suffix}")
                 source.write_text(text.replace(*fewer))
-            made = call([compiler, f"-std={standard}", "-O1", "-g", *WARNINGS, *INCLUDES, *SANITIZERS[sanitizer], source, self.archive, "-pthread", *links, "-o", to])
-            if made.returncode:
-                return what, ended(made), 0
+            built = call([compiler, f"-std={standard}", "-O1", "-g", *WARNINGS, *INCLUDES, f"-I{file.parent}", *SANITIZERS[sanitizer], source, self.archive, "-pthread", *links, "-o", to])
+            if built.returncode:
+                return what, ended(built), 0
             said = piped([*under, to, *words], into) if into else call([*under, to, *words])
             found = ended(said) if wanted == 0 else said.returncode != 0
             return what, (found, tells in said.stdout, wrong_shares(said.stdout, shares) if shares else []), (wanted, True, [])
@@ -120,5 +123,25 @@ class Builds:
             file = Path(f"{self.room}/{re.sub(r'[^a-z0-9]', '_', what)}.{suffix}")
             file.write_text(text)
             return what, call([compiler, f"-std={standard}", "-O1", *WARNINGS, *INCLUDES, "-fsyntax-only" if wanted else "-c", file, *([] if wanted else ["-o", f"{file}.o"])]).returncode == 0, wanted
+
+        return task
+
+    def same_code(self, compiler, text, suffix, flag):
+        """The text has the same code with that flag and without it."""
+        what = f"{compiler}: the first listing with {flag} and without"
+
+        def task():
+            if not self.works[compiler, ""] or not shutil.which("objcopy"):
+                return f"{what}: there is no {compiler}, or no objcopy"
+            codes = []
+            for flags in ([], [flag]):
+                to = f"{self.room}/same_{re.sub(r'[^a-z]', 'p', compiler)}{len(flags)}"
+                Path(f"{to}.{suffix}").write_text(text)
+                made = call([compiler, "-std=c++17" if suffix == "cpp" else "-std=c99", "-O1", *INCLUDES, *flags, "-c", f"{to}.{suffix}", "-o", f"{to}.o"])
+                made = made if made.returncode else call(["objcopy", "-O", "binary", "-j", ".text*", f"{to}.o", to])
+                if made.returncode:
+                    return what, ended(made), 0
+                codes.append(Path(to).read_bytes())
+            return what, (codes[0] == codes[1], len(codes[0]) > 0), (True, True)
 
         return task

@@ -3,7 +3,8 @@
 
   core_calls.py HEADER < CALLS
 
-A line of CALLS is `CALL CORE NUMBERS = CODE WRITTEN`. What a call writes stands behind its code. If it was refused, that is as the caller left it.
+A line of CALLS is `CALL CORE NUMBERS = CODE WRITTEN`, behind `null` if a pointer of the call was null. What a call writes stands behind its code. If it
+was refused, that is as the caller left it.
 It stops at the first difference. The last line is 'N passed, M failed', and the status is 0 if nothing failed.
 """
 import re
@@ -135,8 +136,10 @@ def main():
     cores, passed = [None] * 3, 0
     for line in sys.stdin:
         asked, _, found = line.partition(" = ")
-        name, *numbers = asked.split()
+        name, *numbers = asked.removeprefix("null ").split()
         try:
+            if asked.startswith("null "):
+                raise Refused("FX_NULL")
             code, written = made(cores, name, *map(int, numbers))
         except Refused as why:
             code, written = str(why), LEFT.get(name, [])

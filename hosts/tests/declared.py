@@ -115,8 +115,8 @@ def differs(header, source, raw, symbols):
     return found
 
 
-# The crate takes and tells these by their numbers, without a list of them.
-NOT_IN_CRATE = r"FX_(STEP|MODE|KIND)_"
+# The crate takes and tells these by their numbers, without a list of them. FX_NULL is told by the header alone.
+NOT_IN_CRATE = r"FX_(STEP|MODE|KIND)_|\bFX_NULL$"
 
 
 def as_crate(header):
@@ -138,7 +138,8 @@ def wrong_headers(header):
 
 # The rules for a host that no call tests: words of its row in docs/EMBEDDING.md, and what the top comment of the header says of it.
 RULES = {
-    "no pointer is null": ["none is null", "points to a value of its type, or to as many bytes as", "Two pointers of one call don't overlap"],
+    "each pointer points to a value of its type": ["points to a value of its type, or to as many bytes as", "Two pointers of one call don't overlap"],
+    "no pointer is null": ["With FX_NO_NULL_CHECKS no pointer is null"],
     "only one copy of it is used": ["A handle is empty, by FX_NO_CORE or its like, before its first call", "Only one copy of it is used"],
     "one call at a time on a handle": ["at most one call at a time runs on a handle"],
     "goes to another thread by": ["stands a lock, the start or the join of a thread, or a sequentially consistent atomic"],

@@ -3,7 +3,7 @@
 
   house_calls.py HEADER < CALLS
 
-A line of CALLS is `CALL NUMBERS = CODE WRITTEN`: what a call was answered, and what it wrote. A line that begins with `|` is the next line of
+A line of CALLS is `CALL NUMBERS = CODE WRITTEN`: what a call was answered, and what it wrote. It stands behind `null` if a pointer of the call was null. A line that begins with `|` is the next line of
 the text that the call before wrote, which has to be the model's, too. It stops at the first difference. The last line is 'N passed, M failed', and the
 status is 0 if nothing failed.
 """
@@ -169,8 +169,10 @@ class Caller:
 
     def made(self, line, codes):
         """What the line should say behind its `=`."""
-        name, *numbers = line.split()
+        name, *numbers = line.removeprefix("null ").split()
         try:
+            if line.startswith("null "):
+                raise Refused("FX_NULL")
             code, written = getattr(self, name)(*map(int, numbers)) or ("FX_OK", [])
         except Refused as why:
             code, written = str(why), []
@@ -219,6 +221,6 @@ MANY = 500000
 # Of any number each of these codes.
 WANTED = set("""FX_OK FX_START FX_RESUME FX_DONE FX_BACK FX_IDLE FX_BUSY FX_NO_JOB FX_FULL FX_BAD_SHARES FX_NO_QUEUE FX_CLOSED FX_BAD_NUMBER FX_PARKED
     FX_JOURNAL_FULL FX_UNKNOWN_CORE FX_NO_ACTOR FX_UNKNOWN FX_GONE FX_PENDING FX_OPEN FX_SHUT
-    FX_NOT_DRAINED FX_EMPTY FX_ABSENT FX_SHORT FX_PASSED_ON""".split())
+    FX_NOT_DRAINED FX_EMPTY FX_ABSENT FX_SHORT FX_PASSED_ON FX_NULL""".split())
 
 sys.exit(main())

@@ -100,6 +100,7 @@ static void others(void) {
         wrong += fx_seat_stats(&seats[core], &stats) != FX_OK || stats.held != 0 || fx_seat_stats_of_queue(&seats[core], 0, &of_queue) != FX_OK;
         wrong += fx_seat_drained(&seats[core]) != FX_OK || fx_seat_shows(&seats[core]) != FX_IDLE;
     }
+    /* The room of the journals was made at the opening: no end is answered FX_NO_MEMORY. */
     for (int seat = 0; seat <= CORES; seat++) wrong += fx_house_end(&house, &seats[seat]) != FX_OK;
     is("the other calls succeed without memory", wrong, 0);
     is("and ask for none", asked - before, 0);

@@ -389,7 +389,7 @@ int main(void) {
     crossed(2, 0, 0, FX_OK);
     crossed(3, 1, 0, FX_MIXED);
     many_queues();
-    for (uint32_t code = FX_OK; code <= FX_PASSED_ON; code++) is("each code has a text of its own", strcmp(fx_text(code), fx_text(FX_PASSED_ON + 1)) != 0, 1);
+    for (uint32_t code = FX_OK; code <= FX_NULL; code++) is("each code has a text of its own", strcmp(fx_text(code), fx_text(FX_NULL + 1)) != 0, 1);
     printf("%u passed, %u failed\n", passed, failed);
     return failed != 0;
 }

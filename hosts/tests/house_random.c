@@ -3,29 +3,15 @@
  * prints each call with its numbers, what it was answered, and what it wrote; house_calls.py makes the same calls, and compares. Most houses have
  * two cores. In some the journals run full or the cores have all their queues, and in some notes are passed on, and their text is printed. A house
  * that is drained is ended, and its verdict and the text of its journals are printed.
- * A call that is refused and writes something all the same is printed as `wrote`, which no model answers.
+ * A call that is refused and writes something all the same is printed as `wrote`, which no model answers. One that is handed a null stands behind
+ * `null`.
  */
 #include "fairexec.h"
+#include "printed.h"
 #include <inttypes.h>
-#include <stdbool.h>
-#include <stdio.h>
 #include <stdlib.h>
-#include <string.h>
 
 enum { MOST = 3, KEPT = 64 };
-
-static uint64_t state, calls, all;
-
-static uint64_t any(void) {
-    state ^= state << 13;
-    state ^= state >> 7;
-    state ^= state << 17;
-    return state;
-}
-
-static uint32_t below(uint32_t limit) { return (uint32_t)((any() >> 32) % limit); }
-
-static bool rarely(uint32_t times) { return below(times) == 0; }
 
 static fx_house house = FX_NO_HOUSE;
 /* That of the outside actor stands behind those of the cores. */
@@ -44,18 +30,6 @@ static uint8_t text_bytes[1 << 24];
 static uint32_t about(uint32_t limit) {
     static const uint32_t far[] = {16, 17, 255, 256, 257, 65536, UINT32_MAX};
     return rarely(60) ? far[below(7)] : below(limit + (uint32_t)rarely(12));
-}
-
-#define PRINT(...) (printf(__VA_ARGS__), calls++)
-
-/* Fills what a refused call has to leave. */
-static void poison(void *at, size_t size) { memset(at, 0x5a, size); }
-
-static const char *wrote(const void *at, size_t size, bool may) {
-    const unsigned char *bytes = at;
-    for (size_t each = 0; !may && each < size; each++)
-        if (bytes[each] != 0x5a) return " wrote";
-    return "";
 }
 
 static void submitted(uint32_t actor, uint32_t code, const fx_name *name) {
@@ -94,28 +68,28 @@ static void order(uint32_t actor, uint32_t kind) {
     poison(&name, sizeof name);
     switch (kind) {
     case 0:
-        code = fx_seat_submit(&seats[actor], to, queue, number, &name);
-        printf("job %" PRIu32 " %" PRIu32 " %" PRIu32 " %" PRIu64, actor, to, queue, number);
+        code = fx_seat_submit(at(&seats[actor]), to, queue, number, at(&name));
+        TELL("job %" PRIu32 " %" PRIu32 " %" PRIu32 " %" PRIu64, actor, to, queue, number);
         break;
     case 1:
-        code = fx_seat_create(&seats[actor], to, shares, &name);
-        printf("create %" PRIu32 " %" PRIu32 " %" PRIu32, actor, to, shares);
+        code = fx_seat_create(at(&seats[actor]), to, shares, at(&name));
+        TELL("create %" PRIu32 " %" PRIu32 " %" PRIu32, actor, to, shares);
         break;
     case 2:
-        code = fx_seat_set_shares(&seats[actor], to, queue, shares, &name);
-        printf("shares %" PRIu32 " %" PRIu32 " %" PRIu32 " %" PRIu32, actor, to, queue, shares);
+        code = fx_seat_set_shares(at(&seats[actor]), to, queue, shares, at(&name));
+        TELL("shares %" PRIu32 " %" PRIu32 " %" PRIu32 " %" PRIu32, actor, to, queue, shares);
         break;
     case 3:
-        code = fx_seat_close_queue(&seats[actor], to, queue, mode, &name);
-        printf("closequeue %" PRIu32 " %" PRIu32 " %" PRIu32 " %" PRIu32, actor, to, queue, mode);
+        code = fx_seat_close_queue(at(&seats[actor]), to, queue, mode, at(&name));
+        TELL("closequeue %" PRIu32 " %" PRIu32 " %" PRIu32 " %" PRIu32, actor, to, queue, mode);
         break;
     case 4:
-        code = fx_seat_close_core(&seats[actor], to, mode, &name);
-        printf("closecore %" PRIu32 " %" PRIu32 " %" PRIu32, actor, to, mode);
+        code = fx_seat_close_core(at(&seats[actor]), to, mode, at(&name));
+        TELL("closecore %" PRIu32 " %" PRIu32 " %" PRIu32, actor, to, mode);
         break;
     default:
-        code = fx_seat_wake(&seats[actor], &job, &name);
-        printf("wake %" PRIu32 " %" PRIu32 " %" PRIu32 " %" PRIu64, actor, job.to, job.from, job.number);
+        code = fx_seat_wake(at(&seats[actor]), at(&job), at(&name));
+        TELL("wake %" PRIu32 " %" PRIu32 " %" PRIu32 " %" PRIu64, actor, job.to, job.from, job.number);
         break;
     }
     submitted(actor, code, &name);
@@ -125,7 +99,7 @@ static uint32_t next(uint32_t core) {
     fx_turn turn;
     poison(&turn, sizeof turn);
     turn.size = rarely(200) ? 7 : sizeof turn;
-    uint32_t code = fx_seat_next(&seats[core], &turn);
+    uint32_t code = fx_seat_next(at(&seats[core]), at(&turn));
     bool starts = code == FX_START || code == FX_RESUME;
     if (starts) runs[core] = true;
     PRINT("next %" PRIu32 " %" PRIu32 " = %" PRIu32 "%s", core, turn.size != sizeof turn, code,
@@ -138,16 +112,19 @@ static uint32_t next(uint32_t core) {
 
 static void settle(uint32_t core, uint32_t step) {
     uint64_t answer = any(), spent = rarely(20) ? any() >> below(64) : below(3000);
-    uint32_t code = fx_seat_settle(&seats[core], step, answer, spent);
+    uint32_t code = fx_seat_settle(at(&seats[core]), step, answer, spent);
     PRINT("settle %" PRIu32 " %" PRIu32 " %" PRIu64 " %" PRIu64 " = %" PRIu32 "\n", core, step, answer, spent, code);
     if (code == FX_OK || code == FX_DONE || code == FX_PARKED) runs[core] = false;
 }
 
-static void deliver(uint32_t core, uint32_t sender) { PRINT("deliver %" PRIu32 " %" PRIu32 " = %" PRIu32 "\n", core, sender, fx_seat_deliver(&seats[core], sender)); }
+static void deliver(uint32_t core, uint32_t sender) {
+    uint32_t code = fx_seat_deliver(at(&seats[core]), sender);
+    PRINT("deliver %" PRIu32 " %" PRIu32 " = %" PRIu32 "\n", core, sender, code);
+}
 
 static void collect(uint32_t actor, uint32_t core) {
     uint64_t count = 0x5a5a5a5a5a5a5a5a;
-    uint32_t code = fx_seat_collect(&seats[actor], core, &count);
+    uint32_t code = fx_seat_collect(at(&seats[actor]), core, at(&count));
     PRINT("collect %" PRIu32 " %" PRIu32 " = %" PRIu32 "%s", actor, core, code, wrote(&count, sizeof count, code == FX_OK));
     if (code == FX_OK) printf(" %" PRIu64, count);
     printf("\n");
@@ -158,7 +135,7 @@ static void redeem(uint32_t actor) {
     fx_outcome outcome;
     poison(&outcome, sizeof outcome);
     outcome.size = rarely(100) ? 7 : sizeof outcome;
-    uint32_t code = fx_seat_redeem(&seats[actor], &name, &outcome);
+    uint32_t code = fx_seat_redeem(at(&seats[actor]), at(&name), at(&outcome));
     PRINT("redeem %" PRIu32 " %" PRIu32 " %" PRIu32 " %" PRIu64 " %" PRIu32 " = %" PRIu32 "%s", actor, name.from, name.to, name.number, outcome.size != sizeof outcome, code,
           wrote((char *)&outcome + sizeof outcome.size, sizeof outcome - sizeof outcome.size, code == FX_OK));
     if (code == FX_OK || code == FX_GONE) forget(actor, &name);
@@ -168,7 +145,7 @@ static void redeem(uint32_t actor) {
 
 static void detach(uint32_t actor) {
     fx_name name = any_name(actor);
-    uint32_t code = fx_seat_detach(&seats[actor], &name);
+    uint32_t code = fx_seat_detach(at(&seats[actor]), at(&name));
     PRINT("detach %" PRIu32 " %" PRIu32 " %" PRIu32 " %" PRIu64 " = %" PRIu32 "\n", actor, name.from, name.to, name.number, code);
     if (code == FX_OK || code == FX_GONE) forget(actor, &name);
 }
@@ -181,25 +158,34 @@ static void stats(uint32_t core) {
     poison(&q, sizeof q);
     of.size = rarely(50) ? 7 : sizeof of;
     q.size = rarely(50) ? 7 : sizeof q;
-    uint32_t code = fx_seat_stats(&seats[core], &of);
+    uint32_t code = fx_seat_stats(at(&seats[core]), at(&of));
     PRINT("stats %" PRIu32 " %" PRIu32 " = %" PRIu32 "%s", core, of.size != sizeof of, code, wrote((char *)&of + sizeof of.size, sizeof of - sizeof of.size, code == FX_OK));
     if (code == FX_OK)
         printf(" %" PRIu32 " %" PRIu64 " %" PRIu64 " %" PRIu64 " %" PRIu64 " %" PRIu64 " %" PRIu32 " %" PRIu32, of.queues, of.room, of.held, of.turns, of.floor_low, of.floor_high, of.running, of.closed);
-    code = fx_seat_stats_of_queue(&seats[core], queue, &q);
-    PRINT("\nstatsofqueue %" PRIu32 " %" PRIu32 " %" PRIu32 " = %" PRIu32 "%s", core, queue, q.size != sizeof q, code, wrote((char *)&q + sizeof q.size, sizeof q - sizeof q.size, code == FX_OK));
+    printf("\n");
+    code = fx_seat_stats_of_queue(at(&seats[core]), queue, at(&q));
+    PRINT("statsofqueue %" PRIu32 " %" PRIu32 " %" PRIu32 " = %" PRIu32 "%s", core, queue, q.size != sizeof q, code, wrote((char *)&q + sizeof q.size, sizeof q - sizeof q.size, code == FX_OK));
     if (code == FX_OK)
         printf(" %" PRIu32 " %" PRIu64 " %" PRIu64 " %" PRIu64 " %" PRIu64 " %" PRIu64 " %" PRIu64 " %" PRIu64 " %" PRIu64, q.shares, q.picks, q.waiting, q.done, q.back, q.time_low, q.time_high, q.virtual_low, q.virtual_high);
     printf("\n");
 }
 
 static void tell(uint32_t actor) {
-    PRINT("shows %" PRIu32 " = %" PRIu32 "\n", actor, fx_seat_shows(&seats[actor]));
-    PRINT("drained %" PRIu32 " = %" PRIu32 "\n", actor, fx_seat_drained(&seats[actor]));
+    uint32_t code = fx_seat_shows(at(&seats[actor]));
+    PRINT("shows %" PRIu32 " = %" PRIu32 "\n", actor, code);
+    code = fx_seat_drained(at(&seats[actor]));
+    PRINT("drained %" PRIu32 " = %" PRIu32 "\n", actor, code);
 }
 
-static void shut(uint32_t core, uint32_t sender) { PRINT("shut %" PRIu32 " %" PRIu32 " = %" PRIu32 "\n", core, sender, fx_seat_shut(&seats[core], sender)); }
+static void shut(uint32_t core, uint32_t sender) {
+    uint32_t code = fx_seat_shut(at(&seats[core]), sender);
+    PRINT("shut %" PRIu32 " %" PRIu32 " = %" PRIu32 "\n", core, sender, code);
+}
 
-static void close_by_itself(uint32_t core, uint32_t mode) { PRINT("close %" PRIu32 " %" PRIu32 " = %" PRIu32 "\n", core, mode, fx_seat_close(&seats[core], mode)); }
+static void close_by_itself(uint32_t core, uint32_t mode) {
+    uint32_t code = fx_seat_close(at(&seats[core]), mode);
+    PRINT("close %" PRIu32 " %" PRIu32 " = %" PRIu32 "\n", core, mode, code);
+}
 
 static void print_text(const uint8_t *bytes, uint64_t count, bool *begins) {
     for (uint64_t each = 0; each < count; each++) {
@@ -221,9 +207,11 @@ static void pass_on(uint32_t actor) {
     checked = room < sizeof text_bytes - 100 ? room + 100 : room;
     poison(text_bytes, checked);
     count = 0x5a5a5a5a5a5a5a5a;
-    uint32_t code = fx_seat_pass_on(&seats[actor], text_bytes, room, &count);
+    uint32_t code = fx_seat_pass_on(at(&seats[actor]), at(text_bytes), room, at(&count));
     size_t from = code == FX_OK ? (size_t)count : 0;
-    PRINT("passon %" PRIu32 " %zu = %" PRIu32 "%s %" PRIu64 "\n", actor, room, code, wrote(text_bytes + from, checked - from, false), count);
+    PRINT("passon %" PRIu32 " %zu = %" PRIu32 "%s%s", actor, room, code, wrote(text_bytes + from, checked - from, false), wrote(&count, sizeof count, code == FX_OK || code == FX_SHORT));
+    if (code == FX_OK || code == FX_SHORT) printf(" %" PRIu64, count);
+    printf("\n");
     if (code == FX_OK) print_text(text_bytes, count, &begins);
 }
 
@@ -289,32 +277,50 @@ static void text(void) {
     } while (count == room);
 }
 
-/* The journals come back one by one, and are judged. */
-static void end(void) {
+static uint32_t end_of(uint32_t actor) {
+    uint32_t code = fx_house_end(at(&house), at(&seats[actor]));
+    PRINT("end %" PRIu32 " = %" PRIu32 "\n", actor, code);
+    return code == FX_NULL ? end_of(actor) : code;
+}
+
+static void audit(void) {
     fx_verdict verdict;
-    bool all_ended = true;
-    for (uint32_t actor = 0; passes && rarely(2) && actor <= config.cores; actor++) pass_on(actor);
-    for (uint32_t actor = 0; actor <= config.cores; actor++) {
-        uint32_t other = rarely(4) ? below(config.cores + 1) : actor;
-        if (other != actor) PRINT("end %" PRIu32 " = %" PRIu32 "\n", other, fx_house_end(&house, &seats[other]));
-        verdict.size = sizeof verdict;
-        PRINT("audit 0 = %" PRIu32 "\n", fx_house_audit(&house, &verdict));
-        uint32_t code = fx_house_end(&house, &seats[actor]);
-        all_ended = all_ended && code == FX_OK;
-        PRINT("end %" PRIu32 " = %" PRIu32 "\n", actor, code);
-    }
     poison(&verdict, sizeof verdict);
     verdict.size = rarely(20) ? 7 : sizeof verdict;
-    uint32_t code = fx_house_audit(&house, &verdict);
-    PRINT("audit %" PRIu32 " = %" PRIu32, verdict.size != sizeof verdict, code);
+    uint32_t code = fx_house_audit(at(&house), at(&verdict));
+    PRINT("audit %" PRIu32 " = %" PRIu32 "%s", verdict.size != sizeof verdict, code, wrote((char *)&verdict + sizeof verdict.size, sizeof verdict - sizeof verdict.size, code == FX_OK));
     if (code == FX_OK) printf(" %" PRIu32 " %" PRIu32, verdict.sound, verdict.rule);
     printf("\n");
+}
+
+/* The journals come back one by one, and are judged. */
+static void end(void) {
+    bool all_ended = true;
+    for (uint32_t actor = 0; passes && rarely(2) && actor <= config.cores; actor++) pass_on(actor);
+    few = 10;
+    for (uint32_t actor = 0; actor <= config.cores; actor++) {
+        uint32_t other = rarely(4) ? below(config.cores + 1) : actor;
+        if (other != actor) end_of(other);
+        audit();
+        all_ended = end_of(actor) == FX_OK && all_ended;
+    }
+    for (uint32_t each = 0; each < 3; each++) audit();
     if (all_ended) {
+        uint64_t count = 0;
+        uint32_t code = fx_house_text(at(&house), 0, at(text_bytes), 1, at(&count));
+        if (code == FX_NULL) PRINT("text = %" PRIu32 "\n", code);
         PRINT("text = %d\n", FX_OK);
         text();
     }
-    for (uint32_t actor = 0; actor <= config.cores; actor++) PRINT("leave %" PRIu32 " = %" PRIu32 "\n", actor, fx_seat_free(&seats[actor]));
-    PRINT("free = %" PRIu32 "\n", fx_house_free(&house));
+    for (uint32_t actor = 0, code = FX_OK; actor <= config.cores; actor += code != FX_NULL) {
+        code = fx_seat_free(at(&seats[actor]));
+        PRINT("leave %" PRIu32 " = %" PRIu32 "\n", actor, code);
+    }
+    while (house.at != NULL) {
+        uint32_t code = fx_house_free(at(&house));
+        PRINT("free = %" PRIu32 "\n", code);
+    }
+    few = 150;
 }
 
 static void open(void) {
@@ -325,21 +331,23 @@ static void open(void) {
     config.places = rarely(20) ? 1025 * below(2) : 1 + below(rarely(3) ? 40 : 6);
     config.burst = rarely(20) ? 65 * below(2) : 1 + below(rarely(2) ? 8 : 1);
     config.notes = rarely(40) ? (1u << 24) + 1 : rarely(3) ? below(400) : 200000;
-    uint32_t code = fx_house_open(&house, &config);
+    uint32_t code = fx_house_open(at(&house), at(&config));
     PRINT("open %" PRIu32 " %" PRIu32 " %" PRIu32 " %" PRIu32 " %" PRIu32 " = %" PRIu32 "\n", config.size != sizeof config, config.cores, config.places, config.burst, config.notes, code);
 }
 
+/* All seats, and then none. */
 static void take(void) {
-    for (uint32_t left = config.cores + 1; left > 0; left--) {
+    for (uint32_t code = FX_OK; code == FX_OK || code == FX_NULL;) {
         fx_seat taken = FX_NO_SEAT;
         uint32_t actor = MOST;
-        PRINT("take = %" PRIu32, fx_house_take(&house, &taken, &actor));
-        printf(" %" PRIu32 "\n", actor);
-        seats[actor] = taken;
+        code = fx_house_take(at(&house), at(&taken), at(&actor));
+        PRINT("take = %" PRIu32, code);
+        if (code == FX_OK) {
+            printf(" %" PRIu32, actor);
+            seats[actor] = taken;
+        }
+        printf("\n");
     }
-    fx_seat taken = FX_NO_SEAT;
-    uint32_t actor = 0;
-    PRINT("take = %" PRIu32 "\n", fx_house_take(&house, &taken, &actor));
     memset(given, 0, sizeof given);
     memset(runs, 0, sizeof runs);
     closes = rarely(3);
@@ -359,7 +367,7 @@ static void many_queues(void) {
 }
 
 int main(int count, char **words) {
-    all = count > 1 ? strtoull(words[1], NULL, 10) : 1000000;
+    uint64_t all = count > 1 ? strtoull(words[1], NULL, 10) : 1000000;
     state = count > 2 ? strtoull(words[2], NULL, 10) : 88172645463325252u;
     uint32_t houses = 0;
     while (calls < all) {

@@ -1,30 +1,19 @@
 /*
  * A caller that picks its calls and their numbers at random, against model.h: random CALLS SEED. Three cores are in use, each with its
- * model, and often a call is one that is refused. Each call has to answer the model's code, and to write what the model writes: nothing
- * if it is refused. At times all counts of a core are compared.
+ * model, and often a call is one that is refused, at times since its pointers are null. Each call has to answer the model's code, and to write what
+ * the model writes: nothing if it is refused. At times all counts of a core are compared.
  * It stops at the first difference, which it tells. The last line is 'N passed, M failed', and the status is 0 if nothing failed.
  * random CALLS SEED print: each call goes to the standard output with its numbers, its code and what it wrote, for core_calls.py, which makes
  * the same calls. All else goes to the standard error then.
  */
+#include "dice.h"
 #include "model.h"
 #include <inttypes.h>
 #include <stdio.h>
 
-enum { CORES = 3, CALLS = 13, CODES = 20 };
+enum { CORES = 3, CALLS = 13, CODES = FX_NULL + 1 };
 
-static uint64_t state;
 static uint64_t seen[CODES];
-
-static uint64_t any(void) {
-    state ^= state << 13;
-    state ^= state >> 7;
-    state ^= state << 17;
-    return state;
-}
-
-static uint32_t below(uint32_t limit) { return (uint32_t)((any() >> 32) % limit); }
-
-static bool rarely(uint32_t times) { return below(times) == 0; }
 
 /* The handle stands at places[at], and moves at times. */
 typedef struct {
@@ -46,13 +35,16 @@ typedef struct {
     fx_queue_stats of_queue;
 } answer;
 
-/* A call with its numbers. */
+/* A call with its numbers. In `nulls` 1 says that its handle is null, and 2 that what it writes to is. */
 typedef struct {
-    uint32_t kind, queue, shares, jobs, step, mode, size_off;
+    uint32_t kind, queue, shares, jobs, step, mode, size_off, nulls;
     uint64_t job, spent, order;
 } call;
 
 static const char *const names[CALLS] = {"open", "free", "create", "set_shares", "submit", "next", "settle", "close_queue", "close", "stats", "stats_of_queue", "submit_numbered", "wake"};
+
+/* Which of them write behind a second pointer. */
+static const bool writes[CALLS] = {false, false, true, false, false, true, false, false, false, true, true, true, false};
 
 /* How many creations come next, and whose core they are for: without them no core has 256 queues. */
 static uint32_t creations, whose;
@@ -96,6 +88,7 @@ static call any_call(const model *m) {
     c.job = any();
     c.order = any_order(m, c.queue);
     c.spent = rarely(20) ? any() >> below(64) : below(3000);
+    c.nulls = rarely(60) ? 1 + below(writes[c.kind] ? 3 : 1) : 0;
     return c;
 }
 
@@ -108,23 +101,25 @@ static void prepare(answer *a, const call *c) {
     a->of_queue.size = (uint32_t)sizeof a->of_queue + c->size_off;
 }
 
-static answer by_library(fx_core *core, const call *c) {
+static answer by_library(fx_core *handle, const call *c) {
     answer a;
+    fx_core *core = c->nulls & 1 ? NULL : handle;
+    bool has_place = !(c->nulls & 2);
     prepare(&a, c);
     switch (c->kind) {
     case 0: a.code = fx_open(core, c->jobs); break;
     case 1: a.code = fx_free(core); break;
-    case 2: a.code = fx_create(core, c->shares, &a.queue); break;
+    case 2: a.code = fx_create(core, c->shares, has_place ? &a.queue : NULL); break;
     case 3: a.code = fx_set_shares(core, c->queue, c->shares); break;
     case 4: a.code = fx_submit(core, c->queue, c->job); break;
-    case 5: a.code = fx_next(core, &a.job); break;
+    case 5: a.code = fx_next(core, has_place ? &a.job : NULL); break;
     case 6: a.code = fx_settle(core, c->step, c->spent); break;
     case 7: a.code = fx_close_queue(core, c->queue, c->mode); break;
     case 8: a.code = fx_close(core, c->mode); break;
-    case 9: a.code = fx_stats(core, &a.core); break;
-    case 11: a.code = fx_submit_numbered(core, c->queue, c->job, &a.order); break;
+    case 9: a.code = fx_stats(core, has_place ? &a.core : NULL); break;
+    case 11: a.code = fx_submit_numbered(core, c->queue, c->job, has_place ? &a.order : NULL); break;
     case 12: a.code = fx_wake(core, c->order); break;
-    default: a.code = fx_stats_of_queue(core, c->queue, &a.of_queue); break;
+    default: a.code = fx_stats_of_queue(core, c->queue, has_place ? &a.of_queue : NULL); break;
     }
     return a;
 }
@@ -132,6 +127,10 @@ static answer by_library(fx_core *core, const call *c) {
 static answer by_model(model *m, const call *c) {
     answer a;
     prepare(&a, c);
+    if (c->nulls) {
+        a.code = FX_NULL;
+        return a;
+    }
     switch (c->kind) {
     case 0: a.code = model_open(m, c->jobs); break;
     case 1: a.code = model_free(m); break;
@@ -172,7 +171,7 @@ static void print_numbers(const call *c) {
 static void print_call(const call *c, uint32_t core, const answer *a) {
     const fx_core_stats *of = &a->core;
     const fx_queue_stats *q = &a->of_queue;
-    printf("%s %" PRIu32, names[c->kind], core);
+    printf("%s%s %" PRIu32, c->nulls ? "null " : "", names[c->kind], core);
     print_numbers(c);
     printf(" = %" PRIu32, a->code);
     if (c->kind == 2) printf(" %" PRIu32, a->queue);
@@ -191,8 +190,8 @@ static bool agrees(pair *p, const call *c, uint64_t number) {
     if (prints) print_call(c, (uint32_t)(p - pairs), &found);
     if (wanted.code < CODES) seen[wanted.code]++;
     if (memcmp(&wanted, &found, sizeof found) == 0) return true;
-    fprintf(told, "FAILED: call %llu, fx_%s of queue %u, shares %u, jobs %u, step %u, mode %u, spent %llu, order %llu: %u (%s), job %llu, queue %u, order %llu, and not %u (%s), job %llu, queue %u, order %llu\n",
-           (unsigned long long)number, names[c->kind], c->queue, c->shares, c->jobs, c->step, c->mode, (unsigned long long)c->spent,
+    fprintf(told, "FAILED: call %llu, fx_%s of queue %u, shares %u, jobs %u, step %u, mode %u, nulls %u, spent %llu, order %llu: %u (%s), job %llu, queue %u, order %llu, and not %u (%s), job %llu, queue %u, order %llu\n",
+           (unsigned long long)number, names[c->kind], c->queue, c->shares, c->jobs, c->step, c->mode, c->nulls, (unsigned long long)c->spent,
            (unsigned long long)c->order,
            found.code, fx_text(found.code), (unsigned long long)found.job, found.queue, (unsigned long long)found.order,
            wanted.code, fx_text(wanted.code), (unsigned long long)wanted.job, wanted.queue, (unsigned long long)wanted.order);
@@ -201,7 +200,7 @@ static bool agrees(pair *p, const call *c, uint64_t number) {
 
 /* Compares all counts of a core. */
 static bool all_agree(pair *p, uint64_t number) {
-    call c = {9, 0, 0, 0, 0, 0, 0, 0, 0, 0};
+    call c = {9, 0, 0, 0, 0, 0, 0, 0, 0, 0, 0};
     if (!agrees(p, &c, number)) return false;
     c.kind = 10;
     for (uint32_t queue = 0; p->model.has_core && queue < p->model.queue_count; queue++) {
@@ -241,7 +240,7 @@ int main(int count, char **words) {
     }
     uint64_t unseen = 0;
     for (uint32_t code = 0; code < CODES; code++) {
-        if (seen[code] > 0 || code == FX_SPENT || code == FX_NO_MEMORY) continue;
+        if (seen[code] > 0 || code == FX_SPENT || code == FX_NO_MEMORY || (code > FX_ABSENT && code < FX_NULL)) continue;
         fprintf(told, "FAILED: no call was answered %u (%s)\n", code, fx_text(code));
         unseen++;
     }

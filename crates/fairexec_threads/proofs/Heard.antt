@@ -113,8 +113,11 @@ module _ (ended : RuntimeView Script ℕ) (assembly : Assembly ℕ) (finishes : 
     closes_for : (mode : Mode) (later before : Journal ℕ) → notes ≡ later ++ CoreClosed mode ∷ before → ClosesItself mode before assembly ⊎ IsToldToClose core final mode assembly
     closes_for mode later before is =
         let acted = each_behind (MayAct (least_free ended.desk.cores ended.desk.cap ended.desk.burst) ended.room) later (CoreClosed mode ∷ before) (subst (EachNote (MayAct (least_free ended.desk.cores ended.desk.cap ended.desk.burst) ended.room)) is acts) in
-        ⊎_elim (λ awaited. inr (told_to_close mode later before is awaited)) (λ own. inl (record { returning = own.0; short = by_room before own.1 })) acted.0
+        ⊎_elim (λ awaited. inr (told_to_close mode later before is awaited)) (λ own. inl (record { returning = own.0; fits = by_fits before own.1; short = by_room before own.2 })) acted.0
       where
+        by_fits : (before : Journal ℕ) → length before ≤ ended.room → length before ≤ room_of assembly.cores assembly.cap assembly.burst
+        by_fits before fits = rw (finishes.cores, finishes.cap, finishes.burst) (subst (λ room. length before ≤ room) room fits)
+
         by_room : (before : Journal ℕ) → ended.room - length before < least_free ended.desk.cores ended.desk.cap ended.desk.burst → room_of assembly.cores assembly.cap assembly.burst - length before < least_free assembly.cores assembly.cap assembly.burst
         by_room before short = rw (finishes.cores, finishes.cap, finishes.burst) (subst (λ room. room - length before < least_free ended.desk.cores ended.desk.cap ended.desk.burst) room short)
 

@@ -28,6 +28,7 @@ pub record IsSent (told : Told) (name : JobId) (assembly : Assembly ℕ) : Type 
 -- a core closed by itself behind these notes: in mode `Return`, and its journal was short
 pub record ClosesItself (mode : Mode) (before : Journal ℕ) (assembly : Assembly ℕ) : Type 0 where
   pub returning : mode ≡ Return
+  pub fits : length before ≤ room_of assembly.cores assembly.cap assembly.burst
   pub short : room_of assembly.cores assembly.cap assembly.burst - length before < least_free assembly.cores assembly.cap assembly.burst
 
 -- an actor had sent the core an order to close it; where that was the outside actor, it is one of its first orders, up to this number

@@ -2,6 +2,8 @@
 use Rattle.rt_journal.proofs.Names.{inl, ◌≡◌, ℕ, Bool, true, false, List, [], ◌∷◌, ◌++◌, length, Option, Some, Result, Ok, Err, refl, sym, ◌∙◌, ap, subst, arith}
 use Rattle.rt_journal.proofs.Names.{JobId, Note, Journal, ArePosts, poll_note, Step, SendError, Job, IfSome}
 use Rattle.rt_ids.specs.declared.note.Note.TheVariants as writes
+use Rattle.rt_ids.specs.declared.order.Mode.TheVariants.{Return}
+use Rattle.rt_ids.specs.declared.order.Order.TheVariants.{CloseCore}
 use Rattle.rt_ids.specs.declared.order.SendError.TheVariants as refused
 use Rattle.rt_jobs.specs.Calls.{Call}
 use Rattle.rt_jobs.specs.Calls.Call.{Submit, Detach}
@@ -12,7 +14,7 @@ use Rattle.rt_jobs.specs.declared.poll.Poll.{Poll}
 use Rattle.rt_jobs.specs.declared.poll.Poll.TheVariants as poll
 use Rattle.rt_journal.specs.RightAnswers.{Seen, AnswersOrder, posted_notes, AreRightAnswers}
 use Rattle.rt_journal.specs.OwedPolls.{IsOwedPoll}
-use Rattle.rt_journal.specs.BadPolls.{job, sent, terms, open_links, other_orders, ordered, begun, PollsAreRefused, OneIsOwed}
+use Rattle.rt_journal.specs.BadPolls.{job, sent, to_itself, terms, open_links, other_orders, ordered, begun, PollsAreRefused, OneIsOwed}
 use Rattle.rt_journal.proofs.OneBeginning.{IsPollBehind, poll_behind, calls_post}
 
 abbrev pub script : List Poll → Script
@@ -60,20 +62,43 @@ parks = poll.Park 5 ∷ ends
 abbrev submits : List Poll
 submits = poll.Submit 5 1 0 ∷ ends
 
--- a poll that is settled was begun
-never_begun : (calls : List (Note ℕ)) (name : JobId) (started : Bool) (earlier : Journal ℕ) → ArePosts calls → first ≡ calls ++ poll_note name started ∷ earlier → ⊥
-never_begun [] name false earlier are same = cc
-never_begun [] name true earlier are same = cc
-never_begun (writes.Sent other order ∷ calls) name started earlier are same = cc
-never_begun (writes.Redeemed other outcome ∷ calls) name started earlier are same = cc
-never_begun (writes.Detached other ∷ calls) name started earlier are same = cc
-never_begun (_ ∷ calls) name started earlier are same = absurd are
+abbrev to_core_0 : List Poll
+to_core_0 = poll.Submit 5 0 0 ∷ ends
+
+-- a note that neither begins a poll nor was posted
+abbrev IsApart : Note ℕ → Type 0
+IsApart (writes.Start name) = ⊥
+IsApart (writes.Resume name) = ⊥
+IsApart (writes.Sent name order) = ⊥
+IsApart (writes.Redeemed name outcome) = ⊥
+IsApart (writes.Detached name) = ⊥
+IsApart _ = Unit {0}
+
+-- no such note stands in a poll
+none_apart : (top : Note ℕ) (before : Journal ℕ) → IsApart top → (posts : List (Note ℕ)) (name : JobId) (started : Bool) (earlier : Journal ℕ) → ArePosts posts →
+    top ∷ before ≡ posts ++ poll_note name started ∷ earlier → ⊥
+none_apart top before apart [] name false earlier are same = let head : top ≡ writes.Start name = cc in subst IsApart head apart
+none_apart top before apart [] name true earlier are same = let head : top ≡ writes.Resume name = cc in subst IsApart head apart
+none_apart top before apart (writes.Sent other order ∷ posts) name started earlier are same = let head : top ≡ writes.Sent other order = cc in subst IsApart head apart
+none_apart top before apart (writes.Redeemed other outcome ∷ posts) name started earlier are same = let head : top ≡ writes.Redeemed other outcome = cc in subst IsApart head apart
+none_apart top before apart (writes.Detached other ∷ posts) name started earlier are same = let head : top ≡ writes.Detached other = cc in subst IsApart head apart
+none_apart top before apart (_ ∷ posts) name started earlier are same = absurd are
+
+-- so a poll that is settled was begun, and nothing but posts stands in it
+module _ (polls : List Poll) (step : Step ℕ) (time : ℕ) (top : Note ℕ) (before : Journal ℕ) (apart : IsApart top) where
+  never_begun : IsOwedPoll script_meaning terms open_links (ordered polls) job time step (top ∷ before) → ⊥
+  never_begun owed = none_apart top before apart (posted_notes owed.poll.calls) job owed.poll.was_started owed.poll.earlier (calls_post owed.poll.calls) owed.poll.stands
 
 another_time : (told : Option ℕ) → told ≡ Some 5 → IfSome told (λ stated. stated ≡ 6) → ⊥
 another_time told is timed = let same : ◌≡◌ {A = ℕ} 5 6 = subst (λ told. IfSome told (λ stated. stated ≡ 6)) is timed in absurd (omega arith)
 
--- a poll that submits writes two notes
+-- a poll that submits writes two notes, and one that asks for nothing writes none
 module _ (posts : List (Note ℕ)) (are : ArePosts posts) where
+  asks_nothing : IsOwedPoll script_meaning terms open_links (ordered yields) job 5 steps.Yield (posts ++ begun) → 0 ≡ length posts
+  asks_nothing owed =
+      let its = its_poll open_links yields 5 steps.Yield posts false (writes.Pick 0 0 ∷ first) are owed in
+      ap (λ calls. length (posted_notes calls)) (sym its.owed.0) ∙ ap length its.wrote
+
   submits_once : IsOwedPoll script_meaning terms open_links (ordered submits) job 5 steps.Yield (posts ++ begun) → length posts ≡ 2
   submits_once owed =
       let its = its_poll open_links submits 5 steps.Yield posts false (writes.Pick 0 0 ∷ first) are owed in
@@ -91,11 +116,25 @@ another_job calls sends right two = by_answer sends.answer sends.are
         absurd (omega arith)
     by_answer (Err error) are = let none : ◌≡◌ {A = ℕ} 0 2 = ap (λ calls. length (posted_notes calls)) (sym are) ∙ two in absurd (omega arith)
 
+-- a poll that submits a job sends no closing
+abbrev closing : List (Note ℕ)
+closing = writes.Detached to_itself ∷ writes.Sent to_itself (CloseCore Return) ∷ []
+
+no_closing : (calls : List (Call Script ℕ)) → SendsSmall 0 0 calls → posted_notes calls ≡ closing → ⊥
+no_closing calls sends wrote = by_answer sends.answer sends.are
+  where
+    by_answer : (answer : Result JobId (SendError Script)) → calls ≡ Submit 0 (Job 0 small_job) answer ∷ detach_calls answer → ⊥
+    by_answer (Ok name) are =
+        let same : writes.Detached name ∷ writes.Sent name (Job 0 tt) ∷ [] ≡ closing = ap posted_notes (sym are) ∙ wrote in
+        cc
+    by_answer (Err error) are = let none : ◌≡◌ {A = ℕ} 0 2 = ap (λ calls. length (posted_notes calls)) (sym are) ∙ ap length wrote in absurd (omega arith)
+
 pub polls_refused : PollsAreRefused
 polls_refused = record {
   yields_for_ever = λ owed. let its = its_poll open_links ends 1 steps.Yield [] false (writes.Pick 0 0 ∷ first) tt owed.0 in absurd (let wrong = its.owed.1 in cc);
   skips_to_its_value = λ owed. let its = its_poll open_links yields 1 (steps.Done 7) [] false (writes.Pick 0 0 ∷ first) tt owed.0 in absurd (let wrong = its.owed.1 in cc);
   yields_once_more = λ owed. let its = its_poll open_links yields 5 steps.Yield [] true (writes.Pick 0 5 ∷ writes.Yield job 5 ∷ begun) tt owed.0 in absurd (let wrong = its.owed.1 in cc);
+  yields_unbegun = λ owed. never_begun (poll.Yield 5 ∷ yields) steps.Yield 5 (writes.Yield job 5) begun tt owed.0;
   another_value = λ owed. let its = its_poll open_links ends 1 (steps.Done 8) [] false (writes.Pick 0 0 ∷ first) tt owed.0 in let same : ◌≡◌ {A = ℕ} 8 7 = let wrong = its.owed.1 in cc in absurd (omega arith);
   another_time = λ owed. let its = its_poll open_links yields 6 steps.Yield [] false (writes.Pick 0 0 ∷ first) tt owed.0 in another_time its.told its.owed.2 its.timed;
   submits_nothing = λ owed. let wrong : ◌≡◌ {A = ℕ} 0 2 = submits_once [] tt owed.0 in absurd (omega arith);
@@ -106,10 +145,15 @@ polls_refused = record {
   yields_for_a_park = λ owed. let its = its_poll open_links parks 5 steps.Yield [] false (writes.Pick 0 0 ∷ first) tt owed.0 in absurd (let wrong = its.owed.1 in cc);
   parks_for_a_yield = λ owed. let its = its_poll open_links yields 5 steps.Park [] false (writes.Pick 0 0 ∷ first) tt owed.0 in absurd (let wrong = its.owed.1 in cc);
   stays_when_done = λ owed. let its = its_poll open_links ends 1 steps.Park [] false (writes.Pick 0 0 ∷ first) tt owed.0 in absurd (let wrong = its.owed.1 in cc);
-  never_begun = λ owed. let its = owed.0.poll in never_begun (posted_notes its.calls) job its.was_started its.earlier (calls_post its.calls) its.stands;
+  never_begun = λ owed. never_begun ends (steps.Done 7) 1 (writes.Took job 0) [] tt owed.0;
   sends_another_job = λ owed.
       let its = its_poll other_orders submits 5 steps.Yield (writes.Detached (sent 1) ∷ writes.Sent (sent 1) (Job 0 tt) ∷ []) false (writes.Pick 0 0 ∷ first) tt owed.0 in
       another_job its.calls its.owed.0 its.right (ap length its.wrote);
+  sends_a_closing = λ owed.
+      let its = its_poll open_links to_core_0 5 steps.Yield (writes.Detached to_itself ∷ writes.Sent to_itself (CloseCore Return) ∷ []) false (writes.Pick 0 0 ∷ first) tt owed.0 in
+      no_closing its.calls its.owed.0 its.wrote;
+  closes_its_core = λ owed. let wrong : ◌≡◌ {A = ℕ} 0 1 = asks_nothing (writes.Sent to_itself (CloseCore Return) ∷ []) tt owed.0 in absurd (omega arith);
+  closes_in_a_poll = λ owed. never_begun yields steps.Yield 5 (writes.CoreClosed Return) begun tt owed.0;
 }
 
 -- the polls of a job that submits once and is done

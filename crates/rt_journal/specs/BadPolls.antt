@@ -2,9 +2,10 @@
 use Rattle.std.specs.Prelude.{◌≡◌, ℕ, Option, Some, List, [], ◌∷◌}
 use Rattle.rt_ids.specs.Terms.{Terms}
 use Rattle.rt_ids.specs.declared.names.JobId.{JobId}
-use Rattle.rt_ids.specs.declared.note.Note.TheVariants.{Took, Pick, Start, Resume, Yield, Park, Stayed, Done, Sent, Detached}
+use Rattle.rt_ids.specs.declared.note.Note.TheVariants.{Took, Pick, Start, Resume, Yield, Park, Stayed, Done, Sent, Detached, CoreClosed}
+use Rattle.rt_ids.specs.declared.order.Mode.TheVariants.{Return}
 use Rattle.rt_ids.specs.declared.order.Order.{Order}
-use Rattle.rt_ids.specs.declared.order.Order.TheVariants.{Job}
+use Rattle.rt_ids.specs.declared.order.Order.TheVariants.{Job, CloseCore}
 use Rattle.rt_ids.specs.Journal.{Journal}
 use Rattle.rt_jobs.specs.ScriptMeaning.{script_meaning}
 use Rattle.rt_jobs.specs.Scripts.{Script}
@@ -19,6 +20,10 @@ job = record { from = 2; to = 0; number = 1 }
 -- what the job sends to core 1, and then again
 abbrev pub sent : ℕ → JobId
 sent number = record { from = 0; to = 1; number = number }
+
+-- what its core sends to itself
+abbrev pub to_itself : JobId
+to_itself = record { from = 0; to = 0; number = 1 }
 
 abbrev pub terms : Terms
 terms = record { actor = 0; cores = 2; cap = 4; burst = 1 }
@@ -50,6 +55,8 @@ pub record PollsAreRefused : Type 0 where
   pub skips_to_its_value : IsNotOwed open_links (poll.Yield 5 ∷ poll.Done 1 7 ∷ []) (Done job 1 7 ∷ begun)
   -- it yields once more than it has polls that yield
   pub yields_once_more : IsNotOwed open_links (poll.Yield 5 ∷ poll.Done 1 7 ∷ []) (Yield job 5 ∷ Resume job ∷ Pick 0 5 ∷ Yield job 5 ∷ begun)
+  -- its second yield was never begun
+  pub yields_unbegun : IsNotOwed open_links (poll.Yield 5 ∷ poll.Yield 5 ∷ poll.Done 1 7 ∷ []) (Yield job 5 ∷ Yield job 5 ∷ begun)
   -- it is done with another value
   pub another_value : IsNotOwed open_links (poll.Done 1 7 ∷ []) (Done job 1 8 ∷ begun)
   -- another time counts than the one that it told
@@ -71,6 +78,12 @@ pub record PollsAreRefused : Type 0 where
   pub never_begun : IsNotOwed open_links (poll.Done 1 7 ∷ []) (Done job 1 7 ∷ Took job 0 ∷ [])
   -- another job was sent than the one that its poll submits
   pub sends_another_job : IsNotOwed other_orders (poll.Submit 5 1 0 ∷ poll.Done 1 7 ∷ []) (Yield job 5 ∷ Detached (sent 1) ∷ Sent (sent 1) (Job 0 tt) ∷ begun)
+  -- the order that closes the core was sent in place of that job
+  pub sends_a_closing : IsNotOwed open_links (poll.Submit 5 0 0 ∷ poll.Done 1 7 ∷ []) (Yield job 5 ∷ Detached to_itself ∷ Sent to_itself (CloseCore Return) ∷ begun)
+  -- a poll that asks for nothing sent its own core the order to close
+  pub closes_its_core : IsNotOwed open_links (poll.Yield 5 ∷ poll.Done 1 7 ∷ []) (Yield job 5 ∷ Sent to_itself (CloseCore Return) ∷ begun)
+  -- the core closed by itself between the beginning of a poll and its end
+  pub closes_in_a_poll : IsNotOwed open_links (poll.Yield 5 ∷ poll.Done 1 7 ∷ []) (Yield job 5 ∷ CoreClosed Return ∷ begun)
 
 -- The job submits at its first poll, and is done at its second: each of these polls is owed.
 abbrev pub OneIsOwed : Type 0

@@ -49,10 +49,10 @@ pub fn others_owe_polls<J: Task<Out = u64>, O: OutEnd<J>>()
     ensures seen { CollectionsSeeNoLess J.meaning O.out }
 {}
 
-/// Small journals with a poll that isn't owed are refused: among them one that yields for ever, one whose poll submits nothing, and one in
-/// which another time counts than was told. A journal of a job that submits once and is done isn't. A refusal by a shut gate is right only
-/// behind as many orders as the gate let through: so no order is accepted after it. A further poll is owed in its turn alone, and the turn
-/// has at most as many polls as it may have.
+/// Small journals with a poll that isn't owed are refused: among them one that yields for ever, one whose poll submits nothing, one whose
+/// core closes itself in a poll, and one in which another time counts than was told. A journal of a job that submits once and is done isn't.
+/// A refusal by a shut gate is right only behind as many orders as the gate let through: so no order is accepted after it. A further poll
+/// is owed in its turn alone, and the turn has at most as many polls as it may have.
 pub fn bad_polls_are_refused()
     ensures refused { PollsAreRefused }
     ensures owed { OneIsOwed }

@@ -1,18 +1,19 @@
--- Finishes that are refused: of a core that isn't closed, without a note of the caller, without an outcome, and with a note that is kept and was never refused.
+-- Finishes that are refused: of a core that isn't closed, without a note of the caller, without an outcome, with orders that nobody
+-- sent or that are forgotten, and with a note that is kept and was never refused.
 use Rattle.std.proofs.Common.{◌≡◌, ℕ, ◌<◌, ◌≤◌, [], ◌∷◌, inl, inr, subst, arith}
 use Rattle.std.specs.Prelude.{true, false, Some, None, Ok, Err, IfSome, length}
 use Rattle.std.specs.Option.{IsSome}
 use Rattle.rt_ids.specs.declared.names.JobId.{JobId}
 use Rattle.rt_ids.specs.declared.note.Note.{Note}
 use Rattle.rt_ids.specs.declared.order.Order.{Order}
-use Rattle.rt_ids.specs.Assembly.{Assembly, journal_of, outcome_of}
+use Rattle.rt_ids.specs.Assembly.{Assembly, journal_of, order_of, outcome_of}
 use Rattle.rt_ids.specs.Journal.{Journal}
 use Rattle.rt_jobs.specs.Meanings.{Meaning}
 use Rattle.rt_runtime.specs.declared.error.FinishError.TheVariants.{NotClosed}
 use Rattle.rt_runtime.specs.declared.passed.ActorNotes.{ActorNotes}
 use Rattle.rt_runtime.specs.Calls.{Finishes, HasFinishedBy}
-use Rattle.rt_runtime.specs.Outcomes.{AllHaveOutcomes, Orders}
-use Rattle.rt_runtime.specs.State.{RuntimeView, closing_at}
+use Rattle.rt_runtime.specs.Outcomes.{AllHaveOutcomes, AreItsOrders, Orders}
+use Rattle.rt_runtime.specs.State.{RuntimeView, closing_at, submitted_under}
 use Rattle.rt_runtime.specs.WithSinks.{KeepsRefused}
 
 module _ {J : Type 0} (meaning : Meaning J ℕ) (view : RuntimeView J ℕ) where
@@ -39,6 +40,16 @@ module _ {J : Type 0} (meaning : Meaning J ℕ) (view : RuntimeView J ℕ) where
   no_outcome_refused assembly orders name order known there sent none outcomes =
       let told = subst (λ found. IfSome found (λ order. IsSome (outcome_of name assembly))) sent (outcomes name known there) in
       absurd cc
+
+  -- an order of which no journal tells is said to have been sent
+  unsent_refused : (assembly : Assembly ℕ) (orders : Orders J) (name : JobId) (order : Order J) → name.from ≤ view.desk.cores → name.to < view.desk.cores → orders name ≡ Some order →
+      order_of name assembly ≡ None → AreItsOrders view assembly orders → ⊥
+  unsent_refused assembly orders name order known there is none are = let told = are.sent name known there in absurd cc
+
+  -- an order that the caller submitted isn't among those that were sent
+  forgotten_refused : (assembly : Assembly ℕ) (orders : Orders J) (name : JobId) (order : Order J) → name.from ≡ view.desk.cores → name.to < view.desk.cores → 0 < name.number →
+      submitted_under name view ≡ Some order → orders name ≡ None → AreItsOrders view assembly orders → ⊥
+  forgotten_refused assembly orders name order caller there some is none are = let told = are.all_of_caller name caller there some in absurd cc
 
 -- a note is kept, and its sink never refused
 kept_refused : {S : Type 0} (has : S → Journal ℕ) (refused : S → ℕ → Type 0) (actor : ActorNotes S) (note : Note ℕ) → actor.kept.notes ≡ note ∷ [] → (refused actor.sink (length (has actor.sink)) → ⊥) →

@@ -59,7 +59,7 @@ module _ {J T : Type 0} {fits : Order J → Outcome J T → Type 0} where
         IfOk answer (FitsSent fits (out_at name.to inside.ends).out name.number) → RedeemsHere fits name view answer new
     redeemed_here answer redeems got fit =
         subst (λ view. RedeemsHere fits name view answer new) seen
-        (record { redeems = redeems; fitting = fits_submitted inside is name low answer got fit; nothing = nothing_on inside is name.to low desk later stays link ends is_put sent gate (redeemed_grows name inside.desk desk answer redeems) })
+        (record { redeems = redeems; given = got; fitting = fits_submitted inside is name low answer got fit; nothing = nothing_on inside is name.to low desk later stays link ends is_put sent gate (redeemed_grows name inside.desk desk answer redeems) })
 
     pub detached_here : (answer : Result (Unit {0}) TicketError) → DetachesTicket name inside.desk answer desk → DetachesHere name view answer new
     detached_here answer detaches =

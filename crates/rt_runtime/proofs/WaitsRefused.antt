@@ -1,13 +1,16 @@
--- Waits that no contract lets pass: another outcome is redeemed too, the one that is answered stays, an order is submitted twice.
-use Rattle.std.proofs.Common.{◌≡◌, ℕ, true, false, [], ◌∷◌, ◌++◌, length, ◌∙◌, sym, subst, ap, arith, drop, Ok, length-append}
+-- Waits that no contract lets pass: another outcome is redeemed too, the one that is answered stays, an order is submitted twice or comes back from a
+-- full link, and no outcome is awaited though there is a ticket.
+use Rattle.std.proofs.Common.{◌≡◌, ℕ, true, false, [], ◌∷◌, ◌++◌, length, ◌∙◌, sym, subst, ap, arith, drop, Ok, Err, None, refl, length-append}
 use Rattle.std.proofs.lemmas.List.{append_cancel_right}
 use Rattle.rt_ids.specs.declared.names.JobId.{JobId}
 use Rattle.rt_ids.specs.declared.note.Note.TheVariants.{Redeemed}
 use Rattle.rt_ids.specs.declared.note.OutcomeNote.{OutcomeNote}
 use Rattle.rt_ids.specs.declared.order.Order.{Order}
 use Rattle.rt_ids.specs.declared.order.Outcome.{Outcome}
+use Rattle.rt_ids.specs.declared.order.SendError.TheVariants.{Full}
+use Rattle.rt_runtime.specs.declared.error.SubmitError.TheVariants.{Send}
 use Rattle.rt_runtime.specs.State.{RuntimeView, submitted}
-use Rattle.rt_runtime.specs.Waiting.{RedeemsAtLast, SubmitsAtLast}
+use Rattle.rt_runtime.specs.Waiting.{RedeemsAtLast, SubmitsAtLast, WaitsForAny}
 use Rattle.rt_runtime.specs.WaitingLaws.{AreCollections}
 use Rattle.rt_runtime.proofs.WaitedOnce.{redeems_once, submits_once}
 
@@ -38,3 +41,11 @@ submitted_twice_refused each core order old name new did twice =
     let two = length-append (submitted core old) (order ∷ order ∷ []) in
     let one = length-append (submitted core old) (order ∷ []) in
     omega (arith, long, two, one)
+
+-- the order comes back, since its link is full
+full_refused : {J T : Type 0} (each core : ℕ) (order : Order J) (old new : RuntimeView J T) → SubmitsAtLast each core order old (Err (Send (Full order))) new → ⊥
+full_refused each core order old new did = did.not_full order refl
+
+-- there is a ticket, and none is waited for
+none_awaited_refused : {J T : Type 0} (fits : Order J → Outcome J T → Type 0) (name : JobId) (old new : RuntimeView J T) → WaitsForAny fits (name ∷ []) old None new → ⊥
+none_awaited_refused fits name old new waits = let none = waits.0 in absurd cc

@@ -5,6 +5,7 @@ use Rattle.rt_ids.specs.declared.names.TicketError.{TicketError}
 use Rattle.rt_ids.specs.declared.order.Order.{Order}
 use Rattle.rt_ids.specs.declared.order.Outcome.{Outcome}
 use Rattle.rt_ids.specs.Filters.{collected_outcomes}
+use Rattle.rt_desk.specs.Lanes.{IsGot}
 use Rattle.rt_ring_mesh.specs.Ends.{out_at}
 use Rattle.rt_journal_desk.specs.Ends.{named_outcomes}
 use Rattle.rt_journal_desk.specs.Tickets.{CollectsFrom, DetachesTicket, GetsAll, RedeemsTicket}
@@ -31,9 +32,10 @@ module _ {J T : Type 0} where
     pub is : submitted_under name view ≡ Some order
     pub fit : fits order outcome
 
-  -- an outcome that was collected is redeemed, and it fits its order; or the ticket is refused
+  -- an outcome that was collected under this name is redeemed, and it fits its order; or the ticket is refused
   pub record RedeemsHere (fits : Order J → Outcome J T → Type 0) (name : JobId) (old : RuntimeView J T) (answer : Result (Outcome J T) TicketError) (new : RuntimeView J T) : Type 0 where
     pub redeems : RedeemsTicket name old.desk answer new.desk
+    pub given : IfOk answer (IsGot (out_at name.to old.ends).out name.number)
     pub fitting : IfOk answer (FitsSubmitted fits name old)
     pub nothing : SubmitsNothing old new
 

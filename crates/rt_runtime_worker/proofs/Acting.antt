@@ -66,7 +66,7 @@ module _ {T : Type 0} where
   -- what a core does by a command it may do anyhow
   command_note : (least room : ℕ) (note : Note T) (before : Journal T) → MayAct 0 0 note before → MayAct least room note before
   command_note least room (writes.CoreClosed mode) before (inl told) = inl told
-  command_note least room (writes.CoreClosed mode) before (inr short) = absurd (omega (arith, short.1))
+  command_note least room (writes.CoreClosed mode) before (inr short) = absurd (omega (arith, short.2))
   command_note least room (writes.Sent name order) before may = may
   command_note least room (writes.Redeemed name outcome) before may = may
   command_note least room (writes.Detached name) before may = may

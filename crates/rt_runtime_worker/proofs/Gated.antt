@@ -159,7 +159,7 @@ module _ {J T : Type 0} where
             EachNote (MayAct (least_free old.recorded.core.cores old.recorded.cap old.recorded.core.bursts.burst) old.recorded.journal.room) now.notes
         by_return now (inl same) may = subst (λ journal. EachNote (MayAct (least_free old.recorded.core.cores old.recorded.cap old.recorded.core.bursts.burst) old.recorded.journal.room) journal.notes) (sym same) may
         by_return now (inr wrote) may =
-            subst (λ journal. EachNote (MayAct (least_free old.recorded.core.cores old.recorded.cap old.recorded.core.bursts.burst) old.recorded.journal.room) journal.notes) (sym wrote) (inr (refl, short), may)
+            subst (λ journal. EachNote (MayAct (least_free old.recorded.core.cores old.recorded.cap old.recorded.core.bursts.burst) old.recorded.journal.room) journal.notes) (sym wrote) (inr (refl, omega (arith, spare), short), may)
 
   -- a core that closes by itself and shuts its gates notes no poll
   pub ending_notes_none : (old middle new : LinkedView J T) (count : ℕ) → LeavesReturning old middle → ShutsFirst count middle new → NotesNoPoll old.recorded.journal.notes new.recorded.journal.notes

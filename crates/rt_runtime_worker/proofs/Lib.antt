@@ -12,8 +12,10 @@ mod ServesRefused
 mod OnceRefused
 mod EndsRefused
 mod LooksRefused
+mod PollsRefused
 mod QueuesRefused
 mod ActsRefused
+mod AsksRefused
 mod BellsRefused
 mod RestsRefused
 mod ParksRest

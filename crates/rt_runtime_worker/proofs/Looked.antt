@@ -86,6 +86,7 @@ module _ {J T M N G : Type 0} (meaning : Meaning J T) (tells : M → ℕ → M �
   turns_seen meter later gate after {old} {new} turn = record {
     before = turn.before;
     looks = turn.looks;
+    none = turn.none;
     stays = turn.stays;
     ready = turn.ready;
     ended = turn.ended;

@@ -2,6 +2,7 @@
 use Rattle.std.specs.Prelude.{◌≡◌, ◌⊎◌, ◌&&◌, ◌||◌, ℕ, ◌+◌, ◌<◌, ◌≤◌, Bool, true, false, not}
 use Rattle.rt_ids.specs.declared.names.JobId.{JobId}
 use Rattle.rt_jobs.specs.Meanings.{Meaning}
+use Rattle.rt_runtime_worker.specs.Asks.{NotesNoPoll}
 use Rattle.rt_runtime_worker.specs.Ended.{ServedView, IsServed}
 use Rattle.rt_runtime_worker.specs.Readings.{WatchView, watch_view}
 use Rattle.rt_runtime_worker.specs.Rounds.{CollectsFirst, HearsAll, ShutsClosed, StepsServed}
@@ -41,7 +42,7 @@ module _ {J T C G : Type 0} (meaning : Meaning J T) (reads : C → ℕ → C →
   -- Each gate of a closed core is shut and each sender is heard, then a turn is made, and then the outcomes of each core are collected. Between these steps
   -- the core agrees with its journal and its ends, and each step leaves the notes that stand and what the ends have seen. It tells whether anything was
   -- done, and how many turns may be made without a look behind it. The clock is read for its turn and for nothing else, and the time of polls is counted
-  -- anew from there.
+  -- anew from there. No poll is noted before its turn or behind it.
   pub record LooksAtAll (old : RoundView J T C G) (some : Bool) (turns : ℕ) (new : RoundView J T C G) : Type 0 where
     pub heard : ServedView J T
     pub turned : ServedView J T
@@ -53,10 +54,12 @@ module _ {J T C G : Type 0} (meaning : Meaning J T) (reads : C → ℕ → C →
     pub shuts : ShutsClosed old.served.linked heard.linked
     pub hears : HearsAll (old.served.linked.recorded.core.cores + 1) old.served heard
     pub sound : IsServed meaning heard
+    pub none_before : NotesNoPoll old.served.linked.recorded.journal.notes heard.linked.recorded.journal.notes
     pub turn : TurnsWith meaning reads asked old.watch timed old.gate new.gate heard worked turned
     pub turn_steps : StepsServed heard worked turned
     pub gathers : StepsServed turned back new.served
     pub collects : CollectsFirst old.served.linked.recorded.core.cores new.served
+    pub none_behind : NotesNoPoll turned.linked.recorded.journal.notes new.served.linked.recorded.journal.notes
     pub tells : some ≡ (worked || (came || back))
     pub plans : turns ≡ turns_after (found_quiet worked (came || back))
     pub forgets : new.watch ≡ record timed { taken = 0 }

@@ -33,7 +33,7 @@ module _ {T : Type 0} where
   -- The core closes where a command to close it was just answered, or by itself in mode `Return` where the journal is short. It sends, redeems and
   -- lets go only while one of its jobs is being polled.
   abbrev pub MayAct : ℕ → ℕ → Note T → Journal T → Type 0
-  MayAct least room (CoreClosed mode) before = IsSome (effect_awaited before) ⊎ ((mode ≡ Return) × (room - length before < least))
+  MayAct least room (CoreClosed mode) before = IsSome (effect_awaited before) ⊎ ((mode ≡ Return) × (length before ≤ room) × (room - length before < least))
   MayAct least room (Sent name order) before = IsPolling before
   MayAct least room (Redeemed name outcome) before = IsPolling before
   MayAct least room (Detached name) before = IsPolling before

@@ -111,8 +111,12 @@ pub struct Woken<'a> {
     bell: &'a Bell,
 }
 
+/// The leave to sleep. Each crate whose actors park has one type for it, private to the module of the last look behind which they park: so no
+/// other body there sleeps.
+pub trait MaySleep {}
+
 /// Parks until the bell rings. It doesn't if the bell has rung since `lie_down`.
-pub fn sleep<'a, R: Wait>(rt: &R, key: Key<'a>) -> Woken<'a>
+pub fn sleep<'a, R: Wait, L: MaySleep + Drop>(rt: &R, key: Key<'a>, _leave: L) -> Woken<'a>
     ensures { result.bell.now ≡ key.entry.bell.now }
 {
     let Key { bell, event } = key;

@@ -22,7 +22,7 @@ pub mod stopwatch;
 pub mod turn;
 pub mod worker;
 
-pub use bell::{Bell, Key, Woken, sleep};
+pub use bell::{Bell, Key, MaySleep, Woken, sleep};
 pub use bells::Bells;
 pub use ended::Ended;
 pub use linked::Linked;

@@ -1,10 +1,11 @@
 //! A sink that keeps all notes.
 
-ghost use Rattle.std.specs.Prelude.{◌≡◌, ◌+◌, ◌-◌, ◌^◌, ◌<◌, ◌≤◌, [], ◌++◌, length, min, reverse, ℕ, IfOk, OnErr, OnOk};
+ghost use Rattle.std.specs.Prelude.{◌≡◌, ◌+◌, ◌-◌, ◌^◌, ◌<◌, ◌≤◌, [], ◌∷◌, ◌++◌, length, min, reverse, ℕ, IfOk, OnErr, OnOk};
 ghost use Rattle.rt_ids.specs.Limits.{most_notes};
 ghost use Rattle.rt_journal_notes.specs.Passing.{KeepsRefusals};
 ghost use Rattle.rt_sinks.specs.Keeping.{HasRefused, MakesRoom};
 
+use rt_history::History;
 use rt_ids::{MOST_NOTES, Note};
 use rt_journal_notes::{Journal, Refused, Sink};
 use std::alloc::{AllocError, Global};
@@ -15,12 +16,14 @@ use std::marker::Model;
 /// It asks for the memory of all notes of a take before it adds one. It refuses for want of memory, and where there would be more than 2^24 notes.
 /// What its room holds it never refuses.
 ///
-/// A contract sees the notes that it took, the newest first, its room, and how often it refused.
+/// A contract sees the notes that it took, the newest first, its room, how often it refused, and how many notes it had each time.
 #[derive(Drop)]
 pub struct Keep {
     alloc: Global,
     journal: Journal<u64>,
     refusals: u64,
+    /// How many notes it had each time that it refused, the first time first.
+    refused_at: History<u64>,
 }
 
 impl Model for Keep {
@@ -28,23 +31,23 @@ impl Model for Keep {
 
     ghost Value = { KeepView };
 
-    ghost use Rattle.std.specs.Prelude.{◌≤◌};
-    ghost use Rattle.rt_ids.specs.Limits.{most_notes};
+    ghost use Rattle.rt_sinks.specs.Keeping.{IsKept};
 
-    ghost view = { λ keep. record { has = keep.journal.notes; room = keep.journal.room; refusals = keep.refusals } };
+    ghost view = { λ keep. record { has = keep.journal.notes; room = keep.journal.room; refusals = keep.refusals; refused = keep.refused_at.items } };
 
-    ghost invariant = { λ keep. keep.journal.room ≤ most_notes };
+    ghost invariant = { λ keep. IsKept keep.journal.room keep.refusals keep.refused_at.items };
 }
 
 impl Keep {
     /// Nothing is kept, and there is no room yet.
     pub fn new(alloc: Global) -> Self
-        ensures { result ≡ record { has = []; room = 0; refusals = 0 } }
+        ensures { result ≡ record { has = []; room = 0; refusals = 0; refused = [] } }
     {
         Keep {
             alloc,
             journal: Journal::of(Vec::new(alloc)),
             refusals: 0,
+            refused_at: History::new(),
         }
     }
 
@@ -55,13 +58,14 @@ impl Keep {
     /// `AllocError` for want of memory.
     pub fn try_with_room(alloc: Global, room: u32) -> Result<Self, AllocError>
         requires { room ≤ most_notes }
-        ensures { IfOk result (λ keep. keep ≡ record { has = []; room = room; refusals = 0 }) }
+        ensures { IfOk result (λ keep. keep ≡ record { has = []; room = room; refusals = 0; refused = [] }) }
     {
         let journal = Journal::try_with_room(alloc, room)?;
         Ok(Keep {
             alloc,
             journal,
             refusals: 0,
+            refused_at: History::new(),
         })
     }
 
@@ -125,12 +129,13 @@ impl Sink for Keep {
         ensures refusals { KeepsRefusals HasRefused self.old self.new }
         // It refuses nothing that its room holds.
         ensures room { OnErr result (self.old.room < length self.old.has + length notes.now) }
-        ensures counted { OnErr result (self.new ≡ record self.old { refusals = min (self.old.refusals + 1) (2 ^ 64 - 1) }) }
-        ensures uncounted { OnOk result (self.new.refusals ≡ self.old.refusals) }
+        ensures counted { OnErr result (self.new ≡ record self.old { refusals = min (self.old.refusals + 1) (2 ^ 64 - 1); refused = self.old.refused ++ length self.old.has ∷ [] }) }
+        ensures uncounted { OnOk result ((self.new.refusals ≡ self.old.refusals) × (self.new.refused ≡ self.old.refused)) }
         ensures most { OnOk result (length self.new.has ≤ most_notes) }
     {
         if make_room(self.alloc, &mut self.journal, notes.len()).is_err() {
             self.refusals = self.refusals.saturating_add(1);
+            self.refused_at = self.refused_at.with(&(self.journal.len() as u64));
             return Err(Refused);
         }
         self.journal.push_all(notes);

@@ -23,10 +23,10 @@ lines_more actor items notes =
 
 module _ {W : Type 0} (contents : W → Option (List ℕ)) where
   -- some of what is pending is written
-  pub holds_written : (actor refusals more shortages others : ℕ) (old new : W) (before after : List ℕ) (items : List (Note ℕ)) →
-      HoldsText contents (record { actor = actor; writer = old; pending = before; has = reverse items; refusals = refusals; shortages = shortages }) → Writes (contents old) (contents new) before after →
-      HoldsText contents (record { actor = actor; writer = new; pending = after; has = reverse items; refusals = more; shortages = others })
-  holds_written actor refusals more shortages others old new before after items holds writes = record {
+  pub holds_written : (actor refusals more shortages others : ℕ) (refused later : List ℕ) (old new : W) (before after : List ℕ) (items : List (Note ℕ)) →
+      HoldsText contents (record { actor = actor; writer = old; pending = before; has = reverse items; refusals = refusals; shortages = shortages; refused = refused }) → Writes (contents old) (contents new) before after →
+      HoldsText contents (record { actor = actor; writer = new; pending = after; has = reverse items; refusals = more; shortages = others; refused = later })
+  holds_written actor refusals more shortages others refused later old new before after items holds writes = record {
     written = holds.written ++ writes.bytes;
     has_written = record {
       first = holds.has_written.first;
@@ -38,11 +38,11 @@ module _ {W : Type 0} (contents : W → Option (List ℕ)) where
   }
 
   -- the lines of more notes are put behind what is pending
-  pub holds_put : (actor refusals more shortages others : ℕ) (writer : W) (before after : List ℕ) (items notes all : List (Note ℕ)) →
-      HoldsText contents (record { actor = actor; writer = writer; pending = before; has = reverse items; refusals = refusals; shortages = shortages }) →
+  pub holds_put : (actor refusals more shortages others : ℕ) (refused later : List ℕ) (writer : W) (before after : List ℕ) (items notes all : List (Note ℕ)) →
+      HoldsText contents (record { actor = actor; writer = writer; pending = before; has = reverse items; refusals = refusals; shortages = shortages; refused = refused }) →
       after ≡ before ++ notes_text actor notes → all ≡ items ++ notes →
-      HoldsText contents (record { actor = actor; writer = writer; pending = after; has = reverse all; refusals = more; shortages = others })
-  holds_put actor refusals more shortages others writer before after items notes all holds is longer = record {
+      HoldsText contents (record { actor = actor; writer = writer; pending = after; has = reverse all; refusals = more; shortages = others; refused = later })
+  holds_put actor refusals more shortages others refused later writer before after items notes all holds is longer = record {
     written = holds.written;
     has_written = holds.has_written;
     whole =
@@ -53,7 +53,7 @@ module _ {W : Type 0} (contents : W → Option (List ℕ)) where
   }
 
   -- all is written, and no line is pending
-  pub all_written : (actor refusals shortages : ℕ) (writer : W) (pending : List ℕ) (has : List (Note ℕ)) →
-      HoldsText contents (record { actor = actor; writer = writer; pending = pending; has = has; refusals = refusals; shortages = shortages }) → pending ≡ [] → HasWritten contents writer (text_of (actor_lines actor has))
-  all_written actor refusals shortages writer pending has holds none =
+  pub all_written : (actor refusals shortages : ℕ) (refused : List ℕ) (writer : W) (pending : List ℕ) (has : List (Note ℕ)) →
+      HoldsText contents (record { actor = actor; writer = writer; pending = pending; has = has; refusals = refusals; shortages = shortages; refused = refused }) → pending ≡ [] → HasWritten contents writer (text_of (actor_lines actor has))
+  all_written actor refusals shortages refused writer pending has holds none =
       subst (HasWritten contents writer) (sym (holds.whole ∙ (ap (λ rest. holds.written ++ rest) none ∙ append-nil holds.written))) holds.has_written

@@ -5,8 +5,8 @@ use Rattle.rt_ids.specs.Journal.{Journal}
 use Rattle.rt_journal_write.specs.Texts.{actor_lines, text_of}
 use Rattle.rt_sink.specs.Tries.{HasFailedSince}
 
--- whose notes they are, the writer, what is still to be written to it, the notes that were taken, the newest first, how often notes were refused, and how
--- often that was for want of memory
+-- whose notes they are, the writer, what is still to be written to it, the notes that were taken, the newest first, how often notes were refused, how
+-- often that was for want of memory, and how many were taken before each refusal, the first one first
 pub record LinesView (W : Type 0) : Type 0 where
   pub actor : ℕ
   pub writer : W
@@ -14,6 +14,7 @@ pub record LinesView (W : Type 0) : Type 0 where
   pub has : Journal ℕ
   pub refusals : ℕ
   pub shortages : ℕ
+  pub refused : List ℕ
 
 -- nothing was written yet, if it is known what was
 abbrev pub IsBlank : Option (List ℕ) → Type 0

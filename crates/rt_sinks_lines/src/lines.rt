@@ -1,6 +1,6 @@
 //! The sink.
 
-ghost use Rattle.std.specs.Prelude.{◌≡◌, ◌≤◌, ◌+◌, ◌-◌, ◌^◌, ◌++◌, ℕ, [], IfErr, IfOk, IsErr, OnErr, OnOk, min, reverse};
+ghost use Rattle.std.specs.Prelude.{◌≡◌, ◌+◌, ◌-◌, ◌^◌, ◌∷◌, ◌++◌, ℕ, [], Contains, IfErr, IfOk, IsErr, OnErr, OnOk, length, min, reverse};
 ghost use Rattle.rt_journal_write.specs.Texts.{actor_lines, text_of};
 ghost use Rattle.rt_sink.specs.Tries.{HasFailedSince, IsNoFewer};
 ghost use Rattle.rt_sinks_lines.specs.Lines.{HasWritten, HoldsText, IsBlank, IsRefused};
@@ -30,6 +30,8 @@ pub struct Lines<W: rt_sink::Sink> {
     refusals: u64,
     /// Those of the refusals that were for want of memory.
     shortages: u64,
+    /// What was taken by the time of each refusal, the first one first.
+    refused_at: History<History<Note<u64>>>,
 }
 
 impl<W: rt_sink::Sink> Model for Lines<W> {
@@ -37,12 +39,12 @@ impl<W: rt_sink::Sink> Model for Lines<W> {
 
     ghost Value = { LinesView W };
 
-    ghost use Rattle.std.specs.Prelude.{reverse};
+    ghost use Rattle.std.specs.Prelude.{length, map, reverse};
     ghost use Rattle.rt_sinks_lines.specs.Lines.{HoldsText};
 
-    ghost view = { λ lines. record { actor = lines.actor; writer = lines.outlet.writer; pending = lines.outlet.pending; has = reverse lines.has.items; refusals = lines.refusals; shortages = lines.shortages } };
+    ghost view = { λ lines. record { actor = lines.actor; writer = lines.outlet.writer; pending = lines.outlet.pending; has = reverse lines.has.items; refusals = lines.refusals; shortages = lines.shortages; refused = map (λ had. length had.items) lines.refused_at.items } };
 
-    ghost invariant = { λ lines. HoldsText W.contents (record { actor = lines.actor; writer = lines.outlet.writer; pending = lines.outlet.pending; has = reverse lines.has.items; refusals = lines.refusals; shortages = lines.shortages }) };
+    ghost invariant = { λ lines. HoldsText W.contents (record { actor = lines.actor; writer = lines.outlet.writer; pending = lines.outlet.pending; has = reverse lines.has.items; refusals = lines.refusals; shortages = lines.shortages; refused = map (λ had. length had.items) lines.refused_at.items }) };
 }
 
 /// Puts these notes behind all others.
@@ -62,7 +64,7 @@ impl<W: rt_sink::Sink> Lines<W> {
     /// The writer comes back for want of memory.
     pub fn try_new(alloc: Global, actor: ActorNo, full: usize, writer: W) -> Result<Self, W>
         requires { IsBlank (W.contents writer) }
-        ensures ok { IfOk result (λ lines. lines ≡ record { actor = actor; writer = writer; pending = []; has = []; refusals = 0; shortages = 0 }) }
+        ensures ok { IfOk result (λ lines. lines ≡ record { actor = actor; writer = writer; pending = []; has = []; refusals = 0; shortages = 0; refused = [] }) }
         ensures err { IfErr result (λ back. back ≡ writer) }
     {
         match Outlet::new(alloc, full, writer) {
@@ -73,6 +75,7 @@ impl<W: rt_sink::Sink> Lines<W> {
                 has: History::new(),
                 refusals: 0,
                 shortages: 0,
+                refused_at: History::new(),
             }),
             Err(writer) => Err(writer),
         }
@@ -178,16 +181,17 @@ impl<W: rt_sink::Sink> Lines<W> {
 
     /// Counts a refusal.
     fn refuse(&mut self) -> Result<(), Refused>
-        ensures same { self.new ≡ record self.old { refusals = min (self.old.refusals + 1) (2 ^ 64 - 1) } }
+        ensures same { self.new ≡ record self.old { refusals = min (self.old.refusals + 1) (2 ^ 64 - 1); refused = self.old.refused ++ length self.old.has ∷ [] } }
         ensures err { IsErr result }
     {
         self.refusals = self.refusals.saturating_add(1);
+        self.refused_at = self.refused_at.with(&self.has);
         Err(Refused)
     }
 
     /// Counts a refusal for want of memory.
     fn refuse_for_memory(&mut self) -> Result<(), Refused>
-        ensures same { self.new ≡ record self.old { refusals = min (self.old.refusals + 1) (2 ^ 64 - 1); shortages = min (self.old.shortages + 1) (2 ^ 64 - 1) } }
+        ensures same { self.new ≡ record self.old { refusals = min (self.old.refusals + 1) (2 ^ 64 - 1); shortages = min (self.old.shortages + 1) (2 ^ 64 - 1); refused = self.old.refused ++ length self.old.has ∷ [] } }
         ensures err { IsErr result }
     {
         self.shortages = self.shortages.saturating_add(1);
@@ -198,16 +202,16 @@ impl<W: rt_sink::Sink> Lines<W> {
 impl<W: rt_sink::Sink + Drop> Sink for Lines<W> {
     ghost has = { λ lines. lines.has };
 
-    ghost refused = { λ lines count. 1 ≤ lines.refusals };
+    ghost refused = { λ lines count. Contains lines.refused count };
 
     fn take(&mut self, notes: &[Note<u64>]) -> Result<(), Refused>
         ensures ok { OnOk result (self.new.has ≡ reverse notes.now ++ self.old.has) }
         ensures err { OnErr result (self.new.has ≡ self.old.has) }
-        ensures told { OnErr result (1 ≤ self.new.refusals) }
-        ensures refusals { (count : ℕ) → 1 ≤ self.old.refusals → 1 ≤ self.new.refusals }
+        ensures told { OnErr result (Contains self.new.refused (length self.old.has)) }
+        ensures refusals { (count : ℕ) → Contains self.old.refused count → Contains self.new.refused count }
         ensures actor { self.new.actor ≡ self.old.actor }
-        ensures ok_counts { OnOk result ((self.new.refusals ≡ self.old.refusals) × (self.new.shortages ≡ self.old.shortages)) }
-        ensures counted { OnErr result (self.new.refusals ≡ min (self.old.refusals + 1) (2 ^ 64 - 1)) }
+        ensures ok_counts { OnOk result ((self.new.refusals ≡ self.old.refusals) × (self.new.shortages ≡ self.old.shortages) × (self.new.refused ≡ self.old.refused)) }
+        ensures counted { OnErr result ((self.new.refusals ≡ min (self.old.refusals + 1) (2 ^ 64 - 1)) × (self.new.refused ≡ self.old.refused ++ length self.old.has ∷ [])) }
         ensures why { OnErr result (IsRefused W.tries W.interrupts W.fails self.old self.new) }
         // An older text is written first, so that a failed write refuses the notes before a line of them is put.
         ensures ok_writes { OnOk result (Writes (W.contents self.old.writer) (W.contents self.new.writer) (self.old.pending ++ notes_text self.old.actor notes.now) self.new.pending) }

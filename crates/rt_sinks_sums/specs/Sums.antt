@@ -1,16 +1,18 @@
 -- What a caller sees of the sums of all notes that a sink took.
-use Rattle.std.specs.Prelude.{◌≡◌, ℕ, ◌≤◌, min, length}
+use Rattle.std.specs.Prelude.{◌≡◌, ℕ, ◌≤◌, List, min, length}
 use Rattle.rt_ids.specs.Journal.{Journal, EachNote}
 use Rattle.rt_ids.specs.Lawful.{MayStand}
 use Rattle.rt_ids.specs.Terms.{Terms}
 use Rattle.rt_journal_facts.specs.Limits.{greatest_count}
 use Rattle.rt_sinks_sums.specs.Ledgers.{LedgerView, KnowsLedger}
 
--- how many polls a turn may have, the notes that were taken, the newest first, and how often none were taken for want of memory
+-- how many polls a turn may have, the notes that were taken, the newest first, how often none were taken for want of memory, and how many were taken before
+-- each of those times, the first one first
 pub record SumsView : Type 0 where
   pub burst : ℕ
   pub has : Journal ℕ
   pub refusals : ℕ
+  pub refused : List ℕ
 
 -- the notes are counted, and where they are lawful and fewer than 2^64, all is known of them
 pub record IsSums (burst : ℕ) (ledger : LedgerView) (count : ℕ) (has : Journal ℕ) : Type 0 where

@@ -1,6 +1,6 @@
 //! The sink.
 
-ghost use Rattle.std.specs.Prelude.{◌≡◌, ◌↔◌, ◌≤◌, ◌<◌, ◌+◌, ◌-◌, ◌^◌, ◌++◌, ℕ, [], length, min, reverse, All, IfOk, IsTrue, OnErr, OnOk};
+ghost use Rattle.std.specs.Prelude.{◌≡◌, ◌↔◌, ◌<◌, ◌+◌, ◌-◌, ◌^◌, ◌∷◌, ◌++◌, ℕ, [], length, min, reverse, All, Contains, IfOk, IsTrue, OnErr, OnOk};
 ghost use Rattle.rt_ids.specs.Closing.{IsDrained};
 ghost use Rattle.rt_ids.specs.Journal.{EachNote};
 ghost use Rattle.rt_ids.specs.Lag.{greatest_charge};
@@ -30,6 +30,8 @@ pub struct Sums {
     has: History<Note<u64>>,
     count: u64,
     refusals: u64,
+    /// What was taken by the time of each refusal, the first one first.
+    refused_at: History<History<Note<u64>>>,
 }
 
 impl Model for Sums {
@@ -37,10 +39,10 @@ impl Model for Sums {
 
     ghost Value = { SumsView };
 
-    ghost use Rattle.std.specs.Prelude.{reverse};
+    ghost use Rattle.std.specs.Prelude.{length, map, reverse};
     ghost use Rattle.rt_sinks_sums.specs.Sums.{IsSums};
 
-    ghost view = { λ sums. record { burst = sums.burst; has = reverse sums.has.items; refusals = sums.refusals } };
+    ghost view = { λ sums. record { burst = sums.burst; has = reverse sums.has.items; refusals = sums.refusals; refused = map (λ had. length had.items) sums.refused_at.items } };
 
     ghost invariant = { λ sums. IsSums sums.burst sums.ledger.value sums.count (reverse sums.has.items) };
 }
@@ -61,7 +63,7 @@ impl Sums {
     ///
     /// `AllocError` for want of memory.
     pub fn try_new(alloc: Global, burst: u8) -> Result<Self, AllocError>
-        ensures { IfOk result (λ sums. sums ≡ record { burst = burst; has = []; refusals = 0 }) }
+        ensures { IfOk result (λ sums. sums ≡ record { burst = burst; has = []; refusals = 0; refused = [] }) }
     {
         let ledger = Box::new(alloc, Ledger::new(alloc, burst))?;
         Ok(Sums {
@@ -70,6 +72,7 @@ impl Sums {
             has: History::new(),
             count: 0,
             refusals: 0,
+            refused_at: History::new(),
         })
     }
 
@@ -120,20 +123,21 @@ impl Sums {
 impl Sink for Sums {
     ghost has = { λ sums. sums.has };
 
-    ghost refused = { λ sums count. 1 ≤ sums.refusals };
+    ghost refused = { λ sums count. Contains sums.refused count };
 
     fn take(&mut self, notes: &[Note<u64>]) -> Result<(), Refused>
         ensures ok { OnOk result (self.new.has ≡ reverse notes.now ++ self.old.has) }
         ensures err { OnErr result (self.new.has ≡ self.old.has) }
-        ensures told { OnErr result (1 ≤ self.new.refusals) }
-        ensures refusals { (count : ℕ) → 1 ≤ self.old.refusals → 1 ≤ self.new.refusals }
+        ensures told { OnErr result (Contains self.new.refused (length self.old.has)) }
+        ensures refusals { (count : ℕ) → Contains self.old.refused count → Contains self.new.refused count }
         // It refuses only notes that park a job.
         ensures parks { OnErr result (All IsNoPark notes.now → ⊥) }
-        ensures counted { OnErr result (self.new ≡ record self.old { refusals = min (self.old.refusals + 1) (2 ^ 64 - 1) }) }
+        ensures counted { OnErr result (self.new ≡ record self.old { refusals = min (self.old.refusals + 1) (2 ^ 64 - 1); refused = self.old.refused ++ length self.old.has ∷ [] }) }
         ensures burst { self.new.burst ≡ self.old.burst }
     {
         if self.ledger.reserve(notes).is_err() {
             self.refusals = self.refusals.saturating_add(1);
+            self.refused_at = self.refused_at.with(&self.has);
             return Err(Refused);
         }
         self.ledger.add_all(notes);

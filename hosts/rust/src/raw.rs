@@ -38,6 +38,7 @@ pub const FX_NOT_DRAINED: u32 = 28;
 pub const FX_MIXED: u32 = 29;
 pub const FX_SHORT: u32 = 30;
 pub const FX_PASSED_ON: u32 = 31;
+pub const FX_NULL: u32 = 32;
 
 pub const FX_STEP_YIELD: u32 = 0;
 pub const FX_STEP_DONE: u32 = 1;

@@ -31,6 +31,7 @@ returns-clause-looks g c = record {
   shuts = c.take_in-taken.ensures.shuts;
   hears = c.take_in-taken.ensures.hears;
   sound = c.take_in-taken.ensures.sound;
+  none_before = c.take_in-taken.ensures.polls;
   timed = watch_of c.take_turn-turned.new.self.watch;
   turn =
       turns_same g.J.Task.meaning g.C.Clock.Reads g.G.Gate.Asked (watch_of c.args.self.now.watch) (watch_of c.take_in-taken.new.self.watch) (watch_of c.take_turn-turned.new.self.watch) c.args.self.now.gate c.take_in-taken.new.self.gate
@@ -41,6 +42,7 @@ returns-clause-looks g c = record {
   collects =
       subst (λ served. CollectsFirst c.args.self.now.served.linked.recorded.core.cores served) (sym (ap (λ rounds. rounds.served) c.plan.ensures))
       (subst (λ cores. CollectsFirst cores c.gather-collected.new.self.served) (steps_cores c.take_in-taken.ensures.steps c.take_turn-turned.ensures.steps) c.gather-collected.ensures.collects);
+  none_behind = ap (λ rounds. polls_of rounds.served.linked.recorded.journal.notes) c.plan.ensures ∙ c.gather-collected.ensures.polls;
   tells = c.either.ensures ∙ ap (λ came. c.take_turn-turned.result || came) c.either-came.ensures;
   plans = ap (λ rounds. rounds.turns) c.plan.ensures ∙ ap turns_after (c.is_quiet.ensures ∙ ap (found_quiet c.take_turn-turned.result) c.either-came.ensures);
   forgets = ap (λ rounds. watch_of rounds.watch) c.plan.ensures ∙ ap (λ rounds. watch_view rounds.watch.clock 0) c.gather-collected.ensures.rest;

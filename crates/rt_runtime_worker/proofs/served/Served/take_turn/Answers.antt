@@ -39,6 +39,7 @@ pub returns-clause-takes : goal.returns-clause-takes
 returns-clause-takes g c = record {
   before = c.look.new.self;
   looks = c.look.ensures.looks;
+  none = c.look.ensures.polls;
   stays = c.look.ensures.stays;
   ready = c.look.ensures.ready;
   ended = ap (λ (view : ServedView _ _). view.ending) c.self.view_is;

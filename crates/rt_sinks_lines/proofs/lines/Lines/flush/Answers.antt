@@ -6,7 +6,7 @@ use Rattle.rt_sinks_lines.proofs.TextLemmas.{holds_written}
 use Rattle.rt_sinks_lines.proofs.lines.Lines.flush.Goals as goal
 
 pub invariant_of-self : goal.invariant_of-self
-invariant_of-self g c = holds_written g.W.Sink.contents c.self.inside.actor c.self.inside.refusals c.self.inside.refusals c.self.inside.shortages c.self.inside.shortages _ _ _ _ c.self.inside.has.items c.self.invariant c.flush.ensures.writes
+invariant_of-self g c = holds_written g.W.Sink.contents c.self.inside.actor c.self.inside.refusals c.self.inside.refusals c.self.inside.shortages c.self.inside.shortages _ _ _ _ _ _ c.self.inside.has.items c.self.invariant c.flush.ensures.writes
 
 pub returns-clause-failed : goal.returns-clause-failed
 returns-clause-failed g c =

@@ -1,7 +1,7 @@
 use Rattle.std.proofs.Common.{subst}
 use Rattle.rt_runtime_worker.specs.Looks.{LooksAtAll, round_view}
 use Rattle.rt_runtime_worker.specs.Rounds.{StepsServed}
-use Rattle.rt_runtime_worker.proofs.quiet.look_again.Goals as goal
+use Rattle.rt_runtime_worker.proofs.lying.look_again.Goals as goal
 
 pub returns-then-look-clause-none : goal.returns-then-look-clause-none
 returns-then-look-clause-none g c = subst (λ some. StepsServed c.args.rounds.now.served some c.look.new.self.served) c.if-look.true c.look.ensures.steps
