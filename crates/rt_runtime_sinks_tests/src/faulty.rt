@@ -32,6 +32,11 @@ impl Faulty {
         }
     }
 
+    /// The number of the first take that it refuses, if it refuses any.
+    pub fn first(&self) -> u64 {
+        self.first
+    }
+
     /// Whether the take that it counted last is one that it refuses.
     fn is_refusing(&self) -> bool {
         self.takes >= self.first && self.takes - self.first < self.count

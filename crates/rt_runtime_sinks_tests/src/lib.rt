@@ -12,4 +12,6 @@ mod journals;
 #[cfg(test)]
 mod later;
 #[cfg(test)]
+mod owners;
+#[cfg(test)]
 mod refusals;

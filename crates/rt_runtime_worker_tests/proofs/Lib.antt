@@ -1,2 +1,1 @@
 pub mod FirstEnds
-pub mod TwoEnds
