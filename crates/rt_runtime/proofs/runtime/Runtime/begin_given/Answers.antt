@@ -12,7 +12,7 @@ use Rattle.rt_runtime.specs.Watching.{IsUnseen, IsWatcherOf}
 use Rattle.rt_runtime.proofs.AllPassed.{together_all}
 use Rattle.rt_runtime.proofs.Dealt.{same_maps}
 use Rattle.rt_runtime.proofs.Started.{holds_next, none_submitted, started}
-use Rattle.rt_runtime.proofs.runtime.Runtime.begin.Goals as goal
+use Rattle.rt_runtime.proofs.runtime.Runtime.begin_given.Goals as goal
 
 pub start-requires-send-W : goal.start-requires-send-W
 start-requires-send-W g c κs within =
