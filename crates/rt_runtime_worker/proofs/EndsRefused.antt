@@ -21,15 +21,15 @@ closed_alone = CoreClosed Return ∷ []
 -- its sink never refused
 closes_by_itself : (sink : Journal ℕ) → ActsUnlessRefused never sink (linked_of closed_alone [] 1000).recorded → ⊥
 closes_by_itself sink (inl (inl asked, _)) = cc
-closes_by_itself sink (inl (inr (_, few), _)) = omega (arith, few)
+closes_by_itself sink (inl (inr (_, fits, few), _)) = omega (arith, few)
 closes_by_itself sink (inr (taken, refused, _)) = refused
 
 -- its sink refused when it had no note, and 1000 notes were free
 closes_too_early : ActsUnlessRefused {S = Journal ℕ} (λ sink count. count ≡ 0) [] (linked_of closed_alone [] 1000).recorded → ⊥
 closes_too_early (inl (inl asked, _)) = cc
-closes_too_early (inl (inr (_, few), _)) = omega (arith, few)
+closes_too_early (inl (inr (_, fits, few), _)) = omega (arith, few)
 closes_too_early (inr (taken, refused, (inl asked, _))) = cc
-closes_too_early (inr (taken, refused, (inr (_, few), _))) = omega (arith, few)
+closes_too_early (inr (taken, refused, (inr (_, fits, few), _))) = omega (arith, few)
 
 -- a job of core 0, and a core whose turns have up to two polls, and that polled it once
 abbrev job : JobId

@@ -42,9 +42,9 @@ impl<W: rt_sink::Sink> Model for Lines<W> {
     ghost use Rattle.std.specs.Prelude.{length, map, reverse};
     ghost use Rattle.rt_sinks_lines.specs.Lines.{HoldsText};
 
-    ghost view = { λ lines. record { actor = lines.actor; writer = lines.outlet.writer; pending = lines.outlet.pending; has = reverse lines.has.items; refusals = lines.refusals; shortages = lines.shortages; refused = map (λ had. length had.items) lines.refused_at.items } };
+    ghost view = { λ lines. record { actor = lines.actor; writer = lines.outlet.writer; pending = lines.outlet.pending; has = reverse lines.has.items; refusals = lines.refusals; shortages = lines.shortages; refused = map (λ it. length it.items) lines.refused_at.items } };
 
-    ghost invariant = { λ lines. HoldsText W.contents (record { actor = lines.actor; writer = lines.outlet.writer; pending = lines.outlet.pending; has = reverse lines.has.items; refusals = lines.refusals; shortages = lines.shortages; refused = map (λ had. length had.items) lines.refused_at.items }) };
+    ghost invariant = { λ lines. HoldsText W.contents (record { actor = lines.actor; writer = lines.outlet.writer; pending = lines.outlet.pending; has = reverse lines.has.items; refusals = lines.refusals; shortages = lines.shortages; refused = map (λ it. length it.items) lines.refused_at.items }) };
 }
 
 /// Puts these notes behind all others.
