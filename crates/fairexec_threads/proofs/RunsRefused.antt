@@ -1,5 +1,5 @@
 -- Each run with one thing wrong is refused.
-use Rattle.std.proofs.Common.{◌≡◌, ℕ, ◌<◌, false, List, [], ◌∷◌, ◌++◌, Some, None, Ok, length, slice_get, refl, sym, ap, subst, ◌∙◌, arith}
+use Rattle.std.proofs.Common.{◌≡◌, ℕ, ◌<◌, ◌≤◌, false, List, [], ◌∷◌, ◌++◌, Some, None, Ok, length, slice_get, refl, sym, ap, subst, ◌∙◌, arith}
 use Rattle.rt_ids.specs.declared.note.Note.{Note}
 use Rattle.rt_ids.specs.declared.note.Note.TheVariants.{Pick, Took, Yield}
 use Rattle.rt_ids.specs.declared.order.Mode.TheVariants.{Finish, Return}
@@ -74,6 +74,7 @@ runs_refused = record {
   full = λ told heard. heard;
   finishing = λ before assembly closes. let same : Finish ≡ Return = closes.returning in cc;
   roomy = λ closes. let short : 65600 < 32 = closes.short in absurd (omega arith);
+  overfull = λ before long closes. let fits : length before ≤ 65600 = closes.fits in absurd (omega (arith, long, fits));
   polled_once_more = λ sent told. let wrong : 2 < 2 = (told.0 refl).words.early refl in absurd (omega arith);
   p_is_left_out = λ sent told. p_writes sent _ refl (told.0 refl);
   another_time = λ sent told. wrong_time (told.0 refl).words.word.word (told.0 refl).words.word.is (told.0 refl).words.word.settles;

@@ -1,5 +1,5 @@
 -- Runs of a script on threads that are refused, each for one thing.
-use Rattle.std.specs.Prelude.{◌≡◌, ℕ, Bool, List, [], ◌∷◌, Option, Some, Err}
+use Rattle.std.specs.Prelude.{◌≡◌, ℕ, Bool, List, [], ◌∷◌, Option, Some, Err, length}
 use Rattle.rt_ids.specs.declared.names.JobId.{JobId}
 use Rattle.rt_ids.specs.declared.note.Note.TheVariants.{Pick, Resume, Yield}
 use Rattle.rt_ids.specs.declared.order.Mode.TheVariants.{Finish, Return}
@@ -46,9 +46,10 @@ pub record RunsAreRefused : Type 0 where
   pub elsewhere : (order : Order Script) (name : JobId) (assembly : Assembly ℕ) → name.to ≡ 1 → IsSent (0, order) name assembly → ⊥
   -- an order that is refused by a full link
   pub full : (told : Told) → IsHeard silent told (Err (Full told.1)) → ⊥
-  -- a core that closes by itself in mode `Finish`, and one that does so with an empty journal
+  -- a core that closes by itself in mode `Finish`, one that does so with an empty journal, and one behind more notes than its journal had room for
   pub finishing : (before : Journal ℕ) (assembly : Assembly ℕ) → ClosesItself Finish before assembly → ⊥
   pub roomy : ClosesItself Return [] silent → ⊥
+  pub overfull : (before : Journal ℕ) → length before ≡ 65601 → ClosesItself Return before silent → ⊥
   -- a job is polled once more than its words say, its `p` sends nothing though no gate is shut, and another time counts than the one that is told
   pub polled_once_more : IsNotPolledAsTold (poll.Yield 5 ∷ poll.Done 1 7 ∷ []) (Yield job 5 ∷ Resume job ∷ Pick 0 5 ∷ Yield job 5 ∷ begun)
   pub p_is_left_out : IsNotPolledAsTold (poll.Submit 5 1 0 ∷ poll.Done 1 7 ∷ []) (Yield job 5 ∷ begun)

@@ -1,4 +1,4 @@
--- Calls on outcomes that are refused: one that the link doesn't show, one of nothing that was submitted, one of another kind, and one that isn't noted.
+-- Calls on outcomes that are refused: one that the link doesn't show, one that wasn't collected, one of nothing that was submitted, one of another kind, and one that isn't noted.
 use Rattle.std.proofs.Common.{◌≡◌, ℕ, ◌≤◌, ap, sym, ◌∙◌, length, subst, arith}
 use Rattle.std.specs.Prelude.{Some, None, Ok, Err}
 use Rattle.rt_ids.specs.declared.names.JobId.{JobId}
@@ -10,6 +10,7 @@ use Rattle.rt_ids.specs.declared.order.Outcome.{Outcome}
 use Rattle.rt_ids.specs.declared.order.Outcome.TheVariants.{Answered}
 use Rattle.rt_jobs.specs.Meanings.{Meaning}
 use Rattle.rt_link.specs.Fits.{Fits}
+use Rattle.rt_ring_mesh.specs.Ends.{out_at}
 use Rattle.rt_runtime.specs.State.{RuntimeView, submitted_under}
 use Rattle.rt_runtime.specs.Tickets.{Collects, CollectsHere, DetachesHere, RedeemsHere}
 
@@ -26,6 +27,10 @@ module _ {J T : Type 0} (fits : Order J → Outcome J T → Type 0) (name : JobI
   -- nothing was submitted under this name, and there is an outcome of it
   unsubmitted_refused : submitted_under name old ≡ None → RedeemsHere fits name old (Ok outcome) new → ⊥
   unsubmitted_refused none redeems = let is = redeems.fitting.is in absurd cc
+
+  -- no outcome was collected from this core, and one is answered
+  ungot_refused : (out_at name.to old.ends).out.got ≡ 0 → RedeemsHere fits name old (Ok outcome) new → ⊥
+  ungot_refused none redeems = let got = redeems.given.got in omega (arith, none, got)
 
   -- the outcome is answered, and nothing is noted
   unnoted_refused : RedeemsHere fits name old (Ok outcome) new → new.desk.journal ≡ old.desk.journal → ⊥
