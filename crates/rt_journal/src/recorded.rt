@@ -11,7 +11,7 @@ ghost use Rattle.std.specs.Option.{option_map};
 ghost use Rattle.rt_ids.specs.declared.note.OutcomeNote.TheVariants.{Returned};
 ghost use Rattle.rt_ids.specs.declared.order.Outcome.TheVariants as outcome;
 ghost use Rattle.rt_ids.specs.Outcomes.{outcome_note};
-ghost use Rattle.rt_journal_notes.specs.Passing.{KeepsRefusals, PassesOn};
+ghost use Rattle.rt_journal_notes.specs.Passing.{IsAsked, KeepsRefusals, PassesOn};
 ghost use Rattle.rt_link.specs.Calls.{Shuts};
 ghost use Rattle.rt_link.specs.Fits.{Fits};
 ghost use Rattle.rt_journal.specs.Recorded.{IsRecorded, desk_of, order_taken};
@@ -130,6 +130,8 @@ impl<J: Task<Out = u64>, A: Allocator + Clone> Recorded<J, A> {
         requires { S.has sink.old ≡ self.old.journal.passed }
         ensures passes { PassesOn S.has S.refused self.old.journal sink.old result self.new.journal sink.new }
         ensures refusals { KeepsRefusals S.refused sink.old sink.new }
+        ensures asked { IsAsked (S.asks sink.old) (S.asks sink.new) }
+        ensures marked { S.mark sink.new ≡ S.mark sink.old }
         ensures rest { self.new ≡ record self.old { journal = self.new.journal } }
         ensures sound { IsRecorded J.meaning self.new }
     {

@@ -7,7 +7,7 @@ ghost use Rattle.rt_jobs.specs.Ready.{HasReadyJob};
 ghost use Rattle.rt_link.specs.Calls.{Sends};
 ghost use Rattle.rt_link.specs.Fits.{Fits};
 ghost use Rattle.rt_desk.specs.Lanes.{fresh_lane, IsGot, FitsSent};
-ghost use Rattle.rt_journal_notes.specs.Passing.{KeepsRefusals, PassesOn};
+ghost use Rattle.rt_journal_notes.specs.Passing.{IsAsked, KeepsRefusals, PassesOn};
 ghost use Rattle.rt_journal_desk.specs.Submissions.{opened_desk, terms_of_desk, desk_with, IsWritten, Submits, numbered};
 ghost use Rattle.rt_journal_desk.specs.Ends.{IsOutOf, KeepsOut, KeepsSent};
 ghost use Rattle.rt_journal_desk.specs.Tickets.{HasLane, KnowsLanes, StaysBeside, RefusesTicket, RedeemsTicket, DetachesTicket, CollectsFrom, GetsAll, GetsNext};
@@ -140,6 +140,8 @@ impl<J: Task<Out = u64>> RecordedDesk<J> {
         requires { S.has sink.old ≡ self.old.journal.passed }
         ensures passes { PassesOn S.has S.refused self.old.journal sink.old result self.new.journal sink.new }
         ensures refusals { KeepsRefusals S.refused sink.old sink.new }
+        ensures asked { IsAsked (S.asks sink.old) (S.asks sink.new) }
+        ensures marked { S.mark sink.new ≡ S.mark sink.old }
         ensures rest { self.new ≡ record self.old { journal = self.new.journal } }
     {
         self.journal.pass_on(sink)

@@ -1,5 +1,5 @@
 -- What a journal passes on, and what becomes of it.
-use Rattle.std.specs.Prelude.{◌≡◌, ℕ, length, Result, Ok, Err}
+use Rattle.std.specs.Prelude.{◌≡◌, ℕ, ◌+◌, length, Option, None, Some, Result, Ok, Err}
 use Rattle.rt_ids.specs.Journal.{Journal}
 use Rattle.rt_journal_notes.specs.Journals.{JournalView, passed_all}
 use Rattle.rt_journal_notes.specs.declared.sink.Refused.{Refused}
@@ -13,3 +13,8 @@ module _ {T S : Type 0} (has : S → Journal T) (refused : S → ℕ → Type 0)
 -- where the sink refused before, it refused
 abbrev pub KeepsRefusals : {S : Type 0} → (S → ℕ → Type 0) → S → S → Type 0
 KeepsRefusals refused before after = (count : ℕ) → refused before count → refused after count
+
+-- the sink was asked once, if it counts how often it is
+abbrev pub IsAsked : Option ℕ → Option ℕ → Type 0
+IsAsked None new = Unit {0}
+IsAsked (Some old) new = new ≡ Some (old + 1)

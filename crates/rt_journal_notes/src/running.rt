@@ -2,7 +2,7 @@
 
 ghost use Rattle.std.specs.Prelude.{◌≡◌, ◌+◌, ◌<◌, ◌≤◌, [], ◌∷◌, ◌++◌, drop, length, reverse, IfOk};
 ghost use Rattle.rt_journal_notes.specs.Journals.{free_notes, passed_all, IsWithinRoom};
-ghost use Rattle.rt_journal_notes.specs.Passing.{KeepsRefusals, PassesOn};
+ghost use Rattle.rt_journal_notes.specs.Passing.{IsAsked, KeepsRefusals, PassesOn};
 
 use crate::journal::Journal;
 use crate::sink::{Refused, Sink};
@@ -137,6 +137,8 @@ impl RunningJournal<u64> {
         requires { S.has sink.old ≡ self.old.passed }
         ensures passes { PassesOn S.has S.refused self.old sink.old result self.new sink.new }
         ensures refusals { KeepsRefusals S.refused sink.old sink.new }
+        ensures asked { IsAsked (S.asks sink.old) (S.asks sink.new) }
+        ensures marked { S.mark sink.new ≡ S.mark sink.old }
     {
         sink.take(self.kept.as_slice())?;
         for note in self.kept.as_slice() {

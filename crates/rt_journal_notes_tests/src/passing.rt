@@ -1,17 +1,20 @@
 //! Running journals, which pass on their notes.
 
-ghost use Rattle.std.specs.Prelude.{◌≡◌};
+ghost use Rattle.std.specs.Prelude.{◌≡◌, Some, length};
 
 use crate::journals::pick;
+use rt_history::History;
 use rt_journal_notes::{Journal, Note, Refused, RunningJournal, Sink, Whole};
 use std::alloc::{AllocError, Global};
 use std::test::Fail;
 
-/// A sink that refuses every second time, and where it has no room.
+/// A sink that refuses every second time, and where it has no room. A contract sees how often it was asked.
 #[derive(Drop)]
 struct EverySecond {
     taken: Journal<u64>,
     takes: bool,
+    /// What it answered each time that it was asked, where it doesn't run out of room.
+    asked: History<bool>,
 }
 
 impl Sink for EverySecond {
@@ -19,8 +22,11 @@ impl Sink for EverySecond {
 
     ghost refused = { λ sink count. Unit {0} };
 
+    ghost asks = { λ sink. Some (length sink.asked.items) };
+
     fn take(&mut self, notes: &[Note<u64>]) -> Result<(), Refused> {
         let takes = self.takes;
+        self.asked = self.asked.with(&takes);
         self.takes = !takes;
         if !takes || notes.len() > self.taken.free() as usize {
             return Err(Refused);
@@ -46,6 +52,7 @@ impl Passing {
         let sink = EverySecond {
             taken,
             takes: false,
+            asked: History::new(),
         };
         Ok(Passing { journal, sink })
     }

@@ -204,6 +204,8 @@ impl<W: rt_sink::Sink + Drop> Sink for Lines<W> {
 
     ghost refused = { λ lines count. Contains lines.refused count };
 
+    ghost mark = { λ lines. lines.actor };
+
     fn take(&mut self, notes: &[Note<u64>]) -> Result<(), Refused>
         ensures ok { OnOk result (self.new.has ≡ reverse notes.now ++ self.old.has) }
         ensures err { OnErr result (self.new.has ≡ self.old.has) }

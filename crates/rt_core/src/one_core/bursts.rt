@@ -166,6 +166,7 @@ impl<J: Task, A: Allocator + Clone> Core<J, A> {
         ensures over { result ≡ true → IfSome self.now.bursts.open (λ turn. may_go_on self.now turn ≡ false) }
         ensures is_open { result ≡ true → IsSome self.now.bursts.open }
         ensures free { result ≡ true → self.now.out ≡ None }
+        ensures not_over { result ≡ false → self.now.out ≡ None → IfSome self.now.bursts.open (λ turn. may_go_on self.now turn ≡ true) }
     {
         if self.out.is_some() {
             return false;
