@@ -110,7 +110,8 @@ impl<J: Task<Out = u64>> Linked<J> {
         ensures rightly { result ≡ true → HasNoTurn self.now.recorded.journal.notes → ⊥ }
     {
         match self.recorded.ahead() {
-            Ok(Ahead::Job(_)) | Ok(Ahead::Back) => true,
+            Ok(Ahead::Job(_)) => true,
+            Ok(Ahead::Back) => true,
             Ok(Ahead::Idle) => false,
             Err(PickError::Spent) => false,
             Err(PickError::Busy) => unreachable!(),
