@@ -1,5 +1,5 @@
 -- A small worker that lies down without having published is refused.
-use Rattle.std.proofs.Common.{◌≡◌, ◌||◌, nat_lt, Bool, true, false, inl, inr, true≢false, ℕ, ◌+◌, ◌-◌, ◌<◌, ◌≤◌, ◌++◌, [], length, length-append, refl, sym, ◌∙◌, ap, arith}
+use Rattle.std.proofs.Common.{◌≡◌, ◌||◌, nat_lt, Bool, true, false, inl, inr, true≢false, ℕ, ◌<◌, ◌≤◌, ◌++◌, [], length, length-append, refl, sym, ◌∙◌, ap, arith}
 use Rattle.rt_ids.specs.declared.names.JobId.{JobId}
 use Rattle.rt_ids.specs.Journal.{Journal}
 use Rattle.rt_jobs.specs.Meanings.{Meaning}
