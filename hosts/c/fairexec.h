@@ -28,17 +28,17 @@
  * start or the join of a thread, or a sequentially consistent atomic. Calls on different handles need no order, those on the seats of one
  * house neither. No call blocks, calls the host back, or knows a clock. No call may be made from a signal handler.
  *
- * Memory: of the calls on one core fx_open and fx_create alone ask for memory, by malloc and aligned_alloc, and fx_free gives it back, by free.
- * Of those on a house fx_house_open, fx_house_take, fx_house_audit and fx_house_text do, fx_seat_deliver where an order makes a queue, and
- * fx_seat_pass_on, which gives it back before it answers; fx_house_end, fx_house_free and fx_seat_free give back what the others took. The
- * library is for x86-64-v2.
+ * Memory: of the calls on one core fx_open and fx_create alone ask for memory, by malloc, and fx_free gives it back, by free. Of those on a
+ * house fx_house_open, fx_house_take, fx_house_audit and fx_house_text do, fx_seat_deliver where an order makes a queue, and fx_seat_pass_on,
+ * which gives it back before it answers; fx_house_end, fx_house_free and fx_seat_free give back what the others took. The library is for
+ * x86-64-v2.
  *
  * What no call can test is the host's duty, beside the threads' order above:
  * - Each pointer points to a value of its type, or to as many bytes as `room` tells. Two pointers of one call don't overlap.
  * - With FX_NO_NULL_CHECKS no pointer is null.
  * - A handle is empty, by FX_NO_CORE or its like, before its first call. Only one copy of it is used.
  * - The forked child of a process with threads makes no call.
- * - The program's malloc, aligned_alloc, realloc and free are of one allocator, and malloc aligns blocks to 16 bytes.
+ * - The program's malloc, realloc and free are of one allocator, and malloc aligns blocks to 16 bytes.
  * - The seats that a house is ended with are its own.
  * - What a job's number stands for lives until the call that answers FX_DONE or FX_BACK of it; in a house until fx_seat_settle answers FX_DONE,
  *   or until the outcome by which the job comes back is redeemed.

@@ -145,7 +145,7 @@ RULES = {
     "goes to another thread by": ["stands a lock, the start or the join of a thread, or a sequentially consistent atomic"],
     "the seats that a house is ended with": ["The seats that a house is ended with are its own"],
     "no call in a signal handler": ["No call may be made from a signal handler", "The forked child of a process with threads makes no call"],
-    "aligns blocks to 16": ["malloc, aligned_alloc, realloc and free are of one allocator", "malloc aligns blocks to 16 bytes"],
+    "aligns blocks to 16": ["malloc, realloc and free are of one allocator", "malloc aligns blocks to 16 bytes"],
     "what a job's number stands for": ["the call that answers FX_DONE or FX_BACK of it", "until the outcome by which the job comes back is redeemed"],
     "exceptions and panics": ["A run that an exception or a panic ends is settled"],
 }

@@ -1,5 +1,5 @@
 /*
- * Calls on a house for memory that fail: linked with --wrap for malloc, aligned_alloc, realloc and free. An opening, a taking, an audit, a text or a passing
+ * Calls on a house for memory that fail: linked with --wrap for malloc, realloc and free. An opening, a taking, an audit, a text or a passing
  * on that finds no memory answers FX_NO_MEMORY, changes nothing and keeps nothing, and an order that makes a queue is answered so. No other call asks for
  * memory, and the ends of all handles give all of it back.
  * The last line is 'N passed, M failed', and the status is 0 if nothing failed.

@@ -1,5 +1,5 @@
 /*
- * Calls for memory that fail: linked with --wrap for malloc, aligned_alloc, realloc and free. An opening or a creation that finds no memory answers
+ * Calls for memory that fail: linked with --wrap for malloc, realloc and free. An opening or a creation that finds no memory answers
  * FX_NO_MEMORY, changes nothing and keeps nothing; no other call asks for memory; and fx_free gives all of it back.
  * The last line is 'N passed, M failed', and the status is 0 if nothing failed.
  */

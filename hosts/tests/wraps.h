@@ -1,4 +1,4 @@
-/* Counts calls for memory, and lets them fail: for programs that are linked with --wrap for malloc, aligned_alloc, realloc and free. */
+/* Counts calls for memory, and lets them fail: for programs that are linked with --wrap for malloc, realloc and free. */
 #ifndef WRAPS_H
 #define WRAPS_H
 
@@ -7,11 +7,9 @@
 #include <stdio.h>
 
 void *__real_malloc(size_t size);
-void *__real_aligned_alloc(size_t alignment, size_t size);
 void *__real_realloc(void *at, size_t size);
 void __real_free(void *at);
 void *__wrap_malloc(size_t size);
-void *__wrap_aligned_alloc(size_t alignment, size_t size);
 void *__wrap_realloc(void *at, size_t size);
 void __wrap_free(void *at);
 
@@ -25,14 +23,6 @@ void *__wrap_malloc(size_t size) {
     left--;
     used++;
     return __real_malloc(size);
-}
-
-void *__wrap_aligned_alloc(size_t alignment, size_t size) {
-    asked++;
-    if (left == 0) return NULL;
-    left--;
-    used++;
-    return __real_aligned_alloc(alignment, size);
 }
 
 void *__wrap_realloc(void *at, size_t size) {

@@ -61,8 +61,8 @@ returns-then-self-clause-asks g c =
 
 pub returns-clause-goes : goal.returns-clause-goes
 returns-clause-goes g c =
-    goes g.J.Task.meaning g.C.Clock.Reads g.G.Gate.Asked g.S.Sink.has g.S.Sink.refused g.S.Sink.asks c.args.self.now c.hand_on_if_low.new.self _ _ c.round.result false false c.self.view_is c.hand_on_if_low.ensures.hands c.if-round.false c.round.ensures.makes (omega (arith, c.if-self.false), refl) refl
-    c.round.ensures.names refl refl refl
+    goes g.J.Task.meaning g.C.Clock.Reads g.G.Gate.Asked g.S.Sink.has g.S.Sink.refused g.S.Sink.asks c.args.self.now c.hand_on_if_low.new.self _ _ c.round.result false false c.self.view_is c.hand_on_if_low.ensures.hands c.if-round.false c.round.ensures.makes
+    (omega (arith, c.if-self.false), refl) refl c.round.ensures.names refl refl refl
 
 pub returns-clause-runs : goal.returns-clause-runs
 returns-clause-runs g c = behind_runs g.S.Sink.has g.S.Sink.refused c.args.self.now c.hand_on_if_low.new.self _ c.self.view_is c.hand_on_if_low.ensures.hands c.round.new.self.served.linked c.round.ensures.steps.stays
