@@ -73,15 +73,15 @@ ends_of_each {J} {S} all ends both =
     sym (map-id ends) ∙ same_maps (λ (worker : EndedView J ℕ S). worker.linked.ends) (λ (ends : EndsView J ℕ). ends) (λ worker ends. ends ≡ worker.linked.ends) (λ worker ends is. is) all ends both
 
 -- each worker runs on to what it gives back
-pub all_run_on : {J C G S : Type 0} {mark : S → ℕ} (workers : List (WorkerView J ℕ C G S)) (all : List (EndedView J ℕ S)) → Together (KeepsOn mark) workers all →
+pub all_run_on : {J C G S : Type 0} (mark : S → ℕ) (workers : List (WorkerView J ℕ C G S)) (all : List (EndedView J ℕ S)) → Together (KeepsOn mark) workers all →
     Together RunsOn (map (λ worker. worker.linked) workers) (map (λ ended. ended.linked) all)
-all_run_on {J} {C} {G} {S} {mark} workers all both =
+all_run_on {J} {C} {G} {S} mark workers all both =
     together_maps (λ (worker : WorkerView J ℕ C G S). worker.linked) (λ (ended : EndedView J ℕ S). ended.linked) (KeepsOn mark) RunsOn (λ worker ended keeps. keeps.runs) workers all both
 
 -- and keeps its board
-pub all_boards : {J C G S : Type 0} {mark : S → ℕ} (workers : List (WorkerView J ℕ C G S)) (all : List (EndedView J ℕ S)) → Together (KeepsOn mark) workers all →
+pub all_boards : {J C G S : Type 0} (mark : S → ℕ) (workers : List (WorkerView J ℕ C G S)) (all : List (EndedView J ℕ S)) → Together (KeepsOn mark) workers all →
     map (λ (ended : EndedView J ℕ S). ended.shown.board) all ≡ map (λ (worker : WorkerView J ℕ C G S). worker.shown.board) workers
-all_boards {J} {C} {G} {S} {mark} workers all both =
+all_boards {J} {C} {G} {S} mark workers all both =
     same_maps (λ (worker : WorkerView J ℕ C G S). worker.shown.board) (λ (ended : EndedView J ℕ S). ended.shown.board) (KeepsOn mark) (λ worker ended keeps. keeps.board) workers all both
 
 -- and its sink bears its mark; so does that of the outside actor

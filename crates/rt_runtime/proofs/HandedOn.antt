@@ -65,13 +65,10 @@ module _ {T S : Type 0} (has : S → Journal T) (refused : S → ℕ → Type 0)
   passes_room old new before after (Err why) passes due few room = omega (arith, room, ap (λ journal. journal.room) passes.0, ap (λ journal. length journal.notes) passes.0)
 
 module _ {J T : Type 0} {fits : Order J → Outcome J T → Type 0} (view : RuntimeView J T) (is : IsRuntime fits view) (desk : DeskView J T) (rest : desk ≡ record view.desk { journal = desk.journal })
-    (notes : desk.journal.notes ≡ view.desk.journal.notes) (places : places_of desk.journal ≡ places_of view.desk.journal) (refused : Bool) (asks : Option ℕ) (marks : List ℕ) where
+    (notes : desk.journal.notes ≡ view.desk.journal.notes) (places : places_of desk.journal ≡ places_of view.desk.journal) where
   -- what is booked of it
   pub booked_passed : length desk.journal.notes + sum_by due_of view.desk.lanes ≤ desk.journal.room → booked desk ≤ desk.journal.room
   booked_passed room = omega (arith, room, ap (λ (desk : DeskView J T). sum_by due_of desk.lanes) rest)
-
-  abbrev later : RuntimeView J T
-  later = record view { desk = desk; refused = refused; asks = asks; marks = marks }
 
   -- the same of a desk that has another journal of the same notes
   same_desk : (P : DeskView J T → Type 0) → P (record view.desk { journal = desk.journal }) → P desk
@@ -95,35 +92,40 @@ module _ {J T : Type 0} {fits : Order J → Outcome J T → Type 0} (view : Runt
   lane_stays : (core : ℕ) → core < view.desk.cores → HasLane fits core (record view.desk { journal = desk.journal }) (out_at core view.ends).out (out_at core view.ends).credited
   lane_stays core low = let has = is.lanes core low in record { lane = has.lane; is = has.is; lane_of = has.lane_of }
 
-  -- it is a runtime as before
-  pub runtime_passed : booked desk ≤ desk.journal.room → IsRuntime fits later
-  runtime_passed room = record {
-    count = same_desk (λ desk. length view.workers ≡ desk.cores) is.count;
-    each = same_desk (λ desk. (core : ℕ) → core < desk.cores → IsWorkerOf core desk.cores desk.cap desk.burst view.room (worker_at core view.workers)) is.each;
-    actor = same_desk (λ desk. desk.actor ≡ desk.cores) is.actor;
-    outside = record {
-      outs_are = same_desk (λ desk. length view.ends.outs ≡ desk.cores) is.outside.outs_are;
-      written = same_desk (λ desk. IsWritten (terms_of_desk desk) desk.journal.notes) (subst (IsWritten (terms_of_desk view.desk)) (sym notes) is.outside.written);
-      outs = same_desk (λ desk. (core : ℕ) → core < desk.cores → IsOutOf core desk (out_at core view.ends).out (out_at core view.ends).credited) out_stays;
-    };
-    grid = same_desk (λ desk. IsGrid desk.cores (map (λ worker. worker.ends) view.workers ++ view.ends ∷ [])) is.grid;
-    closings = same_desk (λ desk. length view.closing ≡ desk.cores) is.closings;
-    bells = same_desk (λ desk. length view.rung.times ≡ desk.cores + 1) is.bells;
-    lanes = same_desk (λ desk. (core : ℕ) → core < desk.cores → HasLane fits core desk (out_at core view.ends).out (out_at core view.ends).credited) lane_stays;
-    lanes_are = same_desk (λ desk. length desk.lanes ≡ desk.cores) is.lanes_are;
-    room_is = room;
-    places = same_desk (λ desk. least_room desk.cores desk.cap desk.burst ≤ places_of desk.journal) (omega (arith, is.places, places));
-    limits = same_desk (λ desk. IsWithinLimits desk.cores desk.cap desk.burst) is.limits;
-  }
+  -- whatever its sink answered, and however often it was asked
+  module _ (refused : Bool) (asks : Option ℕ) (marks : List ℕ) where
+    abbrev later : RuntimeView J T
+    later = record view { desk = desk; refused = refused; asks = asks; marks = marks }
 
-  pub stored_passed : {cores cap ends actors journals : ℕ} → IsStored view cores cap ends actors journals → IsStored later cores cap ends actors journals
-  stored_passed stored = record {
-    cores_are = stored.cores_are ∙ sym (ap (λ desk. desk.cores) rest);
-    cap_is = stored.cap_is ∙ sym (ap (λ desk. desk.cap) rest);
-    room_ends = stored.room_ends;
-    room_actors = stored.room_actors;
-    room_journals = stored.room_journals;
-  }
+    -- it is a runtime as before
+    pub runtime_passed : booked desk ≤ desk.journal.room → IsRuntime fits later
+    runtime_passed room = record {
+      count = same_desk (λ desk. length view.workers ≡ desk.cores) is.count;
+      each = same_desk (λ desk. (core : ℕ) → core < desk.cores → IsWorkerOf core desk.cores desk.cap desk.burst view.room (worker_at core view.workers)) is.each;
+      actor = same_desk (λ desk. desk.actor ≡ desk.cores) is.actor;
+      outside = record {
+        outs_are = same_desk (λ desk. length view.ends.outs ≡ desk.cores) is.outside.outs_are;
+        written = same_desk (λ desk. IsWritten (terms_of_desk desk) desk.journal.notes) (subst (IsWritten (terms_of_desk view.desk)) (sym notes) is.outside.written);
+        outs = same_desk (λ desk. (core : ℕ) → core < desk.cores → IsOutOf core desk (out_at core view.ends).out (out_at core view.ends).credited) out_stays;
+      };
+      grid = same_desk (λ desk. IsGrid desk.cores (map (λ worker. worker.ends) view.workers ++ view.ends ∷ [])) is.grid;
+      closings = same_desk (λ desk. length view.closing ≡ desk.cores) is.closings;
+      bells = same_desk (λ desk. length view.rung.times ≡ desk.cores + 1) is.bells;
+      lanes = same_desk (λ desk. (core : ℕ) → core < desk.cores → HasLane fits core desk (out_at core view.ends).out (out_at core view.ends).credited) lane_stays;
+      lanes_are = same_desk (λ desk. length desk.lanes ≡ desk.cores) is.lanes_are;
+      room_is = room;
+      places = same_desk (λ desk. least_room desk.cores desk.cap desk.burst ≤ places_of desk.journal) (omega (arith, is.places, places));
+      limits = same_desk (λ desk. IsWithinLimits desk.cores desk.cap desk.burst) is.limits;
+    }
+
+    pub stored_passed : {cores cap ends actors journals : ℕ} → IsStored view cores cap ends actors journals → IsStored later cores cap ends actors journals
+    stored_passed stored = record {
+      cores_are = stored.cores_are ∙ sym (ap (λ desk. desk.cores) rest);
+      cap_is = stored.cap_is ∙ sym (ap (λ desk. desk.cap) rest);
+      room_ends = stored.room_ends;
+      room_actors = stored.room_actors;
+      room_journals = stored.room_journals;
+    }
 
 module _ {J S : Type 0} {has : S → Journal ℕ} {refused : S → ℕ → Type 0} where
   -- where nothing is passed on the sink stays what it is to the runtime
@@ -144,6 +146,7 @@ module _ {J S : Type 0} {has : S → Journal ℕ} {refused : S → ℕ → Type 
       let passed = ap (λ journal. journal.passed) passes.0 in
       record { has_passed = passes.1 ∙ (was.has_passed ∙ sym passed); refusal = λ yes. subst (λ passed. refused after (length passed)) (sym passed) passes.2 }
 
+module _ {J S : Type 0} (has : S → Journal ℕ) (refused : S → ℕ → Type 0) where
   -- the sink was asked once, and the rest follows from what it answered
   pub passes_here : (view : RuntimeView J ℕ) (desk : DeskView J ℕ) (answer : Result (Unit {0}) Refused) (before after : S) (told : Bool) (asks : Option ℕ) (marks : List ℕ) → told ≡ is_err answer →
       PassesOn has refused view.desk.journal before answer desk.journal after → desk ≡ record view.desk { journal = desk.journal } → IsAsked view.asks asks → marks ≡ view.marks →

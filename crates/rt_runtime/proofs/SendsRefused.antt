@@ -59,7 +59,7 @@ module _ {J T : Type 0} (each core : ℕ) (order back : Order J) (old new : Runt
 
   -- the journal is told as full, and the sink wasn't asked
   unasked_refused : old.asks ≡ Some 3 → new.asks ≡ Some 3 → SubmitsTo each core order old (Err (JournalFull back)) new → ⊥
-  unasked_refused was is submits = unasked_once old.asks new.asks was is submits.2.1.0
+  unasked_refused was is submits = unasked_once old.asks new.asks was is submits.2.0
 
   -- room was made, and the sink wasn't asked
   unasked_room_refused : free_notes old.desk.journal < room_left each old → old.asks ≡ Some 3 → new.asks ≡ Some 3 → MakesRoom each old new → ⊥

@@ -63,7 +63,7 @@ module _ {S : Type 0} (has : S → Journal ℕ) (none : (sink : S) → has sink 
   whole_journals actors journals both =
       same_maps (notes_of has) (λ (journal : JournalView ℕ). journal.notes) (λ actor journal. journal.notes ≡ actor.kept.notes) (λ actor journal same. same ∙ sym (whole_notes actor)) actors journals both
 
-module _ {J S : Type 0} (meaning : Meaning J ℕ) (has : S → Journal ℕ) (refused : S → ℕ → Type 0) {asks : S → Option ℕ} {mark : S → ℕ} (only : (sink : S) (count : ℕ) → refused sink count → count ≡ 0) (view : RuntimeView J ℕ) (passed : Passed S) where
+module _ {J S : Type 0} (meaning : Meaning J ℕ) (has : S → Journal ℕ) (refused : S → ℕ → Type 0) (only : (sink : S) (count : ℕ) → refused sink count → count ≡ 0) (view : RuntimeView J ℕ) (passed : Passed S) where
   may_whole : (core : ℕ) (notes : Journal ℕ) → MayActAmong refused view passed.actors.items core notes → MayActWhole view core notes
   may_whole core notes may =
       ⊎_elim
@@ -74,6 +74,6 @@ module _ {J S : Type 0} (meaning : Meaning J ℕ) (has : S → Journal ℕ) (ref
       may.2
 
   -- where a sink refuses only at its beginning, a finish is one of whole journals
-  pub finished_whole : (assembly : Assembly ℕ) → assembly ≡ assembly_of has passed → HasPassed meaning has refused asks mark view passed → HasFinished meaning view assembly
+  pub finished_whole : {asks : S → Option ℕ} {mark : S → ℕ} (assembly : Assembly ℕ) → assembly ≡ assembly_of has passed → HasPassed meaning has refused asks mark view passed → HasFinished meaning view assembly
   finished_whole assembly is has_passed =
       subst (HasFinished meaning view) (sym is) (finished_more meaning (MayActAmong refused view passed.actors.items) (MayActWhole view) view (assembly_of has passed) may_whole has_passed.finished)

@@ -97,3 +97,9 @@ returns-in-Ok-start-clause-dealt g c = record {
   split = c.in-Some.ensures.items;
   asks_are = refl;
 }
+
+pub returns-in-Ok-start-clause-sinks : goal.returns-in-Ok-start-clause-sinks
+returns-in-Ok-start-clause-sinks g c = (
+  c.in-Some.sink,
+  c.in-Some.ensures.items ∙ ap (λ front. front ++ c.in-Some.sink ∷ []) (sym (ap (λ vec. map (λ worker. worker.sink) vec.items) c.of-given.ensures ∙ c.in-Ok.ensures.sinks)),
+)

@@ -15,7 +15,7 @@ invariant_of-self g c =
     let places = passes_places g.S.Sink.has g.S.Sink.refused c.self.inside.desk.journal desk.journal _ _ c.pass_on-answer.result passes in
     let few = places_enough _ c.self.invariant.0 in
     let room = passes_room g.S.Sink.has g.S.Sink.refused c.self.inside.desk.journal desk.journal _ _ c.pass_on-answer.result passes (sum_by due_of c.self.inside.desk.lanes) (omega (arith, few)) c.self.invariant.0.room_is in (
-      runtime_passed _ c.self.invariant.0 desk rest notes places _ _ _ (booked_passed _ c.self.invariant.0 desk rest notes places c.is_err-self-inside.result _ _ room),
+      runtime_passed _ c.self.invariant.0 desk rest notes places _ _ _ (booked_passed _ c.self.invariant.0 desk rest notes places room),
       stored_passed _ c.self.invariant.0 desk rest notes places _ _ _ c.self.invariant.1,
       sink_passed _ desk c.pass_on-answer.result _ _ _ _ _ c.is_err-self-inside.ensures.value passes c.self.invariant.2,
       c.self.invariant.3,
@@ -35,5 +35,5 @@ returns g c =
       marks = map (λ worker. g.S.Sink.mark worker.sink) c.self.inside.team ++ g.S.Sink.mark c.pass_on-answer.new.sink ∷ [];
     } in
     subst (λ view. PassesHere view c.pass_on-answer.result (new view)) c.self.view_is
-    (passes_here _ c.pass_on-answer.new.self c.pass_on-answer.result _ _ _ _ _ c.is_err-self-inside.ensures.value c.pass_on-answer.ensures.passes c.pass_on-answer.ensures.rest c.pass_on-answer.ensures.asked
+    (passes_here g.S.Sink.has g.S.Sink.refused _ c.pass_on-answer.new.self c.pass_on-answer.result _ _ _ _ _ c.is_err-self-inside.ensures.value c.pass_on-answer.ensures.passes c.pass_on-answer.ensures.rest c.pass_on-answer.ensures.asked
     (ap (λ mark. map (λ worker. g.S.Sink.mark worker.sink) c.self.inside.team ++ mark ∷ []) c.pass_on-answer.ensures.marked))
