@@ -28,12 +28,22 @@ invariant_of-self g c =
 
 pub returns : goal.returns
 returns g c =
-    let new : RuntimeView g.row.J.Denot ℕ → RuntimeView g.row.J.Denot ℕ = λ view. record view {
-      desk = c.pass_on-answer.new.self;
-      refused = c.is_err-self-inside.result;
-      asks = g.S.Sink.asks c.pass_on-answer.new.sink;
-      marks = map (λ worker. g.S.Sink.mark worker.sink) c.self.inside.team ++ g.S.Sink.mark c.pass_on-answer.new.sink ∷ [];
+    let inside : RuntimeView g.row.J.Denot ℕ = record {
+      desk = c.self.inside.desk;
+      ends = c.self.inside.ends;
+      closing = c.self.inside.closing.items;
+      workers = map (λ worker. worker.linked) c.self.inside.team;
+      room = c.self.inside.room;
+      rung = c.self.inside.bells;
+      bells = map (λ worker. worker.bells) c.self.inside.team;
+      refused = c.self.inside.refused;
+      asks = g.S.Sink.asks c.self.inside.sink;
+      watched = c.self.inside.watchers.items;
+      marks = map (λ worker. g.S.Sink.mark worker.sink) c.self.inside.team ++ g.S.Sink.mark c.self.inside.sink ∷ [];
+      tries = map (λ worker. worker.tries) c.self.inside.team;
     } in
-    subst (λ view. PassesHere view c.pass_on-answer.result (new view)) c.self.view_is
-    (passes_here g.S.Sink.has g.S.Sink.refused _ c.pass_on-answer.new.self c.pass_on-answer.result _ _ _ _ _ c.is_err-self-inside.ensures.value c.pass_on-answer.ensures.passes c.pass_on-answer.ensures.rest c.pass_on-answer.ensures.asked
-    (ap (λ mark. map (λ worker. g.S.Sink.mark worker.sink) c.self.inside.team ++ mark ∷ []) c.pass_on-answer.ensures.marked))
+    let marks = map (λ worker. g.S.Sink.mark worker.sink) c.self.inside.team ++ g.S.Sink.mark c.pass_on-answer.new.sink ∷ [] in
+    let asks = g.S.Sink.asks c.pass_on-answer.new.sink in
+    subst (λ view. PassesHere view c.pass_on-answer.result (record inside { desk = c.pass_on-answer.new.self; refused = c.is_err-self-inside.result; asks = asks; marks = marks })) c.self.view_is
+    (passes_here g.S.Sink.has g.S.Sink.refused inside c.pass_on-answer.new.self c.pass_on-answer.result _ _ c.is_err-self-inside.result asks marks c.is_err-self-inside.ensures.value c.pass_on-answer.ensures.passes
+    c.pass_on-answer.ensures.rest c.pass_on-answer.ensures.asked (ap (λ mark. map (λ worker. g.S.Sink.mark worker.sink) c.self.inside.team ++ mark ∷ []) c.pass_on-answer.ensures.marked))

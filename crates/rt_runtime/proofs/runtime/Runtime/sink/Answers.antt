@@ -1,4 +1,4 @@
-use Rattle.std.proofs.Common.{◌≡◌, length, ap, subst}
+use Rattle.std.proofs.Common.{◌≡◌, length, subst}
 use Rattle.std.specs.Prelude.{Some, slice_get}
 use Rattle.rt_runtime.proofs.Dealt.{last_of}
 use Rattle.rt_runtime.proofs.runtime.Runtime.sink.Goals as goal
