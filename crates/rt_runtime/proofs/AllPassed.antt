@@ -1,6 +1,6 @@
 -- What the actors of a runtime leave: what their sinks have, and what is kept behind it.
 use Rattle.std.proofs.Common.{◌≡◌, ℕ, zero, suc, ◌+◌, ◌<◌, List, [], ◌∷◌, ◌++◌, length, map, get_or, refl, sym, ◌∙◌, ap, subst, arith, ⊎_elim, inl, inr, length-append, Result, Ok, Err}
-use Rattle.std.specs.Prelude.{All, Some, slice_get, true}
+use Rattle.std.specs.Prelude.{All, Option, Some, slice_get, true}
 use Rattle.std.proofs.lemmas.List.{length-map, map-append, map-id}
 use Rattle.std.proofs.lemmas.List.Elements.{All-append, All-cons, All-nil}
 use Rattle.rt_ids.specs.Journal.{EachNote, Journal}
@@ -8,8 +8,9 @@ use Rattle.rt_ids.specs.Joining.{JoinedAreSpelled, JoiningIsSound}
 use Rattle.rt_jobs.specs.Meanings.{Meaning}
 use Rattle.rt_link.specs.Fits.{Fits}
 use Rattle.rt_journal_notes.specs.Journals.{JournalView, places_of}
-use Rattle.rt_journal_notes.specs.Passing.{PassesOn}
+use Rattle.rt_journal_notes.specs.Passing.{IsAsked, PassesOn}
 use Rattle.rt_journal_notes.specs.declared.sink.Refused.{Refused}
+use Rattle.rt_ring.proofs.Windows.{slice_get-last}
 use Rattle.rt_ring_mesh.specs.Ends.{EndsView}
 use Rattle.rt_ring_mesh.specs.Grid.{AreReunited}
 use Rattle.rt_runtime_team.specs.Works.{Together}
@@ -25,9 +26,10 @@ use Rattle.rt_runtime.specs.Calls.{HasFinishedBy}
 use Rattle.rt_runtime.specs.Finishing.{IsPart, Parts}
 use Rattle.rt_runtime.specs.Watching.{watch_at}
 use Rattle.rt_watch.specs.Growth.{Grows}
-use Rattle.rt_runtime.specs.State.{IsRuntime, RuntimeView, closing_at, outside_of}
+use Rattle.rt_runtime.specs.State.{RuntimeView, closing_at, outside_of}
+use Rattle.rt_runtime.specs.Stored.{IsRuntime}
 use Rattle.rt_runtime.specs.WithSinks.{HasPassed, KeepsRefused, MayActAmong, MayActBeside, assembly_of, notes_of}
-use Rattle.rt_runtime.proofs.Dealt.{same_maps, together_maps}
+use Rattle.rt_runtime.proofs.Dealt.{map_twice, same_maps, together_maps}
 use Rattle.rt_runtime.proofs.Finished.{count, finished_as, least_now, places_now, told}
 
 -- nothing stands before a list that is as long with it
@@ -51,11 +53,6 @@ together_found related f (x ∷ xs) (y ∷ ys) tail d (suc place) both low =
     let rest = together_found related f xs ys tail d place both.1 (omega (arith, low)) in
     record { one = rest.one; other = rest.other; at = rest.at; related_are = rest.related_are; made = rest.made }
 
--- a list that is made twice
-map_twice : {A B C : Type 0} (f : B → C) (g : A → B) (xs : List A) → map f (map g xs) ≡ map (λ x. f (g x)) xs
-map_twice f g [] = refl
-map_twice f g (x ∷ xs) = ap (λ rest. f (g x) ∷ rest) (map_twice f g xs)
-
 -- what follows of each pair holds of the second list
 pub together_all : {A B : Type 0} (related : A → B → Type 0) (P : B → Type 0) → ((x : A) (y : B) → related x y → P y) → (xs : List A) (ys : List B) → Together related xs ys → All P ys
 together_all related P follows [] [] both = All-nil P
@@ -76,16 +73,23 @@ ends_of_each {J} {S} all ends both =
     sym (map-id ends) ∙ same_maps (λ (worker : EndedView J ℕ S). worker.linked.ends) (λ (ends : EndsView J ℕ). ends) (λ worker ends. ends ≡ worker.linked.ends) (λ worker ends is. is) all ends both
 
 -- each worker runs on to what it gives back
-pub all_run_on : {J C G S : Type 0} (workers : List (WorkerView J ℕ C G S)) (all : List (EndedView J ℕ S)) → Together KeepsOn workers all →
+pub all_run_on : {J C G S : Type 0} (mark : S → ℕ) (workers : List (WorkerView J ℕ C G S)) (all : List (EndedView J ℕ S)) → Together (KeepsOn mark) workers all →
     Together RunsOn (map (λ worker. worker.linked) workers) (map (λ ended. ended.linked) all)
-all_run_on {J} {C} {G} {S} workers all both =
-    together_maps (λ (worker : WorkerView J ℕ C G S). worker.linked) (λ (ended : EndedView J ℕ S). ended.linked) KeepsOn RunsOn (λ worker ended keeps. keeps.runs) workers all both
+all_run_on {J} {C} {G} {S} mark workers all both =
+    together_maps (λ (worker : WorkerView J ℕ C G S). worker.linked) (λ (ended : EndedView J ℕ S). ended.linked) (KeepsOn mark) RunsOn (λ worker ended keeps. keeps.runs) workers all both
 
 -- and keeps its board
-pub all_boards : {J C G S : Type 0} (workers : List (WorkerView J ℕ C G S)) (all : List (EndedView J ℕ S)) → Together KeepsOn workers all →
+pub all_boards : {J C G S : Type 0} (mark : S → ℕ) (workers : List (WorkerView J ℕ C G S)) (all : List (EndedView J ℕ S)) → Together (KeepsOn mark) workers all →
     map (λ (ended : EndedView J ℕ S). ended.shown.board) all ≡ map (λ (worker : WorkerView J ℕ C G S). worker.shown.board) workers
-all_boards {J} {C} {G} {S} workers all both =
-    same_maps (λ (worker : WorkerView J ℕ C G S). worker.shown.board) (λ (ended : EndedView J ℕ S). ended.shown.board) KeepsOn (λ worker ended keeps. keeps.board) workers all both
+all_boards {J} {C} {G} {S} mark workers all both =
+    same_maps (λ (worker : WorkerView J ℕ C G S). worker.shown.board) (λ (ended : EndedView J ℕ S). ended.shown.board) (KeepsOn mark) (λ worker ended keeps. keeps.board) workers all both
+
+-- and its sink bears its mark; so does that of the outside actor
+pub all_marks : {J C G S : Type 0} (mark : S → ℕ) (workers : List (WorkerView J ℕ C G S)) (all : List (EndedView J ℕ S)) (before after : S) → Together (KeepsOn mark) workers all → mark after ≡ mark before →
+    map (λ (ended : EndedView J ℕ S). mark ended.sink) all ++ mark after ∷ [] ≡ map (λ (worker : WorkerView J ℕ C G S). mark worker.sink) workers ++ mark before ∷ []
+all_marks {J} {C} {G} {S} mark workers all before after both same =
+    ap (λ marks. marks ++ mark after ∷ []) (same_maps (λ (worker : WorkerView J ℕ C G S). mark worker.sink) (λ (ended : EndedView J ℕ S). mark ended.sink) (KeepsOn mark) (λ worker ended keeps. keeps.marked) workers all both)
+    ∙ ap (λ last. map (λ (worker : WorkerView J ℕ C G S). mark worker.sink) workers ++ last ∷ []) same
 
 -- with those of the outside actor they are the ends of all actors
 pub ends_together : {J S : Type 0} (all : List (EndedView J ℕ S)) (outside : EndsView J ℕ) →
@@ -168,13 +172,31 @@ module _ {J S : Type 0} (meaning : Meaning J ℕ) (has : S → Journal ℕ) (ref
         let found = together_found (IsPart meaning has refused) (λ (worker : EndedView J ℕ S). worker.linked) all actors (last ∷ []) no_linked core each (omega (arith, low, count meaning view is ended kept, length-map all (λ (worker : EndedView J ℕ S). worker.linked))) in
         (found.other, found.at, acts_beside core low found.one found.other found.made found.related_are)
 
+    -- the outside actor's stand behind those of the workers
+    outside_there : slice_get (actors ++ last ∷ []) view.desk.cores ≡ Some last
+    outside_there =
+        let many = sym (together_length (IsPart meaning has refused) all actors each) ∙ all_ended meaning view is all kept in
+        subst (λ place. slice_get (actors ++ last ∷ []) place ≡ Some last) many (slice_get-last actors last)
+
+    marks_stay : (mark : S → ℕ) (marks : List ℕ) → map (λ (worker : EndedView J ℕ S). mark worker.sink) all ++ mark last.sink ∷ [] ≡ marks → map (λ (actor : ActorNotes S). mark actor.sink) (actors ++ last ∷ []) ≡ marks
+    marks_stay mark marks same =
+        map-append (λ (actor : ActorNotes S). mark actor.sink) actors (last ∷ [])
+        ∙ (ap (λ front. front ++ mark last.sink ∷ [])
+        (same_maps (λ (worker : EndedView J ℕ S). mark worker.sink) (λ (actor : ActorNotes S). mark actor.sink) (IsPart meaning has refused) (λ worker actor part. ap mark part.sink_is) all actors each)
+        ∙ same)
+
     -- the notes of all actors together are those of a runtime that has finished
-    pub has_passed : (passed : Passed S) (ends : List (EndsView J ℕ)) → passed.cores ≡ view.desk.cores → passed.cap ≡ view.desk.cap → passed.burst ≡ view.desk.burst → passed.actors.items ≡ actors ++ last ∷ [] →
+    pub has_passed : (asks : S → Option ℕ) (mark : S → ℕ) → IsAsked view.asks (asks last.sink) → map (λ (worker : EndedView J ℕ S). mark worker.sink) all ++ mark last.sink ∷ [] ≡ view.marks →
+        (passed : Passed S) (ends : List (EndsView J ℕ)) → passed.cores ≡ view.desk.cores → passed.cap ≡ view.desk.cap → passed.burst ≡ view.desk.burst → passed.actors.items ≡ actors ++ last ∷ [] →
         ends ≡ all_ends ended (outside_of view) → AreReunited (Fits meaning) passed.cores ends → EndedAreJoined meaning → JoiningIsSound → JoinedAreSpelled →
-        ((core : ℕ) → core < length view.closing → closing_at core view ≡ true) → HasPassed meaning has refused view passed
-    has_passed passed ends cores_are cap_is burst_is actors_are ends_are reunited joined_law sound_law spelled_law closed = record {
+        ((core : ℕ) → core < length view.closing → closing_at core view ≡ true) → HasPassed meaning has refused asks mark view passed
+    has_passed asks mark asked marked passed ends cores_are cap_is burst_is actors_are ends_are reunited joined_law sound_law spelled_law closed = record {
       finished = subst (λ actors. HasFinishedBy meaning (MayActAmong refused view actors) view (assembly_of has passed)) (sym actors_are)
           (finished_as meaning view is ended kept all_drained (MayActAmong refused view (actors ++ last ∷ [])) all_act seen passed.cores passed.cap passed.burst ends (map (notes_of has) passed.actors.items) cores_are cap_is burst_is ends_are
           (ap (map (notes_of has)) actors_are ∙ notes_together) reunited joined_law sound_law spelled_law closed);
       rest = subst (All (KeepsRefused has refused)) (sym actors_are) all_rest;
+      marks = ap (map (λ (actor : ActorNotes S). mark actor.sink)) actors_are ∙ marks_stay mark view.marks marked;
+      outside = last;
+      outside_is = ap (λ actors. slice_get actors view.desk.cores) actors_are ∙ outside_there;
+      asked = asked;
     }

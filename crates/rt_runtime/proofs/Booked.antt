@@ -22,7 +22,8 @@ use Rattle.rt_journal_desk.specs.Tickets.{DetachesTicket, RedeemsTicket}
 use Rattle.rt_journal_desk.proofs.Spending.{all_three}
 use Rattle.rt_ring.proofs.SeatViews.{true-not_false}
 use Rattle.rt_ring_mesh.specs.Ends.{out_at}
-use Rattle.rt_runtime.specs.State.{RuntimeView, IsRuntime}
+use Rattle.rt_runtime.specs.State.{RuntimeView}
+use Rattle.rt_runtime.specs.Stored.{IsRuntime}
 use Rattle.rt_runtime.specs.Sends.{outstanding_upto, room_left}
 
 -- the first counts together

@@ -25,7 +25,8 @@ use Rattle.rt_runtime_worker.specs.Queues.{opening_of}
 use Rattle.rt_runtime_worker.specs.Rooms.{least_free}
 use Rattle.rt_runtime_worker.specs.Together.{HaveEnded, EndedAreJoined, no_linked, worker_at, desk_among, all_ends}
 use Rattle.rt_runtime_worker.proofs.Ending.{before_last, at_last}
-use Rattle.rt_runtime.specs.State.{RuntimeView, IsRuntime, outside_of, closing_at}
+use Rattle.rt_runtime.specs.State.{RuntimeView, outside_of, closing_at}
+use Rattle.rt_runtime.specs.Stored.{IsRuntime}
 use Rattle.rt_runtime.specs.Calls.{HasFinishedBy, IsFirstOpen}
 use Rattle.rt_runtime.specs.Finishing.{IsFirstOpenOf}
 use Rattle.rt_runtime.specs.Watching.{watch_at}

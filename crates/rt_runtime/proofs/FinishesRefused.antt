@@ -1,7 +1,7 @@
 -- Finishes that are refused: of a core that isn't closed, without a note of the caller, without an outcome, with orders that nobody
--- sent or that are forgotten, and with a note that is kept and was never refused.
-use Rattle.std.proofs.Common.{◌≡◌, ℕ, ◌<◌, ◌≤◌, [], ◌∷◌, inl, inr, subst, arith}
-use Rattle.std.specs.Prelude.{true, false, Some, None, Ok, Err, IfSome, length}
+-- sent or that are forgotten, with a note that is kept and was never refused, with sinks in another order, and with a caller's sink that wasn't asked.
+use Rattle.std.proofs.Common.{◌≡◌, ℕ, ◌<◌, ◌≤◌, [], ◌∷◌, ap, sym, ◌∙◌, inl, inr, subst, arith}
+use Rattle.std.specs.Prelude.{true, false, Option, Some, None, Ok, Err, IfSome, length, map, slice_get, slice_index_or, unwrap_or}
 use Rattle.std.specs.Option.{IsSome}
 use Rattle.rt_ids.specs.declared.names.JobId.{JobId}
 use Rattle.rt_ids.specs.declared.note.Note.{Note}
@@ -9,12 +9,14 @@ use Rattle.rt_ids.specs.declared.order.Order.{Order}
 use Rattle.rt_ids.specs.Assembly.{Assembly, journal_of, order_of, outcome_of}
 use Rattle.rt_ids.specs.Journal.{Journal}
 use Rattle.rt_jobs.specs.Meanings.{Meaning}
+use Rattle.rt_journal_notes.specs.Passing.{IsAsked}
 use Rattle.rt_runtime.specs.declared.error.FinishError.TheVariants.{NotClosed}
 use Rattle.rt_runtime.specs.declared.passed.ActorNotes.{ActorNotes}
+use Rattle.rt_runtime.specs.declared.passed.Passed.{Passed}
 use Rattle.rt_runtime.specs.Calls.{Finishes, HasFinishedBy}
 use Rattle.rt_runtime.specs.Outcomes.{AllHaveOutcomes, AreItsOrders, Orders}
 use Rattle.rt_runtime.specs.State.{RuntimeView, closing_at, submitted_under}
-use Rattle.rt_runtime.specs.WithSinks.{KeepsRefused}
+use Rattle.rt_runtime.specs.WithSinks.{HasPassed, KeepsRefused}
 
 module _ {J : Type 0} (meaning : Meaning J ℕ) (view : RuntimeView J ℕ) where
   -- a core that was closed is told as open
@@ -56,3 +58,16 @@ kept_refused : {S : Type 0} (has : S → Journal ℕ) (refused : S → ℕ → T
     KeepsRefused has refused actor → ⊥
 kept_refused has refused actor note kept never (inl nothing) = absurd cc
 kept_refused has refused actor note kept never (inr did) = never did
+
+module _ {J S : Type 0} (meaning : Meaning J ℕ) (has : S → Journal ℕ) (refused : S → ℕ → Type 0) (asks : S → Option ℕ) (mark : S → ℕ) (view : RuntimeView J ℕ) (passed : Passed S) where
+  -- the sinks of the core and of the caller are exchanged
+  exchanged_refused : view.marks ≡ 0 ∷ 1 ∷ [] → map (λ actor. mark actor.sink) passed.actors.items ≡ 1 ∷ 0 ∷ [] → HasPassed meaning has refused asks mark view passed → ⊥
+  exchanged_refused given back over = omega (arith, ap (λ marks. slice_index_or marks 0 7) (sym back ∙ (over.marks ∙ given)))
+
+  -- the caller's sink wasn't asked at the end
+  unasked_refused : (actor : ActorNotes S) → slice_get passed.actors.items view.desk.cores ≡ Some actor → view.asks ≡ Some 3 → asks actor.sink ≡ Some 3 → HasPassed meaning has refused asks mark view passed → ⊥
+  unasked_refused actor here was is over =
+      let same : actor ≡ over.outside = ap (λ found. unwrap_or found actor) (sym here ∙ over.outside_is) in
+      let asked : IsAsked view.asks (asks actor.sink) = subst (λ (actor : ActorNotes S). IsAsked view.asks (asks actor.sink)) (sym same) over.asked in
+      let more : IsAsked (Some 3) (Some 3) = subst (λ before. IsAsked before (Some 3)) was (subst (IsAsked view.asks) is asked) in
+      omega (arith, ap (λ count. unwrap_or count 0) more)

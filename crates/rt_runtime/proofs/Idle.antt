@@ -29,8 +29,8 @@ module _ {J T : Type 0} where
         gates = λ core. refl;
         closing = refl;
         rung = refl;
-        passes = record { journal = refl; refused = refl };
-        stays = record { desk = refl; places = refl; grows = ([], refl); workers = refl; room = refl; bells = refl; names = refl; watched = refl };
+        passes = record { journal = refl; refused = refl; asks = refl };
+        stays = record { desk = refl; places = refl; grows = ([], refl); workers = refl; room = refl; bells = refl; names = refl; watched = refl; marks = refl; tries = refl };
       })
 
   stays_then : (old between new : RuntimeView J T) → StaysRunning old between → StaysRunning between new → StaysRunning old new
@@ -43,6 +43,8 @@ module _ {J T : Type 0} where
     bells = later.bells ∙ first.bells;
     names = later.names ∙ first.names;
     watched = later.watched ∙ first.watched;
+    marks = later.marks ∙ first.marks;
+    tries = later.tries ∙ first.tries;
   }
 
   pub nothing_then : (old between new : RuntimeView J T) → SubmitsNothing old between → SubmitsNothing between new → SubmitsNothing old new
@@ -54,6 +56,7 @@ module _ {J T : Type 0} where
     passes = record {
       journal = later.passes.journal ∙ ap (λ (journal : JournalView T). record journal { notes = new.desk.journal.notes }) first.passes.journal;
       refused = later.passes.refused ∙ first.passes.refused;
+      asks = later.passes.asks ∙ first.passes.asks;
     };
     stays = stays_then old between new first.stays later.stays;
   }

@@ -16,7 +16,8 @@ use Rattle.rt_journal_desk.specs.Submissions.{DeskView}
 use Rattle.rt_journal_desk.specs.Tickets.{DetachesTicket, RedeemsTicket, StaysBeside}
 use Rattle.rt_ring_mesh.specs.Ends.{EndsView, out_at}
 use Rattle.rt_runtime_worker.specs.Linked.{Grows}
-use Rattle.rt_runtime.specs.State.{RuntimeView, IsRuntime, is_told_shut, submitted}
+use Rattle.rt_runtime.specs.State.{RuntimeView, is_told_shut, submitted}
+use Rattle.rt_runtime.specs.Stored.{IsRuntime}
 use Rattle.rt_runtime.specs.Tickets.{DetachesHere, FitsSubmitted, RedeemsHere}
 use Rattle.rt_runtime.proofs.Sent.{nothing_on}
 
@@ -53,7 +54,7 @@ module _ {J T : Type 0} {fits : Order J → Outcome J T → Type 0} where
       (is_put : ends ≡ record inside.ends { outs = set inside.ends.outs name.to later }) (sent : later.out.sent ≡ submitted name.to inside)
       (gate : later.out.closed ≡ is_told_shut name.to inside) where
     abbrev new : RuntimeView J T
-    new = record { desk = desk; ends = ends; closing = inside.closing; workers = inside.workers; room = inside.room; rung = inside.rung; bells = inside.bells; refused = inside.refused; watched = inside.watched }
+    new = record inside { desk = desk; ends = ends }
 
     pub redeemed_here : (answer : Result (Outcome J T) TicketError) → RedeemsTicket name inside.desk answer desk → IfOk answer (IsGot (out_at name.to inside.ends).out name.number) →
         IfOk answer (FitsSent fits (out_at name.to inside.ends).out name.number) → RedeemsHere fits name view answer new

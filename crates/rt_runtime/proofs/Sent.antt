@@ -33,8 +33,8 @@ use Rattle.rt_ids.specs.Journal.{Journal}
 use Rattle.rt_ids.specs.Outstanding.{outstanding_count}
 use Rattle.rt_runtime.specs.Rings.{RingsView}
 use Rattle.rt_runtime.specs.Sends.{accepted, outstanding_upto}
-use Rattle.rt_runtime.specs.State.{IsRuntime, PassesNothing, RuntimeView, StaysRunning, SubmitsNothing, is_told_shut, submitted}
-use Rattle.rt_runtime.specs.Stored.{IsStored}
+use Rattle.rt_runtime.specs.State.{PassesNothing, RuntimeView, StaysRunning, SubmitsNothing, is_told_shut, submitted}
+use Rattle.rt_runtime.specs.Stored.{IsRuntime, IsStored}
 
 module _ {J T : Type 0} where
   -- the same links, where one actor's ends are of the same links as before
@@ -122,7 +122,7 @@ module _ {J T : Type 0} where
     runtime_put : (closing : List Bool) → length closing ≡ view.desk.cores →
         (rung : RingsView J T) → length rung.times ≡ view.desk.cores + 1 →
         booked desk ≤ desk.journal.room →
-        IsRuntime fits (record { desk = desk; ends = put; closing = closing; workers = view.workers; room = view.room; rung = rung; bells = view.bells; refused = view.refused; watched = view.watched })
+        IsRuntime fits (record view { desk = desk; ends = put; closing = closing; rung = rung })
     runtime_put closing count rung bells room = record {
       count = is.count ∙ sym cores;
       each = subst (λ (desk : DeskView J T). (core : ℕ) → core < desk.cores → IsWorkerOf core desk.cores desk.cap desk.burst view.room (worker_at core view.workers)) (sym stays.rest) is.each;
@@ -144,13 +144,13 @@ module _ {J T : Type 0} where
 
     -- the same, over the ends as the code has them
     pub runtime_on : (ends : EndsView J T) → ends ≡ put → (closing : List Bool) → length closing ≡ view.desk.cores → (rung : RingsView J T) → length rung.times ≡ view.desk.cores + 1 → booked desk ≤ view.desk.journal.room →
-        IsRuntime fits (record { desk = desk; ends = ends; closing = closing; workers = view.workers; room = view.room; rung = rung; bells = view.bells; refused = view.refused; watched = view.watched })
+        IsRuntime fits (record view { desk = desk; ends = ends; closing = closing; rung = rung })
     runtime_on ends is_put closing count rung bells room =
-        subst (λ ends. IsRuntime fits (record { desk = desk; ends = ends; closing = closing; workers = view.workers; room = view.room; rung = rung; bells = view.bells; refused = view.refused; watched = view.watched })) (sym is_put)
+        subst (λ ends. IsRuntime fits (record view { desk = desk; ends = ends; closing = closing; rung = rung })) (sym is_put)
         (runtime_put closing count rung bells (omega (arith, room, ap (λ desk. desk.journal.room) stays.rest)))
 
     pub stored_on : {cores_are cap_is room_ends room_actors room_journals : ℕ} (ends : EndsView J T) (closing : List Bool) (rung : RingsView J T) → IsStored view cores_are cap_is room_ends room_actors room_journals →
-        IsStored (record { desk = desk; ends = ends; closing = closing; workers = view.workers; room = view.room; rung = rung; bells = view.bells; refused = view.refused; watched = view.watched }) cores_are cap_is room_ends room_actors room_journals
+        IsStored (record view { desk = desk; ends = ends; closing = closing; rung = rung }) cores_are cap_is room_ends room_actors room_journals
     stored_on ends closing rung stored = record {
       cores_are = stored.cores_are ∙ sym cores;
       cap_is = stored.cap_is ∙ sym cap;
@@ -165,7 +165,7 @@ module _ {J T : Type 0} where
 
     -- the outside actor stays, where no note that stood is lost
     pub running_on : (ends : EndsView J T) (closing : List Bool) (rung : RingsView J T) → rung.names ≡ view.rung.names → Grows view.desk.journal.notes desk.journal.notes →
-        StaysRunning view (record { desk = desk; ends = ends; closing = closing; workers = view.workers; room = view.room; rung = rung; bells = view.bells; refused = view.refused; watched = view.watched })
+        StaysRunning view (record view { desk = desk; ends = ends; closing = closing; rung = rung })
     running_on ends closing rung names grows = record {
       desk = stays.rest ∙ ap (λ (journal : JournalView T). record view.desk { journal = journal; lanes = desk.lanes }) (sym journal_longer);
       places = ap places_of journal_longer;
@@ -175,15 +175,17 @@ module _ {J T : Type 0} where
       bells = refl;
       names = names;
       watched = refl;
+      marks = refl;
+      tries = refl;
     }
 
     pub passes_nothing_on : (ends : EndsView J T) (closing : List Bool) (rung : RingsView J T) →
-        PassesNothing view (record { desk = desk; ends = ends; closing = closing; workers = view.workers; room = view.room; rung = rung; bells = view.bells; refused = view.refused; watched = view.watched })
-    passes_nothing_on ends closing rung = record { journal = journal_longer; refused = refl }
+        PassesNothing view (record view { desk = desk; ends = ends; closing = closing; rung = rung })
+    passes_nothing_on ends closing rung = record { journal = journal_longer; refused = refl; asks = refl }
 
     -- nothing was submitted, where this end has sent what it had sent and heard of no gate
     pub nothing_on : (ends : EndsView J T) → ends ≡ put → later.out.sent ≡ submitted core view → later.out.closed ≡ is_told_shut core view → Grows view.desk.journal.notes desk.journal.notes →
-        SubmitsNothing view (record { desk = desk; ends = ends; closing = view.closing; workers = view.workers; room = view.room; rung = view.rung; bells = view.bells; refused = view.refused; watched = view.watched })
+        SubmitsNothing view (record view { desk = desk; ends = ends })
     nothing_on ends is_put sent gate grows = record {
       orders = λ to. ⊎_elim
           (λ (same : to ≡ core). rw same (ap (λ ends. (out_at core ends).out.sent) is_put ∙ (ap (λ (end : Sending J T). end.out.sent) put_is ∙ sent)))

@@ -1,6 +1,6 @@
 -- If no sink refused, then no core closed by itself, and the sinks have all notes.
 use Rattle.std.proofs.Common.{◌≡◌, ℕ, List, [], subst, get_or, ⊎_elim}
-use Rattle.std.specs.Prelude.{All, Some, slice_get}
+use Rattle.std.specs.Prelude.{All, Option, Some, slice_get}
 use Rattle.std.proofs.lemmas.Option.{get_or_from_slice_get, slice_get_within}
 use Rattle.rt_ids.specs.Assembly.{journal_of}
 use Rattle.rt_ids.specs.Journal.{Journal}
@@ -19,8 +19,8 @@ module _ {J S : Type 0} (refused : S → ℕ → Type 0) (view : RuntimeView J �
   never_short : (notes : Journal ℕ) → MayActBeside refused view actor.sink notes → ActsByCommand notes
   never_short notes may = ⊎_elim (λ (acts : ActsByCommand notes). acts) (λ short. absurd (never short.0 short.1)) may
 
-pub never_refused : {J S : Type 0} (meaning : Meaning J ℕ) (has : S → Journal ℕ) (refused : S → ℕ → Type 0) → NeverRefusedNeverShort meaning has refused
-never_refused meaning has refused view passed finishes never = (
+pub never_refused : {J S : Type 0} (meaning : Meaning J ℕ) (has : S → Journal ℕ) (refused : S → ℕ → Type 0) (asks : S → Option ℕ) (mark : S → ℕ) → NeverRefusedNeverShort meaning has refused asks mark
+never_refused meaning has refused asks mark view passed finishes never = (
   λ core low.
       let acts = finishes.finished.acts core low in
       never_short refused view acts.0 (at_found (NeverRefused refused) passed.actors.items core acts.0 never acts.1) (journal_of core (assembly_of has passed)) acts.2,

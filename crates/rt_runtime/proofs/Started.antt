@@ -1,6 +1,6 @@
 -- A house that was just opened, and a runtime over it.
 use Rattle.std.proofs.Common.{◌≡◌, ℕ, ◌+◌, ◌<◌, ◌≤◌, List, [], ◌∷◌, ◌++◌, length, map, replicate, get_or, refl, sym, ◌∙◌, ap, subst, arith, length-append}
-use Rattle.std.specs.Prelude.{All, Bool, false, sum_by}
+use Rattle.std.specs.Prelude.{All, Bool, Option, false, sum_by}
 use Rattle.std.proofs.lemmas.List.Folds.{sum_by-replicate}
 use Rattle.std.proofs.lemmas.List.{get_or_append_left, get_or_default, length-replicate}
 use Rattle.std.proofs.Math.Seq.{get_or-append_seam}
@@ -30,7 +30,7 @@ use Rattle.rt_runtime_worker.specs.Together.{IsOutside, no_linked, worker_at}
 use Rattle.rt_runtime_worker.proofs.Opened.{fresh_out}
 use Rattle.rt_runtime.specs.Rings.{RingsView}
 use Rattle.rt_watch.specs.declared.watcher.Watching.{Watching}
-use Rattle.rt_runtime.specs.State.{IsRuntime}
+use Rattle.rt_runtime.specs.Stored.{IsRuntime}
 use Rattle.rt_runtime.specs.Starting.{AreOpening, IsHouse, IsOpenedWith}
 use Rattle.rt_runtime.proofs.Finished.{together_at}
 
@@ -97,7 +97,7 @@ module _ {J T : Type 0} (cores cap burst room : ℕ) (queues : List Entry) where
   module _ (workers : List (LinkedView J T)) (ends : EndsView J T) (desk : DeskView J T) (closing : List Bool) (house : IsHouse cores cap burst room queues workers ends) (opened : desk ≡ opened_desk cores cores cap room burst)
       (written : IsWritten (terms_of_desk desk) desk.journal.notes) (none : closing ≡ replicate cores false)
       (rung : RingsView J T) (bells : List (List ℕ)) (silent : rung.times ≡ replicate (cores + 1) 0)
-      (refused : Bool) (watched : List Watching) (enough : least_room cores cap burst ≤ room) (limits : IsWithinLimits cores cap burst) where
+      (refused : Bool) (asks : Option ℕ) (watched : List Watching) (marks tries : List ℕ) (enough : least_room cores cap burst ≤ room) (limits : IsWithinLimits cores cap burst) where
     outs_opened : (core : ℕ) → core < cores → IsOutOf core (opened_desk cores cores cap room burst) (out_at core ends).out (out_at core ends).credited
     outs_opened core low =
         let is = house.fresh.outs core (omega (arith, low, house.outs)) in
@@ -122,7 +122,7 @@ module _ {J T : Type 0} (cores cap burst room : ℕ) (queues : List Entry) where
     none_due : sum_by due_of (replicate cores (fresh_lane {J = J} {T = T} cap)) ≡ 0
     none_due = sum_by-replicate due_of cores (fresh_lane cap) ∙ omega arith
 
-    pub started : (fits : Order J → Outcome J T → Type 0) → IsRuntime fits (record { desk = desk; ends = ends; closing = closing; workers = workers; room = room; rung = rung; bells = bells; refused = refused; watched = watched })
+    pub started : (fits : Order J → Outcome J T → Type 0) → IsRuntime fits (record { desk = desk; ends = ends; closing = closing; workers = workers; room = room; rung = rung; bells = bells; refused = refused; asks = asks; watched = watched; marks = marks; tries = tries })
     started fits = record {
       lanes = subst (λ (desk : DeskView J T). (core : ℕ) → core < desk.cores → HasLane fits core desk (out_at core ends).out (out_at core ends).credited) (sym opened) (lanes_opened fits);
       count = house.count ∙ ap (λ desk. desk.cores) (sym opened);

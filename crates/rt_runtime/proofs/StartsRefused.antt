@@ -1,7 +1,7 @@
--- Starts that are refused: over a bad configuration, with a core that is closed already, with bells that the caller hasn't, with a sink too few, and with a
--- publication that was seen already.
-use Rattle.std.proofs.Common.{◌≡◌, ℕ, ◌<◌, List, [], ◌∷◌, subst, arith}
-use Rattle.std.specs.Prelude.{All, true, Ok, Err}
+-- Starts that are refused: over a bad configuration, with a core that is closed already, with bells that the caller hasn't, with a sink too few or with sinks in
+-- another order, with a worker that parks at once, and with a publication that was seen already.
+use Rattle.std.proofs.Common.{◌≡◌, ℕ, ◌<◌, List, [], ◌∷◌, ap, sym, ◌∙◌, subst, arith}
+use Rattle.std.specs.Prelude.{All, Option, true, Ok, Err, slice_index_or}
 use Rattle.std.proofs.lemmas.List.Elements.{All-head}
 use Rattle.rt_runtime_config.specs.Configs.{Entry, IsGood}
 use Rattle.rt_runtime.specs.declared.error.StartError.TheVariants.{BadConfig, Memory}
@@ -9,7 +9,7 @@ use Rattle.rt_runtime.specs.Calls.{IsStarted, Starts}
 use Rattle.rt_runtime.specs.State.{RuntimeView}
 use Rattle.rt_runtime.specs.Watching.{IsUnseen}
 use Rattle.rt_watch.specs.declared.watcher.Watching.{Watching}
-use Rattle.rt_runtime.specs.WithSinks.{StartsWithSinks}
+use Rattle.rt_runtime.specs.WithSinks.{HasSinks, StartsWithSinks}
 
 module _ {J T : Type 0} (cap burst room : ℕ) (queues : List Entry) (clocks gates : ℕ) (view : RuntimeView J T) where
   -- a runtime without cores is started
@@ -46,3 +46,16 @@ module _ {J T : Type 0} (cap burst room : ℕ) (queues : List Entry) (clocks gat
       let unseen : All IsUnseen (seen ∷ []) = subst (λ watched. All IsUnseen watched) is started.unseen in
       let none : IsUnseen seen = All-head IsUnseen seen [] unseen in
       omega (arith, none.count, one)
+
+  -- the worker parks at once
+  parks_refused : IsStarted 1 cap burst room queues view → view.tries ≡ 0 ∷ [] → ⊥
+  parks_refused started none = omega (arith, ap (λ tries. slice_index_or tries 0 7) (sym none ∙ started.tries))
+
+module _ {J T S : Type 0} (asks : S → Option ℕ) (mark : S → ℕ) (one two : S) (first : mark one ≡ 0) (second : mark two ≡ 1) (view : RuntimeView J T) where
+  -- the core has the caller's sink, and the caller that of the core
+  exchanged_refused : view.marks ≡ 1 ∷ 0 ∷ [] → HasSinks asks mark (one ∷ two ∷ []) view → ⊥
+  exchanged_refused others sinks = omega (arith, first, ap (λ marks. slice_index_or marks 0 7) (sym others ∙ sinks.marks_are))
+
+  -- both have the same one
+  same_refused : view.marks ≡ 0 ∷ 0 ∷ [] → HasSinks asks mark (one ∷ two ∷ []) view → ⊥
+  same_refused others sinks = omega (arith, second, ap (λ marks. slice_index_or marks 1 7) (sym others ∙ sinks.marks_are))

@@ -18,7 +18,7 @@ use Rattle.rt_journal_desk.specs.Tickets.{AreCollected}
 use Rattle.rt_runtime.specs.declared.error.SubmitError.{SubmitError}
 use Rattle.rt_runtime.specs.declared.error.SubmitError.TheVariants.{JournalFull, Send}
 use Rattle.rt_journal_notes.specs.Journals.{free_notes}
-use Rattle.rt_runtime.specs.Passing.{passed_on, refused_of}
+use Rattle.rt_runtime.specs.Passing.{AsksOnce, passed_on, refused_of}
 use Rattle.rt_runtime.specs.Sends.{MakesRoom, Sends, SubmitsTo, room_left}
 use Rattle.rt_runtime.specs.State.{RuntimeView, SubmitsNothing, submitted}
 use Rattle.rt_runtime.specs.Tickets.{RedeemsHere}
@@ -153,12 +153,12 @@ module _ {J T : Type 0} where
     just_room each old mid makes =
         ⊎_elim
         (λ (enough : (room_left each old ≤ free_notes old.desk.journal) × (mid ≡ old)). just_same old mid enough.1)
-        (λ (few : (free_notes old.desk.journal < room_left each old) × (mid ≡ passed_on old)). just_like old mid (passed_on old) few.1 refl (λ to. refl))
+        (λ (few : (free_notes old.desk.journal < room_left each old) × AsksOnce old (passed_on old) mid). just_like old mid (record (passed_on old) { asks = mid.asks }) few.1.1 refl (λ to. refl))
         makes
 
     -- so does a refused submission
     refused_submission : (each : ℕ) (old : RuntimeView J T) (error : SubmitError J) (new : RuntimeView J T) → SubmitsTo each core order old (Err error) new → JustCollected old new
-    refused_submission each old (JournalFull back) new submits = just_like old new (refused_of old) submits.2 refl (λ to. refl)
+    refused_submission each old (JournalFull back) new submits = just_like old new (record (refused_of old) { asks = new.asks }) submits.2.1 refl (λ to. refl)
     refused_submission each old (Send error) new submits = just_then old submits.0 new (just_room each old submits.0 submits.1) (refused_send submits.0 error new submits.2)
 
     -- the last submission, behind collections

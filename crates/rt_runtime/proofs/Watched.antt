@@ -12,8 +12,8 @@ use Rattle.rt_ids.specs.declared.order.Order.{Order}
 use Rattle.rt_ids.specs.declared.order.Outcome.{Outcome}
 use Rattle.rt_ids.specs.Journal.{Journal}
 use Rattle.rt_runtime_worker.specs.Workers.{WorkerView}
-use Rattle.rt_runtime.specs.State.{IsRuntime, RuntimeView}
-use Rattle.rt_runtime.specs.Stored.{IsSinkOf, IsStored}
+use Rattle.rt_runtime.specs.State.{RuntimeView}
+use Rattle.rt_runtime.specs.Stored.{IsRuntime, IsSinkOf, IsStored}
 use Rattle.rt_runtime.specs.Watching.{AreWatching, Watches, no_watch, watch_at}
 
 module _ {J S : Type 0} (ended : List (EndedView J ℕ S)) (watchers : List Watching) (boards : map (λ (watcher : Watching). watcher.board) watchers ≡ map (λ (worker : EndedView J ℕ S). worker.shown.board) ended) where

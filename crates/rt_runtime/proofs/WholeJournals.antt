@@ -1,7 +1,7 @@
 -- The journals of a runtime that passed nothing on are whole.
 use Rattle.std.proofs.Common.{◌≡◌, ℕ, ◌+◌, List, [], ◌∷◌, ◌++◌, map, sym, ◌∙◌, ap, subst, arith, ⊎_elim, inl}
 use Rattle.std.proofs.lemmas.List.{append-nil}
-use Rattle.std.specs.Prelude.{IsSome}
+use Rattle.std.specs.Prelude.{IsSome, Option}
 use Rattle.rt_ids.specs.declared.note.Note.{Note}
 use Rattle.rt_ids.specs.declared.note.Note.TheVariants.{CoreClosed, Sent, Redeemed, Detached}
 use Rattle.rt_ids.specs.Assembly.{Assembly}
@@ -74,6 +74,6 @@ module _ {J S : Type 0} (meaning : Meaning J ℕ) (has : S → Journal ℕ) (ref
       may.2
 
   -- where a sink refuses only at its beginning, a finish is one of whole journals
-  pub finished_whole : (assembly : Assembly ℕ) → assembly ≡ assembly_of has passed → HasPassed meaning has refused view passed → HasFinished meaning view assembly
+  pub finished_whole : {asks : S → Option ℕ} {mark : S → ℕ} (assembly : Assembly ℕ) → assembly ≡ assembly_of has passed → HasPassed meaning has refused asks mark view passed → HasFinished meaning view assembly
   finished_whole assembly is has_passed =
       subst (HasFinished meaning view) (sym is) (finished_more meaning (MayActAmong refused view passed.actors.items) (MayActWhole view) view (assembly_of has passed) may_whole has_passed.finished)

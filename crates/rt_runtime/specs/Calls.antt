@@ -25,12 +25,14 @@ use Rattle.rt_runtime.specs.Watching.{IsUnseen, SawBeginnings}
 
 module _ {J T : Type 0} where
   -- A runtime that was just started. There is a worker for each core, and the outside actor has a fresh end to each. Each core has the queues that
-  -- the configuration names for it, in their order. Each worker rings the very bells that the caller has. Nothing was seen of a core yet.
+  -- the configuration names for it, in their order. Each worker rings the very bells that the caller has, and parks behind 1024 rounds in which nothing was
+  -- done. Nothing was seen of a core yet.
   pub record IsStarted (cores cap burst room : ℕ) (queues : List Entry) (view : RuntimeView J T) : Type 0 where
     pub desk : view.desk ≡ opened_desk cores cores cap room burst
     pub closing : view.closing ≡ replicate cores false
     pub rung : view.rung.times ≡ replicate (cores + 1) 0
     pub bells : view.bells ≡ replicate cores view.rung.names
+    pub tries : view.tries ≡ replicate cores 1024
     pub room_is : view.room ≡ room
     pub count : length view.workers ≡ cores
     pub ends : length view.ends.outs ≡ cores

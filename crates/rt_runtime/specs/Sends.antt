@@ -14,7 +14,7 @@ use Rattle.rt_ring_mesh.specs.Ends.{out_at}
 use Rattle.rt_runtime_worker.specs.Bells.{rung_at}
 use Rattle.rt_runtime.specs.declared.error.SubmitError.{SubmitError}
 use Rattle.rt_runtime.specs.declared.error.SubmitError.TheVariants.{JournalFull, Send}
-use Rattle.rt_runtime.specs.Passing.{passed_on, refused_of}
+use Rattle.rt_runtime.specs.Passing.{AsksOnce, passed_on, refused_of}
 use Rattle.rt_runtime.specs.State.{PassesNothing, RuntimeView, StaysRunning, closing_at, is_told_shut, submitted, submitted_under}
 
 -- how many submissions are outstanding on the links to the first cores
@@ -64,13 +64,13 @@ module _ {J T : Type 0} where
     pub there : core < old.desk.cores → SendsTo core order old answer new
     pub missing : old.desk.cores ≤ core → (answer ≡ Err (NoCore order)) × (new ≡ old)
 
-  -- there is room for a send, or all notes are passed on first
+  -- there is room for a send, or the sink is asked once and takes all notes first
   abbrev pub MakesRoom : ℕ → RuntimeView J T → RuntimeView J T → Type 0
   MakesRoom each old mid =
-      ((room_left each old ≤ free_notes old.desk.journal) × (mid ≡ old)) ⊎ ((free_notes old.desk.journal < room_left each old) × (mid ≡ passed_on old))
+      ((room_left each old ≤ free_notes old.desk.journal) × (mid ≡ old)) ⊎ ((free_notes old.desk.journal < room_left each old) × AsksOnce old (passed_on old) mid)
 
-  -- a submission: there is too little room and the sink refuses, else the send, behind what makes room
+  -- a submission: there is too little room and the sink, which is asked once, refuses; else the send, behind what makes room
   abbrev pub SubmitsTo : ℕ → ℕ → Order J → RuntimeView J T → Result JobId (SubmitError J) → RuntimeView J T → Type 0
-  SubmitsTo each core order old (Err (JournalFull back)) new = (free_notes old.desk.journal < room_left each old) × (back ≡ order) × (new ≡ refused_of old)
+  SubmitsTo each core order old (Err (JournalFull back)) new = (free_notes old.desk.journal < room_left each old) × (back ≡ order) × AsksOnce old (refused_of old) new
   SubmitsTo each core order old (Err (Send error)) new = (mid : RuntimeView J T) × MakesRoom each old mid × Sends core order mid (Err error) new
   SubmitsTo each core order old (Ok name) new = (mid : RuntimeView J T) × MakesRoom each old mid × Sends core order mid (Ok name) new

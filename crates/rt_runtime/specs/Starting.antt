@@ -24,13 +24,14 @@ module _ {J T : Type 0} where
     pub over : IsOpenedOver cores cap burst room ends worker
     pub queues_are : worker.recorded.journal.notes ≡ creations ends.number queues
 
-  -- a worker of which this is so has this clock, this gate and this sink, and rings the bells of these names
+  -- a worker of which this is so has this clock, this gate and this sink, rings the bells of these names, and tries 1024 times before it parks
   pub record IsWiredWith {C G S : Type 0} (opened : LinkedView J T → Type 0) (clock : C) (gate : G) (sink : S) (names : List ℕ) (worker : WorkerView J T C G S) : Type 0 where
     pub linked : opened worker.linked
     pub clock_is : worker.clock ≡ clock
     pub gate_is : worker.gate ≡ gate
     pub sink_is : worker.sink ≡ sink
     pub bells_are : worker.bells ≡ names
+    pub tries_are : worker.tries ≡ 1024
 
   -- the journal of each worker tells of the queues of its core and of nothing else
   abbrev pub HaveQueues : ℕ → List Entry → List (LinkedView J T) → Type 0

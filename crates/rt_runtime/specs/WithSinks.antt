@@ -1,8 +1,9 @@
 -- How a runtime whose actors pass their notes on starts and finishes.
-use Rattle.std.specs.Prelude.{◌≡◌, ◌⊎◌, All, ℕ, ◌+◌, List, [], ◌++◌, length, map, Some, Result, Ok, Err, slice_get}
+use Rattle.std.specs.Prelude.{◌≡◌, ◌⊎◌, All, ℕ, ◌+◌, List, [], ◌∷◌, ◌++◌, length, map, Option, Some, Result, Ok, Err, slice_get}
 use Rattle.rt_ids.specs.Assembly.{Assembly}
 use Rattle.rt_ids.specs.Journal.{EachNote, Journal}
 use Rattle.rt_jobs.specs.Meanings.{Meaning}
+use Rattle.rt_journal_notes.specs.Passing.{IsAsked}
 use Rattle.rt_runtime_config.specs.Configs.{Entry, IsGood}
 use Rattle.rt_runtime_worker.specs.Rooms.{ActsByCommand, MayAct, least_free}
 use Rattle.rt_runtime.specs.declared.error.FinishError.{FinishError}
@@ -18,6 +19,15 @@ use Rattle.rt_runtime.specs.State.{RuntimeView}
 abbrev pub StartsWithSinks : {J T : Type 0} → ℕ → ℕ → ℕ → ℕ → List Entry → ℕ → ℕ → ℕ → Result (RuntimeView J T) StartError → Type 0
 StartsWithSinks cores cap burst room queues clocks gates sinks (Err BadConfig) = IsGood cores cap burst room queues clocks gates → sinks ≡ cores + 1 → ⊥
 StartsWithSinks cores cap burst room queues clocks gates sinks answer = (sinks ≡ cores + 1) × Starts cores cap burst room queues clocks gates answer
+
+-- The sinks stand in the order in which they were given, as far as they bear marks: each core has that of its number, and the caller the last one. Of that
+-- it is seen how often it was asked.
+pub record HasSinks {J T S : Type 0} (asks : S → Option ℕ) (mark : S → ℕ) (sinks : List S) (view : RuntimeView J T) : Type 0 where
+  pub marks_are : view.marks ≡ map mark sinks
+  pub front : List S
+  pub last : S
+  pub split : sinks ≡ front ++ last ∷ []
+  pub asks_are : view.asks ≡ asks last
 
 module _ {S : Type 0} (has : S → Journal ℕ) where
   -- all notes of an actor: those that are kept, behind those that its sink has
@@ -44,11 +54,16 @@ module _ {S : Type 0} (has : S → Journal ℕ) (refused : S → ℕ → Type 0)
   abbrev pub KeepsRefused : ActorNotes S → Type 0
   KeepsRefused actor = (actor.kept.notes ≡ []) ⊎ refused actor.sink (length (has actor.sink))
 
-module _ {J S : Type 0} (meaning : Meaning J ℕ) (has : S → Journal ℕ) (refused : S → ℕ → Type 0) where
-  -- The journals of a runtime that has finished are what the sinks have, and behind it what they refused.
+module _ {J S : Type 0} (meaning : Meaning J ℕ) (has : S → Journal ℕ) (refused : S → ℕ → Type 0) (asks : S → Option ℕ) (mark : S → ℕ) where
+  -- The journals of a runtime that has finished are what the sinks have, and behind it what they refused. Each sink stands at the place at which it was given,
+  -- as far as it bears a mark. That of the outside actor was asked once more.
   pub record HasPassed (view : RuntimeView J ℕ) (passed : Passed S) : Type 0 where
     pub finished : HasFinishedBy meaning (MayActAmong refused view passed.actors.items) view (assembly_of has passed)
     pub rest : All (KeepsRefused has refused) passed.actors.items
+    pub marks : map (λ actor. mark actor.sink) passed.actors.items ≡ view.marks
+    pub outside : ActorNotes S
+    pub outside_is : slice_get passed.actors.items view.desk.cores ≡ Some outside
+    pub asked : IsAsked view.asks (asks outside.sink)
 
   -- a finish: a core is still open and the runtime comes back, or all workers have ended
   abbrev pub FinishesWithSinks : RuntimeView J ℕ → Result (Passed S) (FinishError (RuntimeView J ℕ)) → Type 0

@@ -2,6 +2,7 @@
 
 ghost use Rattle.std.specs.Prelude.{◌≡◌, ◌+◌, ◌<◌, ◌≤◌, ℕ, true, [], IfOk, length, map, vec_capacity};
 ghost use Rattle.rt_ring_mesh.specs.Grid.{IsGrid, AreReunited};
+ghost use Rattle.rt_journal_notes.specs.Passing.{IsAsked};
 ghost use Rattle.rt_link.specs.Fits.{Fits};
 ghost use Rattle.rt_runtime.specs.Calls.{Finishes};
 ghost use Rattle.rt_runtime.specs.State.{closing_at};
@@ -107,6 +108,8 @@ fn part_outside<J: Task<Out = u64>, S: Sink>(desk: RecordedDesk<J>, sink: S) -> 
     requires { S.has sink ≡ desk.journal.passed }
     ensures notes { notes_of S.has result ≡ desk.journal.notes }
     ensures rest { KeepsRefused S.has S.refused result }
+    ensures asked { IsAsked (S.asks sink) (S.asks result.sink) }
+    ensures marked { S.mark result.sink ≡ S.mark sink }
 {
     let (mut desk, mut sink) = (desk, sink);
     let _answer = desk.pass_on(&mut sink);
@@ -155,7 +158,7 @@ impl<J: Job + Task<Out = u64>, C: Clock + Drop, G: Gate + Drop, S: Sink> Runtime
     /// Waits until all workers have ended, and ends the links. Room for the journals comes back beside the notes.
     fn end<R: Threads + Wait>(self, rt: &R) -> Over<S, J::Local>
         requires { (core : ℕ) → core < length self.closing → closing_at core self ≡ true }
-        ensures passed { HasPassed J.meaning S.has S.refused self result.0 }
+        ensures passed { HasPassed J.meaning S.has S.refused S.asks S.mark self result.0 }
         ensures none { result.1.items ≡ [] }
         ensures room { length result.0.actors.items ≤ vec_capacity result.1 }
         ensures locals { length result.2.items ≡ self.desk.cores }
@@ -205,7 +208,7 @@ impl<J: Job + Task<Out = u64>, C: Clock + Drop, G: Gate + Drop, S: Sink> Runtime
         self,
         rt: &R,
     ) -> Result<Passed<S>, FinishError<Self>>
-        ensures { FinishesWithSinks J.meaning S.has S.refused self result }
+        ensures { FinishesWithSinks J.meaning S.has S.refused S.asks S.mark self result }
     {
         match first_open(self.cores, &self.closing) {
             Some(core) => Err(FinishError::NotClosed(CoreNo(core), self)),
@@ -225,7 +228,7 @@ impl<J: Job + Task<Out = u64>, C: Clock + Drop, G: Gate + Drop, S: Sink> Runtime
         self,
         rt: &R,
     ) -> Result<(Passed<S>, Vec<J::Local>), FinishError<Self>>
-        ensures finishes { FinishesWithSinks J.meaning S.has S.refused self (without_locals result) }
+        ensures finishes { FinishesWithSinks J.meaning S.has S.refused S.asks S.mark self (without_locals result) }
         ensures locals { IfOk result (λ both. length both.1.items ≡ self.desk.cores) }
     {
         match first_open(self.cores, &self.closing) {

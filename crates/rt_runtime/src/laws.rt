@@ -51,5 +51,5 @@ pub fn waits_submit_once<J: Task<Out = u64>>()
 
 /// If no sink refused, then no core closed by itself, and the sinks have all notes.
 pub fn never_refused_never_short<J: Task<Out = u64>, S: Sink>()
-    ensures { NeverRefusedNeverShort J.meaning S.has S.refused }
+    ensures { NeverRefusedNeverShort J.meaning S.has S.refused S.asks S.mark }
 {}

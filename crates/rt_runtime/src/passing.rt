@@ -1,9 +1,9 @@
 //! What becomes of the outside actor's notes: its sink, and what is kept.
 
-ghost use Rattle.std.specs.Prelude.{◌≡◌, ◌+◌, ◌<◌, ◌≤◌, ◌++◌, OnErr, OnOk, [], length, true};
+ghost use Rattle.std.specs.Prelude.{◌≡◌, ◌+◌, ◌<◌, ◌≤◌, ◌++◌, OnErr, OnOk, Some, [], length, slice_get, true};
 ghost use Rattle.rt_journal_notes.specs.Journals.{free_notes};
 ghost use Rattle.rt_journal_desk.specs.Spending.{booked};
-ghost use Rattle.rt_runtime.specs.Passing.{PassesHere, refused_of};
+ghost use Rattle.rt_runtime.specs.Passing.{AsksOnce, PassesHere, refused_of};
 ghost use Rattle.rt_runtime.specs.Sends.{MakesRoom, room_left};
 
 use crate::runtime::Runtime;
@@ -23,13 +23,15 @@ impl<J: Task<Out = u64>, C: Drop, G: Drop, S: Sink> Runtime<J, C, G, S> {
     /// The outside actor's sink. It has the notes that were passed on. If it refused when it was last asked, it says so.
     pub fn sink(&self) -> &S
         ensures has { S.has result.now ≡ self.now.desk.journal.passed }
+        ensures asks { S.asks result.now ≡ self.now.asks }
+        ensures mark { slice_get self.now.marks (length self.now.workers) ≡ Some (S.mark result.now) }
         ensures refused { self.now.refused ≡ true → S.refused result.now (length self.now.desk.journal.passed) }
     {
         &self.sink
     }
 
     /// Passes on all notes of the outside actor that are kept, so that their places are free again. The caller may do so at any time; a
-    /// submission does so where there are too few.
+    /// submission does so where there are too few. The sink is asked each time, also if it refused before.
     ///
     /// # Errors
     ///
@@ -51,7 +53,7 @@ impl<J: Task<Out = u64>, C: Drop, G: Drop, S: Sink> Runtime<J, C, G, S> {
         ensures makes { OnOk result (MakesRoom each self.old self.new) }
         ensures room { OnOk result (booked self.new.desk + 3 ≤ self.new.desk.journal.room) }
         ensures full { OnErr result (free_notes self.old.desk.journal < room_left each self.old) }
-        ensures refused { OnErr result (self.new ≡ refused_of self.old) }
+        ensures refused { OnErr result (AsksOnce self.old (refused_of self.old) self.new) }
     {
         if self.is_full(each) {
             self.pass_on()

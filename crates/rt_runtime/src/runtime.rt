@@ -53,19 +53,71 @@ impl<J: Task<Out = u64>, C: Drop, G: Drop, S: Sink> Model for Runtime<J, C, G, S
 
     ghost Value = { RuntimeView J ℕ };
 
-    ghost use Rattle.std.specs.Prelude.{◌≡◌, ◌+◌, ◌≤◌, [], map, vec_capacity};
+    ghost use Rattle.std.specs.Prelude.{◌≡◌, ◌+◌, ◌≤◌, [], ◌∷◌, ◌++◌, map, vec_capacity};
     ghost use Rattle.rt_link.specs.Fits.{Fits};
-    ghost use Rattle.rt_runtime.specs.State.{IsRuntime};
-    ghost use Rattle.rt_runtime.specs.Stored.{IsSinkOf, IsStored};
+    ghost use Rattle.rt_runtime.specs.Stored.{IsRuntime, IsSinkOf, IsStored};
     ghost use Rattle.rt_runtime.specs.Watching.{AreWatching};
 
-    ghost view = { λ r. record { desk = r.desk; ends = r.ends; closing = r.closing.items; workers = map (λ worker. worker.linked) r.team; room = r.room; rung = r.bells; bells = map (λ worker. worker.bells) r.team; refused = r.refused; watched = r.watchers.items } };
+    ghost view = { λ r.
+        record {
+          desk = r.desk;
+          ends = r.ends;
+          closing = r.closing.items;
+          workers = map (λ worker. worker.linked) r.team;
+          room = r.room;
+          rung = r.bells;
+          bells = map (λ worker. worker.bells) r.team;
+          refused = r.refused;
+          asks = S.asks r.sink;
+          watched = r.watchers.items;
+          marks = map (λ worker. S.mark worker.sink) r.team ++ S.mark r.sink ∷ [];
+          tries = map (λ worker. worker.tries) r.team;
+        } };
 
     ghost invariant = { λ r.
-        IsRuntime (Fits J.meaning) (record { desk = r.desk; ends = r.ends; closing = r.closing.items; workers = map (λ worker. worker.linked) r.team; room = r.room; rung = r.bells; bells = map (λ worker. worker.bells) r.team; refused = r.refused; watched = r.watchers.items })
-        × IsStored (record { desk = r.desk; ends = r.ends; closing = r.closing.items; workers = map (λ worker. worker.linked) r.team; room = r.room; rung = r.bells; bells = map (λ worker. worker.bells) r.team; refused = r.refused; watched = r.watchers.items })
+        IsRuntime (Fits J.meaning) (record {
+          desk = r.desk;
+          ends = r.ends;
+          closing = r.closing.items;
+          workers = map (λ worker. worker.linked) r.team;
+          room = r.room;
+          rung = r.bells;
+          bells = map (λ worker. worker.bells) r.team;
+          refused = r.refused;
+          asks = S.asks r.sink;
+          watched = r.watchers.items;
+          marks = map (λ worker. S.mark worker.sink) r.team ++ S.mark r.sink ∷ [];
+          tries = map (λ worker. worker.tries) r.team;
+        })
+        × IsStored (record {
+          desk = r.desk;
+          ends = r.ends;
+          closing = r.closing.items;
+          workers = map (λ worker. worker.linked) r.team;
+          room = r.room;
+          rung = r.bells;
+          bells = map (λ worker. worker.bells) r.team;
+          refused = r.refused;
+          asks = S.asks r.sink;
+          watched = r.watchers.items;
+          marks = map (λ worker. S.mark worker.sink) r.team ++ S.mark r.sink ∷ [];
+          tries = map (λ worker. worker.tries) r.team;
+        })
         r.cores r.cap (vec_capacity r.spare_ends) (vec_capacity r.spare_actors) (vec_capacity r.spare_journals)
-        × IsSinkOf S.has S.refused (record { desk = r.desk; ends = r.ends; closing = r.closing.items; workers = map (λ worker. worker.linked) r.team; room = r.room; rung = r.bells; bells = map (λ worker. worker.bells) r.team; refused = r.refused; watched = r.watchers.items }) r.sink
+        × IsSinkOf S.has S.refused (record {
+          desk = r.desk;
+          ends = r.ends;
+          closing = r.closing.items;
+          workers = map (λ worker. worker.linked) r.team;
+          room = r.room;
+          rung = r.bells;
+          bells = map (λ worker. worker.bells) r.team;
+          refused = r.refused;
+          asks = S.asks r.sink;
+          watched = r.watchers.items;
+          marks = map (λ worker. S.mark worker.sink) r.team ++ S.mark r.sink ∷ [];
+          tries = map (λ worker. worker.tries) r.team;
+        }) r.sink
         × (r.spare_ends.items ≡ []) × (r.spare_actors.items ≡ []) × (r.spare_journals.items ≡ []) × AreWatching r.watchers.items r.team
         × (r.spare_locals.items ≡ []) × (r.cores + 1 ≤ vec_capacity r.spare_locals) };
 }

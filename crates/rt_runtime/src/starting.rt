@@ -1,12 +1,14 @@
 //! How a house is opened, and its threads begin.
 
-ghost use Rattle.std.specs.Prelude.{◌≡◌, ◌+◌, ◌≤◌, All, [], false, IfOk, length, map, replicate, vec_capacity};
+ghost use Rattle.std.specs.Prelude.{◌≡◌, ◌+◌, ◌≤◌, ◌++◌, All, [], ◌∷◌, false, IfOk, length, map, replicate, vec_capacity};
 ghost use Rattle.rt_runtime_config.specs.Configs.{IsGood};
 ghost use Rattle.rt_runtime_team.specs.Works.{Together};
 ghost use Rattle.rt_journal_desk.specs.Submissions.{IsWritten, opened_desk, terms_of_desk};
 ghost use Rattle.rt_runtime.specs.Calls.{Begins};
 ghost use Rattle.rt_runtime.specs.Starting.{AreOpening, IsHouse, IsOpenedWith, IsWiredWith};
 ghost use Rattle.rt_runtime.specs.Watching.{IsWatcherOf};
+ghost use Rattle.rt_runtime.specs.WithLocals.{without_locals};
+ghost use Rattle.rt_runtime.specs.WithSinks.{HasSinks};
 
 use crate::error::StartError;
 use crate::passed::ActorNotes;
@@ -22,6 +24,7 @@ use rt_runtime_team::{NotStarted, Team};
 use rt_runtime_worker::{Bells, Worker};
 use rt_watch::Watcher;
 use std::alloc::{AllocError, Global};
+use std::snapshot::Snapshot;
 use std::sync::Wait;
 use std::thread::Threads;
 
@@ -128,6 +131,7 @@ fn open_workers<J: Task<Out = u64>, C: Drop, G: Drop, S: Sink>(
     ensures gates { IfOk result (λ opened. map (λ worker. worker.gate) opened.0.items ≡ gates.items) }
     ensures sinks { IfOk result (λ opened. map (λ worker. worker.sink) opened.0.items ≡ sinks.items) }
     ensures bells { IfOk result (λ opened. map (λ worker. worker.bells) opened.0.items ≡ map (λ ends. bells.now.names) all.items) }
+    ensures tries { IfOk result (λ opened. map (λ worker. worker.tries) opened.0.items ≡ map (λ ends. 1024) all.items) }
     ensures watchers { IfOk result (λ opened. Together IsWatcherOf opened.0.items opened.1.items) }
 {
     let seats = deal(alloc, all, clocks, gates, sinks, locals)?;
@@ -155,6 +159,7 @@ fn open_house<J: Task<Out = u64>, C: Drop, G: Drop, S: Sink>(
     ensures gates { IfOk result (λ house. map (λ worker. worker.gate) house.0.items ≡ gates.items) }
     ensures sinks { IfOk result (λ house. map (λ worker. worker.sink) house.0.items ≡ sinks.items) }
     ensures shared { IfOk result (λ house. map (λ worker. worker.bells) house.0.items ≡ replicate config.now.cores house.1.names) }
+    ensures tries { IfOk result (λ house. map (λ worker. worker.tries) house.0.items ≡ replicate config.now.cores 1024) }
     ensures bells { IfOk result (λ house. house.1.rings ≡ replicate (config.now.cores + 1) 0) }
     ensures watchers { IfOk result (λ house. Together IsWatcherOf house.0.items house.3.items) }
 {
@@ -216,9 +221,12 @@ fn open_spares<J: Task<Out = u64>, S: Sink>(
     Ok((ends, notes, journals, locals))
 }
 
+/// A house whose threads have begun, and for proofs alone the workers that the threads were given.
+type Begun<J, C, G, S> = (Runtime<J, C, G, S>, Snapshot<Vec<Worker<J, C, G, S>>>);
+
 impl<J: Task<Out = u64>, C: Drop, G: Drop, S: Sink> Runtime<J, C, G, S> {
-    /// Starts the threads of a house that is open.
-    pub(crate) fn begin<R>(
+    /// Starts the threads of a house. The worker of each core has the clock, the gate, the sink and the shared state of its number.
+    fn begin_given<R>(
         rt: R,
         alloc: Global,
         config: &Config,
@@ -226,7 +234,7 @@ impl<J: Task<Out = u64>, C: Drop, G: Drop, S: Sink> Runtime<J, C, G, S> {
         gates: Vec<G>,
         sinks: Vec<S>,
         locals: Vec<J::Local>,
-    ) -> Result<Self, StartError>
+    ) -> Result<Begun<J, C, G, S>, StartError>
     where
         J: Job + Send + 'static,
         J::Local: Send + 'static,
@@ -238,7 +246,14 @@ impl<J: Task<Out = u64>, C: Drop, G: Drop, S: Sink> Runtime<J, C, G, S> {
         requires sinks { length sinks.items ≡ config.now.cores + 1 }
         requires locals { length locals.items ≡ config.now.cores }
         requires empty { All (λ sink. S.has sink ≡ []) sinks.items }
-        ensures { Begins config.now.cores config.now.cap config.now.burst config.now.room config.now.queues.items result }
+        ensures begins { Begins config.now.cores config.now.cap config.now.burst config.now.room config.now.queues.items (without_locals result) }
+        ensures dealt { IfOk result (λ begun. HasSinks S.asks S.mark sinks.items begun.0) }
+        ensures workers { IfOk result (λ begun. begun.0.workers ≡ map (λ worker. worker.linked) begun.1.value.items) }
+        ensures bells { IfOk result (λ begun. begun.0.bells ≡ map (λ worker. worker.bells) begun.1.value.items) }
+        ensures tries { IfOk result (λ begun. begun.0.tries ≡ map (λ worker. worker.tries) begun.1.value.items) }
+        ensures clocks { IfOk result (λ begun. map (λ worker. worker.clock) begun.1.value.items ≡ clocks.items) }
+        ensures gates { IfOk result (λ begun. map (λ worker. worker.gate) begun.1.value.items ≡ gates.items) }
+        ensures sinks { IfOk result (λ begun. (last : S) × (sinks.items ≡ map (λ worker. worker.sink) begun.1.value.items ++ last ∷ [])) }
     {
         let mut sinks = sinks;
         let Some(sink) = sinks.pop() else {
@@ -259,26 +274,60 @@ impl<J: Task<Out = u64>, C: Drop, G: Drop, S: Sink> Runtime<J, C, G, S> {
             return Err(StartError::Memory);
         };
         let bells = Rings::of(bells, &ends);
+        let given = Snapshot::of(&workers);
         match Team::start(rt, alloc, workers) {
-            Ok(team) => Ok(Runtime {
-                cores: config.cores,
-                cap: config.cap,
-                room: config.room,
-                desk,
-                ends,
-                sink,
-                refused: false,
-                bells,
-                closing,
-                team,
-                watchers,
-                spare_ends,
-                spare_actors,
-                spare_journals,
-                spare_locals,
-            }),
+            Ok(team) => Ok((
+                Runtime {
+                    cores: config.cores,
+                    cap: config.cap,
+                    room: config.room,
+                    desk,
+                    ends,
+                    sink,
+                    refused: false,
+                    bells,
+                    closing,
+                    team,
+                    watchers,
+                    spare_ends,
+                    spare_actors,
+                    spare_journals,
+                    spare_locals,
+                },
+                given,
+            )),
             Err(NotStarted::Memory(_)) => Err(StartError::Memory),
             Err(NotStarted::Thread(_)) => Err(StartError::Thread),
+        }
+    }
+
+    /// The same, without what it tells for proofs alone.
+    pub(crate) fn begin<R>(
+        rt: R,
+        alloc: Global,
+        config: &Config,
+        clocks: Vec<C>,
+        gates: Vec<G>,
+        sinks: Vec<S>,
+        locals: Vec<J::Local>,
+    ) -> Result<Self, StartError>
+    where
+        J: Job + Send + 'static,
+        J::Local: Send + 'static,
+        C: Clock + Send + 'static,
+        G: Gate + Send + 'static,
+        S: Send + 'static,
+        R: Threads + Wait + Copy + Drop + Send + 'static,
+        requires good { IsGood config.now.cores config.now.cap config.now.burst config.now.room config.now.queues.items (length clocks.items) (length gates.items) }
+        requires sinks { length sinks.items ≡ config.now.cores + 1 }
+        requires locals { length locals.items ≡ config.now.cores }
+        requires empty { All (λ sink. S.has sink ≡ []) sinks.items }
+        ensures begins { Begins config.now.cores config.now.cap config.now.burst config.now.room config.now.queues.items result }
+        ensures dealt { IfOk result (HasSinks S.asks S.mark sinks.items) }
+    {
+        match Self::begin_given(rt, alloc, config, clocks, gates, sinks, locals) {
+            Ok((runtime, _given)) => Ok(runtime),
+            Err(error) => Err(error),
         }
     }
 }

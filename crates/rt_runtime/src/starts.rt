@@ -2,7 +2,7 @@
 
 ghost use Rattle.std.specs.Prelude.{◌≡◌, ◌+◌, All, [], IfOk, length};
 ghost use Rattle.rt_runtime.specs.Calls.{Starts};
-ghost use Rattle.rt_runtime.specs.WithSinks.{StartsWithSinks};
+ghost use Rattle.rt_runtime.specs.WithSinks.{HasSinks, StartsWithSinks};
 ghost use Rattle.rt_runtime.specs.WithLocals.{StartsWithLocals, StartsWithSinksAndLocals};
 
 use crate::error::StartError;
@@ -59,7 +59,8 @@ impl<J: Task<Out = u64, Local = ()>, C: Drop, G: Drop, S: Sink> Runtime<J, C, G,
         S: Send + 'static,
         R: Threads + Wait + Copy + Drop + Send + 'static,
         requires { All (λ sink. S.has sink ≡ []) sinks.items }
-        ensures { StartsWithSinks config.cores config.cap config.burst config.room config.queues.items (length clocks.items) (length gates.items) (length sinks.items) result }
+        ensures starts { StartsWithSinks config.cores config.cap config.burst config.room config.queues.items (length clocks.items) (length gates.items) (length sinks.items) result }
+        ensures dealt { IfOk result (HasSinks S.asks S.mark sinks.items) }
     {
         if !is_good(&config, clocks.len(), gates.len())
             || sinks.len() != config.cores as usize + 1
@@ -143,7 +144,8 @@ impl<J: Task<Out = u64>, C: Drop, G: Drop, S: Sink> Runtime<J, C, G, S> {
         S: Send + 'static,
         R: Threads + Wait + Copy + Drop + Send + 'static,
         requires { All (λ sink. S.has sink ≡ []) sinks.items }
-        ensures { StartsWithSinksAndLocals config.cores config.cap config.burst config.room config.queues.items (length clocks.items) (length gates.items) (length sinks.items) (length locals.items) result }
+        ensures starts { StartsWithSinksAndLocals config.cores config.cap config.burst config.room config.queues.items (length clocks.items) (length gates.items) (length sinks.items) (length locals.items) result }
+        ensures dealt { IfOk result (HasSinks S.asks S.mark sinks.items) }
     {
         if !is_good(&config, clocks.len(), gates.len())
             || config.cores as usize + 1 != sinks.len()

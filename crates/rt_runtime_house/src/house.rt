@@ -3,6 +3,7 @@
 ghost use Rattle.std.specs.Prelude.{◌≡◌, ◌+◌, ◌≤◌, All, [], IfOk, length, min};
 ghost use Rattle.rt_ids.specs.Limits.{most_notes};
 ghost use Rattle.rt_runtime_config.specs.Configs.{least_room, queues_of};
+ghost use Rattle.rt_runtime.specs.WithSinks.{HasSinks};
 ghost use Rattle.rt_runtime_house.specs.Plans.{fresh_plan, PlansQueue, StartsPlan, StartsPlanWithLocals, StartsPlanWithSinks, StartsPlanWithSinksAndLocals};
 
 use crate::names::QueueNames;
@@ -222,7 +223,8 @@ impl House {
         R: Threads + Wait + time::Clock + Copy + Drop + Send + 'static,
         S: Sink + Send + 'static,
         requires { All (λ sink. S.has sink ≡ []) sinks.items }
-        ensures { StartsPlanWithSinks self (length sinks.items) result }
+        ensures starts { StartsPlanWithSinks self (length sinks.items) result }
+        ensures dealt { IfOk result (λ started. HasSinks S.asks S.mark sinks.items started.0) }
     {
         let House { config, names } = self;
         let cores = config.cores;
@@ -283,7 +285,8 @@ impl House {
         R: Threads + Wait + time::Clock + Copy + Drop + Send + 'static,
         S: Sink + Send + 'static,
         requires { All (λ sink. S.has sink ≡ []) sinks.items }
-        ensures { StartsPlanWithSinksAndLocals self (length sinks.items) (length locals.items) result }
+        ensures starts { StartsPlanWithSinksAndLocals self (length sinks.items) (length locals.items) result }
+        ensures dealt { IfOk result (λ started. HasSinks S.asks S.mark sinks.items started.0) }
     {
         let House { config, names } = self;
         let cores = config.cores;

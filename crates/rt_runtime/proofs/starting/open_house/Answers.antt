@@ -18,3 +18,9 @@ returns-clause-shared g c =
     c.in_ok-workers.ensures.bells
     ∙ same_of_each _ c.pop.new.self.items c.args.config.now.cores
     (front_count c.args.config.now.cores c.args.config.now.cap c.args.config.now.burst c.args.config.now.room c.args.config.now.queues.items c.in-Ok.all.items c.pop.new.self.items c.in-Some.outside c.in-Some.ensures.items c.in-Ok.ensures.grid c.in-Ok.ensures.fresh)
+
+pub returns-clause-tries : goal.returns-clause-tries
+returns-clause-tries g c =
+    c.in_ok-workers.ensures.tries
+    ∙ same_of_each 1024 c.pop.new.self.items c.args.config.now.cores
+    (front_count c.args.config.now.cores c.args.config.now.cap c.args.config.now.burst c.args.config.now.room c.args.config.now.queues.items c.in-Ok.all.items c.pop.new.self.items c.in-Some.outside c.in-Some.ensures.items c.in-Ok.ensures.grid c.in-Ok.ensures.fresh)

@@ -61,7 +61,14 @@ loop-seat-preserved g c =
           seat.clock seat.gate seat.sink c.args.bells.now.names worker)
           c.args.seats.items (into_iter_items loop.seat-iterator) (into_iter_items c.next.new.self)
           (into_iter_len loop.seat-iterator) (into_iter_len c.next.new.self) loop.workers.items c.in-Some.seat c.in_ok-worker.worker loop.invariant.made steps.0 steps.1
-          (record { linked = record { over = c.in_ok-worker.ensures.over; queues_are = c.in_ok-worker.ensures.queues }; clock_is = c.in_ok-worker.ensures.clock; gate_is = c.in_ok-worker.ensures.gate; sink_is = c.in_ok-worker.ensures.sink; bells_are = c.in_ok-worker.ensures.bells }));
+          (record {
+            linked = record { over = c.in_ok-worker.ensures.over; queues_are = c.in_ok-worker.ensures.queues };
+            clock_is = c.in_ok-worker.ensures.clock;
+            gate_is = c.in_ok-worker.ensures.gate;
+            sink_is = c.in_ok-worker.ensures.sink;
+            bells_are = c.in_ok-worker.ensures.bells;
+            tries_are = c.in_ok-worker.ensures.begins.1;
+          }));
     }
 
 pub returns-clause-workers : goal.returns-clause-workers

@@ -46,3 +46,11 @@ returns-clause-bells g c =
     if_ok _ _ (λ opened both. same_maps (λ seat. names) (λ worker. worker.bells) _ (λ seat worker wired. wired.bells_are) seats opened.0.items both
     ∙ (same_of_each names seats (length c.args.all.items) count ∙ sym (same_of_each names c.args.all.items (length c.args.all.items) refl)))
     c.open_seats.result c.open_seats.ensures.workers
+
+pub returns-clause-tries : goal.returns-clause-tries
+returns-clause-tries g c =
+    let seats = c.in_ok-seats.seats.items in
+    let count : length seats ≡ length c.args.all.items = sym (length-map seats (λ seat. seat.ends)) ∙ ap length c.in_ok-seats.ensures.ends in
+    if_ok _ _ (λ opened both. same_maps (λ seat. 1024) (λ worker. worker.tries) _ (λ seat worker wired. wired.tries_are) seats opened.0.items both
+    ∙ (same_of_each 1024 seats (length c.args.all.items) count ∙ sym (same_of_each 1024 c.args.all.items (length c.args.all.items) refl)))
+    c.open_seats.result c.open_seats.ensures.workers

@@ -1,4 +1,4 @@
-use Rattle.std.proofs.Common.{ℕ, ◌<◌, ap, map, subst, arith}
+use Rattle.std.proofs.Common.{ℕ, ◌<◌, [], ◌∷◌, ◌++◌, ap, map, subst, arith}
 use Rattle.rt_ring_mesh.specs.Ends.{out_at}
 use Rattle.rt_runtime.specs.State.{RuntimeView}
 use Rattle.rt_runtime.specs.Tickets.{CollectsHere}
@@ -39,7 +39,10 @@ returns g c =
       rung = c.self.inside.bells;
       bells = map (λ worker. worker.bells) c.self.inside.team;
       refused = c.self.inside.refused;
+      asks = g.S.Sink.asks c.self.inside.sink;
       watched = c.self.inside.watchers.items;
+      marks = map (λ worker. g.S.Sink.mark worker.sink) c.self.inside.team ++ g.S.Sink.mark c.self.inside.sink ∷ [];
+      tries = map (λ worker. worker.tries) c.self.inside.team;
     } in
     record {
       there = λ there. subst (λ view. CollectsHere c.args.core view c.collect_on.result new) c.self.view_is

@@ -1,4 +1,4 @@
-use Rattle.std.proofs.Common.{◌≡◌, ℕ, ◌+◌, ◌<◌, ◌≤◌, ◌∙◌, ap, sym, subst, arith, length, length-set, map, rules}
+use Rattle.std.proofs.Common.{◌≡◌, ℕ, ◌+◌, ◌<◌, ◌≤◌, [], ◌∷◌, ◌++◌, ◌∙◌, ap, sym, subst, arith, length, length-set, map, rules}
 use Rattle.rt_journal_desk.specs.Spending.{booked}
 use Rattle.rt_ring_mesh.specs.Ends.{out_at}
 use Rattle.rt_runtime.specs.State.{PassesNothing, RuntimeView, StaysRunning}
@@ -42,7 +42,10 @@ returns g c =
       rung = c.ring.new.self;
       bells = map (λ worker. worker.bells) c.self.inside.team;
       refused = c.self.inside.refused;
+      asks = g.S.Sink.asks c.self.inside.sink;
       watched = c.self.inside.watchers.items;
+      marks = map (λ worker. g.S.Sink.mark worker.sink) c.self.inside.team ++ g.S.Sink.mark c.self.inside.sink ∷ [];
+      tries = map (λ worker. worker.tries) c.self.inside.team;
     } in
     record {
       there = λ there. record {

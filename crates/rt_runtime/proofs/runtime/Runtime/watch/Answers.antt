@@ -1,4 +1,4 @@
-use Rattle.std.proofs.Common.{ℕ, ◌<◌, ◌∙◌, length, map, set, ap, subst, arith}
+use Rattle.std.proofs.Common.{ℕ, ◌<◌, [], ◌∷◌, ◌++◌, ◌∙◌, length, map, set, ap, subst, arith}
 use Rattle.std.proofs.Math.Seq.{map-set_same}
 use Rattle.std.proofs.lemmas.List.{length-map}
 use Rattle.rt_watch.specs.declared.watcher.Watching.{Watching}
@@ -32,7 +32,10 @@ returns-clause-watches g c =
       rung = c.self.inside.bells;
       bells = map (λ worker. worker.bells) c.self.inside.team;
       refused = c.self.inside.refused;
+      asks = g.S.Sink.asks c.self.inside.sink;
       watched = c.self.inside.watchers.items;
+      marks = map (λ worker. g.S.Sink.mark worker.sink) c.self.inside.team ++ g.S.Sink.mark c.self.inside.sink ∷ [];
+      tries = map (λ worker. worker.tries) c.self.inside.team;
     } in
     let new : RuntimeView g.row.J.Denot ℕ = record inside { watched = set c.self.inside.watchers.items c.core.inside.0 c.look.new.self } in
     let low : c.core.inside.0 < length c.self.inside.watchers.items =

@@ -1,4 +1,4 @@
-use Rattle.std.proofs.Common.{◌≡◌, ◌≤◌, [], ◌∷◌, false, rules, refl, ◌∙◌, ap, sym, subst, arith, length, map, replicate}
+use Rattle.std.proofs.Common.{◌≡◌, ◌≤◌, [], ◌∷◌, ◌++◌, false, rules, refl, ◌∙◌, ap, sym, subst, arith, length, map, replicate}
 use denote.Param.{param}
 use denote.Param.Send.{IsSend, arg_send, param_send}
 use denote.Exit.{no}
@@ -10,9 +10,9 @@ use Rattle.std.proofs.lemmas.List.{length-map}
 use Rattle.rt_runtime_team.proofs.Lists.{together_length}
 use Rattle.rt_runtime.specs.Watching.{IsUnseen, IsWatcherOf}
 use Rattle.rt_runtime.proofs.AllPassed.{together_all}
-use Rattle.rt_runtime.proofs.Dealt.{same_maps}
+use Rattle.rt_runtime.proofs.Dealt.{made_with_last, same_maps}
 use Rattle.rt_runtime.proofs.Started.{holds_next, none_submitted, started}
-use Rattle.rt_runtime.proofs.runtime.Runtime.begin.Goals as goal
+use Rattle.rt_runtime.proofs.runtime.Runtime.begin_given.Goals as goal
 
 pub start-requires-send-W : goal.start-requires-send-W
 start-requires-send-W g c κs within =
@@ -40,7 +40,7 @@ invariant_of-result g c =
     let numbers = c.requires.good.numbers in (
       started c.args.config.now.cores c.args.config.now.cap c.args.config.now.burst c.args.config.now.room c.args.config.now.queues.items (map (λ worker. worker.linked) c.in-Ok-start.team) c.in-Ok.ends c.in-Ok-open_outside.desk c.in-Ok-open_outside.closing.items
           (subst (λ workers. IsHouse c.args.config.now.cores c.args.config.now.cap c.args.config.now.burst c.args.config.now.room c.args.config.now.queues.items (map (λ worker. worker.linked) workers) c.in-Ok.ends) (sym c.in-Ok-start.ensures.ok) c.in-Ok.ensures.house) desk
-          c.in-Ok-open_outside.ensures.written c.in-Ok-open_outside.ensures.closing c.of-bells.result (map (λ worker. worker.bells) c.in-Ok-start.team) (ap (λ rung. rung.times) c.of-bells.ensures ∙ c.in-Ok.ensures.bells) false c.in-Ok.watchers.items enough
+          c.in-Ok-open_outside.ensures.written c.in-Ok-open_outside.ensures.closing c.of-bells.result (map (λ worker. worker.bells) c.in-Ok-start.team) (ap (λ rung. rung.times) c.of-bells.ensures ∙ c.in-Ok.ensures.bells) false _ c.in-Ok.watchers.items _ _ enough
           (record {
             some_core = omega (arith, numbers.some_core);
             few_cores = numbers.cores_most;
@@ -67,12 +67,13 @@ invariant_of-result g c =
       c.in-Ok-open_spares.ensures.locals.1,
     )
 
-pub returns-in-Ok-start : goal.returns-in-Ok-start
-returns-in-Ok-start g c = record {
+pub returns-in-Ok-start-clause-begins : goal.returns-in-Ok-start-clause-begins
+returns-in-Ok-start-clause-begins g c = record {
   desk = c.in-Ok-open_outside.ensures.desk;
   closing = c.in-Ok-open_outside.ensures.closing;
   rung = ap (λ rung. rung.times) c.of-bells.ensures ∙ c.in-Ok.ensures.bells;
   bells = ap (λ workers. map (λ worker. worker.bells) workers) c.in-Ok-start.ensures.ok ∙ (c.in-Ok.ensures.shared ∙ ap (λ rung. replicate c.args.config.now.cores rung.names) (sym c.of-bells.ensures));
+  tries = ap (λ workers. map (λ worker. worker.tries) workers) c.in-Ok-start.ensures.ok ∙ c.in-Ok.ensures.tries;
   room_is = refl;
   count = ap (λ workers. length (map (λ worker. worker.linked) workers)) c.in-Ok-start.ensures.ok ∙ c.in-Ok.ensures.house.count;
   ends = c.in-Ok.ensures.house.outs;
@@ -85,3 +86,20 @@ returns-in-Ok-start g c = record {
   unseen = together_all IsWatcherOf IsUnseen (λ worker watcher is. is.unseen) c.in-Ok.workers.items c.in-Ok.watchers.items c.in-Ok.ensures.watchers;
   have_queues = subst (λ workers. HaveQueues c.args.config.now.cores c.args.config.now.queues.items (map (λ worker. worker.linked) workers)) (sym c.in-Ok-start.ensures.ok) c.in-Ok.ensures.house.have_queues;
 }
+
+pub returns-in-Ok-start-clause-dealt : goal.returns-in-Ok-start-clause-dealt
+returns-in-Ok-start-clause-dealt g c = record {
+  marks_are =
+      ap (λ workers. map (λ worker. g.S.Sink.mark worker.sink) workers ++ g.S.Sink.mark c.in-Some.sink ∷ []) c.in-Ok-start.ensures.ok
+      ∙ made_with_last g.S.Sink.mark (λ worker. worker.sink) c.in-Ok.workers.items c.pop.new.self.items c.args.sinks.items c.in-Some.sink c.in-Ok.ensures.sinks c.in-Some.ensures.items;
+  front = c.pop.new.self.items;
+  last = c.in-Some.sink;
+  split = c.in-Some.ensures.items;
+  asks_are = refl;
+}
+
+pub returns-in-Ok-start-clause-sinks : goal.returns-in-Ok-start-clause-sinks
+returns-in-Ok-start-clause-sinks g c = (
+  c.in-Some.sink,
+  c.in-Some.ensures.items ∙ ap (λ front. front ++ c.in-Some.sink ∷ []) (sym (ap (λ vec. map (λ worker. worker.sink) vec.items) c.of-given.ensures ∙ c.in-Ok.ensures.sinks)),
+)
