@@ -25,14 +25,15 @@ struct result {
 inline result done(uint64_t answer) { return {step::done, answer}; }
 
 // The right to ask for the outcome of a submission. `name` names the job, too: by it a job is woken. Of a job it has the place where that stands.
+// A ticket that is destroyed lets nothing go: its submission keeps its place of the link until it is redeemed or detached.
 struct ticket {
     fx_name name;
     uint64_t house;
     std::optional<uint32_t> place;
 };
 
-// What became of a submission: as fx_outcome, with the job that comes back.
-template <class Job> struct outcome {
+// What became of a submission: as fx_outcome, with the job that comes back. `answer` is 0 unless `kind` is FX_KIND_DONE.
+template <class Job> struct [[nodiscard]] outcome {
     fx_kind kind;
     uint32_t why, queue;
     uint64_t answer;
@@ -40,7 +41,7 @@ template <class Job> struct outcome {
 };
 
 // What a submission came to: a ticket if the code is FX_OK, else the job, if it was one.
-template <class Job> struct submitted {
+template <class Job> struct [[nodiscard]] submitted {
     fx_code code;
     std::optional<fairexec::linked::ticket> ticket;
     std::optional<Job> refused;
@@ -51,7 +52,7 @@ template <class Job> struct submitted {
 // that was redeemed hands it back.
 template <class Job> class lanes {
     struct bell {
-        std::atomic<bool> sleeps{false};
+        std::atomic<bool> sleeps{false}, has_left{false};
         std::mutex lock;
         std::condition_variable rings;
         bool rung = false;
@@ -94,6 +95,9 @@ public:
         it.rung = true;
         it.rings.notify_one();
     }
+    // Whether the `run` of this core has returned, and wasn't called again.
+    bool has_left(uint32_t core) const { return bells[core].has_left.load(); }
+    void set_left(uint32_t core, bool left) { bells[core].has_left.store(left); }
     void set_asleep(uint32_t actor, bool sleeps) { bells[actor].sleeps.store(sleeps); }
     // No clause says that a link shows at once what the other end did, so a sleeper looks again after 10 ms.
     void wait(uint32_t actor) {
@@ -110,8 +114,10 @@ template <class Job> class actor {
     struct waiting {
         ticket of;
         fx_name job;
-        bool is_woken;
-        std::optional<std::pair<fx_code, std::optional<outcome<Job>>>> told;
+        bool is_woken = false, has_come = false;
+        fx_code code = FX_PENDING;
+        std::optional<outcome<Job>> told;
+        waiting(const ticket &of, const fx_name &job) : of(of), job(job) {}
     };
     // Of the submissions to one core: the places where no job of this actor stands, from that which is vacant longest, and how many outcomes weren't
     // collected.
@@ -140,22 +146,25 @@ template <class Job> class actor {
             else loose[each] = loose.back(), loose.pop_back();
         }
         for (auto &each : waits) {
-            if (each.told) continue;
-            auto told = redeem(each.of);
-            again = again || told.first == FX_JOURNAL_FULL;
-            if (told.first != FX_PENDING && told.first != FX_JOURNAL_FULL) each.told.emplace(std::move(told));
+            if (each.has_come) continue;
+            auto [code, told] = redeem(each.of);
+            again = again || code == FX_JOURNAL_FULL;
+            if (code == FX_PENDING || code == FX_JOURNAL_FULL) continue;
+            each.has_come = true;
+            each.code = code;
+            if (told) each.told.emplace(std::move(*told));
         }
         are_new = again;
     }
     // Wakes the jobs whose outcomes have come. A wake that the link doesn't take waits for the next time.
     void wake_waiting() {
         for (auto &each : waits) {
-            if (!each.told || each.is_woken) continue;
+            if (!each.has_come || each.is_woken) continue;
             auto sent = wake(each.job);
             each.is_woken = sent.code == FX_OK;
             if (!sent.ticket) continue;
             try {
-                detach(*sent.ticket);
+                (void)detach(*sent.ticket);
             } catch (...) {
                 loose.push_back(*sent.ticket);
                 throw;
@@ -224,7 +233,7 @@ public:
 
     uint32_t number() const noexcept { return own; }
 
-    [[nodiscard]] submitted<Job> submit(uint32_t to, uint32_t queue, Job job) {
+    submitted<Job> submit(uint32_t to, uint32_t queue, Job job) {
         if (to >= shared->cores()) return {FX_UNKNOWN_CORE, std::nullopt, std::move(job)};
         auto &vacant = to_core[to].vacant;
         if (vacant.empty()) return {FX_FULL, std::nullopt, std::move(job)};
@@ -265,7 +274,7 @@ public:
     }
 
     // Collects what all links show, and writes how many outcomes there were.
-    fx_code collect(uint64_t &count) {
+    [[nodiscard]] fx_code collect(uint64_t &count) {
         count = 0;
         for (uint32_t core = 0; core < shared->cores(); core++) {
             uint64_t some = 0;
@@ -281,19 +290,20 @@ public:
         return FX_OK;
     }
     // The outcome of a submission wakes this job of the own core, and is kept for it.
-    void wake_with(const ticket &of, const fx_name &job) { waits.push_back(waiting{of, job, false, std::nullopt}); }
-    // What was kept, once it has come, as `redeem` tells it.
-    std::optional<std::pair<fx_code, std::optional<outcome<Job>>>> kept(const ticket &of) {
+    void wake_with(const ticket &of, const fx_name &job) { waits.emplace_back(of, job); }
+    // What was kept: as `redeem` tells it, with the outcome in `told`, and FX_PENDING until it has come.
+    [[nodiscard]] fx_code kept(const ticket &of, std::optional<outcome<Job>> &told) {
         for (auto each = waits.begin(); each != waits.end(); ++each) {
-            if (each->of.name.to != of.name.to || each->of.name.number != of.name.number || !each->told) continue;
-            std::optional<std::pair<fx_code, std::optional<outcome<Job>>>> told(std::move(each->told));
+            if (each->of.name.to != of.name.to || each->of.name.number != of.name.number || !each->has_come) continue;
+            fx_code code = each->code;
+            if (each->told) told.emplace(std::move(*each->told));
             waits.erase(each);
-            return told;
+            return code;
         }
-        return std::nullopt;
+        return FX_PENDING;
     }
     // The outcome of a submission that was collected: FX_OK and the outcome, or why there is none. The ticket of another house is unknown.
-    std::pair<fx_code, std::optional<outcome<Job>>> redeem(const ticket &of) {
+    [[nodiscard]] std::pair<fx_code, std::optional<outcome<Job>>> redeem(const ticket &of) {
         if (of.house != shared->house()) return {FX_UNKNOWN, std::nullopt};
         fx_outcome told{};
         told.size = sizeof told;
@@ -305,18 +315,19 @@ public:
         if (of.place) to_core[of.name.to].vacant.push_back(*of.place);
         return {FX_OK, std::move(is)};
     }
-    // Nobody will ask for the outcome. A job that comes back is destroyed.
-    fx_code detach(const ticket &of) {
-        if (!of.place && of.house == shared->house()) return static_cast<fx_code>(called([&] { return fx_seat_detach(&seat, &of.name); }));
-        fx_code code = redeem(of).first;
-        if (code != FX_PENDING) return code;
+    // Nobody will ask for the outcome. A job that comes back is destroyed. If the journal is too full for the note, `collect` makes it later.
+    [[nodiscard]] fx_code detach(const ticket &of) {
+        bool is_order = !of.place && of.house == shared->house();
+        fx_code code = is_order ? static_cast<fx_code>(called([&] { return fx_seat_detach(&seat, &of.name); })) : redeem(of).first;
+        if (code != FX_PENDING && code != FX_JOURNAL_FULL) return code;
+        are_new = are_new || code == FX_JOURNAL_FULL;
         loose.push_back(of);
         return FX_OK;
     }
 
     // Puts the text of the notes that the journal keeps behind this text: FX_OK, or FX_NO_MEMORY. The journal keeps none of them then, and all its
     // notes are free. All parts of an actor are its notes in the text of the journals. An exception of the string loses none of them.
-    fx_code pass_on(std::string &text) {
+    [[nodiscard]] fx_code pass_on(std::string &text) {
         if (notes.empty()) return put_behind(text);
         fx_code code = put_behind(notes);
         if (code != FX_OK) return code;

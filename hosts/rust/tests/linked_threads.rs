@@ -94,6 +94,29 @@ fn closures_wake_each_other() -> Result<(), Error> {
     Ok(())
 }
 
+#[test]
+fn who_waits_is_told_that_a_core_has_left() -> Result<(), Error> {
+    let (house, mut cores, mut outside) = House::open(&Config { notes: 8, ..config(1, 4) })?;
+    outside.keep_notes_by(|_| {});
+    let tickets = (1..=4u64).map(|job| sent(outside.submit(0, 0, job))).collect::<Result<Vec<_>, _>>()?;
+    let serve = |mut core: Core<u64>| std::thread::spawn(move || (core.run(|job, _| if *job == 4 { panic!("a job's own") } else { Step::Done(2 * *job) }), core));
+    let left = serve(cores.remove(0));
+    assert_eq!(outside.wait_for(&tickets[0])?, Outcome::Done(2));
+    // Nobody runs the last one, since the journal is full.
+    assert_eq!(outside.wait_for(&tickets[3]), Err(Error::Pending));
+    let (told, mut core) = left.join().expect("it returns");
+    assert_eq!(told, Err(Error::JournalFull));
+    // The journal is emptied, and the core runs on until a job panics.
+    core.keep_notes_by(|_| {});
+    let left = serve(core);
+    assert!(left.join().is_err());
+    assert_eq!([outside.wait_for(&tickets[2])?, outside.wait_for(&tickets[3])?], [Outcome::Done(6), Outcome::Done(0)]);
+    let later = sent(outside.submit(0, 0, 5))?;
+    assert_eq!(outside.wait_for(&later), Err(Error::Pending));
+    drop(house);
+    Ok(())
+}
+
 fn serve(cores: Vec<Core<Task>>) -> Vec<JoinHandle<Result<Core<Task>, Error>>> {
     cores.into_iter().map(|mut core| std::thread::spawn(move || core.run_tasks().map(|()| core))).collect()
 }
@@ -208,7 +231,7 @@ fn a_house_runs_on_over_journals_of_few_notes() -> Result<(), Error> {
     for number in 0..200 {
         // Each task asks one of the other core.
         let (ticket, join) = outside.spawn(number % 2, 0, async move { 2 * spawn(1 - number % 2, 0, async move { number }).await.unwrap_or(0) })?;
-        outside.wait_for(&ticket)?;
+        assert!(matches!(outside.wait_for(&ticket)?, Outcome::Done(_)));
         assert_eq!(join.take(), Some(Ok(2 * number)));
     }
     outside.close_all(Mode::Finish)?;
@@ -274,7 +297,7 @@ fn a_thread_that_is_no_core_wakes_tasks() -> Result<(), Error> {
         }
     });
     for (value, (ticket, join)) in (0..).zip(waits) {
-        outside.wait_for(&ticket)?;
+        assert!(matches!(outside.wait_for(&ticket)?, Outcome::Done(_)));
         assert_eq!(join.take(), Some(Ok(value)));
     }
     brings.join().expect("no panic");
@@ -310,7 +333,7 @@ fn tasks_run_on_behind_a_full_journal() -> Result<(), Error> {
             }
             Ok::<_, Cancelled>(sum)
         })?;
-        outside.wait_for(&ticket)?;
+        assert!(matches!(outside.wait_for(&ticket)?, Outcome::Done(_)));
         assert_eq!(join.take(), Some(Ok(Ok(15))));
     }
     outside.close_all(Mode::Finish)?;

@@ -175,6 +175,13 @@ impl Core<Task> {
     ///
     /// `BadNumber` if links have a single place, since tasks and their wakes share that from a core to itself; `JournalFull`, `Spent`.
     pub fn run_tasks(&mut self) -> Result<(), Error> {
+        self.runs.set(true);
+        let told = self.rounds_of_tasks();
+        self.runs.set(false);
+        told
+    }
+
+    fn rounds_of_tasks(&mut self) -> Result<(), Error> {
         if self.actor.lanes.places() < 2 {
             return Err(Error::BadNumber);
         }
@@ -253,7 +260,7 @@ impl Outside<Task> {
     ///
     /// # Errors
     ///
-    /// As `submit`.
+    /// As `submit`, and the future is dropped. [`Task::new`] and `submit` in place of this call give the task back.
     pub fn spawn<T: Send + 'static>(&mut self, core: u32, queue: u32, future: impl Future<Output = T> + Send + 'static) -> Result<(Ticket, Join<T>), Error> {
         let (task, join) = Task::new(future);
         let ticket = self.submit(core, queue, task).map_err(|(error, _)| error)?;
