@@ -428,7 +428,8 @@ uint32_t fx_seat_collect(fx_seat *seat, uint32_t core, uint64_t *count) FX_NOT_N
 
 /*
  * Submits a job to a queue of a core, this one or another, and writes its name. The host may do so while it runs a job of its core.
- * What the core makes of it the outcome tells: also that it has no such queue.
+ * What the core makes of it the outcome tells: also that it has no such queue. The submission has a place of the link until its outcome was
+ * collected, and was redeemed or detached.
  * FX_EMPTY; FX_NO_QUEUE: above 255; FX_UNKNOWN_CORE; FX_JOURNAL_FULL; FX_CLOSED; FX_FULL; FX_SPENT; FX_OK.
  */
 uint32_t fx_seat_submit(fx_seat *seat, uint32_t to, uint32_t queue, uint64_t job, fx_name *name) FX_NOT_NULL;
