@@ -6,6 +6,7 @@
 #include <algorithm>
 #include <atomic>
 #include <condition_variable>
+#include <cstdint>
 #include <deque>
 #include <functional>
 #include <list>
@@ -47,12 +48,37 @@ template <class Job> struct [[nodiscard]] submitted {
     std::optional<Job> refused;
 };
 
+// The thread that runs a core: 0 before the first one does, and 1 once it has ended.
+using runner = std::atomic<std::uintptr_t>;
+
+// What a thread does at its end: it tells the cores that no other thread has run since.
+class ending {
+    std::vector<std::weak_ptr<runner>> ran;
+    std::uintptr_t own() const noexcept { return reinterpret_cast<std::uintptr_t>(this); }
+
+public:
+    void run(const std::shared_ptr<runner> &core) {
+        if (core->load() == own()) return;
+        ran.erase(std::remove_if(ran.begin(), ran.end(), [](auto &each) { return each.expired(); }), ran.end());
+        ran.push_back(core);
+        core->store(own());
+    }
+    ~ending() {
+        for (auto &each : ran) {
+            std::uintptr_t of = own();
+            if (auto core = each.lock()) core->compare_exchange_strong(of, 1);
+        }
+    }
+};
+inline thread_local ending ends_thread;
+
 // Where the jobs stand, from each actor to each core, and the bells of the actors. A place goes with its job, without a lock. First the sender alone
 // has it. An order that was accepted hands it to the core, which has it from each run that the library tells until it settles that run. An outcome
 // that was redeemed hands it back.
 template <class Job> class lanes {
     struct bell {
-        std::atomic<bool> sleeps{false}, has_left{false};
+        std::atomic<bool> sleeps{false};
+        std::shared_ptr<runner> runs = std::make_shared<runner>(0);
         std::mutex lock;
         std::condition_variable rings;
         bool rung = false;
@@ -95,9 +121,9 @@ public:
         it.rung = true;
         it.rings.notify_one();
     }
-    // Whether the `run` of this core has returned, and wasn't called again.
-    bool has_left(uint32_t core) const { return bells[core].has_left.load(); }
-    void set_left(uint32_t core, bool left) { bells[core].has_left.store(left); }
+    // This thread runs the core from now on. Whether the thread that ran it last has ended.
+    void run(uint32_t core) { ends_thread.run(bells[core].runs); }
+    bool is_left(uint32_t core) const { return bells[core].runs->load() == 1; }
     void set_asleep(uint32_t actor, bool sleeps) { bells[actor].sleeps.store(sleeps); }
     // No clause says that a link shows at once what the other end did, so a sleeper looks again after 10 ms.
     void wait(uint32_t actor) {

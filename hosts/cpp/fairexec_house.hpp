@@ -141,16 +141,13 @@ public:
 
     // Rounds until the core is drained: FX_OK, or FX_JOURNAL_FULL or FX_SPENT. Behind these and behind an exception it may be called again.
     template <class Run> [[nodiscard]] fx_code run(Run &&by) {
-        fx_code code = FX_OK;
-        this->shared->set_left(this->own, false);
-        while (code == FX_OK && !is_drained()) {
-            code = round(by);
-            if (code != FX_IDLE) continue;
-            this->sleep();
-            code = FX_OK;
+        this->shared->run(this->own);
+        while (!is_drained()) {
+            fx_code code = round(by);
+            if (code == FX_IDLE) this->sleep();
+            else if (code != FX_OK) return code;
         }
-        this->shared->set_left(this->own, true);
-        return code;
+        return FX_OK;
     }
     // The same for jobs that are callables, with a cx or without.
     static result call(Job &job, cx<Job> &here) {
@@ -185,8 +182,8 @@ template <class Job> class outside : public actor<Job> {
 public:
     using actor<Job>::actor;
 
-    // Waits for the outcome of a submission. It throws `error` if there will be none. With FX_PENDING the `run` of the core has returned, and the
-    // outcome hasn't come: it may still come if `run` is called again.
+    // Waits for the outcome of a submission. It throws `error` if there will be none. With FX_PENDING the outcome hasn't come, and the thread that
+    // called `run` of the core last has ended.
     outcome<Job> wait_for(const ticket &of) {
         for (bool is_last = false;;) {
             uint64_t count = 0;
@@ -195,8 +192,8 @@ public:
             auto [told, is] = this->redeem(of);
             if (told == FX_OK) return std::move(*is);
             if (told != FX_PENDING || is_last) throw error(told);
-            // What the core did before it left is collected once more.
-            is_last = this->shared->has_left(of.name.to);
+            // What the core did before is collected once more.
+            is_last = this->shared->is_left(of.name.to);
             if (!is_last) this->sleep();
         }
     }

@@ -191,7 +191,7 @@ static linked::task odd_part(uint32_t core, unsigned long number) {
 
 static linked::task asks_nobody() {
     try {
-        co_await linked::ask(9, 0, odd_part(0, 1));
+        (void)co_await linked::ask(9, 0, odd_part(0, 1));
     } catch (const fairexec::error &error) {
         co_return error.code();
     }
@@ -335,28 +335,42 @@ static void no_note_is_lost() {
     is("all notes went out once, in their order", of.whole(200), 200);
 }
 
-// A core whose journal is full leaves its `run`, and who waits for it is told.
-static void waits_for_a_core_that_left() {
+// Who waits is told that the thread of a core has ended, and not that it left its `run` and goes on.
+static void waits_for_a_thread_that_ended() {
     linked::house<counted> house({1, 4, 1, 8});
-    house.outside.keep_notes_by([](const std::string &) {});
     auto &core = house.cores[0];
+    auto &outside = house.outside;
+    outside.keep_notes_by([](const std::string &) {});
     fx_code left = FX_OK;
-    std::thread thread([&] { left = core.run(twice); });
+    auto throws = [](counted &job, auto &) {
+        if (job.value == 4) throw std::runtime_error("mine");
+        return linked::done(2 * job.value);
+    };
+    std::thread thread([&] {
+        left = core.run(throws);
+        std::this_thread::sleep_for(std::chrono::milliseconds(30));
+        core.keep_notes_by([](const std::string &) {});
+        try {
+            left = left == FX_JOURNAL_FULL ? core.run(throws) : FX_NULL;
+        } catch (const std::runtime_error &) {
+        }
+    });
     std::vector<linked::ticket> tickets;
-    for (unsigned long number = 1; number <= 4; number++) tickets.push_back(*house.outside.submit(0, 0, counted(number)).ticket);
-    is("what was done before is told", house.outside.wait_for(tickets[0]).answer, 2);
-    is("nobody runs the last", refused([&] { (void)house.outside.wait_for(tickets[3]); }), FX_PENDING);
+    for (unsigned long number = 1; number <= 4; number++) tickets.push_back(*outside.submit(0, 0, counted(number)).ticket);
+    is("what was done before is told", outside.wait_for(tickets[0]).answer, 2);
+    is("so is what comes behind a full journal", outside.wait_for(tickets[2]).answer, 6);
+    is("and what an exception ended", outside.wait_for(tickets[3]).kind, FX_KIND_DONE);
+    tickets.push_back(*outside.submit(0, 0, counted(5)).ticket);
+    is("nobody runs the last", refused([&] { (void)outside.wait_for(tickets[4]); }), FX_PENDING);
     thread.join();
-    is("since the journal is full", left, FX_JOURNAL_FULL);
-    core.keep_notes_by([](const std::string &) {});
+    is("the journal was full", left, FX_JOURNAL_FULL);
     std::thread again([&] { left = core.run(twice); });
-    is("a detached one lets its place go", house.outside.detach(tickets[1]), FX_OK);
-    // The thread may not have begun yet.
-    while (refused([&] { is("it runs again", house.outside.wait_for(tickets[3]).answer, 8); }) == FX_PENDING) std::this_thread::yield();
-    is("the core closes with a place", refused([&] { house.outside.close_all(mode::finish); }), FX_OK);
+    // That thread may not have begun yet.
+    while (refused([&] { is("it runs again", outside.wait_for(tickets[4]).answer, 10); }) == FX_PENDING) std::this_thread::yield();
+    is("a detached one lets its place go", outside.detach(tickets[1]), FX_OK);
+    is("the core closes with a place", refused([&] { outside.close_all(mode::finish); }), FX_OK);
     again.join();
     is("and drains", left, FX_OK);
-    is("a ticket may be asked later", house.outside.wait_for(tickets[2]).answer, 6);
 }
 
 // A note for which the journal has no room is made later.
@@ -380,7 +394,7 @@ static void detaches_later() {
 }
 
 int main() {
-    waits_for_a_core_that_left();
+    waits_for_a_thread_that_ended();
     detaches_later();
     one_core();
     what_comes_back();

@@ -38,7 +38,7 @@ pub enum Error {
     Unknown,
     /// The submission was redeemed or detached before.
     Gone,
-    /// Its outcome wasn't collected yet. Of `wait_for`: nobody runs the core any more.
+    /// Its outcome wasn't collected yet. Of `wait_for`: the core was dropped.
     Pending,
     /// The core isn't closed.
     Open,

@@ -95,25 +95,20 @@ fn closures_wake_each_other() -> Result<(), Error> {
 }
 
 #[test]
-fn who_waits_is_told_that_a_core_has_left() -> Result<(), Error> {
-    let (house, mut cores, mut outside) = House::open(&Config { notes: 8, ..config(1, 4) })?;
-    outside.keep_notes_by(|_| {});
-    let tickets = (1..=4u64).map(|job| sent(outside.submit(0, 0, job))).collect::<Result<Vec<_>, _>>()?;
-    let serve = |mut core: Core<u64>| std::thread::spawn(move || (core.run(|job, _| if *job == 4 { panic!("a job's own") } else { Step::Done(2 * *job) }), core));
-    let left = serve(cores.remove(0));
-    assert_eq!(outside.wait_for(&tickets[0])?, Outcome::Done(2));
-    // Nobody runs the last one, since the journal is full.
-    assert_eq!(outside.wait_for(&tickets[3]), Err(Error::Pending));
-    let (told, mut core) = left.join().expect("it returns");
-    assert_eq!(told, Err(Error::JournalFull));
-    // The journal is emptied, and the core runs on until a job panics.
-    core.keep_notes_by(|_| {});
-    let left = serve(core);
-    assert!(left.join().is_err());
-    assert_eq!([outside.wait_for(&tickets[2])?, outside.wait_for(&tickets[3])?], [Outcome::Done(6), Outcome::Done(0)]);
-    let later = sent(outside.submit(0, 0, 5))?;
-    assert_eq!(outside.wait_for(&later), Err(Error::Pending));
-    drop(house);
+fn who_waits_is_told_that_a_core_was_dropped() -> Result<(), Error> {
+    // An error of a full journal ends the thread of a core, or a panic of a job does.
+    for (notes, panics, answers) in [(8, 0, 1), (1 << 12, 3, 3)] {
+        let (_house, mut cores, mut outside) = House::open(&Config { notes, ..config(1, 4) })?;
+        outside.keep_notes_by(|_| {});
+        let mut core = cores.remove(0);
+        let thread = std::thread::spawn(move || core.run(|job, _| if *job == panics { panic!("a job's own") } else { Step::Done(2 * *job) }).map(|()| core));
+        let tickets = (1..=4u64).map(|job| sent(outside.submit(0, 0, job))).collect::<Result<Vec<_>, _>>()?;
+        for (job, ticket) in (1..).zip(&tickets[..answers]) {
+            assert_eq!(outside.wait_for(ticket)?, Outcome::Done(if job == panics { 0 } else { 2 * job }));
+        }
+        assert_eq!(outside.wait_for(&tickets[3]), Err(Error::Pending));
+        assert_eq!(thread.join().map(|told| told.err()).ok(), if panics == 0 { Some(Some(Error::JournalFull)) } else { None });
+    }
     Ok(())
 }
 

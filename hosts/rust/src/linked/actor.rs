@@ -319,8 +319,7 @@ impl<J> Outside<J> {
     ///
     /// # Errors
     ///
-    /// `JournalFull`, `Unknown`, `Gone`. `Pending` if the core was dropped, or its `run` has returned, before the outcome came: it may still come
-    /// if `run` is called again.
+    /// `JournalFull`, `Unknown`, `Gone`. `Pending` if the core was dropped before the outcome came.
     pub fn wait_for(&mut self, ticket: &Ticket) -> Result<Outcome<J>, Error> {
         let mut actor = self.actor.enter();
         let mut is_last = false;
@@ -328,7 +327,7 @@ impl<J> Outside<J> {
             actor.collect()?;
             match actor.redeem(ticket) {
                 Err(Error::Pending) if !is_last => {
-                    // What the core did before it left is collected once more.
+                    // What the core did before is collected once more.
                     is_last = actor.lanes.has_left(ticket.name.to);
                     if !is_last {
                         actor.sleep();

@@ -34,21 +34,15 @@ pub enum Turn {
     Idle,
 }
 
-/// Tells who waits for jobs of a core whether it runs. A core that is dropped, as by a panic that ends its thread, runs no more.
-pub(super) struct Runs {
+/// Tells who waits for jobs of a core that it was dropped, as by an error or a panic that ends its thread.
+struct Leaving {
     bells: Arc<[Bell]>,
     core: u32,
 }
 
-impl Runs {
-    pub(super) fn set(&self, runs: bool) {
-        self.bells[self.core as usize].set_left(!runs);
-    }
-}
-
-impl Drop for Runs {
+impl Drop for Leaving {
     fn drop(&mut self) {
-        self.set(false);
+        self.bells[self.core as usize].leave();
     }
 }
 
@@ -65,8 +59,8 @@ pub struct Core<J> {
     may_be_closed: bool,
     // Of each core what tasks of this one spawned there and isn't submitted yet, with its queue.
     pub(super) spawned: Vec<VecDeque<(u32, J)>>,
-    // The seat is freed before this says so.
-    pub(super) runs: Runs,
+    // It stands behind the actor, whose seat is freed before.
+    _leaving: Leaving,
 }
 
 /// What a job may do while it runs. It stays on the thread of its core.
@@ -212,8 +206,8 @@ impl<J> Core<J> {
 
     pub(super) fn new(actor: Actor<J>) -> Core<J> {
         let spawned = (0..actor.lanes.cores()).map(|_| VecDeque::new()).collect();
-        let runs = Runs { bells: Arc::clone(actor.lanes.bells()), core: actor.number };
-        Core { actor, clock: wall_clock, may_be_closed: true, spawned, runs }
+        let leaving = Leaving { bells: Arc::clone(actor.lanes.bells()), core: actor.number };
+        Core { actor, clock: wall_clock, may_be_closed: true, spawned, _leaving: leaving }
     }
 
     /// Runs are measured by this clock from now on. At first it is the wall's time.
@@ -307,17 +301,7 @@ impl<J> Core<J> {
     /// # Errors
     ///
     /// `JournalFull`, `Spent`.
-    pub fn run<R>(&mut self, run: R) -> Result<(), Error>
-    where
-        R: FnMut(&mut J, &mut Cx<'_, J>) -> Step,
-    {
-        self.runs.set(true);
-        let told = self.rounds(run);
-        self.runs.set(false);
-        told
-    }
-
-    fn rounds<R>(&mut self, mut run: R) -> Result<(), Error>
+    pub fn run<R>(&mut self, mut run: R) -> Result<(), Error>
     where
         R: FnMut(&mut J, &mut Cx<'_, J>) -> Step,
     {

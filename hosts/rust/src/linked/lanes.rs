@@ -21,7 +21,7 @@ struct Place<J>(UnsafeCell<Option<J>>);
 #[derive(Default)]
 pub(super) struct Bell {
     sleeps: AtomicBool,
-    // Whether this core was dropped, or its `run` has returned and wasn't called again.
+    // Whether this core was dropped.
     has_left: AtomicBool,
     rung: Mutex<bool>,
     rings: Condvar,
@@ -38,9 +38,9 @@ impl Bell {
         }
     }
 
-    /// Tells whether somebody runs the core.
-    pub(super) fn set_left(&self, left: bool) {
-        self.has_left.store(left, Ordering::SeqCst);
+    /// Tells that the core was dropped.
+    pub(super) fn leave(&self) {
+        self.has_left.store(true, Ordering::SeqCst);
     }
 
     /// Tells the core that the waker of this task was called.
@@ -126,7 +126,7 @@ impl<J> Lanes<J> {
         self.bells[actor as usize].ring();
     }
 
-    /// Whether nobody runs this core any more.
+    /// Whether this core was dropped: nobody runs its jobs any more.
     pub(super) fn has_left(&self, core: u32) -> bool {
         self.bells[core as usize].has_left.load(Ordering::SeqCst)
     }

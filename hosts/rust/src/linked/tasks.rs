@@ -175,13 +175,6 @@ impl Core<Task> {
     ///
     /// `BadNumber` if links have a single place, since tasks and their wakes share that from a core to itself; `JournalFull`, `Spent`.
     pub fn run_tasks(&mut self) -> Result<(), Error> {
-        self.runs.set(true);
-        let told = self.rounds_of_tasks();
-        self.runs.set(false);
-        told
-    }
-
-    fn rounds_of_tasks(&mut self) -> Result<(), Error> {
         if self.actor.lanes.places() < 2 {
             return Err(Error::BadNumber);
         }
