@@ -78,7 +78,7 @@ enum fx_code {
     FX_RESUME = 2,      /* fx_next: run the job again */
     FX_DONE = 3,        /* fx_settle: the job is done, and the library forgot it */
     FX_BACK = 4,        /* fx_next: the job goes back to the host, unrun or unfinished, since its queue or its core hands back */
-    FX_IDLE = 5,        /* fx_next: no queue has work */
+    FX_IDLE = 5,        /* fx_next: no queue has work. fx_seat_deliver, fx_seat_shows: no link shows anything */
     FX_SPENT = 6,       /* the core made 2^64 - 1 turns, or was handed 2^64 - 1 jobs, new shares and wakes: it takes no more of that.
                            Of a link: 2^63 - 1 orders were accepted */
     FX_BUSY = 7,        /* the host runs a job of this core, and settles it first */
@@ -90,7 +90,7 @@ enum fx_code {
     FX_NO_QUEUE = 13,   /* the core has no queue of that number */
     FX_CLOSED = 14,     /* the queue or the core is closed, or was closed before. Of a link: its gate is shut */
     FX_TOO_MANY = 15,   /* the core has 256 queues */
-    FX_BAD_NUMBER = 16, /* jobs, a step, a mode or a size out of its range */
+    FX_BAD_NUMBER = 16, /* jobs, a step, a mode, a number of a config or a size field is out of its range */
     FX_OCCUPIED = 17,   /* the handle has a core already */
     FX_PARKED = 18,     /* fx_settle: the job is parked, and runs again after fx_wake alone */
     FX_ABSENT = 19,     /* fx_wake: no job of that number is inside. fx_house_take: all seats were taken */
@@ -428,7 +428,8 @@ uint32_t fx_seat_collect(fx_seat *seat, uint32_t core, uint64_t *count) FX_NOT_N
 
 /*
  * Submits a job to a queue of a core, this one or another, and writes its name. The host may do so while it runs a job of its core.
- * What the core makes of it the outcome tells: also that it has no such queue.
+ * What the core makes of it the outcome tells: also that it has no such queue. The submission has a place of the link until its outcome was
+ * collected, and was redeemed or detached.
  * FX_EMPTY; FX_NO_QUEUE: above 255; FX_UNKNOWN_CORE; FX_JOURNAL_FULL; FX_CLOSED; FX_FULL; FX_SPENT; FX_OK.
  */
 uint32_t fx_seat_submit(fx_seat *seat, uint32_t to, uint32_t queue, uint64_t job, fx_name *name) FX_NOT_NULL;
@@ -513,27 +514,27 @@ static inline const char *fx_text(uint32_t code) {
     case FX_RESUME: return "run the job again";
     case FX_DONE: return "the job is done";
     case FX_BACK: return "the job goes back to the host";
-    case FX_IDLE: return "no queue has work";
+    case FX_IDLE: return "there is nothing to do";
     case FX_SPENT: return "the core did as much as it may";
     case FX_BUSY: return "the host runs a job of this core";
     case FX_NO_JOB: return "the host runs no job of this core";
-    case FX_FULL: return "the core is full";
+    case FX_FULL: return "no place is free in the core or on the link";
     case FX_NO_MEMORY: return "there is no memory";
     case FX_BAD_SHARES: return "shares are 1 to 10000";
-    case FX_EMPTY: return "the handle has no core";
+    case FX_EMPTY: return "the handle is empty, or is no core";
     case FX_NO_QUEUE: return "the core has no queue of that number";
     case FX_CLOSED: return "the queue or the core is closed";
     case FX_TOO_MANY: return "the core has 256 queues";
-    case FX_BAD_NUMBER: return "a number is out of its range";
+    case FX_BAD_NUMBER: return "a number or a size field is out of its range";
     case FX_OCCUPIED: return "the handle has a core already";
     case FX_PARKED: return "the job is parked";
-    case FX_ABSENT: return "no job of that number is inside";
+    case FX_ABSENT: return "no such job is inside, or no seat is left";
     case FX_JOURNAL_FULL: return "the journal has too few notes free";
     case FX_UNKNOWN_CORE: return "the house has no core of that number";
-    case FX_NO_ACTOR: return "the house has no actor of that number";
+    case FX_NO_ACTOR: return "the house has no actor of that number, or another one is next";
     case FX_UNKNOWN: return "no such submission";
     case FX_GONE: return "redeemed or detached before";
-    case FX_PENDING: return "not there yet";
+    case FX_PENDING: return "an outcome or a journal isn't there yet";
     case FX_OPEN: return "the core isn't closed";
     case FX_SHUT: return "the gate was shut before";
     case FX_NOT_DRAINED: return "the core isn't drained";

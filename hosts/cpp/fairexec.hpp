@@ -17,6 +17,7 @@
 #include <new>
 #include <optional>
 #include <stdexcept>
+#include <string>
 #include <type_traits>
 #include <utility>
 #include <vector>
@@ -33,12 +34,13 @@ enum class step : uint32_t { yield = FX_STEP_YIELD, done = FX_STEP_DONE, park = 
 // How a queue or a core closes: its jobs run on, or each goes back.
 enum class mode : uint32_t { finish = FX_MODE_FINISH, give_back = FX_MODE_RETURN };
 
-// A call that was refused.
+// A call that was refused. `what` tells the code in words, behind the number that is out of its range if one is.
 class error : public std::runtime_error {
     fx_code code_;
 
 public:
     explicit error(uint32_t code) : std::runtime_error(fx_text(code)), code_(static_cast<fx_code>(code)) {}
+    error(uint32_t code, const std::string &of) : std::runtime_error(of + ": " + fx_text(code)), code_(static_cast<fx_code>(code)) {}
     fx_code code() const noexcept { return code_; }
 };
 
@@ -55,7 +57,9 @@ public:
     // Room for this many jobs, 1 to 131070.
     explicit core(uint32_t jobs) {
         if (fx_version() != FX_VERSION) throw std::runtime_error("libfairexec.a has another version than fairexec.h");
-        check(fx_open(&handle, jobs));
+        uint32_t code = fx_open(&handle, jobs);
+        if (code == FX_BAD_NUMBER) throw error(code, "jobs = " + std::to_string(jobs));
+        check(code);
     }
     core(core &&other) noexcept { std::swap(handle, other.handle); }
     core &operator=(core &&other) noexcept {
@@ -90,11 +94,11 @@ public:
     // These answer the codes of fairexec.h.
     [[nodiscard]] fx_code submit(uint32_t queue, uint64_t job) noexcept { return static_cast<fx_code>(fx_submit(&handle, queue, job)); }
     [[nodiscard]] fx_code submit(uint32_t queue, uint64_t job, uint64_t &order) noexcept { return static_cast<fx_code>(fx_submit_numbered(&handle, queue, job, &order)); }
-    fx_code wake(uint64_t order) noexcept { return static_cast<fx_code>(fx_wake(&handle, order)); }
+    [[nodiscard]] fx_code wake(uint64_t order) noexcept { return static_cast<fx_code>(fx_wake(&handle, order)); }
     [[nodiscard]] fx_code next(uint64_t &job) noexcept { return static_cast<fx_code>(fx_next(&handle, &job)); }
-    fx_code settle(step step, uint64_t spent) noexcept { return static_cast<fx_code>(fx_settle(&handle, static_cast<uint32_t>(step), spent)); }
-    fx_code close_queue(uint32_t queue, mode mode) noexcept { return static_cast<fx_code>(fx_close_queue(&handle, queue, static_cast<uint32_t>(mode))); }
-    fx_code close(mode mode) noexcept { return static_cast<fx_code>(fx_close(&handle, static_cast<uint32_t>(mode))); }
+    [[nodiscard]] fx_code settle(step step, uint64_t spent) noexcept { return static_cast<fx_code>(fx_settle(&handle, static_cast<uint32_t>(step), spent)); }
+    [[nodiscard]] fx_code close_queue(uint32_t queue, mode mode) noexcept { return static_cast<fx_code>(fx_close_queue(&handle, queue, static_cast<uint32_t>(mode))); }
+    [[nodiscard]] fx_code close(mode mode) noexcept { return static_cast<fx_code>(fx_close(&handle, static_cast<uint32_t>(mode))); }
 };
 
 // A core that keeps its jobs. `Clock` is what their runs are measured by.
@@ -135,7 +139,7 @@ template <class Job, class Clock = std::chrono::steady_clock> class house {
 public:
     // What a turn came to: FX_OK (the job yielded, or parked and stays), FX_PARKED, FX_DONE, FX_IDLE, FX_SPENT, FX_BUSY, or FX_BACK, with
     // the job that came back.
-    struct turn {
+    struct [[nodiscard]] turn {
         fx_code code;
         std::optional<Job> back;
     };
@@ -151,8 +155,8 @@ public:
     void set_shares(uint32_t queue, uint32_t shares) { inner.set_shares(queue, shares); }
     fx_core_stats stats() { return inner.stats(); }
     fx_queue_stats stats_of(uint32_t queue) { return inner.stats_of(queue); }
-    fx_code close_queue(uint32_t queue, mode mode) noexcept { return inner.close_queue(queue, mode); }
-    fx_code close(mode mode) noexcept { return inner.close(mode); }
+    [[nodiscard]] fx_code close_queue(uint32_t queue, mode mode) noexcept { return inner.close_queue(queue, mode); }
+    [[nodiscard]] fx_code close(mode mode) noexcept { return inner.close(mode); }
 
     // Takes the job if it answers FX_OK, and leaves it as it was if it answers FX_CLOSED, FX_FULL, FX_SPENT or FX_NO_QUEUE. A job that
     // tells that it is empty, as one that was moved from, isn't taken: FX_BAD_NUMBER.
@@ -175,7 +179,7 @@ public:
     }
 
     // Wakes the job of this number: FX_OK, or FX_FULL, FX_SPENT, FX_ABSENT. It looks again for what it waits for.
-    fx_code wake(uint64_t order) noexcept { return inner.wake(order); }
+    [[nodiscard]] fx_code wake(uint64_t order) noexcept { return inner.wake(order); }
 
     // Runs the next job once: `run` is called with the job and the house, and answers a step.
     template <class Run> turn run_turn(Run &&run) {

@@ -6,6 +6,7 @@
 #include <algorithm>
 #include <atomic>
 #include <condition_variable>
+#include <cstdint>
 #include <deque>
 #include <functional>
 #include <list>
@@ -25,14 +26,15 @@ struct result {
 inline result done(uint64_t answer) { return {step::done, answer}; }
 
 // The right to ask for the outcome of a submission. `name` names the job, too: by it a job is woken. Of a job it has the place where that stands.
+// A ticket that is destroyed lets nothing go: its submission keeps its place of the link until it is redeemed or detached.
 struct ticket {
     fx_name name;
     uint64_t house;
     std::optional<uint32_t> place;
 };
 
-// What became of a submission: as fx_outcome, with the job that comes back.
-template <class Job> struct outcome {
+// What became of a submission: as fx_outcome, with the job that comes back. `answer` is 0 unless `kind` is FX_KIND_DONE.
+template <class Job> struct [[nodiscard]] outcome {
     fx_kind kind;
     uint32_t why, queue;
     uint64_t answer;
@@ -40,11 +42,35 @@ template <class Job> struct outcome {
 };
 
 // What a submission came to: a ticket if the code is FX_OK, else the job, if it was one.
-template <class Job> struct submitted {
+template <class Job> struct [[nodiscard]] submitted {
     fx_code code;
     std::optional<fairexec::linked::ticket> ticket;
     std::optional<Job> refused;
 };
+
+// The thread that runs a core: 0 before the first one does, and 1 once it has ended.
+using runner = std::atomic<std::uintptr_t>;
+
+// What a thread does at its end: it tells the cores that no other thread has run since.
+class ending {
+    std::vector<std::weak_ptr<runner>> ran;
+    std::uintptr_t own() const noexcept { return reinterpret_cast<std::uintptr_t>(this); }
+
+public:
+    void run(const std::shared_ptr<runner> &core) {
+        if (core->load() == own()) return;
+        ran.erase(std::remove_if(ran.begin(), ran.end(), [](auto &each) { return each.expired(); }), ran.end());
+        ran.push_back(core);
+        core->store(own());
+    }
+    ~ending() {
+        for (auto &each : ran) {
+            std::uintptr_t of = own();
+            if (auto core = each.lock()) core->compare_exchange_strong(of, 1);
+        }
+    }
+};
+inline thread_local ending ends_thread;
 
 // Where the jobs stand, from each actor to each core, and the bells of the actors. A place goes with its job, without a lock. First the sender alone
 // has it. An order that was accepted hands it to the core, which has it from each run that the library tells until it settles that run. An outcome
@@ -52,6 +78,7 @@ template <class Job> struct submitted {
 template <class Job> class lanes {
     struct bell {
         std::atomic<bool> sleeps{false};
+        std::shared_ptr<runner> runs = std::make_shared<runner>(0);
         std::mutex lock;
         std::condition_variable rings;
         bool rung = false;
@@ -94,6 +121,9 @@ public:
         it.rung = true;
         it.rings.notify_one();
     }
+    // This thread runs the core from now on. Whether the thread that ran it last has ended.
+    void run(uint32_t core) { ends_thread.run(bells[core].runs); }
+    bool is_left(uint32_t core) const { return bells[core].runs->load() == 1; }
     void set_asleep(uint32_t actor, bool sleeps) { bells[actor].sleeps.store(sleeps); }
     // No clause says that a link shows at once what the other end did, so a sleeper looks again after 10 ms.
     void wait(uint32_t actor) {
@@ -110,8 +140,10 @@ template <class Job> class actor {
     struct waiting {
         ticket of;
         fx_name job;
-        bool is_woken;
-        std::optional<std::pair<fx_code, std::optional<outcome<Job>>>> told;
+        bool is_woken = false, has_come = false;
+        fx_code code = FX_PENDING;
+        std::optional<outcome<Job>> told;
+        waiting(const ticket &of, const fx_name &job) : of(of), job(job) {}
     };
     // Of the submissions to one core: the places where no job of this actor stands, from that which is vacant longest, and how many outcomes weren't
     // collected.
@@ -140,22 +172,25 @@ template <class Job> class actor {
             else loose[each] = loose.back(), loose.pop_back();
         }
         for (auto &each : waits) {
-            if (each.told) continue;
-            auto told = redeem(each.of);
-            again = again || told.first == FX_JOURNAL_FULL;
-            if (told.first != FX_PENDING && told.first != FX_JOURNAL_FULL) each.told.emplace(std::move(told));
+            if (each.has_come) continue;
+            auto [code, told] = redeem(each.of);
+            again = again || code == FX_JOURNAL_FULL;
+            if (code == FX_PENDING || code == FX_JOURNAL_FULL) continue;
+            each.has_come = true;
+            each.code = code;
+            if (told) each.told.emplace(std::move(*told));
         }
         are_new = again;
     }
     // Wakes the jobs whose outcomes have come. A wake that the link doesn't take waits for the next time.
     void wake_waiting() {
         for (auto &each : waits) {
-            if (!each.told || each.is_woken) continue;
+            if (!each.has_come || each.is_woken) continue;
             auto sent = wake(each.job);
             each.is_woken = sent.code == FX_OK;
             if (!sent.ticket) continue;
             try {
-                detach(*sent.ticket);
+                (void)detach(*sent.ticket);
             } catch (...) {
                 loose.push_back(*sent.ticket);
                 throw;
@@ -224,7 +259,7 @@ public:
 
     uint32_t number() const noexcept { return own; }
 
-    [[nodiscard]] submitted<Job> submit(uint32_t to, uint32_t queue, Job job) {
+    submitted<Job> submit(uint32_t to, uint32_t queue, Job job) {
         if (to >= shared->cores()) return {FX_UNKNOWN_CORE, std::nullopt, std::move(job)};
         auto &vacant = to_core[to].vacant;
         if (vacant.empty()) return {FX_FULL, std::nullopt, std::move(job)};
@@ -265,7 +300,7 @@ public:
     }
 
     // Collects what all links show, and writes how many outcomes there were.
-    fx_code collect(uint64_t &count) {
+    [[nodiscard]] fx_code collect(uint64_t &count) {
         count = 0;
         for (uint32_t core = 0; core < shared->cores(); core++) {
             uint64_t some = 0;
@@ -281,19 +316,20 @@ public:
         return FX_OK;
     }
     // The outcome of a submission wakes this job of the own core, and is kept for it.
-    void wake_with(const ticket &of, const fx_name &job) { waits.push_back(waiting{of, job, false, std::nullopt}); }
-    // What was kept, once it has come, as `redeem` tells it.
-    std::optional<std::pair<fx_code, std::optional<outcome<Job>>>> kept(const ticket &of) {
+    void wake_with(const ticket &of, const fx_name &job) { waits.emplace_back(of, job); }
+    // What was kept: as `redeem` tells it, with the outcome in `told`, and FX_PENDING until it has come.
+    [[nodiscard]] fx_code kept(const ticket &of, std::optional<outcome<Job>> &told) {
         for (auto each = waits.begin(); each != waits.end(); ++each) {
-            if (each->of.name.to != of.name.to || each->of.name.number != of.name.number || !each->told) continue;
-            std::optional<std::pair<fx_code, std::optional<outcome<Job>>>> told(std::move(each->told));
+            if (each->of.name.to != of.name.to || each->of.name.number != of.name.number || !each->has_come) continue;
+            fx_code code = each->code;
+            if (each->told) told.emplace(std::move(*each->told));
             waits.erase(each);
-            return told;
+            return code;
         }
-        return std::nullopt;
+        return FX_PENDING;
     }
     // The outcome of a submission that was collected: FX_OK and the outcome, or why there is none. The ticket of another house is unknown.
-    std::pair<fx_code, std::optional<outcome<Job>>> redeem(const ticket &of) {
+    [[nodiscard]] std::pair<fx_code, std::optional<outcome<Job>>> redeem(const ticket &of) {
         if (of.house != shared->house()) return {FX_UNKNOWN, std::nullopt};
         fx_outcome told{};
         told.size = sizeof told;
@@ -305,18 +341,19 @@ public:
         if (of.place) to_core[of.name.to].vacant.push_back(*of.place);
         return {FX_OK, std::move(is)};
     }
-    // Nobody will ask for the outcome. A job that comes back is destroyed.
-    fx_code detach(const ticket &of) {
-        if (!of.place && of.house == shared->house()) return static_cast<fx_code>(called([&] { return fx_seat_detach(&seat, &of.name); }));
-        fx_code code = redeem(of).first;
-        if (code != FX_PENDING) return code;
+    // Nobody will ask for the outcome. A job that comes back is destroyed. If the journal is too full for the note, `collect` makes it later.
+    [[nodiscard]] fx_code detach(const ticket &of) {
+        bool is_order = !of.place && of.house == shared->house();
+        fx_code code = is_order ? static_cast<fx_code>(called([&] { return fx_seat_detach(&seat, &of.name); })) : redeem(of).first;
+        if (code != FX_PENDING && code != FX_JOURNAL_FULL) return code;
+        are_new = are_new || code == FX_JOURNAL_FULL;
         loose.push_back(of);
         return FX_OK;
     }
 
     // Puts the text of the notes that the journal keeps behind this text: FX_OK, or FX_NO_MEMORY. The journal keeps none of them then, and all its
     // notes are free. All parts of an actor are its notes in the text of the journals. An exception of the string loses none of them.
-    fx_code pass_on(std::string &text) {
+    [[nodiscard]] fx_code pass_on(std::string &text) {
         if (notes.empty()) return put_behind(text);
         fx_code code = put_behind(notes);
         if (code != FX_OK) return code;

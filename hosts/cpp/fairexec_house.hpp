@@ -1,9 +1,10 @@
 // fairexec_house.hpp: the house of fairexec.h for C++17, header only: cores on threads of their own, with links between them.
 //
 //     fairexec::linked::house<fairexec::linked::job> house({2});
-//     std::thread first([&] { house.cores[0].run(); }), second([&] { house.cores[1].run(); });
-//     auto ticket = house.outside.submit(1, 0, [](fairexec::linked::cx<fairexec::linked::job> &) { return fairexec::linked::done(42); });
-//     ... house.outside.wait_for(*ticket.ticket).answer ...
+//     fx_code codes[2];
+//     std::thread first([&] { codes[0] = house.cores[0].run(); }), second([&] { codes[1] = house.cores[1].run(); });
+//     auto sent = house.outside.submit(1, 0, [](fairexec::linked::cx<fairexec::linked::job> &) { return fairexec::linked::done(42); });
+//     ... if (sent.code == FX_OK) house.outside.wait_for(*sent.ticket) ...
 //
 // With C++20 a job may be a coroutine, `task`. A house keeps what its jobs are: a job moves to the core that it is submitted to, and is destroyed there when it is done. A core is used by one thread at a time, and goes to another as fairexec.h says.
 #ifndef FAIREXEC_HOUSE_HPP
@@ -99,13 +100,13 @@ public:
     using actor<Job>::actor;
 
     // Runs the next job once, by `run`, which is called with the job and a cx: FX_OK, FX_PARKED, FX_DONE, FX_BACK, FX_IDLE, FX_JOURNAL_FULL or FX_SPENT.
-    template <class Run> fx_code run_turn(Run &&run) {
+    template <class Run> [[nodiscard]] fx_code run_turn(Run &&run) {
         times of;
         return run_turn(run, of);
     }
 
     // Delivers an order of each actor, or so many. A closed core shuts the gates: its own once no job is inside, since jobs may have to be woken.
-    fx_code deliver(bool &did, uint32_t of_each = 1) {
+    [[nodiscard]] fx_code deliver(bool &did, uint32_t of_each = 1) {
         for (uint32_t sender = this->shared->cores() + 1; sender-- > 0;) {
             if (sender == this->own && stats().held > 0) continue;
             uint32_t code = this->called([&] { return fx_seat_shut(&this->seat, sender); });
@@ -126,7 +127,7 @@ public:
 
     // One round: it delivers what the links show, runs jobs for 5 us or as long as one run takes, and collects: FX_OK if anything happened, else FX_IDLE,
     // or FX_JOURNAL_FULL or FX_SPENT. If a round has several runs, each is measured from the end of the one before, so the time between them counts too.
-    template <class Run> fx_code round(Run &&run) {
+    template <class Run> [[nodiscard]] fx_code round(Run &&run) {
         bool did = false;
         uint64_t count = 0;
         fx_code code = deliver(did, most);
@@ -138,8 +139,9 @@ public:
         return did || count > 0 ? FX_OK : FX_IDLE;
     }
 
-    // Rounds until the core is drained: FX_OK, or FX_JOURNAL_FULL or FX_SPENT.
-    template <class Run> fx_code run(Run &&by) {
+    // Rounds until the core is drained: FX_OK, or FX_JOURNAL_FULL or FX_SPENT. Behind these and behind an exception it may be called again.
+    template <class Run> [[nodiscard]] fx_code run(Run &&by) {
+        this->shared->run(this->own);
         while (!is_drained()) {
             fx_code code = round(by);
             if (code == FX_IDLE) this->sleep();
@@ -152,10 +154,10 @@ public:
         if constexpr (std::is_invocable_v<Job &, cx<Job> &>) return job(here);
         else return job();
     }
-    fx_code round() { return round(call); }
-    fx_code run() { return run(call); }
+    [[nodiscard]] fx_code round() { return round(call); }
+    [[nodiscard]] fx_code run() { return run(call); }
 
-    fx_code close(mode mode) {
+    [[nodiscard]] fx_code close(mode mode) {
         return static_cast<fx_code>(this->called([&] { return fx_seat_close(&this->seat, static_cast<uint32_t>(mode)); }));
     }
     bool is_drained() noexcept { return fx_seat_drained(&this->seat) == FX_OK; }
@@ -172,7 +174,7 @@ public:
         if (code != FX_OK) throw error(code);
         return stats;
     }
-    fx_code end(fx_house &house) noexcept { return static_cast<fx_code>(fx_house_end(&house, &this->seat)); }
+    [[nodiscard]] fx_code end(fx_house &house) noexcept { return static_cast<fx_code>(fx_house_end(&house, &this->seat)); }
 };
 
 // The outside actor: the part of the host that belongs to no core.
@@ -180,27 +182,31 @@ template <class Job> class outside : public actor<Job> {
 public:
     using actor<Job>::actor;
 
-    // Waits for the outcome of a submission. It throws `error` if there will be none.
+    // Waits for the outcome of a submission. It throws `error` if there will be none. With FX_PENDING the outcome hasn't come, and the thread that
+    // called `run` of the core last has ended.
     outcome<Job> wait_for(const ticket &of) {
-        for (;;) {
+        for (bool is_last = false;;) {
             uint64_t count = 0;
             fx_code code = this->collect(count);
             if (code != FX_OK) throw error(code);
             auto [told, is] = this->redeem(of);
             if (told == FX_OK) return std::move(*is);
-            if (told != FX_PENDING) throw error(told);
-            this->sleep();
+            if (told != FX_PENDING || is_last) throw error(told);
+            // What the core did before is collected once more.
+            is_last = this->shared->is_left(of.name.to);
+            if (!is_last) this->sleep();
         }
     }
-    // Orders each core to close, and waits for none.
+    // Orders each core to close, and waits for none. Each order takes a place of its link: `error` with FX_FULL if none is free.
     void close_all(mode mode) {
         for (uint32_t core = 0; core < this->shared->cores(); core++) {
             auto told = this->close_core(core, mode);
             if (told.code != FX_OK && told.code != FX_CLOSED) throw error(told.code);
-            if (told.ticket) this->detach(*told.ticket);
+            fx_code code = told.ticket ? this->detach(*told.ticket) : FX_OK;
+            if (code != FX_OK) throw error(code);
         }
     }
-    fx_code end(fx_house &house) noexcept { return static_cast<fx_code>(fx_house_end(&house, &this->seat)); }
+    [[nodiscard]] fx_code end(fx_house &house) noexcept { return static_cast<fx_code>(fx_house_end(&house, &this->seat)); }
 };
 
 // A house with all its actors. Each core is used by the thread that it was given to, and the outside actor by one thread.
@@ -223,8 +229,16 @@ template <class Job, class Clock = std::chrono::steady_clock> class house {
         asked.notes = with.notes;
         uint32_t code = fx_house_open(&handle.at, &asked);
         if (code == FX_NO_MEMORY) throw std::bad_alloc();
+        if (code == FX_BAD_NUMBER) throw error(code, wrong(with));
         if (code != FX_OK) throw error(code);
         return std::make_shared<lanes<Job>>(with.cores, with.places);
+    }
+    // The number of the config that is out of its range.
+    static std::string wrong(const config &with) {
+        if (with.cores < 1 || with.cores > 16) return "cores = " + std::to_string(with.cores);
+        if (with.places < 1 || with.places > 1024) return "places = " + std::to_string(with.places);
+        if (with.burst < 1 || with.burst > 64) return "burst = " + std::to_string(with.burst);
+        return "notes = " + std::to_string(with.notes);
     }
 
 public:
@@ -243,7 +257,7 @@ public:
 
     // Ends all actors: FX_OK; or FX_NOT_DRAINED, and none has ended by this call; or FX_NO_MEMORY, and the next call goes on with who is left. No
     // thread uses the actors any more.
-    fx_code end() noexcept {
+    [[nodiscard]] fx_code end() noexcept {
         for (std::size_t each = ended; each < cores.size(); each++)
             if (!cores[each].is_drained()) return FX_NOT_DRAINED;
         for (; ended < cores.size(); ended++) {

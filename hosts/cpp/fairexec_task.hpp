@@ -87,11 +87,10 @@ struct task::promise_type {
             if (waits) here->wake_with(*waits, here.name);
         }
         if (!waits) return true;
-        auto kept = here->kept(*waits);
-        if (!kept) return false;
+        fx_code code = here->kept(*waits, told);
+        if (code == FX_PENDING) return false;
         waits.reset();
-        refused = kept->first;
-        if (kept->second) told.emplace(std::move(*kept->second));
+        refused = code;
         return true;
     }
 };

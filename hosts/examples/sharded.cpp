@@ -151,7 +151,7 @@ class shard {
         if (log.size() <= 2 * index.size() || is_compacting) return;
         auto begun = core.submit(core.number(), compaction, compacting{*this});
         is_compacting = begun.ticket.has_value();
-        if (begun.ticket) core.detach(*begun.ticket);
+        if (begun.ticket) must(core.detach(*begun.ticket) == FX_OK ? 0 : -1, "detach");
     }
 
     // Submits the requests of a connection that have no ticket yet, as far as the links take them.

@@ -117,7 +117,7 @@ class shard {
             from->say(answer(line));
             return step::done;
         });
-        while (house.submit(requests, std::move(work)) == FX_FULL) house.run_turn();
+        while (house.submit(requests, std::move(work)) == FX_FULL && house.run_turn().code != FX_IDLE) {}
     }
 
     // Drops overwritten entries from the log, some at each run.

@@ -47,7 +47,7 @@ SANITIZERS = {"": [], "address,undefined": ["-fsanitize=address,undefined", "-fn
 
 # The thread sanitizer doesn't see the library's links. This tells it what they order.
 WRAPPED = ",".join(f"--wrap=fx_seat_{it}" for it in ("submit", "deliver", "settle", "collect"))
-LINKS = [HOSTS / "tests/links.c", f"-Wl,{WRAPPED}"]
+LINKS = [HOSTS / "c/fairexec_tsan.c", f"-Wl,{WRAPPED}"]
 OF_HOUSE = ("house.c", "sharded.cpp", "wrapper_house.cpp", "house_threads.c")
 
 

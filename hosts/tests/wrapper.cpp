@@ -41,6 +41,13 @@ template <class Call> static fx_code refused(Call &&call) {
 
 static void cores() {
     is("too much room", refused([] { fairexec::core core(131071); }), FX_BAD_NUMBER);
+    std::string told;
+    try {
+        fairexec::core core(131071);
+    } catch (const fairexec::error &error) {
+        told = error.what();
+    }
+    is("and which number it is", told.rfind("jobs = 131071: ", 0), 0);
     fairexec::core first(2);
     fairexec::core second(std::move(first));
     uint64_t job = 0;
@@ -76,7 +83,7 @@ static void houses() {
         for (int each = 0; each < 4; each++) is("a job is taken", house.submit(0, counted(1)), FX_OK);
         is("a job too many", house.submit(0, std::move(kept)), FX_FULL);
         is("five are alive", counted::alive, 5);
-        house.close(fairexec::mode::give_back);
+        is("a house closes", house.close(fairexec::mode::give_back), FX_OK);
         is("a closed house takes none", house.submit(0, std::move(kept)), FX_CLOSED);
         auto back = house.run_turn(run);
         is("a job comes back", back.code == FX_BACK && back.back && back.back->left == 1, 1);

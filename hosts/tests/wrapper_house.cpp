@@ -3,7 +3,9 @@
 #include "fairexec_house.hpp"
 #include <atomic>
 #include <cstdio>
+#include <string>
 #include <thread>
+#include <vector>
 
 namespace linked = fairexec::linked;
 using fairexec::mode;
@@ -31,20 +33,32 @@ struct counted {
 };
 std::atomic<long> counted::alive{0};
 
+// How many cores ran to their ends on threads of their own.
+static std::atomic<unsigned long> ends{0};
+
+static void runs_to_its_end(fx_code code) { ends += code == FX_OK; }
+
 static linked::result twice(counted &job, linked::cx<counted> &) { return linked::done(2 * job.value); }
 
-static fx_code opens(const linked::config &with) {
+template <class Call> static fx_code refused(Call &&call, const char *tells = "") {
     try {
-        linked::house<counted> house(with);
+        call();
     } catch (const fairexec::error &error) {
+        is("an error tells its number", std::string(error.what()).rfind(tells, 0), 0);
         return error.code();
     }
     return FX_OK;
 }
 
+static fx_code opens(const linked::config &with, const char *tells = "") {
+    return refused([&] { linked::house<counted> house(with); }, tells);
+}
+
 static void one_core() {
-    is("no core", opens({0}), FX_BAD_NUMBER);
-    is("too many places", opens({1, 1025}), FX_BAD_NUMBER);
+    is("no core", opens({0}, "cores = 0: "), FX_BAD_NUMBER);
+    is("too many places", opens({1, 1025}, "places = 1025: "), FX_BAD_NUMBER);
+    is("a long burst", opens({1, 1, 65}, "burst = 65: "), FX_BAD_NUMBER);
+    is("too many notes", opens({1, 1, 1, (1u << 24) + 1}, "notes = 16777217: "), FX_BAD_NUMBER);
     is("two cores", opens({2}), FX_OK);
     linked::house<counted> house({1, 4});
     auto &core = house.cores[0];
@@ -85,7 +99,7 @@ static void what_comes_back() {
         auto full = outside.submit(0, 0, counted(5));
         is("a link that is full", full.code == FX_FULL && full.refused && full.refused->value == 5, 1);
         full.refused.reset();
-        for (int each = 0; each < 4; each++) core.deliver(did);
+        for (int each = 0; each < 4; each++) is("each is delivered", core.deliver(did), FX_OK);
         is("the first job yields", core.run_turn([](counted &job, auto &) { return job.value += 10, step::yield; }), FX_OK);
         is("the last is detached", outside.detach(tickets[3]), FX_OK);
         is("the core hands back", core.close(mode::give_back), FX_OK);
@@ -104,9 +118,9 @@ static void exceptions() {
     linked::house<linked::job> house({1, 4});
     bool did = false, thrown = false;
     auto sent = house.outside.submit(0, 0, []() -> step { throw std::runtime_error("mine"); });
-    house.cores[0].deliver(did);
+    is("it is delivered", house.cores[0].deliver(did), FX_OK);
     try {
-        house.cores[0].round();
+        (void)house.cores[0].round();
     } catch (const std::runtime_error &) {
         thrown = true;
     }
@@ -137,7 +151,7 @@ static void two_cores() {
     std::vector<std::thread> threads;
     std::vector<linked::ticket> tickets;
     unsigned long right = 0;
-    for (auto &core : house.cores) threads.emplace_back([&core] { core.run(); });
+    for (auto &core : house.cores) threads.emplace_back([&core] { runs_to_its_end(core.run()); });
     for (unsigned long number = 1; number <= 20; number++) tickets.push_back(*house.outside.submit(number % 2, 0, halving{number, std::nullopt}).ticket);
     for (unsigned long number = 1; number <= 20; number++) {
         unsigned long odd = number;
@@ -177,7 +191,7 @@ static linked::task odd_part(uint32_t core, unsigned long number) {
 
 static linked::task asks_nobody() {
     try {
-        co_await linked::ask(9, 0, odd_part(0, 1));
+        (void)co_await linked::ask(9, 0, odd_part(0, 1));
     } catch (const fairexec::error &error) {
         co_return error.code();
     }
@@ -193,7 +207,7 @@ static void coroutines_that_ask() {
     linked::house<linked::task> house({2, 8});
     std::vector<std::thread> threads;
     unsigned long right = 0;
-    for (auto &core : house.cores) threads.emplace_back([&core] { core.run(); });
+    for (auto &core : house.cores) threads.emplace_back([&core] { runs_to_its_end(core.run()); });
     for (unsigned long number = 1; number <= 40; number++) {
         auto sent = house.outside.submit(number % 2, 0, odd_part(number % 2, number));
         unsigned long odd = number;
@@ -211,9 +225,9 @@ static void coroutines_that_ask() {
     linked::house<linked::task> other({1, 2});
     bool thrown = false, did = false;
     auto sent = other.outside.submit(0, 0, throws());
-    other.cores[0].deliver(did);
+    is("it is delivered", other.cores[0].deliver(did), FX_OK);
     try {
-        for (int each = 0; each < 2; each++) other.cores[0].round();
+        for (int each = 0; each < 2; each++) is("a round before it", other.cores[0].round(), FX_OK);
     } catch (const std::runtime_error &) {
         thrown = true;
     }
@@ -229,7 +243,7 @@ static void notes_go_on() {
     house.outside.keep_notes_by([&parts](const std::string &text) { parts[2] += text; });
     std::vector<std::thread> threads;
     unsigned long right = 0;
-    for (auto &core : house.cores) threads.emplace_back([&core] { core.run(twice); });
+    for (auto &core : house.cores) threads.emplace_back([&core] { runs_to_its_end(core.run(twice)); });
     for (unsigned long number = 0; number < 500; number++) {
         auto sent = house.outside.submit(number % 2, 0, counted(number));
         right += sent.ticket && house.outside.wait_for(*sent.ticket).answer == 2 * number;
@@ -312,7 +326,7 @@ static void no_note_is_lost() {
     for (unsigned long number = 0; number < 200; number++) {
         auto sent = of.again([&] { return outside.submit(0, 0, counted(number)); });
         is("a submission that was left was not made", counted::alive.load(), 1);
-        of.again([&] { return of.house.cores[0].round(twice); });
+        (void)of.again([&] { return of.house.cores[0].round(twice); });
         right += of.again([&] { return outside.wait_for(*sent.ticket).answer; }) == 2 * number;
     }
     is("all answers are right", right, 200);
@@ -321,7 +335,67 @@ static void no_note_is_lost() {
     is("all notes went out once, in their order", of.whole(200), 200);
 }
 
+// Who waits is told that the thread of a core has ended, and not that it left its `run` and goes on.
+static void waits_for_a_thread_that_ended() {
+    linked::house<counted> house({1, 4, 1, 8});
+    auto &core = house.cores[0];
+    auto &outside = house.outside;
+    outside.keep_notes_by([](const std::string &) {});
+    fx_code left = FX_OK;
+    auto throws = [](counted &job, auto &) {
+        if (job.value == 4) throw std::runtime_error("mine");
+        return linked::done(2 * job.value);
+    };
+    std::thread thread([&] {
+        left = core.run(throws);
+        std::this_thread::sleep_for(std::chrono::milliseconds(30));
+        core.keep_notes_by([](const std::string &) {});
+        try {
+            left = left == FX_JOURNAL_FULL ? core.run(throws) : FX_NULL;
+        } catch (const std::runtime_error &) {
+        }
+    });
+    std::vector<linked::ticket> tickets;
+    for (unsigned long number = 1; number <= 4; number++) tickets.push_back(*outside.submit(0, 0, counted(number)).ticket);
+    is("what was done before is told", outside.wait_for(tickets[0]).answer, 2);
+    is("so is what comes behind a full journal", outside.wait_for(tickets[2]).answer, 6);
+    is("and what an exception ended", outside.wait_for(tickets[3]).kind, FX_KIND_DONE);
+    tickets.push_back(*outside.submit(0, 0, counted(5)).ticket);
+    is("nobody runs the last", refused([&] { (void)outside.wait_for(tickets[4]); }), FX_PENDING);
+    thread.join();
+    is("the journal was full", left, FX_JOURNAL_FULL);
+    std::thread again([&] { left = core.run(twice); });
+    // That thread may not have begun yet.
+    while (refused([&] { is("it runs again", outside.wait_for(tickets[4]).answer, 10); }) == FX_PENDING) std::this_thread::yield();
+    is("a detached one lets its place go", outside.detach(tickets[1]), FX_OK);
+    is("the core closes with a place", refused([&] { outside.close_all(mode::finish); }), FX_OK);
+    again.join();
+    is("and drains", left, FX_OK);
+}
+
+// A note for which the journal has no room is made later.
+static void detaches_later() {
+    linked::house<counted> house({1, 2, 1, 4});
+    auto &core = house.cores[0];
+    auto &outside = house.outside;
+    std::string text;
+    uint64_t count = 0;
+    core.keep_notes_by([](const std::string &) {});
+    for (int each = 0; each < 10; each++) {
+        auto first = outside.set_shares(0, 0, 900), second = outside.set_shares(0, 0, 800);
+        is("both places are free", first.code == FX_OK && second.code == FX_OK, 1);
+        while (core.round(twice) == FX_OK) {}
+        is("both are collected", outside.collect(count) == FX_OK && count == 2, 1);
+        is("the first is let go", outside.detach(*first.ticket), FX_OK);
+        is("so is the second", outside.detach(*second.ticket), FX_OK);
+        is("the notes go out", outside.pass_on(text), FX_OK);
+        is("and those of both come behind", outside.collect(count) == FX_OK && outside.pass_on(text) == FX_OK, 1);
+    }
+}
+
 int main() {
+    waits_for_a_thread_that_ended();
+    detaches_later();
     one_core();
     what_comes_back();
     notes_go_on();
@@ -331,6 +405,9 @@ int main() {
 #if defined(__cpp_impl_coroutine)
     coroutines();
     coroutines_that_ask();
+    is("each core on a thread ran to its end", ends.load(), 6);
+#else
+    is("each core on a thread ran to its end", ends.load(), 4);
 #endif
     std::printf("%u passed, %u failed\n", passed, failed);
     return failed != 0;

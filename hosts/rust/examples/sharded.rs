@@ -141,7 +141,7 @@ fn main() -> Result<(), Error> {
     let clients: Vec<(Ticket, _)> = (0..CLIENTS).map(|number| outside.spawn(core_of(number), REQUESTS, client(number, rounds))).collect::<Result<_, _>>()?;
     let mut right = 0;
     for (ticket, join) in &clients {
-        outside.wait_for(ticket)?;
+        assert!(matches!(outside.wait_for(ticket)?, Outcome::Done(_)));
         right += join.take().and_then(Result::ok).unwrap_or(0);
     }
     outside.close_all(Mode::Finish)?;

@@ -12,7 +12,7 @@ pub enum Error {
     Busy,
     /// No job of this core runs.
     NoJob,
-    /// The core holds as many jobs as it has room for.
+    /// The core holds as many jobs as it has room for, or as many submissions are outstanding as the link has places.
     Full,
     /// There is no memory.
     NoMemory,
@@ -24,7 +24,7 @@ pub enum Error {
     Closed,
     /// The core has 256 queues.
     TooMany,
-    /// Room is for 1 to 131070 jobs.
+    /// Room is for 1 to 131070 jobs; or a number of a `Config` is out of its range; or tasks have links of one place.
     BadNumber,
     /// No job of that number is inside.
     Absent,
@@ -32,13 +32,13 @@ pub enum Error {
     JournalFull,
     /// The house has no core of that number.
     UnknownCore,
-    /// The house has no actor of that number.
+    /// The house has no actor of that number, or it isn't ended with each of its own once.
     NoActor,
     /// The submission is another actor's, or its number was never given.
     Unknown,
     /// The submission was redeemed or detached before.
     Gone,
-    /// Its outcome wasn't collected yet.
+    /// Its outcome wasn't collected yet. Of `wait_for`: the core was dropped.
     Pending,
     /// The core isn't closed.
     Open,
@@ -93,20 +93,20 @@ impl fmt::Display for Error {
             Error::Spent => "the core did as much as it may",
             Error::Busy => "a job of this core runs",
             Error::NoJob => "no job of this core runs",
-            Error::Full => "the core is full",
+            Error::Full => "no place is free in the core or on the link",
             Error::NoMemory => "there is no memory",
             Error::BadShares => "shares are 1 to 10000",
             Error::NoQueue => "the core has no queue of that number",
             Error::Closed => "the queue or the core is closed",
             Error::TooMany => "the core has 256 queues",
-            Error::BadNumber => "a number is out of its range",
+            Error::BadNumber => "a number is out of its range: 1 to 131070 jobs, 1 to 16 cores, 1 to 1024 places and 2 for tasks, a burst of 1 to 64, at most 2^24 notes",
             Error::Absent => "no job of that number is inside",
             Error::JournalFull => "the journal has too few notes free",
             Error::UnknownCore => "the house has no core of that number",
-            Error::NoActor => "the house has no actor of that number",
+            Error::NoActor => "the house has no such actor, or one of its own is missing at the end",
             Error::Unknown => "no such submission",
             Error::Gone => "redeemed or detached before",
-            Error::Pending => "not there yet",
+            Error::Pending => "the outcome isn't there yet",
             Error::Open => "the core isn't closed",
             Error::Shut => "the gate was shut before",
             Error::NotDrained => "the core isn't drained",

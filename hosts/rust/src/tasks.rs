@@ -127,7 +127,8 @@ impl Tasks {
     ///
     /// # Errors
     ///
-    /// `Full` if there are as many tasks as there is room for; `Closed`, `Spent`, `NoQueue`.
+    /// `Full` if there are as many tasks as there is room for; `Closed`, `Spent`, `NoQueue`. The future is dropped: a host that wants to keep it
+    /// asks `count` first.
     pub fn spawn(&mut self, queue: u32, future: impl Future<Output = ()> + Send + 'static) -> Result<(), Error> {
         let mut places = (self.hint..self.tasks.len()).chain(0..self.hint);
         let place = places.find(|&it| self.tasks[it].is_none()).ok_or(Error::Full)?;

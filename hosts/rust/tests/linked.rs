@@ -152,7 +152,7 @@ fn the_ticket_of_another_house_is_unknown() -> Result<(), Error> {
     assert_eq!(second.redeem(&foreign), Err(Error::Unknown));
     assert_eq!(second.detach(foreign), Err(Error::Unknown));
     assert_eq!(second.redeem(&own), Ok(Outcome::Done(2)));
-    sent(second.submit(0, 0, 3))?;
+    let _free = sent(second.submit(0, 0, 3))?;
     Ok(())
 }
 
@@ -195,7 +195,7 @@ fn what_a_house_has_is_dropped_with_it() -> Result<(), Error> {
         let (house, mut cores, mut outside) = House::open(&config(2, 4))?;
         for core in 0..2 {
             for value in 0..3 {
-                sent(outside.submit(core, 0, Counted::new(&alive, value)))?;
+                let _ticket = sent(outside.submit(core, 0, Counted::new(&alive, value)))?;
             }
         }
         cores[0].deliver()?;
@@ -359,7 +359,7 @@ fn who_takes_notes_from_now_on_gets_those_that_were_not_taken() -> Result<(), Er
     outside.keep_notes_by(move |part| takes.lock().expect("no panic").extend_from_slice(part));
     assert_eq!((outside.redeem(&first)?, outside.redeem(&second)?), (Outcome::Done(1), Outcome::Done(2)));
     assert!(text.lock().expect("no panic").is_empty());
-    submit(&mut outside)?;
+    let _tickets = submit(&mut outside)?;
     let text = String::from_utf8(text.lock().expect("no panic").clone()).expect("a journal is ASCII");
     let lines: Vec<_> = text.lines().map(|line| line.split(' ').nth(1)).collect();
     assert_eq!(lines, ["sent", "sent", "collected", "collected", "redeemed", "redeemed", "sent", "sent"].map(Some));

@@ -94,6 +94,24 @@ fn closures_wake_each_other() -> Result<(), Error> {
     Ok(())
 }
 
+#[test]
+fn who_waits_is_told_that_a_core_was_dropped() -> Result<(), Error> {
+    // An error of a full journal ends the thread of a core, or a panic of a job does.
+    for (notes, panics, answers) in [(8, 0, 1), (1 << 12, 3, 3)] {
+        let (_house, mut cores, mut outside) = House::open(&Config { notes, ..config(1, 4) })?;
+        outside.keep_notes_by(|_| {});
+        let mut core = cores.remove(0);
+        let thread = std::thread::spawn(move || core.run(|job, _| if *job == panics { panic!("a job's own") } else { Step::Done(2 * *job) }).map(|()| core));
+        let tickets = (1..=4u64).map(|job| sent(outside.submit(0, 0, job))).collect::<Result<Vec<_>, _>>()?;
+        for (job, ticket) in (1..).zip(&tickets[..answers]) {
+            assert_eq!(outside.wait_for(ticket)?, Outcome::Done(if job == panics { 0 } else { 2 * job }));
+        }
+        assert_eq!(outside.wait_for(&tickets[3]), Err(Error::Pending));
+        assert_eq!(thread.join().map(|told| told.err()).ok(), if panics == 0 { Some(Some(Error::JournalFull)) } else { None });
+    }
+    Ok(())
+}
+
 fn serve(cores: Vec<Core<Task>>) -> Vec<JoinHandle<Result<Core<Task>, Error>>> {
     cores.into_iter().map(|mut core| std::thread::spawn(move || core.run_tasks().map(|()| core))).collect()
 }
@@ -208,7 +226,7 @@ fn a_house_runs_on_over_journals_of_few_notes() -> Result<(), Error> {
     for number in 0..200 {
         // Each task asks one of the other core.
         let (ticket, join) = outside.spawn(number % 2, 0, async move { 2 * spawn(1 - number % 2, 0, async move { number }).await.unwrap_or(0) })?;
-        outside.wait_for(&ticket)?;
+        assert!(matches!(outside.wait_for(&ticket)?, Outcome::Done(_)));
         assert_eq!(join.take(), Some(Ok(2 * number)));
     }
     outside.close_all(Mode::Finish)?;
@@ -274,7 +292,7 @@ fn a_thread_that_is_no_core_wakes_tasks() -> Result<(), Error> {
         }
     });
     for (value, (ticket, join)) in (0..).zip(waits) {
-        outside.wait_for(&ticket)?;
+        assert!(matches!(outside.wait_for(&ticket)?, Outcome::Done(_)));
         assert_eq!(join.take(), Some(Ok(value)));
     }
     brings.join().expect("no panic");
@@ -310,7 +328,7 @@ fn tasks_run_on_behind_a_full_journal() -> Result<(), Error> {
             }
             Ok::<_, Cancelled>(sum)
         })?;
-        outside.wait_for(&ticket)?;
+        assert!(matches!(outside.wait_for(&ticket)?, Outcome::Done(_)));
         assert_eq!(join.take(), Some(Ok(Ok(15))));
     }
     outside.close_all(Mode::Finish)?;

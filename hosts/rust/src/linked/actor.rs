@@ -10,6 +10,9 @@ use std::ops::{Deref, DerefMut};
 use std::sync::Arc;
 
 /// The right to ask for the outcome of one submission. Only the actor that made it has an answer.
+///
+/// A ticket that is dropped lets nothing go: its submission keeps its place of the link until it is redeemed or detached.
+#[must_use = "a ticket that is dropped keeps its place of the link: redeem or detach it"]
 #[derive(PartialEq, Eq, Debug)]
 pub struct Ticket {
     name: Name,
@@ -316,19 +319,26 @@ impl<J> Outside<J> {
     ///
     /// # Errors
     ///
-    /// `JournalFull`, `Unknown`, `Gone`.
+    /// `JournalFull`, `Unknown`, `Gone`. `Pending` if the core was dropped before the outcome came.
     pub fn wait_for(&mut self, ticket: &Ticket) -> Result<Outcome<J>, Error> {
         let mut actor = self.actor.enter();
+        let mut is_last = false;
         loop {
             actor.collect()?;
             match actor.redeem(ticket) {
-                Err(Error::Pending) => actor.sleep(),
+                Err(Error::Pending) if !is_last => {
+                    // What the core did before is collected once more.
+                    is_last = actor.lanes.has_left(ticket.name.to);
+                    if !is_last {
+                        actor.sleep();
+                    }
+                }
                 told => return told,
             }
         }
     }
 
-    /// Orders each core to close, and waits for none.
+    /// Orders each core to close, and waits for none. Each order takes a place of its link.
     ///
     /// # Errors
     ///

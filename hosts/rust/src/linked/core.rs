@@ -1,6 +1,7 @@
 //! A core of a house, and what its jobs may do.
 
 use super::actor::{submissions, Actor, Ticket};
+use super::lanes::Bell;
 use super::names::{Name, Outcome, Step};
 use super::seat::{Next, Settled};
 use crate::clock::{wall_clock, Clock};
@@ -10,6 +11,7 @@ use crate::stats::{CoreStats, QueueStats};
 use std::collections::VecDeque;
 use std::marker::PhantomData;
 use std::panic::catch_unwind;
+use std::sync::Arc;
 
 /// A round runs jobs for so many nanoseconds at most, or one job. What other actors submit meanwhile waits so long.
 const LONGEST: u64 = 5_000;
@@ -32,6 +34,18 @@ pub enum Turn {
     Idle,
 }
 
+/// Tells who waits for jobs of a core that it was dropped, as by an error or a panic that ends its thread.
+struct Leaving {
+    bells: Arc<[Bell]>,
+    core: u32,
+}
+
+impl Drop for Leaving {
+    fn drop(&mut self) {
+        self.bells[self.core as usize].leave();
+    }
+}
+
 /// A core of a house. It goes to the thread that runs it, and no other thread uses it then.
 ///
 /// ```compile_fail,E0277
@@ -45,6 +59,8 @@ pub struct Core<J> {
     may_be_closed: bool,
     // Of each core what tasks of this one spawned there and isn't submitted yet, with its queue.
     pub(super) spawned: Vec<VecDeque<(u32, J)>>,
+    // It stands behind the actor, whose seat is freed before.
+    _leaving: Leaving,
 }
 
 /// What a job may do while it runs. It stays on the thread of its core.
@@ -190,7 +206,8 @@ impl<J> Core<J> {
 
     pub(super) fn new(actor: Actor<J>) -> Core<J> {
         let spawned = (0..actor.lanes.cores()).map(|_| VecDeque::new()).collect();
-        Core { actor, clock: wall_clock, may_be_closed: true, spawned }
+        let leaving = Leaving { bells: Arc::clone(actor.lanes.bells()), core: actor.number };
+        Core { actor, clock: wall_clock, may_be_closed: true, spawned, _leaving: leaving }
     }
 
     /// Runs are measured by this clock from now on. At first it is the wall's time.
@@ -278,7 +295,8 @@ impl<J> Core<J> {
         Ok(did)
     }
 
-    /// Makes rounds until the core is drained. A core that has nothing to do sleeps.
+    /// Makes rounds until the core is drained. A core that has nothing to do sleeps. Behind an error and behind a panic of `run` this may be called
+    /// again.
     ///
     /// # Errors
     ///

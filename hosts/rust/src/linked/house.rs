@@ -109,6 +109,7 @@ impl<J> House<J> {
 }
 
 /// What an audit found.
+#[must_use]
 #[derive(Clone, Copy, PartialEq, Eq, Debug)]
 pub struct Verdict {
     /// Whether the journals are sound.

@@ -21,6 +21,8 @@ struct Place<J>(UnsafeCell<Option<J>>);
 #[derive(Default)]
 pub(super) struct Bell {
     sleeps: AtomicBool,
+    // Whether this core was dropped.
+    has_left: AtomicBool,
     rung: Mutex<bool>,
     rings: Condvar,
     // The tasks of this core whose wakers were called, and to whom no wake was sent yet.
@@ -34,6 +36,11 @@ impl Bell {
             *lock(&self.rung) = true;
             self.rings.notify_one();
         }
+    }
+
+    /// Tells that the core was dropped.
+    pub(super) fn leave(&self) {
+        self.has_left.store(true, Ordering::SeqCst);
     }
 
     /// Tells the core that the waker of this task was called.
@@ -117,6 +124,11 @@ impl<J> Lanes<J> {
     /// Tells this actor that there is something to do.
     pub(super) fn ring(&self, actor: u32) {
         self.bells[actor as usize].ring();
+    }
+
+    /// Whether this core was dropped: nobody runs its jobs any more.
+    pub(super) fn has_left(&self, core: u32) -> bool {
+        self.bells[core as usize].has_left.load(Ordering::SeqCst)
     }
 
     /// Sleeps until the bell of this actor is rung, unless a waker was called or its seat shows something.

@@ -106,6 +106,7 @@ impl Answer {
 }
 
 /// What became of a submission.
+#[must_use = "an outcome may be that the job came back"]
 #[derive(PartialEq, Eq, Debug)]
 pub enum Outcome<J> {
     /// The job is done, with this answer.

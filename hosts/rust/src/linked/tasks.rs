@@ -253,7 +253,7 @@ impl Outside<Task> {
     ///
     /// # Errors
     ///
-    /// As `submit`.
+    /// As `submit`, and the future is dropped. [`Task::new`] and `submit` in place of this call give the task back.
     pub fn spawn<T: Send + 'static>(&mut self, core: u32, queue: u32, future: impl Future<Output = T> + Send + 'static) -> Result<(Ticket, Join<T>), Error> {
         let (task, join) = Task::new(future);
         let ticket = self.submit(core, queue, task).map_err(|(error, _)| error)?;

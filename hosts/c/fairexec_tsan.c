@@ -1,7 +1,9 @@
 /*
- * Tells the thread sanitizer what it can't see: the library isn't compiled with it, and its links order what actors hand to each other. What
- * is submitted comes before its delivery, and what a run left before the collecting of its outcome. All links count as one here, so a race that
- * another link hides isn't found. For programs that are linked with --wrap for these calls.
+ * fairexec_tsan.c: tells the thread sanitizer what it can't see: the library isn't compiled with it, and its links order what actors hand to each
+ * other. What is submitted comes before its delivery, and what a run left before the collecting of its outcome. All links count as one here, so a
+ * race that another link hides isn't found. A host that is compiled with -fsanitize=thread links this file beside it, in C or C++, with
+ *
+ *     -Wl,--wrap=fx_seat_submit,--wrap=fx_seat_deliver,--wrap=fx_seat_settle,--wrap=fx_seat_collect
  */
 #include "fairexec.h"
 
