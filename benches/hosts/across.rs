@@ -39,7 +39,8 @@ fn round(outstanding: usize) -> Result<(f64, u64), Error> {
         }
     }
     let took = began.elapsed().as_nanos() as f64;
-    first.close_core(1, Mode::Finish)?;
+    // Nobody asks for the answer of the close.
+    let _ticket = first.close_core(1, Mode::Finish)?;
     server.join().expect("a core ends")?;
     drop(outside);
     Ok((took, sum))
