@@ -1,1 +1,2 @@
 pub mod FirstEnds
+pub mod TwoEnds
