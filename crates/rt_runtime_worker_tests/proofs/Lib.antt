@@ -1,2 +1,3 @@
+pub mod Crosses
 pub mod FirstEnds
 pub mod TwoEnds

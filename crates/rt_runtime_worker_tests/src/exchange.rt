@@ -1,6 +1,6 @@
 //! Two workers on threads of their own that park behind each round in which nothing was done, and hand one job at a time to and fro.
 
-ghost use Rattle.std.specs.Prelude.{◌≡◌, false, true, [], IfSome, IfOk, length};
+ghost use Rattle.std.specs.Prelude.{◌≡◌, false, true, [], replicate, IfSome};
 ghost use Rattle.rt_jobs.specs.Asking.{MakesSome};
 ghost use Rattle.rt_jobs.specs.Ready.{HasReadyJob};
 ghost use Rattle.rt_jobs.specs.declared.job.Step.TheVariants.{Done};
@@ -15,7 +15,6 @@ use rt_ring_mesh::{Ends, open_all};
 use rt_runtime_config::{Clock, Config, Gate};
 use rt_runtime_team::Team;
 use rt_runtime_worker::{Bells, Worker};
-use rt_sinks::Keep;
 use std::alloc::{AllocError, Global};
 use std::snapshot::Snapshot;
 use std::sync::atomic::{AtomicU64, Ordering};
@@ -28,7 +27,7 @@ use std::time::Duration;
 const HOPS: u64 = 2_000;
 
 /// How often a worker that is held up looks for the other one's poll, in all that time. So the test stays short where the other thread comes late.
-const HELD: u32 = 1 << 25;
+const HELD: u32 = 1 << 24;
 
 /// How often the test looks whether the job has gone over each time, with a nap behind each look.
 const LOOKS: u32 = 2_000;
@@ -61,11 +60,10 @@ impl Gate for Mute {
     fn before_poll(&mut self, _core: CoreNo, _job: JobId) {}
 }
 
-/// A sink that keeps what it takes, and holds up its worker, which is about to lie down, until the other one polls the job. So the other one's
-/// ring comes shortly before the worker lies down, or shortly behind that.
+/// A sink that takes nothing, and holds up its worker, which is about to lie down, until the other one polls the job. So the other one's ring
+/// comes shortly before the worker lies down, or shortly behind that.
 #[derive(Drop)]
 struct Slow {
-    keep: Keep,
     mark: Mark,
     core: CoreNo,
     /// How many looks are left.
@@ -99,29 +97,16 @@ impl Slow {
 }
 
 impl Sink for Slow {
-    ghost has = { λ slow. slow.keep.has };
+    ghost has = { λ slow. [] };
 
     // It may have refused at any time.
     ghost refused = { λ slow count. Unit {0} };
 
-    fn take(&mut self, notes: &[Note<u64>]) -> Result<(), Refused> {
+    fn take(&mut self, _notes: &[Note<u64>]) -> Result<(), Refused> {
         self.looks = self.await_poll();
         self.linger();
-        self.keep.take(notes)
+        Err(Refused)
     }
-}
-
-/// The sink of this core's worker.
-fn new_slow(alloc: Global, core: CoreNo, mark: &Mark) -> Result<Slow, AllocError>
-    ensures { IfOk result (λ slow. slow.keep.has ≡ []) }
-{
-    let mark = Arc::try_clone(mark)?;
-    Ok(Slow {
-        keep: Keep::new(alloc),
-        mark,
-        core,
-        looks: HELD,
-    })
 }
 
 /// A job that counts its poll at the mark, and submits another one to the other core as often as is left.
@@ -235,9 +220,13 @@ fn apart(all: Vec<Ends<Hopper>>) -> Option<(Ends<Hopper>, Ends<Hopper>, Ends<Hop
 /// A worker that parks after each round in which nothing was done.
 fn open(alloc: Global, own: Ends<Hopper>, bells: &Bells, mark: &Mark) -> Result<Parker, AllocError>
     requires own { AreEndsOf 16 4 own }
-    requires bells { length bells.now.rings ≡ 17 }
+    requires bells { bells.now.rings ≡ replicate 17 0 }
 {
-    let sink = new_slow(alloc, CoreNo(own.number.0), mark)?;
+    let sink = Slow {
+        mark: Arc::try_clone(mark)?,
+        core: CoreNo(own.number.0),
+        looks: HELD,
+    };
     let config = Config {
         cores: CORES,
         cap: CAP,
@@ -259,7 +248,7 @@ fn open_both(
 ) -> Result<Vec<Parker>, AllocError>
     requires first { AreEndsOf 16 4 first }
     requires second { AreEndsOf 16 4 second }
-    requires bells { length bells.now.rings ≡ 17 }
+    requires bells { bells.now.rings ≡ replicate 17 0 }
 {
     let mut workers = Vec::with_capacity(alloc, 2)?;
     workers.push(open(alloc, first, bells, mark)?)?;
