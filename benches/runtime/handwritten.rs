@@ -1,7 +1,7 @@
 // A job submitted from one thread to a worker on another, polled there once and redeemed, by hand in Rust, as one writes it without
 // proofs. The two threads are joined by a link of two words (as benches/ring has it, sequentially consistent), or by two of std's
-// bounded channels. The worker takes what there is, puts it into a queue, makes one turn, gives the answer, and parks after so many
-// rounds in which nothing was done. Its turns are bare: the first of one queue is polled. Or they are those of the runtime's worker:
+// bounded channels. The worker takes what there is, puts it into a queue, makes one turn, gives the answer, and parks when nothing was
+// to be done for as long as the runtime's worker waits. Its turns are bare: the first of one queue is polled. Or they are those of the runtime's worker:
 // it picks the queue of least virtual runtime, reads the clock before the poll and after it, charges the queue, and writes notes. And
 // the caller has nothing beside its end of the link, or it writes notes and keeps tickets, as the runtime's caller does.
 use std::cell::UnsafeCell;
@@ -19,8 +19,9 @@ const GATE: u64 = 1 << 63;
 // How many places a link has.
 const PLACES: usize = 64;
 
-// After so many idle rounds a worker parks, as the runtime's do.
-const PATIENCE: u64 = 1024;
+// A worker parks after so many nanoseconds with nothing to do, if PATIENCE_NS doesn't say another number. The runtime's worker parks after
+// 1024 idle rounds, which take as long in a house of one core (benches/worker).
+const PATIENCE: u64 = 7_000;
 
 // A worker that never parks.
 const NEVER: u64 = u64::MAX;
@@ -499,6 +500,37 @@ fn paused(mut out: impl Sending, worker: JoinHandle<()>, jobs: u64, pause: Durat
     taken.as_nanos() as f64 / jobs as f64
 }
 
+// How many idle rounds a worker makes in so many nanoseconds: by the middle of nine measures over an end on which nothing comes.
+fn rounds_in(nanoseconds: u64, mut end: impl Receiving, mut turns: impl Turns) -> u64 {
+    const ROUNDS: u64 = 2000;
+    let mut times: Vec<u64> = Vec::new();
+    for _ in 0..9 {
+        let start = Instant::now();
+        for _ in 0..ROUNDS {
+            black_box(round(&mut end, &mut turns));
+            spin_loop();
+        }
+        times.push(start.elapsed().as_nanos() as u64);
+    }
+    times.sort_unstable();
+    nanoseconds * ROUNDS / times[4].max(1)
+}
+
+fn patience() -> u64 {
+    std::env::var("PATIENCE_NS").map_or(PATIENCE, |word| word.parse().unwrap())
+}
+
+// How many idle rounds that is over words, and over channels, with these turns. The other end stays open meanwhile.
+fn words_patience(turns: impl Turns) -> u64 {
+    let (_out, inward) = words();
+    rounds_in(patience(), inward, turns)
+}
+
+fn channels_patience(turns: impl Turns) -> u64 {
+    let (_front, back) = channels();
+    rounds_in(patience(), back, turns)
+}
+
 fn over_words(turns: impl Turns, patience: u64) -> (Out, JoinHandle<()>) {
     let (out, inward) = words();
     (out, thread::spawn(move || work(inward, turns, patience)))
@@ -578,17 +610,19 @@ impl Measure for Paused {
 fn each(name: &str, measure: impl Measure) {
     let jobs = measure.jobs() + 1;
     let fair = || Fair::new(4 * jobs);
-    let (out, worker) = over_words(fair(), PATIENCE);
+    let (of_words, of_bare_words) = (words_patience(fair()), words_patience(Bare::new()));
+    let (of_channels, of_bare_channels) = (channels_patience(fair()), channels_patience(Bare::new()));
+    let (out, worker) = over_words(fair(), of_words);
     println!("turns {name} {:.1}", measure.take(out, worker));
-    let (out, worker) = over_words(fair(), PATIENCE);
+    let (out, worker) = over_words(fair(), of_words);
     println!("booked {name} {:.1}", measure.take(Booked::new(out, 3 * jobs), worker));
-    let (out, worker) = over_words(Bare::new(), PATIENCE);
+    let (out, worker) = over_words(Bare::new(), of_bare_words);
     println!("words {name} {:.1}", measure.take(out, worker));
-    let (out, worker) = over_channels(fair(), PATIENCE);
+    let (out, worker) = over_channels(fair(), of_channels);
     println!("turned {name} {:.1}", measure.take(out, worker));
-    let (out, worker) = over_channels(fair(), PATIENCE);
+    let (out, worker) = over_channels(fair(), of_channels);
     println!("entered {name} {:.1}", measure.take(Booked::new(out, 3 * jobs), worker));
-    let (out, worker) = over_channels(Bare::new(), PATIENCE);
+    let (out, worker) = over_channels(Bare::new(), of_bare_channels);
     println!("channels {name} {:.1}", measure.take(out, worker));
 }
 

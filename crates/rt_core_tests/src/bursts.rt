@@ -3,11 +3,9 @@
 use crate::one_core::{FIRST, OneCore, is_one, name, takes};
 use crate::turns::{is_turn, picks_none};
 use crate::whole::{Row, came_to, is_told, tells_none, turns_so};
-use linked_list_allocator::LocalHeap;
 use rt_core::{Notes, PickError, Turn};
-use rt_ids::{CoreNo, Note, QueueStats};
+use rt_ids::{Note, QueueStats};
 use rt_jobs::{NoPost, Ran};
-use std::test::Fail;
 
 /// One further poll of the open turn: its note, and that of the settled poll.
 fn one_more(core: &mut OneCore<'_>) -> (Notes<u64>, Notes<u64>) {
@@ -55,21 +53,31 @@ fn is_counted(core: &OneCore<'_>) -> bool {
     used && (told.turns, told.floor, told.held) == (2, 20, 0)
 }
 
-/// A turn has two polls and no more. Where its queue runs empty before that, a job that enters is polled in the same turn.
-fn two_polls_a_turn(core: &mut OneCore<'_>) -> bool {
+/// A turn of a job that yields twice has two polls and no more.
+fn polls_twice(core: &mut OneCore<'_>) -> bool {
     let starts = [Note::Pick(FIRST, 0), Note::Start(name(1))];
-    let resumes = [Note::Pick(FIRST, 20), Note::Resume(name(1))];
-    is_over(core)
-        && takes(core, 1, FIRST, 2, 10)
+    takes(core, 1, FIRST, 2, 10)
         && is_turn(core, starts, Note::Yield(name(1), 10))
         && picks_none(core, Some(PickError::Busy))
         && follows(core, Note::Resume(name(1)), Note::Yield(name(1), 10))
         && is_over(core)
         && ends(core, 20)
-        && is_turn(core, resumes, Note::Done(name(1), 10, 10))
+}
+
+/// A job that enters once the queue is empty is polled in the turn that is open.
+fn polls_the_next(core: &mut OneCore<'_>) -> bool {
+    let resumes = [Note::Pick(FIRST, 20), Note::Resume(name(1))];
+    is_turn(core, resumes, Note::Done(name(1), 10, 10))
         && takes(core, 2, FIRST, 0, 5)
         && follows(core, Note::Start(name(2)), Note::Done(name(2), 5, 5))
         && ends(core, 15)
+}
+
+/// A turn has two polls and no more. Where its queue runs empty before that, a job that enters is polled in the same turn.
+pub(crate) fn two_polls_a_turn(core: &mut OneCore<'_>) -> bool {
+    is_over(core)
+        && polls_twice(core)
+        && polls_the_next(core)
         && tells_none(core, &None)
         && is_counted(core)
 }
@@ -84,7 +92,7 @@ fn turns_further(core: &mut OneCore<'_>, row: &Row) -> bool {
 }
 
 /// The same with the job in its place.
-fn two_polls_in_place(core: &mut OneCore<'_>) -> bool {
+pub(crate) fn two_polls_in_place(core: &mut OneCore<'_>) -> bool {
     takes(core, 1, FIRST, 1, 30)
         && core.ahead_in_turn().is_none()
         && turns_so(core, &(FIRST, 0, 1, false, None))
@@ -92,23 +100,4 @@ fn two_polls_in_place(core: &mut OneCore<'_>) -> bool {
         && core.ahead_in_turn().is_none()
         && ends(core, 60)
         && tells_none(core, &None)
-}
-
-/// A core of two polls a turn plays this scene, if it opens in this heap.
-fn plays_in(heap: &LocalHeap, scene: u8) -> Option<bool> {
-    let mut core = OneCore::open_burst(heap, CoreNo(0), 1, 4, 2).ok()?;
-    Some(match scene {
-        0 => two_polls_a_turn(&mut core),
-        _ => two_polls_in_place(&mut core),
-    })
-}
-
-#[test]
-fn a_turn_has_two_polls(rt: HostRuntime) -> Result<(), Fail> {
-    let heap = LocalHeap::new(rt.alloc(), 1 << 18)?;
-    for scene in 0..2 {
-        let went = plays_in(&heap, scene);
-        assert!(rt; went == Some(true) && heap.used() == 0, "scene {scene}");
-    }
-    Ok(())
 }

@@ -197,20 +197,34 @@ fn parked(queues: &Lines<'_>, queue: QueueNo) -> Option<usize> {
     }
 }
 
-/// Parked jobs wait for no turn. One that is woken goes to the tail, and the others follow in their order.
-fn parked_jobs_are_woken(queues: &mut Lines<'_>) -> bool {
-    let parked_three = parks(queues, THIRD, 1)
+/// Three jobs are parked, and a fourth one waits.
+fn three_are_parked(queues: &mut Lines<'_>) -> bool {
+    parks(queues, THIRD, 1)
         && parks(queues, THIRD, 2)
-        && parks(queues, THIRD, 3);
-    let stand = joins(queues, THIRD, 4)
+        && parks(queues, THIRD, 3)
+        && joins(queues, THIRD, 4)
         && waiting(queues, THIRD) == Some(1)
-        && parked(queues, THIRD) == Some(3);
-    let woken = queues.wake(name(2)) == Woke::Moved(THIRD) && parked(queues, THIRD) == Some(2);
-    let nobody = queues.wake(name(9)) == Woke::Absent;
+        && parked(queues, THIRD) == Some(3)
+}
+
+/// One of them is woken, and nobody else.
+fn one_is_woken(queues: &mut Lines<'_>) -> bool {
+    queues.wake(name(2)) == Woke::Moved(THIRD)
+        && parked(queues, THIRD) == Some(2)
+        && queues.wake(name(9)) == Woke::Absent
+}
+
+/// No job of the queue is parked any more, if it is there.
+fn unparks(queues: &mut Lines<'_>) -> bool {
     if queues.queue_count() < 3 {
         return false;
     }
     queues.unpark_all(THIRD);
+    parked(queues, THIRD) == Some(0)
+}
+
+/// Parked jobs wait for no turn. One that is woken goes to the tail, and the others follow in their order.
+fn parked_jobs_are_woken(queues: &mut Lines<'_>) -> bool {
     let go = [
         (THIRD, 4, false),
         (THIRD, 2, true),
@@ -218,11 +232,9 @@ fn parked_jobs_are_woken(queues: &mut Lines<'_>) -> bool {
         (THIRD, 3, true),
         (THIRD, 0, true),
     ];
-    parked_three
-        && stand
-        && woken
-        && nobody
-        && parked(queues, THIRD) == Some(0)
+    three_are_parked(queues)
+        && one_is_woken(queues)
+        && unparks(queues)
         && leave_in_turn(queues, &go)
 }
 
@@ -239,18 +251,21 @@ fn a_wake_is_kept(queues: &mut Lines<'_>) -> bool {
         && leaves(queues, THIRD) == Some(again)
 }
 
-/// Queues of six jobs in this heap, if they fit: whether each call on them comes out.
+/// Whether each call on these queues comes out.
+fn serves(queues: &mut Lines<'_>) -> bool {
+    numbers_end_at_255(queues)
+        && lines_stand_apart(queues)
+        && shares_change(queues)
+        && slip_goes_and_comes(queues)
+        && parked_jobs_are_woken(queues)
+        && a_wake_is_kept(queues)
+        && a_closed_line_takes_no_more(queues)
+}
+
+/// The same of queues of six jobs in this heap, if they fit.
 fn serve(heap: &LocalHeap) -> Option<bool> {
     let mut queues = Lines::open(heap, 6).ok()?;
-    Some(
-        numbers_end_at_255(&mut queues)
-            && lines_stand_apart(&mut queues)
-            && shares_change(&mut queues)
-            && slip_goes_and_comes(&mut queues)
-            && parked_jobs_are_woken(&mut queues)
-            && a_wake_is_kept(&mut queues)
-            && a_closed_line_takes_no_more(&mut queues),
-    )
+    Some(serves(&mut queues))
 }
 
 /// Creations succeed until one is refused for want of memory: how many queues there are then, if it added none.
@@ -268,15 +283,24 @@ fn creates_until_refused(queues: &mut Lines<'_>) -> Option<u16> {
     None
 }
 
+/// A creation is refused. Another succeeds once this spare memory is free.
+fn creates_once_there_is_memory(queues: &mut Lines<'_>, spare: Vec<u64, &LocalHeap>) -> bool {
+    let Some(count) = creates_until_refused(queues) else {
+        return false;
+    };
+    drop(spare);
+    queues.try_create(shares(1000)).is_ok() && queues.queue_count() > count
+}
+
 /// After a creation that was refused, the job that waits is still there, and a creation succeeds once there is memory for it.
 fn a_refused_creation_comes_later(heap: &LocalHeap) -> Option<bool> {
     let spare: Vec<u64, &LocalHeap> = Vec::with_capacity(heap, 32).ok()?;
     let mut queues = Lines::open(heap, 6).ok()?;
-    let came = joins(&mut queues, FIRST, 1);
-    let count = creates_until_refused(&mut queues)?;
-    drop(spare);
-    let more = queues.try_create(shares(1000)).is_ok() && queues.queue_count() > count;
-    Some(came && more && gives(&mut queues, FIRST, 1, false))
+    Some(
+        joins(&mut queues, FIRST, 1)
+            && creates_once_there_is_memory(&mut queues, spare)
+            && gives(&mut queues, FIRST, 1, false),
+    )
 }
 
 #[test]

@@ -39,14 +39,9 @@ fn two_queues_come(core: &mut OneCore<'_>) -> bool {
         && answers(core, 5, order, Answer::Created(QueueNo(4)), Some(made))
 }
 
-/// A core with two more queues in this heap, if they fit.
-fn made_in(heap: &LocalHeap, turns: u64) -> Option<OneCore<'_>> {
-    let mut core = opens(heap, turns)?;
-    if creates(&mut core, 1000, Ok(SECOND)) && creates(&mut core, 1000, Ok(THIRD)) {
-        Some(core)
-    } else {
-        None
-    }
+/// Two more queues come.
+fn two_more_fit(core: &mut OneCore<'_>) -> bool {
+    creates(core, 1000, Ok(SECOND)) && creates(core, 1000, Ok(THIRD))
 }
 
 /// Whether a core in a heap that is full serves, and asks for no more memory.
@@ -55,14 +50,26 @@ fn serves_full(core: &mut OneCore<'_>, heap: &LocalHeap) -> bool {
     no_queue_fits(core) && each_serves(core) && heap.used() == used
 }
 
-/// None if the core and two more queues don't fit in this heap. If they do: whether it serves, needs no more memory, and takes two more
-/// queues once there is memory for them.
+/// None if two more queues don't fit beside this spare memory. If they do: whether the core serves, needs no more memory, and takes two more
+/// queues once the spare memory is free.
+fn serves_beside(
+    core: &mut OneCore<'_>,
+    heap: &LocalHeap,
+    spare: Vec<u64, &LocalHeap>,
+) -> Option<bool> {
+    if !two_more_fit(core) {
+        return None;
+    }
+    let goes_on = serves_full(core, heap);
+    drop(spare);
+    Some(goes_on && two_queues_come(core))
+}
+
+/// The same of a core in this heap, or None if it doesn't fit.
 fn serves_in(heap: &LocalHeap, turns: u64) -> Option<bool> {
     let spare: Vec<u64, &LocalHeap> = Vec::with_capacity(heap, 64).ok()?;
-    let mut core = made_in(heap, turns)?;
-    let goes_on = serves_full(&mut core, heap);
-    drop(spare);
-    Some(goes_on && two_queues_come(&mut core))
+    let mut core = opens(heap, turns)?;
+    serves_beside(&mut core, heap, spare)
 }
 
 /// In heaps that grow by 16 bytes, each growth of the opening and of two creations is the one that is refused, in turn, and all memory

@@ -24,13 +24,14 @@ impl Dice {
     }
 }
 
-/// 256 queues, if they fit.
-fn all_queues(heap: &LocalHeap) -> Option<Lines<'_>> {
-    let mut queues = Lines::open(heap, ROOM).ok()?;
+/// Whether the queues become 256.
+fn all_come(queues: &mut Lines<'_>) -> bool {
     for _ in 0..255 {
-        queues.try_create(shares(1000)).ok()?;
+        if queues.try_create(shares(1000)).is_err() {
+            return false;
+        }
     }
-    Some(queues)
+    true
 }
 
 /// The queues of a round: where a job joins, where the head leaves and joins again, and where the head leaves.
@@ -110,13 +111,25 @@ fn fill(queues: &mut Lines<'_>) -> bool {
     all
 }
 
-/// Whether the rounds go in this heap as in the other, which is ample, if 256 queues fit.
-fn serves_in(heap: &LocalHeap, other: &LocalHeap) -> Option<bool> {
-    let mut tight = all_queues(heap)?;
-    let mut ample = all_queues(other)?;
+/// Both are filled, and the rounds go alike in them.
+fn serve_alike(tight: &mut Lines<'_>, ample: &mut Lines<'_>) -> bool {
+    fill(tight) && fill(ample) && all_go_alike(tight, ample)
+}
+
+/// Whether the rounds go in these queues as in others in an ample heap, if there are 256.
+fn serves_beside(tight: &mut Lines<'_>, heap: &LocalHeap, other: &LocalHeap) -> Option<bool> {
+    if !all_come(tight) {
+        return None;
+    }
+    let mut ample = Lines::open(other, ROOM).ok()?;
     let used = heap.used();
-    let same = fill(&mut tight) && fill(&mut ample) && all_go_alike(&mut tight, &mut ample);
-    Some(same && heap.used() == used)
+    Some(all_come(&mut ample) && serve_alike(tight, &mut ample) && heap.used() == used)
+}
+
+/// The same of queues in this heap, if they fit.
+fn serves_in(heap: &LocalHeap, other: &LocalHeap) -> Option<bool> {
+    let mut tight = Lines::open(heap, ROOM).ok()?;
+    serves_beside(&mut tight, heap, other)
 }
 
 /// In the first of ever larger heaps in which the opening and 255 creations succeed, nothing else asks for memory.

@@ -2,10 +2,8 @@
 
 use crate::one_core::{FIRST, OneCore, is_one, name, one_turn, picks, takes};
 use crate::whole::tells_none;
-use linked_list_allocator::LocalHeap;
 use rt_core::{PickError, Turn};
-use rt_ids::{CoreNo, Note, QueueStats};
-use std::test::Fail;
+use rt_ids::{Note, QueueStats};
 
 /// One turn with these notes.
 pub(crate) fn is_turn(core: &mut OneCore<'_>, picked: [Note<u64>; 2], settled: Note<u64>) -> bool {
@@ -62,19 +60,9 @@ pub(crate) fn a_core_is_busy(core: &mut OneCore<'_>) -> bool {
     took && picked.is_ok() && picks_none(core, Some(PickError::Busy))
 }
 
-/// The core has one turn left, if it opens in this heap.
-fn ends(heap: &LocalHeap) -> Option<bool> {
-    let mut core = OneCore::open_at_turn(heap, CoreNo(0), 1, 1, u64::MAX - 1).ok()?;
-    Some(
-        takes(&mut core, 1, FIRST, 1, 1)
-            && picks(&mut core, &[(FIRST, 0)])
-            && picks_none(&mut core, Some(PickError::Spent)),
-    )
-}
-
-#[test]
-fn the_last_turn_is_made(rt: HostRuntime) -> Result<(), Fail> {
-    let heap = LocalHeap::new(rt.alloc(), 1 << 18)?;
-    assert!(rt; ends(&heap) == Some(true) && heap.used() == 0);
-    Ok(())
+/// The core has one turn left.
+pub(crate) fn the_last_turn_is_made(core: &mut OneCore<'_>) -> bool {
+    takes(core, 1, FIRST, 1, 1)
+        && picks(core, &[(FIRST, 0)])
+        && picks_none(core, Some(PickError::Spent))
 }

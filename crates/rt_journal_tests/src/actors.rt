@@ -266,12 +266,29 @@ impl<I: InEnd<ScriptJob> + Drop> Receiver<I> {
         true
     }
 
+    /// Whether all of this could be done, and these are the notes.
+    pub fn goes(&mut self, acts: &[Act], notes: &[Note<u64>]) -> bool {
+        self.does(acts) && self.tells(notes)
+    }
+
     pub fn is_drained(&self) -> bool {
         self.core.is_drained()
     }
 
     pub fn tells(&self, notes: &[Note<u64>]) -> bool {
         tells(self.core.journal(), notes)
+    }
+}
+
+/// Whether a core, if it opened, does this and tells these notes.
+pub fn goes<I: InEnd<ScriptJob> + Drop>(
+    receiver: Result<Receiver<I>, AllocError>,
+    acts: &[Act],
+    notes: &[Note<u64>],
+) -> bool {
+    match receiver {
+        Ok(mut receiver) => receiver.goes(acts, notes),
+        Err(_) => false,
     }
 }
 

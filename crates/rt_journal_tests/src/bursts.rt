@@ -4,8 +4,8 @@ ghost use Rattle.std.specs.Prelude.{◌≡◌, IfOk};
 ghost use Rattle.rt_jobs.specs.Ready.{HasReadyJob};
 ghost use Rattle.rt_link.specs.Whole.{fresh};
 
-use crate::actors::{Act, CORE, FIRST, OUTSIDE, OWN, QUEUE, Receiver, put};
-use crate::poster::Poster;
+use crate::actors::{Act, CORE, FIRST, OUTSIDE, OWN, QUEUE, Receiver, goes, put};
+use crate::poster::{Poster, polls};
 use rt_ids::{Note, Order};
 use rt_jobs::{Poll, ScriptJob, Task};
 use rt_link::PlainLink;
@@ -58,12 +58,9 @@ fn receiver(
 fn turns_twice(alloc: Global, job: Order<ScriptJob>) -> bool
     requires { HasReadyJob ⟦<ScriptJob as Task>⟧.meaning job }
 {
-    match receiver(alloc, job) {
-        Ok(mut receiver) => {
-            receiver.does(&[Act::Deliver, Act::Turn, Act::Further]) && receiver.tells(&TURNED)
-        }
-        Err(_) => false,
-    }
+    let acts = [Act::Deliver, Act::Turn, Act::Further];
+    let notes = TURNED;
+    goes(receiver(alloc, job), &acts, &notes)
 }
 
 #[test]
@@ -88,12 +85,8 @@ fn poster(
 fn posts_twice(alloc: Global, job: Order<ScriptJob>) -> bool
     requires { HasReadyJob ⟦<ScriptJob as Task>⟧.meaning job }
 {
-    match poster(alloc, job) {
-        Ok(mut poster) => {
-            poster.deliver(OUTSIDE) && poster.turns(1) && poster.further() && poster.tells(&TURNED)
-        }
-        Err(_) => false,
-    }
+    let notes = TURNED;
+    polls(poster(alloc, job), 1, true, &notes)
 }
 
 #[test]

@@ -4,7 +4,7 @@ ghost use Rattle.std.specs.Prelude.{◌≡◌, IfOk};
 ghost use Rattle.rt_jobs.specs.Ready.{HasReadyJob};
 ghost use Rattle.rt_link.specs.Whole.{fresh};
 
-use crate::actors::{Act, CORE, FIRST, OUTSIDE, OWN, QUEUE, Receiver, SECOND, put};
+use crate::actors::{Act, CORE, FIRST, OUTSIDE, OWN, QUEUE, Receiver, SECOND, goes, put};
 use rt_ids::{Answer, JobId, Mode, Note, Order, Reason};
 use rt_jobs::{Poll, ScriptJob, Task};
 use rt_link::PlainLink;
@@ -113,10 +113,8 @@ fn tells_of(
     requires job { HasReadyJob ⟦<ScriptJob as Task>⟧.meaning job }
     requires second { HasReadyJob ⟦<ScriptJob as Task>⟧.meaning second }
 {
-    match receiver(alloc, job, second, Order::Wake(OUTSIDE, 1)) {
-        Ok(mut core) => core.does(acts) && core.tells(notes),
-        Err(_) => false,
-    }
+    let core = receiver(alloc, job, second, Order::Wake(OUTSIDE, 1));
+    goes(core, acts, notes)
 }
 
 #[test]

@@ -1,11 +1,6 @@
 //! A core whose jobs submit from inside their polls, with the ends of its links, whatever kind of links these are.
 
-ghost use Rattle.std.specs.Prelude.{◌≡◌};
-ghost use Rattle.rt_journal.specs.Ends.{IsInOf};
-ghost use Rattle.rt_journal_desk.specs.Ends.{IsOutOf};
-ghost use Rattle.rt_journal.specs.Recorded.{desk_of};
-ghost use Rattle.rt_journal_desk.specs.Tickets.{HasLane};
-ghost use Rattle.rt_link.specs.Fits.{Fits};
+ghost use Rattle.std.specs.Prelude.{◌≡◌, ◌∷◌, [], IfOk};
 ghost use Rattle.rt_link.specs.Whole.{fresh, inward_of, out_of};
 
 use crate::actors::{CORE, OUTSIDE, OWN, ends_turn, tells};
@@ -44,30 +39,19 @@ impl<O: OutEnd<ScriptJob> + Drop, I: InEnd<ScriptJob> + Drop> Model for Poster<O
         × IsInOf 0 p.core (I.inward p.own) × IsInOf 1 p.core (I.inward p.outside) };
 }
 
-impl<O: OutEnd<ScriptJob> + Drop, I: InEnd<ScriptJob> + Drop> Poster<O, I> {
-    fn new(
-        alloc: Global,
-        core: Recorded<ScriptJob>,
-        out: O,
-        own: I,
-        outside: I,
-    ) -> Result<Self, AllocError>
-        requires alone { core.core.cores ≡ 1 }
-        requires beside { IsOutOf 0 (desk_of core) (O.out out) (O.credited out) }
-        requires lane { HasLane (Fits ⟦<ScriptJob as Task>⟧.meaning) 0 (desk_of core) (O.out out) (O.credited out) }
-        requires own { IsInOf 0 core (I.inward own) }
-        requires outside { IsInOf 1 core (I.inward outside) }
-    {
-        let mut outs = Vec::with_capacity(alloc, 1)?;
-        outs.push_reserved(out);
-        Ok(Poster {
-            core,
-            outs: SealedVec::sealed(outs),
-            own,
-            outside,
-        })
-    }
+/// The only end on which the core sends.
+fn only<O: OutEnd<ScriptJob> + Drop>(
+    alloc: Global,
+    out: O,
+) -> Result<SealedVec<O, Global>, AllocError>
+    ensures { IfOk result (λ outs. outs.items ≡ out ∷ []) }
+{
+    let mut outs = Vec::with_capacity(alloc, 1)?;
+    outs.push_reserved(out);
+    Ok(SealedVec::sealed(outs))
+}
 
+impl<O: OutEnd<ScriptJob> + Drop, I: InEnd<ScriptJob> + Drop> Poster<O, I> {
     /// Opens the core, with the ends of links of one place that were just opened. The outside actor may have sent already.
     pub fn open(alloc: Global, out: O, own: I, outside: I) -> Result<Self, AllocError>
         requires out { O.out out ≡ out_of (fresh 0 0 1 0) }
@@ -91,12 +75,18 @@ impl<O: OutEnd<ScriptJob> + Drop, I: InEnd<ScriptJob> + Drop> Poster<O, I> {
         requires own { I.inward own ≡ inward_of (fresh 0 0 1 0) }
         requires outside { I.inward outside ≡ record (inward_of (fresh 1 0 1 0)) { seen = (I.inward outside).seen } }
     {
+        let outs = only(alloc, out)?;
         let core = Recorded::open_burst(alloc, alloc, CORE, 1, 1, burst, 30)?;
-        Poster::new(alloc, core, out, own, outside)
+        Ok(Poster {
+            core,
+            outs,
+            own,
+            outside,
+        })
     }
 
     /// Whether an order came from this actor.
-    pub fn deliver(&mut self, from: ActorNo) -> bool {
+    fn deliver(&mut self, from: ActorNo) -> bool {
         if self.core.journal().free() < 2 {
             return false;
         }
@@ -129,7 +119,7 @@ impl<O: OutEnd<ScriptJob> + Drop, I: InEnd<ScriptJob> + Drop> Poster<O, I> {
     }
 
     /// Whether a further job of the open turn was polled in its place, and the turn ended behind it.
-    pub fn further(&mut self) -> bool {
+    fn further(&mut self) -> bool {
         let cap = self.core.cap();
         if self.core.journal().free() < 3 * cap as u32 + 2 {
             return false;
@@ -149,7 +139,7 @@ impl<O: OutEnd<ScriptJob> + Drop, I: InEnd<ScriptJob> + Drop> Poster<O, I> {
     }
 
     /// Whether so many jobs were polled so.
-    pub fn turns(&mut self, count: u64) -> bool {
+    fn turns(&mut self, count: u64) -> bool {
         for _ in 0..count {
             if !self.turn() {
                 return false;
@@ -158,7 +148,38 @@ impl<O: OutEnd<ScriptJob> + Drop, I: InEnd<ScriptJob> + Drop> Poster<O, I> {
         true
     }
 
-    pub fn tells(&self, notes: &[Note<u64>]) -> bool {
+    /// Whether an order came from the outside actor, so many jobs were polled, and a further one if it was to be, and these are the notes.
+    pub fn polls(&mut self, turns: u64, further: bool, notes: &[Note<u64>]) -> bool {
+        self.deliver(OUTSIDE)
+            && self.turns(turns)
+            && (!further || self.further())
+            && self.tells(notes)
+    }
+
+    /// Whether an order came from the outside actor, so many jobs were polled, the same of an order and a job from the core itself, and
+    /// these are the notes.
+    pub fn polls_both(&mut self, turns: u64, notes: &[Note<u64>]) -> bool {
+        self.deliver(OUTSIDE)
+            && self.turns(turns)
+            && self.deliver(OWN)
+            && self.turns(1)
+            && self.tells(notes)
+    }
+
+    fn tells(&self, notes: &[Note<u64>]) -> bool {
         tells(self.core.journal(), notes)
+    }
+}
+
+/// Whether a core, if it opened, polls so, and tells these notes.
+pub fn polls<O: OutEnd<ScriptJob> + Drop, I: InEnd<ScriptJob> + Drop>(
+    poster: Result<Poster<O, I>, AllocError>,
+    turns: u64,
+    further: bool,
+    notes: &[Note<u64>],
+) -> bool {
+    match poster {
+        Ok(mut poster) => poster.polls(turns, further, notes),
+        Err(_) => false,
     }
 }

@@ -5,7 +5,7 @@ ghost use Rattle.rt_jobs.specs.Ready.{HasReadyJob};
 ghost use Rattle.rt_link.specs.Whole.{fresh, inward_of};
 
 use crate::actors::{CORE, FIRST, OUTSIDE, OWN, QUEUE, Sender, put};
-use crate::poster::Poster;
+use crate::poster::{Poster, polls};
 use rt_ids::{CoreNo, JobId, Note, Order};
 use rt_jobs::{Poll, ScriptJob, Task};
 use rt_link::{InEnd, OutEnd, PlainLink};
@@ -92,16 +92,8 @@ fn plain_poster_with(
     plain_poster(alloc, outside)
 }
 
-/// Whether the job's polls over plain links come to these notes.
-fn polls_over_plain_links(poster: &mut Poster<PlainLink<ScriptJob>, PlainLink<ScriptJob>>) -> bool {
-    poster.deliver(OUTSIDE) && poster.turns(4) && poster.tells(&NOTED[..15])
-}
-
-fn posts_over_plain_links(rt: &impl Abort, alloc: Global) -> bool {
-    match plain_poster_with(alloc, job(rt)) {
-        Ok(mut poster) => polls_over_plain_links(&mut poster),
-        Err(_) => false,
-    }
+fn posts_over_plain_links(rt: &impl Abort, alloc: Global, notes: &[Note<u64>]) -> bool {
+    polls(plain_poster_with(alloc, job(rt)), 4, false, notes)
 }
 
 /// A core with a ring to itself, which receives from the outside actor on this end.
@@ -134,30 +126,36 @@ fn ring_actors(
     Some((sender, poster))
 }
 
-/// Whether the job's polls over rings come to these notes, and then the poll of the job that it submitted.
-fn polls_over_rings(poster: &mut Poster<RingOut<ScriptJob>, RingIn<ScriptJob>>) -> bool {
-    poster.deliver(OUTSIDE)
-        && poster.turns(4)
-        && poster.deliver(OWN)
-        && poster.turns(1)
-        && poster.tells(&NOTED)
+/// Whether the job crosses to the core, and its polls come to these notes, with the poll of the job that it submitted.
+fn crosses<O: OutEnd<ScriptJob> + Drop, I: InEnd<ScriptJob> + Drop>(
+    rt: &impl Abort,
+    sender: &mut Sender<O>,
+    poster: &mut Poster<O, I>,
+    notes: &[Note<u64>],
+) -> bool {
+    sender.submit(job(rt)) && poster.polls_both(4, notes)
 }
 
-fn posts_over_rings(rt: &impl Abort, alloc: Global) -> bool {
-    match ring_actors(alloc) {
-        Some((mut sender, mut poster)) => {
-            sender.submit(job(rt)) && polls_over_rings(&mut poster)
-        }
+/// Whether the job crosses between these actors, if they were opened, and comes to these notes.
+fn posts_across<O: OutEnd<ScriptJob> + Drop, I: InEnd<ScriptJob> + Drop>(
+    rt: &impl Abort,
+    actors: Option<(Sender<O>, Poster<O, I>)>,
+    notes: &[Note<u64>],
+) -> bool {
+    match actors {
+        Some((mut sender, mut poster)) => crosses(rt, &mut sender, &mut poster, notes),
         None => false,
     }
 }
 
-#[test]
-fn a_job_submits_over_rings(rt: HostRuntime) {
-    assert!(rt; posts_over_rings(&rt, rt.alloc()));
+fn posts_over_rings(rt: &impl Abort, alloc: Global, notes: &[Note<u64>]) -> bool {
+    posts_across(rt, ring_actors(alloc), notes)
 }
 
+/// Over plain links the job that it submitted isn't delivered.
 #[test]
-fn a_job_submits_over_plain_links(rt: HostRuntime) {
-    assert!(rt; posts_over_plain_links(&rt, rt.alloc()));
+fn a_job_submits_over_rings_and_over_plain_links(rt: HostRuntime) {
+    let notes = NOTED;
+    assert!(rt; posts_over_rings(&rt, rt.alloc(), &notes));
+    assert!(rt; posts_over_plain_links(&rt, rt.alloc(), &notes[..15]));
 }

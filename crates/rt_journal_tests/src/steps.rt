@@ -2,9 +2,12 @@
 
 ghost use Rattle.std.specs.Prelude.{◌≡◌, IfOk};
 ghost use Rattle.rt_jobs.specs.Ready.{HasReadyJob};
+ghost use Rattle.rt_journal.specs.Steps.{opened_beside};
 ghost use Rattle.rt_link.specs.Whole.{fresh, inward_of};
 
-use crate::actors::{Act, CORE, FIRST, OUTSIDE, OWN, QUEUE, Receiver, SECOND, Sender, put, tells};
+use crate::actors::{
+    Act, CORE, FIRST, OUTSIDE, OWN, QUEUE, Receiver, SECOND, Sender, goes, put, tells,
+};
 use rt_ids::{Answer, Mode, Note, Order, OutcomeNote, QueueNo, Reason, TicketError};
 use rt_jobs::{ScriptJob, Task};
 use rt_journal::Recorded;
@@ -88,15 +91,9 @@ fn plain_receiver(alloc: Global) -> Result<Receiver<PlainLink<ScriptJob>>, Alloc
     Receiver::open(alloc, 4, own, outside)
 }
 
-fn hands_back(receiver: &mut Receiver<PlainLink<ScriptJob>>) -> bool {
-    receiver.does(&HANDS_BACK) && receiver.tells(&HANDED_BACK)
-}
-
 fn queue_hands_back(alloc: Global) -> bool {
-    match plain_receiver(alloc) {
-        Ok(mut receiver) => hands_back(&mut receiver),
-        Err(_) => false,
-    }
+    let notes = HANDED_BACK;
+    goes(plain_receiver(alloc), &HANDS_BACK, &notes)
 }
 
 #[test]
@@ -124,16 +121,16 @@ fn ring_actors(alloc: Global) -> Option<(Sender<RingOut<ScriptJob>>, Receiver<Ri
     Some((sender, receiver))
 }
 
-fn sends_both(sender: &mut Sender<RingOut<ScriptJob>>) -> bool {
+fn sends_both<O: OutEnd<ScriptJob> + Drop>(sender: &mut Sender<O>) -> bool {
     sender.submit(job()) && sender.submit(Order::CloseCore(Mode::Finish))
 }
 
-fn finishes(receiver: &mut Receiver<RingIn<ScriptJob>>) -> bool {
+fn finishes<I: InEnd<ScriptJob> + Drop>(receiver: &mut Receiver<I>) -> bool {
     receiver.does(&FINISHES) && receiver.is_drained() && receiver.tells(&FINISHED)
 }
 
 /// Both outcomes come when the gate is shut, and one of them is waited for.
-fn collects_both(sender: &mut Sender<RingOut<ScriptJob>>) -> bool {
+fn collects_both<O: OutEnd<ScriptJob> + Drop>(sender: &mut Sender<O>) -> bool {
     sender.redeem(1) == Err(TicketError::Pending)
         && sender.outstanding() == 2
         && !sender.submit(job())
@@ -142,22 +139,25 @@ fn collects_both(sender: &mut Sender<RingOut<ScriptJob>>) -> bool {
 }
 
 /// The job's answer is given once.
-fn redeems_one(sender: &mut Sender<RingOut<ScriptJob>>) -> bool {
+fn redeems_one<O: OutEnd<ScriptJob> + Drop>(sender: &mut Sender<O>) -> bool {
     sender.redeem(1) == Ok(Some(7))
         && sender.redeem(1) == Err(TicketError::Gone)
         && sender.outstanding() == 0
         && sender.tells(&REDEEMED)
 }
 
-fn cross_back(
-    sender: &mut Sender<RingOut<ScriptJob>>,
-    receiver: &mut Receiver<RingIn<ScriptJob>>,
+fn cross_back<O: OutEnd<ScriptJob> + Drop, I: InEnd<ScriptJob> + Drop>(
+    sender: &mut Sender<O>,
+    receiver: &mut Receiver<I>,
 ) -> bool {
     sends_both(sender) && finishes(receiver) && collects_both(sender) && redeems_one(sender)
 }
 
-fn outcomes_cross(alloc: Global) -> bool {
-    match ring_actors(alloc) {
+/// Whether both outcomes cross back between these actors, if they were opened.
+fn outcomes_cross<O: OutEnd<ScriptJob> + Drop, I: InEnd<ScriptJob> + Drop>(
+    actors: Option<(Sender<O>, Receiver<I>)>,
+) -> bool {
+    match actors {
         Some((mut sender, mut receiver)) => cross_back(&mut sender, &mut receiver),
         None => false,
     }
@@ -165,7 +165,7 @@ fn outcomes_cross(alloc: Global) -> bool {
 
 #[test]
 fn outcomes_cross_back_over_rings(rt: HostRuntime) {
-    assert!(rt; outcomes_cross(rt.alloc()));
+    assert!(rt; outcomes_cross(ring_actors(rt.alloc())));
 }
 
 /// The outside actor with a plain link of one place.
@@ -175,7 +175,7 @@ fn plain_sender(alloc: Global) -> Result<Sender<PlainLink<ScriptJob>>, AllocErro
 }
 
 /// On a link of one place a job is sent and let go, and its place isn't free yet.
-fn lets_go(sender: &mut Sender<PlainLink<ScriptJob>>) -> bool {
+fn lets_go<O: OutEnd<ScriptJob> + Drop>(sender: &mut Sender<O>) -> bool {
     sender.submit(job())
         && !sender.submit(job())
         && sender.detach(1)
@@ -208,16 +208,21 @@ fn tells_both(core: &Recorded<ScriptJob>, half: Shares) -> bool {
     tells(core.journal(), &notes)
 }
 
-/// A core makes a queue of these shares before anything else, and closes.
-fn makes_and_closes(alloc: Global, half: Shares) -> Result<bool, AllocError> {
+/// A core that was just opened makes a queue of these shares before anything else, and closes.
+fn makes_and_closes(core: &mut Recorded<ScriptJob>, half: Shares) -> bool
+    requires { core.old ≡ opened_beside 0 1 4 10 1 }
+{
+    core.create(half) == Ok(QueueNo(1)) && core.cap() == 4 && closes(core) && tells_both(core, half)
+}
+
+fn core_makes_and_closes(alloc: Global, half: Shares) -> Result<bool, AllocError> {
     let mut core: Recorded<ScriptJob> = Recorded::open(alloc, alloc, CORE, 1, 4, 10)?;
-    let made = core.create(half) == Ok(QueueNo(1)) && core.cap() == 4;
-    Ok(made && closes(&mut core) && tells_both(&core, half))
+    Ok(makes_and_closes(&mut core, half))
 }
 
 #[test]
 fn a_core_makes_a_queue_and_closes(rt: HostRuntime) -> Result<(), Fail> {
     let half = Shares::try_new(500)?;
-    assert!(rt; makes_and_closes(rt.alloc(), half)?);
+    assert!(rt; core_makes_and_closes(rt.alloc(), half)?);
     Ok(())
 }

@@ -22,7 +22,7 @@ use Rattle.rt_runtime.specs.Passing.{passed_on, refused_of}
 use Rattle.rt_runtime.specs.Sends.{MakesRoom, Sends, SubmitsTo, room_left}
 use Rattle.rt_runtime.specs.State.{RuntimeView, SubmitsNothing, submitted}
 use Rattle.rt_runtime.specs.Tickets.{RedeemsHere}
-use Rattle.rt_runtime.specs.Waiting.{CollectsSome, InARow, TriesInVain}
+use Rattle.rt_runtime.specs.Waiting.{CollectsAt, CollectsBelow, CollectsEach, InARow, TriesInVain}
 use Rattle.rt_runtime.proofs.Idle.{nothing_same, nothing_then}
 use Rattle.rt_runtime.specs.WaitingLaws.{AreCollections, IsCollection, OnlySubmits, WaitsRedeemOnce, WaitsSubmitOnce, redemption}
 
@@ -61,20 +61,28 @@ module _ {J T : Type 0} where
   }
 
   -- one `collect`
-  just_one : (old new : RuntimeView J T) → CollectsSome old new → JustCollected old new × SubmitsNothing old new
-  just_one old new some =
+  just_one : (core : ℕ) (old new : RuntimeView J T) → CollectsAt core old new → JustCollected old new × SubmitsNothing old new
+  just_one core old new one =
       ⊎_elim
-      (λ (low : some.core < old.desk.cores).
-      let did = some.collects.there low in
-      (record { collected = did.collects.0; are = collections_of some.core did.collects.0 did.collects.1; noted = ap (λ journal. journal.notes) did.collects.3; orders = did.nothing.orders }, did.nothing))
-      (λ high. let same = (some.collects.missing high).1 in (just_same old new same, nothing_same old new same))
-      (cases_lt some.core old.desk.cores)
+      (λ (low : core < old.desk.cores).
+      let did = one.collects.there low in
+      (record { collected = did.collects.0; are = collections_of core did.collects.0 did.collects.1; noted = ap (λ journal. journal.notes) did.collects.3; orders = did.nothing.orders }, did.nothing))
+      (λ high. let same = (one.collects.missing high).1 in (just_same old new same, nothing_same old new same))
+      (cases_lt core old.desk.cores)
 
-  just_collections : (calls : ℕ) (old new : RuntimeView J T) → InARow CollectsSome calls old new → JustCollected old new × SubmitsNothing old new
-  just_collections zero old new same = (just_same old new same, nothing_same old new same)
-  just_collections (suc calls) old new row =
-      let first = just_collections calls old row.0 row.1 in
-      let later = just_one row.0 new row.2 in
+  -- one look at all links
+  just_below : (cores : ℕ) (old new : RuntimeView J T) → CollectsBelow cores old new → JustCollected old new × SubmitsNothing old new
+  just_below zero old new same = (just_same old new same, nothing_same old new same)
+  just_below (suc core) old new row =
+      let first = just_below core old row.0 row.1 in
+      let later = just_one core row.0 new row.2 in
+      (just_then old row.0 new first.0 later.0, nothing_then old row.0 new first.1 later.1)
+
+  just_looks : (looks : ℕ) (old new : RuntimeView J T) → InARow CollectsEach looks old new → JustCollected old new × SubmitsNothing old new
+  just_looks zero old new same = (just_same old new same, nothing_same old new same)
+  just_looks (suc looks) old new row =
+      let first = just_looks looks old row.0 row.1 in
+      let later = just_below row.0.desk.cores row.0 new row.2 in
       (just_then old row.0 new first.0 later.0, nothing_then old row.0 new first.1 later.1)
 
   -- tries in vain that change no note and no order
@@ -83,7 +91,7 @@ module _ {J T : Type 0} where
   just_waits in_vain vain zero old new same = just_same old new same
   just_waits in_vain vain (suc tries) old new row =
       let first = just_waits in_vain vain tries old row.0 row.1 in
-      let try = just_then row.0 row.2.tried new (vain row.0 row.2.tried row.2.vain) (just_collections row.2.collects.calls row.2.tried new row.2.collects.are).0 in
+      let try = just_then row.0 row.2.tried new (vain row.0 row.2.tried row.2.vain) (just_looks (suc row.2.looks.again) row.2.tried new row.2.looks.are).0 in
       just_then old row.0 new first try
 
   -- tries in vain that submit nothing
@@ -92,7 +100,7 @@ module _ {J T : Type 0} where
   nothing_waits in_vain vain zero old new same = nothing_same old new same
   nothing_waits in_vain vain (suc tries) old new row =
       let first = nothing_waits in_vain vain tries old row.0 row.1 in
-      let try = nothing_then row.0 row.2.tried new (vain row.0 row.2.tried row.2.vain) (just_collections row.2.collects.calls row.2.tried new row.2.collects.are).1 in
+      let try = nothing_then row.0 row.2.tried new (vain row.0 row.2.tried row.2.vain) (just_looks (suc row.2.looks.again) row.2.tried new row.2.looks.are).1 in
       nothing_then old row.0 new first try
 
   module _ (fits : Order J → Outcome J T → Type 0) where

@@ -19,17 +19,6 @@ module _ {J T : Type 0} where
   InARow step zero old new = new ≡ old
   InARow step (suc count) old new = (between : RuntimeView J T) × InARow step count old between × step between new
 
-  -- `collect` of some core
-  pub record CollectsSome (old new : RuntimeView J T) : Type 0 where
-    pub core : ℕ
-    pub count : ℕ
-    pub collects : Collects core old count new
-
-  -- the caller collects, from one core after another, and does nothing else
-  pub record CollectsOnly (old new : RuntimeView J T) : Type 0 where
-    pub calls : ℕ
-    pub are : InARow CollectsSome calls old new
-
   -- `collect` of this core
   pub record CollectsAt (core : ℕ) (old new : RuntimeView J T) : Type 0 where
     pub count : ℕ
@@ -44,13 +33,18 @@ module _ {J T : Type 0} where
   abbrev pub CollectsEach : RuntimeView J T → RuntimeView J T → Type 0
   CollectsEach old new = CollectsBelow old.desk.cores old new
 
-  -- a try in vain, and then collections alone
+  -- the caller looks at all links, once or more often, and does nothing else
+  pub record LooksOnly (old new : RuntimeView J T) : Type 0 where
+    pub again : ℕ
+    pub are : InARow CollectsEach (suc again) old new
+
+  -- a try in vain, and then looks alone
   pub record TriesInVain (in_vain : RuntimeView J T → RuntimeView J T → Type 0) (old new : RuntimeView J T) : Type 0 where
     pub tried : RuntimeView J T
     pub vain : in_vain old tried
-    pub collects : CollectsOnly tried new
+    pub looks : LooksOnly tried new
 
-  -- The caller waits: tries in vain, each with the collections behind it. So it collects only behind such a try.
+  -- The caller waits: tries in vain, behind each of which it looks at all links. So it collects only behind such a try.
   pub record Waits (in_vain : RuntimeView J T → RuntimeView J T → Type 0) (old new : RuntimeView J T) : Type 0 where
     pub tries : ℕ
     pub are : InARow (TriesInVain in_vain) tries old new

@@ -4,7 +4,7 @@ ghost use Rattle.std.specs.Prelude.{◌≡◌, ◌<◌, ◌↔◌, IfNone, IfOk,
 ghost use Rattle.rt_jobs.specs.Ready.{HasReadyJob};
 ghost use Rattle.rt_link.specs.Fits.{Fits};
 ghost use Rattle.rt_runtime_worker.specs.Workers.{IsBellOf};
-ghost use Rattle.rt_runtime.specs.Waiting.{AreAllPending, CollectsEach, CollectsOnly, RedeemsAtLast, RedeemsFirst, SubmitsAtLast, WaitsForAny};
+ghost use Rattle.rt_runtime.specs.Waiting.{AreAllPending, CollectsEach, LooksOnly, RedeemsAtLast, RedeemsFirst, SubmitsAtLast, WaitsForAny};
 
 use crate::error::SubmitError;
 use crate::quiet::Slept;
@@ -36,15 +36,15 @@ impl<J: Task<Out = u64>, C: Drop, G: Drop, S: Sink> Runtime<J, C, G, S> {
 
     /// Looks for outcomes until there is one, at most so often as a caller does before it parks. Whether there was one.
     fn collects_soon(&mut self) -> bool
-        ensures collects { CollectsOnly self.old self.new }
+        ensures looks { LooksOnly self.old self.new }
         ensures told { IsTrue result ↔ (length self.old.desk.journal.notes < length self.new.desk.journal.notes) }
     {
-        for _ in 0..TRIES {
+        for _ in 1..TRIES {
             if self.collect_all() {
                 return true;
             }
         }
-        false
+        self.collect_all()
     }
 
     /// The caller's own bell, in hands of its own: all of the runtime is used while the caller lies down.
@@ -72,7 +72,7 @@ impl<J: Task<Out = u64>, C: Drop, G: Drop, S: Sink> Runtime<J, C, G, S> {
 
     /// Waits until there is an outcome: parked, if none comes soon. The worker that gives it rings. It may return before there is one.
     fn rest<R: Wait>(&mut self, rt: &R)
-        ensures { CollectsOnly self.old self.new }
+        ensures { LooksOnly self.old self.new }
     {
         if self.collects_soon() {
             return;

@@ -1,4 +1,4 @@
--- What small workers leave at their end that is refused: a core that closed by itself, notes that are kept, a board that is behind.
+-- What small workers leave at their end that is refused: a core that closed by itself, notes that are kept, a board that is behind, another sink.
 use Rattle.std.proofs.Common.{◌≡◌, ◌⊎◌, inl, inr, ℕ, [], ◌∷◌, length, sym, ◌∙◌, ap, arith}
 use Rattle.rt_ids.specs.declared.names.JobId.{JobId}
 use Rattle.rt_ids.specs.declared.note.Note.TheVariants.{CoreClosed, Pick, Start, Took, Yield}
@@ -10,7 +10,8 @@ use Rattle.rt_runtime_worker.specs.Ended.{ActsUnlessRefused, EndedView, HasEnded
 use Rattle.rt_runtime_worker.specs.Linked.{IsBetweenTurns}
 use Rattle.rt_runtime_worker.specs.Serves.{ServesToItsEnd}
 use Rattle.rt_runtime_worker.specs.Shown.{ShownView, Shows}
-use Rattle.rt_runtime_worker.proofs.ServesRefused.{has, never}
+use Rattle.rt_runtime_worker.specs.Workers.{KeepsOn, WorkerView}
+use Rattle.rt_runtime_worker.proofs.ServesRefused.{always, has, never, silent, twice, unasked}
 use Rattle.rt_runtime_worker.proofs.SmallWorkers.{SmallWorker, board_of, linked_of, one_note}
 use Rattle.rt_runtime_worker.proofs.Supplied.{hands_notes}
 
@@ -43,6 +44,10 @@ leaves_a_turn_open between = cc
 abbrev ended_with : Journal ℕ → ShownView ℕ → EndedView ℕ ℕ (Journal ℕ)
 ended_with passed shown = record { linked = linked_of one_note passed 1000; sink = passed; shown = shown }
 
+-- the mark of a sink is the sink itself, and another one comes back
+gives_another_sink : (worker : WorkerView ℕ ℕ ℕ ℕ ℕ) (ended : EndedView ℕ ℕ ℕ) → worker.sink ≡ 0 → ended.sink ≡ 1 → KeepsOn (λ sink. sink) worker ended → ⊥
+gives_another_sink worker ended was is keeps = omega (arith, was, is, keeps.marked)
+
 module _ (meaning : Meaning ℕ ℕ) (reads : ℕ → ℕ → ℕ → Type 0) (asked : ℕ → ℕ → JobId → ℕ → Type 0) where
   -- its note isn't passed on, and its sink never refused
   keeps_at_its_end : HasEnded meaning has never (ended_with [] (board_of one_note 1)) → ⊥
@@ -53,7 +58,7 @@ module _ (meaning : Meaning ℕ ℕ) (reads : ℕ → ℕ → ℕ → Type 0) (a
       is_kept (inr refused) = refused
 
   -- its board doesn't tell its last note
-  ends_unpublished : (old : SmallWorker) → ServesToItsEnd meaning reads asked has never old (ended_with one_note (board_of [] 1)) → ⊥
+  ends_unpublished : (old : SmallWorker) → ServesToItsEnd meaning reads asked has never silent old (ended_with one_note (board_of [] 1)) → ⊥
   ends_unpublished old ended = is_behind ended.shows
     where
       notes : one_note ≡ ended.last.linked.recorded.journal.notes
@@ -63,3 +68,7 @@ module _ (meaning : Meaning ℕ ℕ) (reads : ℕ → ℕ → ℕ → Type 0) (a
       is_behind (inl did) = let none : [] ≡ one_note = ap (λ (shown : ShownView ℕ). shown.notes) did ∙ sym notes in cc
       is_behind (inr (inl many, same)) = let few = ap (λ (shown : ShownView ℕ). shown.count) same in omega (arith, many, few)
       is_behind (inr (inr many, same)) = let few = ap (λ (notes : Journal ℕ). length notes) notes in omega (arith, many, few)
+
+  -- its sink refused the note, and isn't asked once more
+  ends_unasked : (old : SmallWorker) → ServesToItsEnd meaning reads asked has always twice old (ended_with [] (board_of one_note 1)) → ⊥
+  ends_unasked old ended = unasked ended.last.sink [] ended.hands.asked

@@ -1,5 +1,5 @@
 -- What a worker gives back has ended.
-use Rattle.std.proofs.Common.{◌≡◌, inl, inr, ℕ, ◌+◌, ◌≤◌, [], length, refl, sym, ◌∙◌, ap, subst, arith}
+use Rattle.std.proofs.Common.{◌≡◌, inl, inr, ℕ, ◌+◌, ◌≤◌, Option, [], length, refl, sym, ◌∙◌, ap, subst, arith}
 use Rattle.std.specs.Prelude.{Bool, true, false}
 use Rattle.rt_ids.specs.Closing.{IsDrained}
 use Rattle.rt_ids.specs.Journal.{Journal, EachNote}
@@ -33,7 +33,7 @@ module _ {J T S : Type 0} (has : S → Journal T) (refused : S → ℕ → Type 
     refuses = λ ends. cc;
   }
 
-  module _ (served : ServedView J T) (new : LinkedView J T) (sink after : S) (passes : PassesTo has refused served sink) (did : HandsOn has refused served.linked sink new after) where
+  module _ {asks : S → Option ℕ} (served : ServedView J T) (new : LinkedView J T) (sink after : S) (passes : PassesTo has refused served sink) (did : HandsOn has refused asks served.linked sink new after) where
     -- at its end the core acts as it may by the room of the journal when its sink refused
     acts_behind : (ending : Bool) → served.ending ≡ ending → ActsAsItMay ending served.linked.recorded → ActsUnlessRefused refused after new.recorded
     acts_behind false is acts = inl (subst ActsByCommand (sym (hands_notes has refused served.linked new sink after did)) acts)

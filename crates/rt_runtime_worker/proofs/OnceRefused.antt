@@ -1,5 +1,5 @@
 -- A small worker that lies down without having published is refused.
-use Rattle.std.proofs.Common.{◌≡◌, ◌||◌, nat_lt, Bool, true, false, inl, inr, true≢false, ℕ, ◌+◌, ◌-◌, ◌<◌, ◌≤◌, ◌++◌, [], length, length-append, refl, sym, ◌∙◌, ap, arith}
+use Rattle.std.proofs.Common.{◌≡◌, ◌||◌, nat_lt, Bool, true, false, inl, inr, true≢false, ℕ, ◌<◌, ◌≤◌, ◌++◌, [], length, length-append, refl, sym, ◌∙◌, ap, arith}
 use Rattle.rt_ids.specs.declared.names.JobId.{JobId}
 use Rattle.rt_ids.specs.Journal.{Journal}
 use Rattle.rt_jobs.specs.Meanings.{Meaning}
@@ -9,7 +9,7 @@ use Rattle.rt_runtime_worker.specs.Looks.{LooksAtAll, LooksOrRests, MakesRound, 
 use Rattle.rt_runtime_worker.specs.Rounds.{StepsServed}
 use Rattle.rt_runtime_worker.specs.Serves.{CountsIdle, GoesOn, Rests, ServesOnce, ShowsNow, round_of}
 use Rattle.rt_runtime_worker.specs.Shown.{ShownView, Shows}
-use Rattle.rt_runtime_worker.proofs.ServesRefused.{has, never}
+use Rattle.rt_runtime_worker.proofs.ServesRefused.{has, never, silent}
 use Rattle.rt_runtime_worker.proofs.ShownAgain.{where_shown}
 use Rattle.rt_runtime_worker.proofs.SmallWorkers.{SmallWorker, board_of, linked_of, one_note, small_worker}
 use Rattle.rt_runtime_worker.proofs.Supplied.{where_notes}
@@ -71,7 +71,7 @@ module _ (meaning : Meaning ℕ ℕ) (reads : ℕ → ℕ → ℕ → Type 0) (a
   unpublished = small_worker (linked_of one_note one_note 1000) one_note 0
 
   -- it goes on without a note
-  goes_on_idle : GoesOn meaning reads asked has never unpublished true unpublished → ⊥
+  goes_on_idle : GoesOn meaning reads asked has never silent unpublished true unpublished → ⊥
   goes_on_idle goes = counted goes.some goes.makes goes.counts
     where
       same : length goes.ready.linked.recorded.journal.notes ≡ 1
@@ -85,11 +85,11 @@ module _ (meaning : Meaning ℕ ℕ) (reads : ℕ → ℕ → ℕ → Type 0) (a
   look_keeps turns some old new looks = omega (arith, grown _ _ looks.steps.stays.grows, grown _ _ looks.turn_steps.stays.grows, grown _ _ looks.gathers.stays.grows)
 
   -- it sleeps, and its note isn't published
-  sleeps_unpublished : (tired told : SmallWorker) (slept : Bool) → tired.shown ≡ board_of [] 0 → ShowsNow tired told → Rests meaning reads asked has never told slept unpublished → ⊥
+  sleeps_unpublished : (tired told : SmallWorker) (slept : Bool) → tired.shown ≡ board_of [] 0 → ShowsNow tired told → Rests meaning reads asked has never silent told slept unpublished → ⊥
   sleeps_unpublished tired told slept was shows rests = is_told shows.shows
     where
       count : 0 ≡ told.shown.count
-      count = ap (λ (shown : ShownView ℕ). shown.count) (rests.keeps.shown ∙ where_shown meaning reads asked has never _ told rests.ready rests.hands)
+      count = ap (λ (shown : ShownView ℕ). shown.count) (rests.keeps.shown ∙ where_shown meaning reads asked has never silent _ told rests.ready rests.hands)
 
       few : length tired.linked.recorded.journal.notes ≤ 1
       few =
@@ -103,7 +103,7 @@ module _ (meaning : Meaning ℕ ℕ) (reads : ℕ → ℕ → ℕ → Type 0) (a
       is_told (inr (inr many, same)) = omega (arith, few, many)
 
   -- it goes on without a note, or lies down without having published
-  stays_unpublished : ServesOnce meaning reads asked has never unpublished unpublished → ⊥
+  stays_unpublished : ServesOnce meaning reads asked has never silent unpublished unpublished → ⊥
   stays_unpublished (inl goes) = goes_on_idle goes
   stays_unpublished (inr (tired, goes, (told, shows, (slept, rests)))) =
-      sleeps_unpublished tired told slept (goes.keeps.shown ∙ where_shown meaning reads asked has never _ unpublished goes.ready goes.hands) shows rests
+      sleeps_unpublished tired told slept (goes.keeps.shown ∙ where_shown meaning reads asked has never silent _ unpublished goes.ready goes.hands) shows rests

@@ -1,5 +1,5 @@
 -- Rounds of a worker, one after another, as its states show them.
-use Rattle.std.proofs.Common.{◌≡◌, ℕ, List, sym, ap, subst}
+use Rattle.std.proofs.Common.{◌≡◌, ℕ, Option, List, sym, ap, subst}
 use Rattle.std.specs.Prelude.{Bool, nat_lt, not, if◌then◌else◌}
 use Rattle.rt_ids.specs.Journal.{Journal}
 use Rattle.rt_ids.specs.declared.names.JobId.{JobId}
@@ -21,14 +21,14 @@ abbrev pub worker_of : {J T C G S : Type 0} → LinkedView J T → Bool → C �
 worker_of linked ending clock gate taken turns tries idle bells sink shown since =
     record { linked = linked; ending = ending; clock = clock; gate = gate; taken = taken; turns = turns; tries = tries; idle = idle; bells = bells; sink = sink; shown = shown; since = since }
 
-module _ {J T C G S : Type 0} (meaning : Meaning J T) (reads : C → ℕ → C → Type 0) (asked : G → ℕ → JobId → G → Type 0) (has : S → Journal T) (refused : S → ℕ → Type 0) where
+module _ {J T C G S : Type 0} (meaning : Meaning J T) (reads : C → ℕ → C → Type 0) (asked : G → ℕ → JobId → G → Type 0) (has : S → Journal T) (refused : S → ℕ → Type 0) (asks : S → Option ℕ) where
   -- notes are passed on, then a round is made, and it is counted
-  pub goes : (old ready inside new : WorkerView J T C G S) (result some again : Bool) → inside ≡ ready → HandsOnWhere has refused (IsDue (served_of old)) old ready → result ≡ some →
+  pub goes : (old ready inside new : WorkerView J T C G S) (result some again : Bool) → inside ≡ ready → HandsOnWhere has refused asks (IsDue (served_of old)) old ready → result ≡ some →
       MakesRound meaning reads asked (nat_lt 0 inside.idle) inside.turns (round_of inside) result new.turns (round_of new) →
-      CountsIdle inside.tries some inside.idle again new.idle → new.tries ≡ inside.tries → new.bells ≡ inside.bells → new.sink ≡ inside.sink → new.shown ≡ inside.shown → new.since ≡ inside.since → GoesOn meaning reads asked has refused old again new
+      CountsIdle inside.tries some inside.idle again new.idle → new.tries ≡ inside.tries → new.bells ≡ inside.bells → new.sink ≡ inside.sink → new.shown ≡ inside.shown → new.since ≡ inside.since → GoesOn meaning reads asked has refused asks old again new
   goes old ready inside new result some again seen hands told makes counts tries bells sink shown since = record {
     ready = inside;
-    hands = subst (HandsOnWhere has refused (IsDue (served_of old)) old) (sym seen) hands;
+    hands = subst (HandsOnWhere has refused asks (IsDue (served_of old)) old) (sym seen) hands;
     some = some;
     makes = subst (λ some. MakesRound meaning reads asked (nat_lt 0 inside.idle) inside.turns (round_of inside) some new.turns (round_of new)) told makes;
     counts = counts;
@@ -36,20 +36,20 @@ module _ {J T C G S : Type 0} (meaning : Meaning J T) (reads : C → ℕ → C �
   }
 
   -- notes are passed on, and then there is a look
-  pub rests : (old ready inside new : WorkerView J T C G S) (slept : Bool) → inside ≡ ready → HandsOnWhere has refused (IsDueAtRest (served_of old)) old ready →
+  pub rests : (old ready inside new : WorkerView J T C G S) (slept : Bool) → inside ≡ ready → HandsOnWhere has refused asks (IsDueAtRest (served_of old)) old ready →
       LooksAtAll meaning reads asked (round_of inside) (not slept) new.turns (round_of new) →
-      new.idle ≡ (if slept then inside.idle else 0) → new.tries ≡ inside.tries → new.bells ≡ inside.bells → new.sink ≡ inside.sink → new.shown ≡ inside.shown → new.since ≡ inside.since → Rests meaning reads asked has refused old slept new
+      new.idle ≡ (if slept then inside.idle else 0) → new.tries ≡ inside.tries → new.bells ≡ inside.bells → new.sink ≡ inside.sink → new.shown ≡ inside.shown → new.since ≡ inside.since → Rests meaning reads asked has refused asks old slept new
   rests old ready inside new slept seen hands looks counts tries bells sink shown since = record {
     ready = inside;
-    hands = subst (HandsOnWhere has refused (IsDueAtRest (served_of old)) old) (sym seen) hands;
+    hands = subst (HandsOnWhere has refused asks (IsDueAtRest (served_of old)) old) (sym seen) hands;
     looks = looks;
     counts = counts;
     keeps = record { tries = tries; bells = bells; sink = sink; shown = shown; since = since };
   }
 
-module _ {J T C G S : Type 0} (has : S → Journal T) (refused : S → ℕ → Type 0) {due : Type 0} (old ready inside : WorkerView J T C G S) (seen : inside ≡ ready) (hands : HandsOnWhere has refused due old ready) where
-  hands_inside : HandsOnWhere has refused due old inside
-  hands_inside = subst (HandsOnWhere has refused due old) (sym seen) hands
+module _ {J T C G S : Type 0} (has : S → Journal T) (refused : S → ℕ → Type 0) {asks : S → Option ℕ} {due : Type 0} (old ready inside : WorkerView J T C G S) (seen : inside ≡ ready) (hands : HandsOnWhere has refused asks due old ready) where
+  hands_inside : HandsOnWhere has refused asks due old inside
+  hands_inside = subst (HandsOnWhere has refused asks due old) (sym seen) hands
 
   -- a step behind a passing
   pub behind_runs : (new : LinkedView J T) → StaysLinked inside.linked new → RunsOn old.linked new

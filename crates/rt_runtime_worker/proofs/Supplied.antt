@@ -1,5 +1,5 @@
 -- A worker that passes on its notes before a round comes to its end in it only if its sink refused.
-use Rattle.std.proofs.Common.{◌≡◌, ◌⊎◌, inl, inr, ℕ, ◌+◌, ◌*◌, ◌<◌, ◌≤◌, [], length, refl, sym, ◌∙◌, ap, subst, arith, ⊎_elim}
+use Rattle.std.proofs.Common.{◌≡◌, ◌⊎◌, inl, inr, ℕ, ◌+◌, ◌*◌, ◌<◌, ◌≤◌, Option, [], length, refl, sym, ◌∙◌, ap, subst, arith, ⊎_elim}
 use Rattle.std.specs.Prelude.{Bool, true, false}
 use Rattle.std.proofs.lemmas.Bool.{cases_lt, false≢true}
 use Rattle.rt_ids.specs.Journal.{Journal}
@@ -21,7 +21,7 @@ use Rattle.rt_runtime_worker.proofs.Published.{shown_runs}
 use Rattle.rt_runtime_worker.proofs.Passed.{free_behind, has_passed, same_notes, same_places, still_free}
 
 module _ {J T S : Type 0} (has : S → Journal T) (refused : S → ℕ → Type 0) where
-  module _ (old new : LinkedView J T) (before after : S) (did : HandsOn has refused old before new after) where
+  module _ {asks : S → Option ℕ} (old new : LinkedView J T) (before after : S) (did : HandsOn has refused asks old before new after) where
     pub hands_notes : new.recorded.journal.notes ≡ old.recorded.journal.notes
     hands_notes = same_notes has refused old.recorded.journal new.recorded.journal before after did.answer did.passes
 
@@ -123,16 +123,16 @@ module _ {J T S : Type 0} (has : S → Journal T) (refused : S → ℕ → Type 
         by_ending false is ends (inr had) = had
         by_ending false is ends (inl enough) = let goes : new.ending ≡ false = few.goes is (omega (arith, enough)) in absurd (false≢true (sym goes ∙ ends))
 
-  module _ {C G : Type 0} (due : Type 0) (old new : WorkerView J T C G S) where
+  module _ {C G : Type 0} {asks : S → Option ℕ} (due : Type 0) (old new : WorkerView J T C G S) where
     -- what is handed on where it is due, or nothing
-    pub where_runs : HandsOnWhere has refused due old new → RunsOn old.linked new.linked
+    pub where_runs : HandsOnWhere has refused asks due old new → RunsOn old.linked new.linked
     where_runs (inl did) = hands_runs old.linked new.linked old.sink new.sink did.1
     where_runs (inr none) = subst (λ (view : WorkerView J T C G S). RunsOn old.linked view.linked) (sym none.1) (runs_same old.linked)
 
-    pub where_notes : HandsOnWhere has refused due old new → new.linked.recorded.journal.notes ≡ old.linked.recorded.journal.notes
+    pub where_notes : HandsOnWhere has refused asks due old new → new.linked.recorded.journal.notes ≡ old.linked.recorded.journal.notes
     where_notes (inl did) = hands_notes old.linked new.linked old.sink new.sink did.1
     where_notes (inr none) = ap (λ view. view.linked.recorded.journal.notes) none.1
 
-    pub where_gate : HandsOnWhere has refused due old new → new.gate ≡ old.gate
+    pub where_gate : HandsOnWhere has refused asks due old new → new.gate ≡ old.gate
     where_gate (inl did) = ap (λ view. view.gate) did.2
     where_gate (inr none) = ap (λ view. view.gate) none.1

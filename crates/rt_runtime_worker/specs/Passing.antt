@@ -1,9 +1,9 @@
 -- When a worker passes on the notes that its journal keeps, and what that changes.
-use Rattle.std.specs.Prelude.{◌≡◌, ◌⊎◌, ℕ, ◌-◌, ◌*◌, ◌<◌, ◌≤◌, true, false, length, Result}
+use Rattle.std.specs.Prelude.{◌≡◌, ◌⊎◌, ℕ, ◌-◌, ◌*◌, ◌<◌, ◌≤◌, true, false, length, Option, Result}
 use Rattle.rt_ids.specs.Journal.{Journal}
 use Rattle.rt_journal.specs.Recorded.{RecordedView}
 use Rattle.rt_journal_notes.specs.Journals.{JournalView, free_notes, places_of}
-use Rattle.rt_journal_notes.specs.Passing.{KeepsRefusals, PassesOn}
+use Rattle.rt_journal_notes.specs.Passing.{IsAsked, KeepsRefusals, PassesOn}
 use Rattle.rt_journal_notes.specs.declared.sink.Refused.{Refused}
 use Rattle.rt_runtime_worker.specs.Ended.{ServedView}
 use Rattle.rt_runtime_worker.specs.Linked.{LinkedView}
@@ -32,13 +32,6 @@ module _ {J T : Type 0} where
   IsDueAtRest view = (view.ending ≡ false) × (length view.linked.recorded.journal.passed < length view.linked.recorded.journal.notes)
 
 module _ {J T S : Type 0} (has : S → Journal T) (refused : S → ℕ → Type 0) where
-  -- All notes that are kept are handed to the sink, which takes them or refuses. Nothing else changes.
-  pub record HandsOn (old : LinkedView J T) (before : S) (new : LinkedView J T) (after : S) : Type 0 where
-    pub answer : Result (Unit {0}) Refused
-    pub passes : PassesOn has refused old.recorded.journal before answer new.recorded.journal after
-    pub refusals : KeepsRefusals refused before after
-    pub rest : new ≡ record old { recorded = record old.recorded { journal = new.recorded.journal } }
-
   -- The sink has what was passed on, and there are places for two rounds. The worker is at its end only if the sink refused what was kept by then.
   pub record PassesTo (served : ServedView J T) (sink : S) : Type 0 where
     pub passed : has sink ≡ served.linked.recorded.journal.passed
@@ -50,6 +43,15 @@ module _ {J T S : Type 0} (has : S → Journal T) (refused : S → ℕ → Type 
   IsSupplied served sink =
       (2 * least_free served.linked.recorded.core.cores served.linked.recorded.cap served.linked.recorded.core.bursts.burst ≤ free_notes served.linked.recorded.journal)
       ⊎ refused sink (length served.linked.recorded.journal.passed)
+
+module _ {J T S : Type 0} (has : S → Journal T) (refused : S → ℕ → Type 0) (asks : S → Option ℕ) where
+  -- All notes that are kept are handed to the sink, which is asked once, and takes them or refuses. Nothing else changes.
+  pub record HandsOn (old : LinkedView J T) (before : S) (new : LinkedView J T) (after : S) : Type 0 where
+    pub answer : Result (Unit {0}) Refused
+    pub passes : PassesOn has refused old.recorded.journal before answer new.recorded.journal after
+    pub refusals : KeepsRefusals refused before after
+    pub asked : IsAsked (asks before) (asks after)
+    pub rest : new ≡ record old { recorded = record old.recorded { journal = new.recorded.journal } }
 
   -- where it is due, what is kept is handed to the sink and nothing else is done; where it isn't, nothing is done
   abbrev pub HandsOnWhere : {C G : Type 0} → Type 0 → WorkerView J T C G S → WorkerView J T C G S → Type 0

@@ -1,5 +1,5 @@
 -- How a worker serves its core: round after round, and a rest where nothing is to be done.
-use Rattle.std.specs.Prelude.{◌≡◌, ◌⊎◌, ℕ, ◌+◌, ◌≤◌, ◌<◌, Bool, true, false, not, nat_lt, if◌then◌else◌, List, [], ◌∷◌}
+use Rattle.std.specs.Prelude.{◌≡◌, ◌⊎◌, ℕ, ◌+◌, ◌≤◌, ◌<◌, Bool, true, false, not, nat_lt, if◌then◌else◌, Option, List, [], ◌∷◌}
 use Rattle.rt_ids.specs.declared.names.JobId.{JobId}
 use Rattle.rt_ids.specs.Journal.{Journal}
 use Rattle.rt_jobs.specs.Meanings.{Meaning}
@@ -47,11 +47,11 @@ module _ {J T C G S : Type 0} where
   abbrev pub ShowsAgain : WorkerView J T C G S → WorkerView J T C G S → Type 0
   ShowsAgain old new = ((shown_each ≤ old.since) × ShowsNow old new) ⊎ ((old.since < shown_each) × (new ≡ counted_round old))
 
-module _ {J T C G S : Type 0} (meaning : Meaning J T) (reads : C → ℕ → C → Type 0) (asked : G → ℕ → JobId → G → Type 0) (has : S → Journal T) (refused : S → ℕ → Type 0) where
+module _ {J T C G S : Type 0} (meaning : Meaning J T) (reads : C → ℕ → C → Type 0) (asked : G → ℕ → JobId → G → Type 0) (has : S → Journal T) (refused : S → ℕ → Type 0) (asks : S → Option ℕ) where
   -- notes are passed on where the journal is low, and then there is one round; and whether the next one is made at once
   pub record GoesOn (old : WorkerView J T C G S) (again : Bool) (new : WorkerView J T C G S) : Type 0 where
     pub ready : WorkerView J T C G S
-    pub hands : HandsOnWhere has refused (IsDue (served_of old)) old ready
+    pub hands : HandsOnWhere has refused asks (IsDue (served_of old)) old ready
     pub some : Bool
     pub makes : MakesRound meaning reads asked (nat_lt 0 ready.idle) ready.turns (round_of ready) some new.turns (round_of new)
     pub counts : CountsIdle ready.tries some ready.idle again new.idle
@@ -60,7 +60,7 @@ module _ {J T C G S : Type 0} (meaning : Meaning J T) (reads : C → ℕ → C �
   -- notes are passed on where one is kept, and then there is a look at everything, behind which it sleeps only if there was nothing; else it counts anew
   pub record Rests (old : WorkerView J T C G S) (slept : Bool) (new : WorkerView J T C G S) : Type 0 where
     pub ready : WorkerView J T C G S
-    pub hands : HandsOnWhere has refused (IsDueAtRest (served_of old)) old ready
+    pub hands : HandsOnWhere has refused asks (IsDueAtRest (served_of old)) old ready
     pub looks : LooksAtAll meaning reads asked (round_of ready) (not slept) new.turns (round_of new)
     pub counts : new.idle ≡ (if slept then ready.idle else 0)
     pub keeps : KeepsTries ready new
@@ -91,4 +91,4 @@ module _ {J T C G S : Type 0} (meaning : Meaning J T) (reads : C → ℕ → C �
     pub last : WorkerView J T C G S
     pub serves : ServesOn old last
     pub shows : Shows last.linked.recorded.journal.notes last.shown new.shown
-    pub hands : HandsOn has refused last.linked last.sink new.linked new.sink
+    pub hands : HandsOn has refused asks last.linked last.sink new.linked new.sink

@@ -39,7 +39,8 @@ pub record HasNotBegun {J T C G S : Type 0} (worker : WorkerView J T C G S) : Ty
   pub turns : worker.turns ≡ 0
   pub idle : worker.idle ≡ 0
 
--- what a worker owes of what it gives back: its life goes on, and it is the same board
-pub record KeepsOn {J T C G S : Type 0} (worker : WorkerView J T C G S) (ended : EndedView J T S) : Type 0 where
+-- what a worker owes of what it gives back: its life goes on, it is the same board, and its sink bears the same mark
+pub record KeepsOn {J T C G S : Type 0} (mark : S → ℕ) (worker : WorkerView J T C G S) (ended : EndedView J T S) : Type 0 where
   pub runs : RunsOn worker.linked ended.linked
   pub board : ended.shown.board ≡ worker.shown.board
+  pub marked : mark ended.sink ≡ mark worker.sink

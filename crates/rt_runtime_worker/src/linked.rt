@@ -1,6 +1,6 @@
 //! A core beside its journal, with its actor's ends of the links.
 
-ghost use Rattle.std.specs.Prelude.{◌≡◌, ◌+◌, ◌*◌, ◌^◌, ◌<◌, ◌≤◌, ◌↔◌, IsSome, IsTrue, None, false, length, is_some};
+ghost use Rattle.std.specs.Prelude.{◌≡◌, ◌+◌, ◌*◌, ◌^◌, ◌<◌, ◌≤◌, ◌↔◌, IsSome, IsTrue, None, false, length, is_some, true};
 ghost use Rattle.rt_ids.specs.Closing.{IsDrained, core_mode, final_count};
 ghost use Rattle.rt_runtime_worker.specs.Linked.{IsBetweenTurns, IsLinked};
 ghost use Rattle.rt_runtime_worker.specs.Passing.{HandsOn, IsLow};
@@ -106,10 +106,12 @@ impl<J: Task<Out = u64>> Linked<J> {
 
     /// Whether a turn would poll a job or hand one back. Nothing changes.
     pub(crate) fn has_turn(&self) -> bool
-        ensures { result ≡ false → HasNoTurn self.now.recorded.journal.notes }
+        ensures none { result ≡ false → HasNoTurn self.now.recorded.journal.notes }
+        ensures rightly { result ≡ true → HasNoTurn self.now.recorded.journal.notes → ⊥ }
     {
         match self.recorded.ahead() {
-            Ok(Ahead::Job(_)) | Ok(Ahead::Back) => true,
+            Ok(Ahead::Job(_)) => true,
+            Ok(Ahead::Back) => true,
             Ok(Ahead::Idle) => false,
             Err(PickError::Spent) => false,
             Err(PickError::Busy) => unreachable!(),
@@ -151,7 +153,8 @@ impl<J: Task<Out = u64>> Linked<J> {
     /// Hands all notes that are kept to the sink. One that refuses leaves them here.
     pub(crate) fn hand_on<S: Sink>(&mut self, sink: &mut S) -> Result<(), Refused>
         requires { S.has sink.old ≡ self.old.recorded.journal.passed }
-        ensures hands { HandsOn S.has S.refused self.old sink.old self.new sink.new }
+        ensures hands { HandsOn S.has S.refused S.asks self.old sink.old self.new sink.new }
+        ensures marked { S.mark sink.new ≡ S.mark sink.old }
         ensures linked { IsLinked J.meaning self.new }
         ensures between { IsBetweenTurns self.new.recorded }
     {

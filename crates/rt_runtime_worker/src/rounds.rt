@@ -156,7 +156,8 @@ impl<J: Task<Out = u64>, C: Drop, G: Drop> Rounds<J, C, G> {
         requires going { self.old.served.ending ≡ false }
         requires places { HasPlaces self.old.served.linked.recorded }
         requires passed { S.has sink.old ≡ self.old.served.linked.recorded.journal.passed }
-        ensures hands { HandsOn S.has S.refused self.old.served.linked sink.old self.new.served.linked sink.new }
+        ensures hands { HandsOn S.has S.refused S.asks self.old.served.linked sink.old self.new.served.linked sink.new }
+        ensures marked { S.mark sink.new ≡ S.mark sink.old }
         ensures going { self.new.served.ending ≡ false }
         ensures rung { AreRung self.new.served self.new.bells }
         ensures rest { self.new ≡ record self.old { served = self.new.served } }

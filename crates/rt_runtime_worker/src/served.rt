@@ -1,6 +1,6 @@
 //! A linked core that keeps room for its end: each of its steps is one of a worker's round.
 
-ghost use Rattle.std.specs.Prelude.{◌≡◌, ◌+◌, ◌*◌, ◌<◌, ◌≤◌, ◌↔◌, IsTrue, false};
+ghost use Rattle.std.specs.Prelude.{◌≡◌, ◌+◌, ◌*◌, ◌<◌, ◌≤◌, ◌↔◌, IsTrue, false, true};
 ghost use Rattle.rt_ids.specs.Closing.{IsDrained};
 ghost use Rattle.rt_journal.specs.Recorded.{IsRecorded};
 ghost use Rattle.rt_runtime_worker.specs.Asks.{AsksSince, NotesNoPoll};
@@ -134,7 +134,8 @@ impl<J: Task<Out = u64>> Served<J> {
         requires going { self.old.ending ≡ false }
         requires places { HasPlaces self.old.linked.recorded }
         requires passed { S.has sink.old ≡ self.old.linked.recorded.journal.passed }
-        ensures hands { HandsOn S.has S.refused self.old.linked sink.old self.new.linked sink.new }
+        ensures hands { HandsOn S.has S.refused S.asks self.old.linked sink.old self.new.linked sink.new }
+        ensures marked { S.mark sink.new ≡ S.mark sink.old }
         ensures going { self.new.ending ≡ false }
     {
         let _answer = self.linked.hand_on(sink);
@@ -236,7 +237,8 @@ impl<J: Task<Out = u64>> Served<J> {
 
     /// Whether a turn would poll a job or hand one back.
     pub(crate) fn has_turn(&self) -> bool
-        ensures { result ≡ false → HasNoTurn self.now.linked.recorded.journal.notes }
+        ensures none { result ≡ false → HasNoTurn self.now.linked.recorded.journal.notes }
+        ensures rightly { result ≡ true → HasNoTurn self.now.linked.recorded.journal.notes → ⊥ }
     {
         self.linked.has_turn()
     }

@@ -131,8 +131,9 @@ impl<J: Task<Out = u64>, C: Drop, G: Drop, S: Sink> Worker<J, C, G, S> {
 
     /// Hands what is kept to the sink, where the journal is low and the worker isn't at its end.
     fn hand_on_if_low(&mut self)
-        ensures hands { HandsOnWhere S.has S.refused (IsDue (served_of self.old)) self.old self.new }
+        ensures hands { HandsOnWhere S.has S.refused S.asks (IsDue (served_of self.old)) self.old self.new }
         ensures supplied { IsSupplied S.has S.refused (served_of self.new) self.new.sink }
+        ensures marked { S.mark self.new.sink ≡ S.mark self.old.sink }
     {
         if self.rounds.is_due() {
             self.rounds.hand_on(&mut self.sink);
@@ -141,8 +142,9 @@ impl<J: Task<Out = u64>, C: Drop, G: Drop, S: Sink> Worker<J, C, G, S> {
 
     /// Hands what is kept to the sink, unless that is nothing or the worker is at its end.
     fn hand_on_if_kept(&mut self)
-        ensures hands { HandsOnWhere S.has S.refused (IsDueAtRest (served_of self.old)) self.old self.new }
+        ensures hands { HandsOnWhere S.has S.refused S.asks (IsDueAtRest (served_of self.old)) self.old self.new }
         ensures supplied { IsSupplied S.has S.refused (served_of self.new) self.new.sink }
+        ensures marked { S.mark self.new.sink ≡ S.mark self.old.sink }
     {
         if self.rounds.is_due_at_rest() {
             self.rounds.hand_on(&mut self.sink);
@@ -191,7 +193,8 @@ impl<J: Task<Out = u64>, C: Drop, G: Drop, S: Sink> Worker<J, C, G, S> {
     /// What a worker of a drained core leaves. Its numbers are published for the last time, and what is still kept is handed to the sink.
     fn into_ended(self) -> Ended<J, S>
         requires { IsDrained self.linked.recorded.core.cores self.linked.recorded.journal.notes }
-        ensures hands { HandsOn S.has S.refused self.linked self.sink result.linked result.sink }
+        ensures hands { HandsOn S.has S.refused S.asks self.linked self.sink result.linked result.sink }
+        ensures marked { S.mark result.sink ≡ S.mark self.sink }
         ensures shows { Shows self.linked.recorded.journal.notes self.shown result.shown }
     {
         let Worker {
@@ -213,9 +216,10 @@ impl<J: Task<Out = u64>, C: Drop, G: Drop, S: Sink> Worker<J, C, G, S> {
 impl<J: Job + Task<Out = u64>, C: Clock + Drop, G: Gate + Drop, S: Sink> Worker<J, C, G, S> {
     /// Passes on what is kept, lies down, looks once more, and parks until its bell rings if there was nothing. Whether it slept.
     fn rests<R: Wait>(&mut self, rt: &R) -> bool
-        ensures rests { Rests J.meaning C.Reads G.Asked S.has S.refused self.old result self.new }
+        ensures rests { Rests J.meaning C.Reads G.Asked S.has S.refused S.asks self.old result self.new }
         ensures runs { RunsOn self.old.linked self.new.linked }
         ensures asks { AsksSince G.Asked self.old.linked.recorded.core.core self.old.linked.recorded.journal.notes self.new.linked.recorded.journal.notes self.old.gate self.new.gate }
+        ensures marked { S.mark self.new.sink ≡ S.mark self.old.sink }
     {
         self.hand_on_if_kept();
         match rest(rt, &self.own, &mut self.rounds, &mut self.local) {
@@ -230,9 +234,10 @@ impl<J: Job + Task<Out = u64>, C: Clock + Drop, G: Gate + Drop, S: Sink> Worker<
     /// Passes on what is kept if the journal is low, and makes one round. Whether the next one is made at once: unless nothing was to be done in
     /// it and in so many rounds before it.
     fn goes_on(&mut self) -> bool
-        ensures goes { GoesOn J.meaning C.Reads G.Asked S.has S.refused self.old result self.new }
+        ensures goes { GoesOn J.meaning C.Reads G.Asked S.has S.refused S.asks self.old result self.new }
         ensures runs { RunsOn self.old.linked self.new.linked }
         ensures asks { AsksSince G.Asked self.old.linked.recorded.core.core self.old.linked.recorded.journal.notes self.new.linked.recorded.journal.notes self.old.gate self.new.gate }
+        ensures marked { S.mark self.new.sink ≡ S.mark self.old.sink }
     {
         self.hand_on_if_low();
         let was_idle = self.idle > 0;
@@ -249,9 +254,10 @@ impl<J: Job + Task<Out = u64>, C: Clock + Drop, G: Gate + Drop, S: Sink> Worker<
 
     /// Makes one round. If the next one isn't made at once, it publishes and rests.
     fn serve_once<R: Wait>(&mut self, rt: &R)
-        ensures serves { ServesOnce J.meaning C.Reads G.Asked S.has S.refused self.old self.new }
+        ensures serves { ServesOnce J.meaning C.Reads G.Asked S.has S.refused S.asks self.old self.new }
         ensures runs { RunsOn self.old.linked self.new.linked }
         ensures asks { AsksSince G.Asked self.old.linked.recorded.core.core self.old.linked.recorded.journal.notes self.new.linked.recorded.journal.notes self.old.gate self.new.gate }
+        ensures marked { S.mark self.new.sink ≡ S.mark self.old.sink }
     {
         if !self.goes_on() {
             // Before it lies down, so that an idle core's board is complete.
@@ -262,9 +268,10 @@ impl<J: Job + Task<Out = u64>, C: Clock + Drop, G: Gate + Drop, S: Sink> Worker<
 
     /// Publishes if it is time, makes one round, and rests if the next one isn't made at once. If the worker came to its end, it publishes at once.
     fn serve<R: Wait>(&mut self, rt: &R)
-        ensures serves { Serves J.meaning C.Reads G.Asked S.has S.refused self.old self.new }
+        ensures serves { Serves J.meaning C.Reads G.Asked S.has S.refused S.asks self.old self.new }
         ensures runs { RunsOn self.old.linked self.new.linked }
         ensures asks { AsksSince G.Asked self.old.linked.recorded.core.core self.old.linked.recorded.journal.notes self.new.linked.recorded.journal.notes self.old.gate self.new.gate }
+        ensures marked { S.mark self.new.sink ≡ S.mark self.old.sink }
     {
         self.show_again();
         let was = self.is_ending();
@@ -276,14 +283,14 @@ impl<J: Job + Task<Out = u64>, C: Clock + Drop, G: Gate + Drop, S: Sink> Worker<
 impl<J: Task<Out = u64>, C: Drop, G: Drop, S: Sink> Promised for Worker<J, C, G, S> {
     type Ended = Ended<J, S>;
 
-    ghost keeps = { λ worker ended. KeepsOn worker ended };
+    ghost keeps = { λ worker ended. KeepsOn S.mark worker ended };
 }
 
 impl<J: Job + Task<Out = u64>, C: Clock + Drop, G: Gate + Drop, S: Sink> Work
     for Worker<J, C, G, S> {
     fn run<R: Wait>(self, rt: &R) -> Ended<J, S>
-        ensures keeps { KeepsOn self result }
-        ensures serves { ServesToItsEnd J.meaning C.Reads G.Asked S.has S.refused self result }
+        ensures keeps { KeepsOn S.mark self result }
+        ensures serves { ServesToItsEnd J.meaning C.Reads G.Asked S.has S.refused S.asks self result }
         ensures asks { (gate : G) × AsksSince G.Asked self.linked.recorded.core.core self.linked.recorded.journal.notes result.linked.recorded.journal.notes self.gate gate }
     {
         let mut worker = self;

@@ -1,6 +1,6 @@
 use Rattle.std.proofs.Common.{◌≡◌, ℕ, ◌+◌, true, inl, inr, refl, sym, ap, ◌∙◌, subst}
 use Rattle.std.proofs.lemmas.Bool.{false≢true}
-use Rattle.rt_journal.specs.Stats.{AreExact, TellsQueues}
+use Rattle.rt_journal.specs.Stats.{AreExact}
 use Rattle.rt_journal_notes.specs.Journals.{JournalView}
 use Rattle.rt_watch.specs.Closed.{closed_by_itself}
 use Rattle.rt_watch.specs.Tells as board

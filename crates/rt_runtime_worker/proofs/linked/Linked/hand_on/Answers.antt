@@ -14,11 +14,12 @@ invariant_of-self g c =
 
 pub returns-clause-hands : goal.returns-clause-hands
 returns-clause-hands g c =
-    subst (λ old. HandsOn g.S.Sink.has g.S.Sink.refused old c.args.sink.now (record { recorded = c.pass_on.new.self; ends = c.self.inside.ends }) c.pass_on.new.sink) c.self.view_is
+    subst (λ old. HandsOn g.S.Sink.has g.S.Sink.refused g.S.Sink.asks old c.args.sink.now (record { recorded = c.pass_on.new.self; ends = c.self.inside.ends }) c.pass_on.new.sink) c.self.view_is
     (record {
       answer = c.pass_on.result;
       passes = c.pass_on.ensures.passes;
       refusals = c.pass_on.ensures.refusals;
+      asked = c.pass_on.ensures.asked;
       rest = ap (λ recorded. record { recorded = recorded; ends = c.self.inside.ends }) c.pass_on.ensures.rest;
     })
 

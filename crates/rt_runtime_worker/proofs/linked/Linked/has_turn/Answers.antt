@@ -1,20 +1,43 @@
-use Rattle.std.proofs.Common.{◌≡◌, ℕ, ◌-◌, ◌^◌, false, inl, inr, subst}
+use Rattle.std.proofs.Common.{◌≡◌, ℕ, ◌-◌, ◌^◌, ◌<◌, false, [], inl, inr, sym, ◌∙◌, subst, arith}
+use Rattle.std.proofs.lemmas.Bool.{false≢true}
 use Rattle.std.specs.Prelude.{Ok, Err}
 use Rattle.rt_ids.specs.Picks.{turns}
 use Rattle.rt_ids.specs.Work.{has_work}
 use Rattle.rt_core.specs.declared.turn.Ahead.{Ahead}
 use Rattle.rt_core.specs.declared.turn.PickError.{PickError}
 use Rattle.rt_core.specs.Whole.{TellsAhead}
-use Rattle.rt_journal.proofs.Ahead.{idle, all_used}
+use Rattle.rt_core.proofs.Turned.{some_front}
+use Rattle.rt_taskqueue.specs.Queues.{waiting_of}
+use Rattle.rt_journal.proofs.Ahead.{idle, all_used, works}
+use Rattle.rt_journal.specs.Recorded.{IsRecorded, RecordedView}
+use Rattle.rt_jobs.specs.Meanings.{Meaning}
+use Rattle.rt_runtime_worker.specs.Steps.{HasNoTurn}
 use Rattle.rt_runtime_worker.specs.Linked.{LinkedView}
 use Rattle.rt_runtime_worker.proofs.linked.Linked.has_turn.Goals as goal
 
-pub returns-in-Ok-Idle : goal.returns-in-Ok-Idle
-returns-in-Ok-Idle g c =
+-- where a job waits and a turn is left, a turn is to be made
+turn_due : {J T : Type 0} {meaning : Meaning J T} (view : RecordedView J T) → IsRecorded meaning view → (queue : ℕ) → (waiting_of queue view.core.queues ≡ [] → ⊥) → view.core.turns < 2 ^ 64 - 1 →
+    HasNoTurn view.journal.notes → ⊥
+turn_due view recorded queue some left (inl none) = false≢true (sym (none queue) ∙ works view recorded queue some)
+turn_due view recorded queue some left (inr used) = omega (arith, left, used, recorded.kept.agrees.turns)
+
+pub returns-in-Ok-Idle-clause-none : goal.returns-in-Ok-Idle-clause-none
+returns-in-Ok-Idle-clause-none g c =
     let told = subst (λ (one : Ahead). TellsAhead c.self.inside.recorded.core (Ok one)) c.in-Ok-Idle.field-0-is c.in-Ok-Idle.ensures in
     λ _. inl (subst (λ (view : LinkedView _ _). (queue : ℕ) → has_work queue view.recorded.journal.notes ≡ false) c.self.view_is (idle c.self.inside.recorded c.self.invariant.0.recorded told.0 told.2))
 
-pub returns-in-Err-Spent : goal.returns-in-Err-Spent
-returns-in-Err-Spent g c =
+pub returns-in-Err-Spent-clause-none : goal.returns-in-Err-Spent-clause-none
+returns-in-Err-Spent-clause-none g c =
     let told = subst (λ (one : PickError). TellsAhead c.self.inside.recorded.core (Err one)) c.in-Err-Spent.field-0-is c.in-Err-Spent.ensures in
     λ _. inr (subst (λ (view : LinkedView _ _). turns view.recorded.journal.notes ≡ 2 ^ 64 - 1) c.self.view_is (all_used c.self.inside.recorded c.self.invariant.0.recorded told).0)
+
+pub returns-in-Ok-Job-clause-rightly : goal.returns-in-Ok-Job-clause-rightly
+returns-in-Ok-Job-clause-rightly g c =
+    let next = c.in-Ok-Job.field-0-0 in
+    let told = subst (λ (one : Ahead). TellsAhead c.self.inside.recorded.core (Ok one)) c.in-Ok-Job.field-0-is c.in-Ok-Job.ensures in
+    let some = some_front (waiting_of next.queue c.self.inside.recorded.core.queues) (next.name, record { started = next.started; woken = next.woken }, told.front.0) told.front.1 told.front.2 in
+    λ _. subst (λ (view : LinkedView _ _). HasNoTurn view.recorded.journal.notes → ⊥) c.self.view_is (turn_due c.self.inside.recorded c.self.invariant.0.recorded next.queue some told.left)
+
+pub returns-in-Ok-Back-clause-rightly : goal.returns-in-Ok-Back-clause-rightly
+returns-in-Ok-Back-clause-rightly g c = let told = subst (λ (one : Ahead). TellsAhead c.self.inside.recorded.core (Ok one)) c.in-Ok-Back.field-0-is c.in-Ok-Back.ensures in
+    λ _. subst (λ (view : LinkedView _ _). HasNoTurn view.recorded.journal.notes → ⊥) c.self.view_is (turn_due c.self.inside.recorded c.self.invariant.0.recorded told.0 told.2 told.4)

@@ -1,7 +1,7 @@
-use Rattle.std.proofs.Common.{refl, sym, subst, arith}
+use Rattle.std.proofs.Common.{refl, sym, ◌∙◌, ap, subst, arith}
 use Rattle.std.specs.Prelude.{false, true}
 use Rattle.rt_runtime_worker.specs.Passing.{IsSupplied}
-use Rattle.rt_runtime_worker.specs.Workers.{served_of}
+use Rattle.rt_runtime_worker.specs.Workers.{WorkerView, served_of}
 use Rattle.rt_runtime_worker.proofs.Along.{runs_stays}
 use Rattle.rt_runtime_worker.proofs.Published.{shown_runs}
 use Rattle.rt_runtime_worker.proofs.Resting.{behind_asks, behind_runs, bell_still, goes}
@@ -37,7 +37,7 @@ invariant_of-self-else-self g c = (
 
 pub returns-then-round-clause-goes : goal.returns-then-round-clause-goes
 returns-then-round-clause-goes g c =
-    goes g.J.Task.meaning g.C.Clock.Reads g.G.Gate.Asked g.S.Sink.has g.S.Sink.refused c.args.self.now c.hand_on_if_low.new.self _ _ c.round.result true true c.self.view_is c.hand_on_if_low.ensures.hands c.if-round.true c.round.ensures.makes (refl, refl) refl
+    goes g.J.Task.meaning g.C.Clock.Reads g.G.Gate.Asked g.S.Sink.has g.S.Sink.refused g.S.Sink.asks c.args.self.now c.hand_on_if_low.new.self _ _ c.round.result true true c.self.view_is c.hand_on_if_low.ensures.hands c.if-round.true c.round.ensures.makes (refl, refl) refl
     c.round.ensures.names refl refl refl
 
 pub returns-then-round-clause-runs : goal.returns-then-round-clause-runs
@@ -49,7 +49,7 @@ returns-then-round-clause-asks g c =
 
 pub returns-then-self-clause-goes : goal.returns-then-self-clause-goes
 returns-then-self-clause-goes g c =
-    goes g.J.Task.meaning g.C.Clock.Reads g.G.Gate.Asked g.S.Sink.has g.S.Sink.refused c.args.self.now c.hand_on_if_low.new.self _ _ c.round.result false true c.self.view_is c.hand_on_if_low.ensures.hands c.if-round.false c.round.ensures.makes (omega (arith, c.if-self.true), refl) refl
+    goes g.J.Task.meaning g.C.Clock.Reads g.G.Gate.Asked g.S.Sink.has g.S.Sink.refused g.S.Sink.asks c.args.self.now c.hand_on_if_low.new.self _ _ c.round.result false true c.self.view_is c.hand_on_if_low.ensures.hands c.if-round.false c.round.ensures.makes (omega (arith, c.if-self.true), refl) refl
     c.round.ensures.names refl refl refl
 
 pub returns-then-self-clause-runs : goal.returns-then-self-clause-runs
@@ -61,8 +61,8 @@ returns-then-self-clause-asks g c =
 
 pub returns-clause-goes : goal.returns-clause-goes
 returns-clause-goes g c =
-    goes g.J.Task.meaning g.C.Clock.Reads g.G.Gate.Asked g.S.Sink.has g.S.Sink.refused c.args.self.now c.hand_on_if_low.new.self _ _ c.round.result false false c.self.view_is c.hand_on_if_low.ensures.hands c.if-round.false c.round.ensures.makes (omega (arith, c.if-self.false), refl) refl
-    c.round.ensures.names refl refl refl
+    goes g.J.Task.meaning g.C.Clock.Reads g.G.Gate.Asked g.S.Sink.has g.S.Sink.refused g.S.Sink.asks c.args.self.now c.hand_on_if_low.new.self _ _ c.round.result false false c.self.view_is c.hand_on_if_low.ensures.hands c.if-round.false c.round.ensures.makes
+    (omega (arith, c.if-self.false), refl) refl c.round.ensures.names refl refl refl
 
 pub returns-clause-runs : goal.returns-clause-runs
 returns-clause-runs g c = behind_runs g.S.Sink.has g.S.Sink.refused c.args.self.now c.hand_on_if_low.new.self _ c.self.view_is c.hand_on_if_low.ensures.hands c.round.new.self.served.linked c.round.ensures.steps.stays
@@ -70,3 +70,12 @@ returns-clause-runs g c = behind_runs g.S.Sink.has g.S.Sink.refused c.args.self.
 pub returns-clause-asks : goal.returns-clause-asks
 returns-clause-asks g c =
     behind_asks g.S.Sink.has g.S.Sink.refused c.args.self.now c.hand_on_if_low.new.self _ c.self.view_is c.hand_on_if_low.ensures.hands g.G.Gate.Asked c.round.new.self.served.linked.recorded.journal.notes c.round.new.self.gate c.round.ensures.asks
+
+pub returns-then-round-clause-marked : goal.returns-then-round-clause-marked
+returns-then-round-clause-marked g c = ap (λ (worker : WorkerView _ _ _ _ _). g.S.Sink.mark worker.sink) c.self.view_is ∙ c.hand_on_if_low.ensures.marked
+
+pub returns-then-self-clause-marked : goal.returns-then-self-clause-marked
+returns-then-self-clause-marked g c = ap (λ (worker : WorkerView _ _ _ _ _). g.S.Sink.mark worker.sink) c.self.view_is ∙ c.hand_on_if_low.ensures.marked
+
+pub returns-clause-marked : goal.returns-clause-marked
+returns-clause-marked g c = ap (λ (worker : WorkerView _ _ _ _ _). g.S.Sink.mark worker.sink) c.self.view_is ∙ c.hand_on_if_low.ensures.marked

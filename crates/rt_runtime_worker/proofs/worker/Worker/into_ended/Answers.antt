@@ -10,7 +10,7 @@ pub of-requires : goal.of-requires
 of-requires g c =
     let shows = subst (λ view. Shows view.journal.notes (shown_of c.self.inside.publisher) (shown_of c.show_on.new.publisher)) c.recorded.ensures.recorded c.show_on.ensures in
     given_back g.S.Sink.has g.S.Sink.refused c.self.inside.rounds.served c.hand_on-answer.new.self c.self.inside.sink c.hand_on-answer.new.sink c.self.invariant.2
-    (subst (λ linked. HandsOn g.S.Sink.has g.S.Sink.refused linked c.self.inside.sink c.hand_on-answer.new.self c.hand_on-answer.new.sink) c.into_linked-linked.ensures.same c.hand_on-answer.ensures.hands)
+    (subst (λ linked. HandsOn g.S.Sink.has g.S.Sink.refused g.S.Sink.asks linked c.self.inside.sink c.hand_on-answer.new.self c.hand_on-answer.new.sink) c.into_linked-linked.ensures.same c.hand_on-answer.ensures.hands)
     (shown_of c.show_on.new.publisher) c.into_linked-linked.ensures.sound (subst (λ view. IsDrained view.linked.recorded.core.cores view.linked.recorded.journal.notes) (sym c.self.view_is) c.requires) c.hand_on-answer.ensures.linked
     c.hand_on-answer.ensures.between (shown_now c.self.inside.rounds.served.linked.recorded _ _ c.self.invariant.3 shows)
 

@@ -1,8 +1,8 @@
-use Rattle.std.proofs.Common.{refl, sym, ap, subst}
+use Rattle.std.proofs.Common.{refl, sym, ◌∙◌, ap, subst}
 use Rattle.std.specs.Prelude.{false, true, is_none}
 use Rattle.rt_runtime_worker.specs.Looks.{LooksAtAll, round_view}
 use Rattle.rt_runtime_worker.specs.Passing.{IsSupplied}
-use Rattle.rt_runtime_worker.specs.Workers.{served_of}
+use Rattle.rt_runtime_worker.specs.Workers.{WorkerView, served_of}
 use Rattle.rt_runtime_worker.proofs.Along.{runs_stays}
 use Rattle.rt_runtime_worker.proofs.Published.{shown_runs}
 use Rattle.rt_runtime_worker.proofs.Resting.{behind_asks, behind_runs, rests}
@@ -29,7 +29,7 @@ invariant_of-self-in-None g c = (
 
 pub returns-in-Some-clause-rests : goal.returns-in-Some-clause-rests
 returns-in-Some-clause-rests g c =
-    rests g.J.Task.meaning g.C.Clock.Reads g.G.Gate.Asked g.S.Sink.has g.S.Sink.refused c.args.self.now c.hand_on_if_kept.new.self _ _ true c.self.view_is c.hand_on_if_kept.ensures.hands
+    rests g.J.Task.meaning g.C.Clock.Reads g.G.Gate.Asked g.S.Sink.has g.S.Sink.refused g.S.Sink.asks c.args.self.now c.hand_on_if_kept.new.self _ _ true c.self.view_is c.hand_on_if_kept.ensures.hands
     (subst
     (λ none. LooksAtAll g.J.Task.meaning g.C.Clock.Reads g.G.Gate.Asked (round_view c.self.inside.rounds.served c.self.inside.rounds.watch.clock c.self.inside.rounds.watch.taken c.self.inside.rounds.gate) none c.rest.new.rounds.turns
     (round_view c.rest.new.rounds.served c.rest.new.rounds.watch.clock c.rest.new.rounds.watch.taken c.rest.new.rounds.gate))
@@ -44,7 +44,7 @@ returns-in-Some-clause-asks g c =
 
 pub returns-in-None-clause-rests : goal.returns-in-None-clause-rests
 returns-in-None-clause-rests g c =
-    rests g.J.Task.meaning g.C.Clock.Reads g.G.Gate.Asked g.S.Sink.has g.S.Sink.refused c.args.self.now c.hand_on_if_kept.new.self _ _ false c.self.view_is c.hand_on_if_kept.ensures.hands
+    rests g.J.Task.meaning g.C.Clock.Reads g.G.Gate.Asked g.S.Sink.has g.S.Sink.refused g.S.Sink.asks c.args.self.now c.hand_on_if_kept.new.self _ _ false c.self.view_is c.hand_on_if_kept.ensures.hands
     (subst
     (λ none. LooksAtAll g.J.Task.meaning g.C.Clock.Reads g.G.Gate.Asked (round_view c.self.inside.rounds.served c.self.inside.rounds.watch.clock c.self.inside.rounds.watch.taken c.self.inside.rounds.gate) none c.rest.new.rounds.turns
     (round_view c.rest.new.rounds.served c.rest.new.rounds.watch.clock c.rest.new.rounds.watch.taken c.rest.new.rounds.gate))
@@ -56,3 +56,9 @@ returns-in-None-clause-runs g c = behind_runs g.S.Sink.has g.S.Sink.refused c.ar
 pub returns-in-None-clause-asks : goal.returns-in-None-clause-asks
 returns-in-None-clause-asks g c =
     behind_asks g.S.Sink.has g.S.Sink.refused c.args.self.now c.hand_on_if_kept.new.self _ c.self.view_is c.hand_on_if_kept.ensures.hands g.G.Gate.Asked c.rest.new.rounds.served.linked.recorded.journal.notes c.rest.new.rounds.gate c.rest.ensures.asks
+
+pub returns-in-Some-clause-marked : goal.returns-in-Some-clause-marked
+returns-in-Some-clause-marked g c = ap (λ (worker : WorkerView _ _ _ _ _). g.S.Sink.mark worker.sink) c.self.view_is ∙ c.hand_on_if_kept.ensures.marked
+
+pub returns-in-None-clause-marked : goal.returns-in-None-clause-marked
+returns-in-None-clause-marked g c = ap (λ (worker : WorkerView _ _ _ _ _). g.S.Sink.mark worker.sink) c.self.view_is ∙ c.hand_on_if_kept.ensures.marked

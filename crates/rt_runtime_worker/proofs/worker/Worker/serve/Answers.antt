@@ -1,4 +1,4 @@
-use Rattle.std.proofs.Common.{subst}
+use Rattle.std.proofs.Common.{◌∙◌, ap, subst}
 use Rattle.rt_runtime_worker.specs.Serves.{ShowsEnd}
 use Rattle.rt_runtime_worker.proofs.ShownAgain.{again_same, asks_from, asks_to, end_same, runs_from, runs_to}
 use Rattle.rt_runtime_worker.proofs.worker.Worker.serve.Goals as goal
@@ -20,3 +20,8 @@ returns-clause-serves g c = (
   c.show_again.ensures,
   (c.serve_once.new.self, c.serve_once.ensures.serves, subst (λ was. ShowsEnd was c.serve_once.new.self c.show_end.new.self) c.is_ending-was.ensures c.show_end.ensures),
 )
+
+pub returns-clause-marked : goal.returns-clause-marked
+returns-clause-marked g c =
+    ap g.S.Sink.mark (end_same c.is_ending-was.result c.serve_once.new.self c.show_end.new.self c.show_end.ensures).sink
+    ∙ (c.serve_once.ensures.marked ∙ ap g.S.Sink.mark (again_same c.args.self.now c.show_again.new.self c.show_again.ensures).sink)

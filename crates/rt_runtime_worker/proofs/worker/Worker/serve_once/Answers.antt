@@ -1,4 +1,4 @@
-use Rattle.std.proofs.Common.{inl, inr, ap, subst}
+use Rattle.std.proofs.Common.{inl, inr, ◌∙◌, ap, subst}
 use Rattle.rt_runtime_worker.specs.Serves.{GoesOn}
 use Rattle.rt_runtime_worker.proofs.Asking.{asks_then}
 use Rattle.rt_runtime_worker.proofs.Along.{runs_along}
@@ -20,10 +20,14 @@ pub returns-then-not-goes_on-clause-serves : goal.returns-then-not-goes_on-claus
 returns-then-not-goes_on-clause-serves g c =
     inr (
       c.goes_on.new.self,
-      subst (λ again. GoesOn g.J.Task.meaning g.C.Clock.Reads g.G.Gate.Asked g.S.Sink.has g.S.Sink.refused c.args.self.now again c.goes_on.new.self) c.if-not-goes_on.true c.goes_on.ensures.goes,
+      subst (λ again. GoesOn g.J.Task.meaning g.C.Clock.Reads g.G.Gate.Asked g.S.Sink.has g.S.Sink.refused g.S.Sink.asks c.args.self.now again c.goes_on.new.self) c.if-not-goes_on.true c.goes_on.ensures.goes,
       (c.show.new.self, c.show.ensures, (c.rests.result, c.rests.ensures.rests)),
     )
 
 pub returns-else-not-goes_on-clause-serves : goal.returns-else-not-goes_on-clause-serves
 returns-else-not-goes_on-clause-serves g c =
-    inl (subst (λ again. GoesOn g.J.Task.meaning g.C.Clock.Reads g.G.Gate.Asked g.S.Sink.has g.S.Sink.refused c.args.self.now again c.goes_on.new.self) c.if-not-goes_on.false c.goes_on.ensures.goes)
+    inl (subst (λ again. GoesOn g.J.Task.meaning g.C.Clock.Reads g.G.Gate.Asked g.S.Sink.has g.S.Sink.refused g.S.Sink.asks c.args.self.now again c.goes_on.new.self) c.if-not-goes_on.false c.goes_on.ensures.goes)
+
+pub returns-then-not-goes_on-clause-marked : goal.returns-then-not-goes_on-clause-marked
+returns-then-not-goes_on-clause-marked g c =
+    c.rests.ensures.marked ∙ (ap g.S.Sink.mark (now_same c.goes_on.new.self c.show.new.self c.show.ensures).sink ∙ c.goes_on.ensures.marked)

@@ -24,6 +24,7 @@ loop-init g c = (
   asks_none g.G.Gate.Asked _ _ _ _ _ (ap (λ rounds. polls_of rounds.served.linked.recorded.journal.notes) c.prefault.ensures ∙ ap (λ (worker : WorkerView _ _ _ _ _). polls_of worker.linked.recorded.journal.notes) c.worker.view_is)
       (ap (λ rounds. rounds.gate) c.prefault.ensures ∙ ap (λ (worker : WorkerView _ _ _ _ _). worker.gate) c.worker.view_is),
   ap (λ (worker : WorkerView _ _ _ _ _). worker.shown.board) c.worker.view_is,
+  ap (λ (worker : WorkerView _ _ _ _ _). g.S.Sink.mark worker.sink) c.worker.view_is,
 )
 
 pub loop-preserved : goal.loop-preserved
@@ -34,7 +35,8 @@ loop-preserved g c = (
   runs_along c.args.self.linked c.loop.worker.linked c.serve.new.self.linked c.loop.invariant.3 c.serve.ensures.runs,
   asks_then g.G.Gate.Asked c.args.self.linked.recorded.core.core c.loop.worker.linked.recorded.core.core c.args.self.linked.recorded.journal.notes c.loop.worker.linked.recorded.journal.notes c.serve.new.self.linked.recorded.journal.notes
       c.args.self.gate c.loop.worker.gate c.serve.new.self.gate (ap (λ terms. terms.actor) c.loop.invariant.3.seat) c.loop.invariant.4 c.serve.ensures.asks,
-  serves_board g.J.Task.meaning g.C.Clock.Reads g.G.Gate.Asked g.S.Sink.has g.S.Sink.refused c.loop.worker c.serve.new.self c.serve.ensures.serves ∙ c.loop.invariant.5,
+  serves_board g.J.Task.meaning g.C.Clock.Reads g.G.Gate.Asked g.S.Sink.has g.S.Sink.refused g.S.Sink.asks c.loop.worker c.serve.new.self c.serve.ensures.serves ∙ c.loop.invariant.5,
+  c.serve.ensures.marked ∙ c.loop.invariant.6,
 )
 
 pub returns-then-is_drained-clause-keeps : goal.returns-then-is_drained-clause-keeps
@@ -42,6 +44,7 @@ returns-then-is_drained-clause-keeps g c = record {
   runs = runs_along c.args.self.linked c.loop.worker.linked c.into_ended.result.linked c.loop.invariant.3
       (hands_runs g.S.Sink.has g.S.Sink.refused c.loop.worker.linked c.into_ended.result.linked c.loop.worker.sink c.into_ended.result.sink c.into_ended.ensures.hands);
   board = shows_board c.loop.worker.linked.recorded.journal.notes c.loop.worker.shown c.into_ended.result.shown c.into_ended.ensures.shows ∙ c.loop.invariant.5;
+  marked = c.into_ended.ensures.marked ∙ c.loop.invariant.6;
 }
 
 pub returns-then-is_drained-clause-serves : goal.returns-then-is_drained-clause-serves
