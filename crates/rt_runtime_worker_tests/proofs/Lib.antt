@@ -1,1 +1,3 @@
+pub mod Crosses
 pub mod FirstEnds
+pub mod TwoEnds

@@ -1,0 +1,48 @@
+-- A worker, and what it gives back, may go to another thread.
+use Prim.Native.Nat.{ℕ}
+use denote.RattleType.{RattleType}
+use denote.Param.Send.{IsSend, sendable}
+use denote.Struct.Field.{u64-field}
+use Rattle.rt_jobs.specs.declared.job.Task.{Ghosts}
+use Rattle.rt_jobs.specs.declared.state.CoreState.{Ghosts as Begins}
+use Rattle.std.proofs.Crossing.{crosses}
+use Rattle.std.specs.contracts.alloc.Global.{the_row as global}
+use Rattle.std.specs.contracts.impls.GlobalAllocator.TheImpl.{ghosts as its_alloc}
+use Rattle.std.below.core.specs.contracts.clone.Clone+copy.TheImpl.{ghosts as copied}
+use Rattle.rt_timeline.proofs.tree.Tree.TheLaws.TheKnot as tree
+use Rattle.rt_desk.proofs.trie.Trie.TheLaws.TheKnot as trie
+use Rattle.rt_desk.specs.contracts.lane.Lane.{the_row as lane}
+use Rattle.rt_journal_notes.specs.declared.sink.Sink.{Ghosts as Passes}
+use Rattle.rt_journal_notes.proofs.running.RunningJournal.TheSendSync as journal
+use Rattle.rt_ring_mesh.proofs.ends.Ends.TheSendSync as ends
+use Rattle.rt_core.specs.contracts.one_core.Core.{the_row as core}
+use Rattle.rt_journal_desk.specs.contracts.desk.RecordedDesk.{the_row as desk}
+use Rattle.rt_journal.specs.contracts.recorded.Recorded.{the_row as recorded}
+use Rattle.rt_runtime_worker.proofs.bell.Bell.TheSendSync as bell
+use Rattle.rt_watch.proofs.publisher.Publisher.TheSendSync as publisher
+use Rattle.rt_runtime_worker.specs.contracts.linked.Linked.{the_row as linked}
+use Rattle.rt_runtime_worker.specs.contracts.ended.Ended.{the_row as ended}
+use Rattle.rt_runtime_worker.specs.contracts.worker.Worker.{the_row as worker}
+
+module _ (J L : RattleType) (t : Ghosts J.Denot ℕ L.Denot) (b : Begins L.Denot) (j : IsSend J) (l : IsSend L) where
+  core_send : IsSend (core J global u64-field.row L t its_alloc (copied global))
+  core_send = search (crosses, tree.crosses, sendable) depth 60 fits 20000
+
+  lane_send : IsSend (lane J u64-field.row L t)
+  lane_send = search (crosses, trie.crosses, sendable) depth 60 fits 20000
+
+  desk_send : IsSend (desk J L t)
+  desk_send = search (lane_send, journal.the_send, crosses, sendable) depth 60 fits 20000
+
+  recorded_send : IsSend (recorded J global L t its_alloc (copied global))
+  recorded_send = search (core_send, desk_send, crosses, sendable) depth 60 fits 20000
+
+  linked_send : IsSend (linked J L t b)
+  linked_send = search (recorded_send, ends.the_send, crosses, sendable) depth 60 fits 20000
+
+  module _ (S : RattleType) (sink : Passes S.Denot) (s : IsSend S) where
+    pub ended_send : IsSend (ended J S L t b sink)
+    ended_send = search (linked_send, publisher.the_send, crosses, sendable) depth 60 fits 20000
+
+    pub worker_send : (C G : RattleType) → IsSend C → IsSend G → IsSend (worker J C G S L t b sink)
+    worker_send C G c g = search (linked_send, bell.the_send, publisher.the_send, crosses, sendable) depth 60 fits 20000
