@@ -81,14 +81,3 @@ pub(crate) fn open(alloc: Global, burst: u32) -> Option<Room> {
         outside,
     })
 }
-
-impl Room {
-    /// The outcome of a submission of the outside actor, which the core takes in. The code of the redemption, and what it told.
-    pub(crate) fn answer(&mut self, name: &Name) -> (Code, OutcomeTold) {
-        let mut count = 0;
-        let mut outcome = no_outcome();
-        let _collected = self.outside.collect(0, &mut count);
-        let code = self.outside.redeem(name, &mut outcome);
-        (code, outcome)
-    }
-}
