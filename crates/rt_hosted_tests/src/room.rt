@@ -15,14 +15,20 @@ pub(crate) struct Room {
 }
 
 /// Opens a house of one core: so many places, turns of so many polls, and room for so many notes.
-pub(crate) fn open(alloc: Global, cap: u16, burst: u8, room: u32) -> Option<Room> {
-    let Ok(house) = open_house(alloc, 1, cap, burst, room) else {
-        return None;
-    };
-    let House { cores, outside } = house;
+pub(crate) fn open(alloc: Global, cap: u16, burst: u8, room: u32) -> Option<Box<Room>> {
+    match open_house(alloc, 1, cap, burst, room) {
+        Ok(House { cores, outside }) => furnish(alloc, cores, outside),
+        Err(_) => None,
+    }
+}
+
+/// The only core and the outside actor in a box: a test moves it whole.
+fn furnish(alloc: Global, cores: Vec<Hosted>, outside: Outside) -> Option<Box<Room>> {
     let mut cores = cores;
-    let core = cores.pop()?;
-    Some(Room { core, outside })
+    match cores.pop() {
+        Some(core) => Box::new(alloc, Room { core, outside }).ok(),
+        None => None,
+    }
 }
 
 /// Job 7 for queue 0.
