@@ -15,30 +15,44 @@ const ROOM: u32 = 4096;
 /// Two cores and the outside actor.
 #[derive(Drop)]
 struct House {
-    first: Host,
-    second: Host,
-    outside: Outside,
+    first: Box<Host>,
+    second: Box<Host>,
+    outside: Box<Outside>,
+}
+
+/// The host of the last of these cores, whose jobs submit to the other one.
+fn host(alloc: Global, cores: &mut Vec<Hosted>, other: u8) -> Option<Box<Host>> {
+    match cores.pop() {
+        Some(core) => Box::new(alloc, Host::new(core, CoreNo(other))).ok(),
+        None => None,
+    }
 }
 
 /// The two cores of a house with their hosts, and the outside actor.
-fn settle_in(cores: Vec<Hosted>, outside: Outside) -> Option<House> {
+fn settle_in(alloc: Global, cores: Vec<Hosted>, outside: Box<Outside>) -> Option<House> {
     let mut cores = cores;
-    let second = cores.pop()?;
-    let first = cores.pop()?;
+    let second = host(alloc, &mut cores, 0)?;
+    let first = host(alloc, &mut cores, 1)?;
     Some(House {
-        first: Host::new(first, CoreNo(1)),
-        second: Host::new(second, CoreNo(0)),
+        first,
+        second,
         outside,
     })
+}
+
+/// The same of a house that was just opened.
+fn furnish(alloc: Global, house: rt_hosted_house::House) -> Option<House> {
+    let rt_hosted_house::House { cores, outside } = house;
+    match Box::new(alloc, outside).ok() {
+        Some(outside) => settle_in(alloc, cores, outside),
+        None => None,
+    }
 }
 
 /// Opens a house of two cores whose turns have so many polls.
 fn open(alloc: Global, burst: u8) -> Option<House> {
     match open_house(alloc, 2, CAP, burst, ROOM) {
-        Ok(house) => {
-            let rt_hosted_house::House { cores, outside } = house;
-            settle_in(cores, outside)
-        }
+        Ok(house) => furnish(alloc, house),
         Err(_) => None,
     }
 }
@@ -130,7 +144,7 @@ impl House {
     fn drains(&mut self) -> bool {
         let closed = close(&mut self.outside, 0) && close(&mut self.outside, 1);
         self.rounds(100);
-        closed && self.first.core.is_drained() && self.second.core.is_drained()
+        closed && self.first.is_drained() && self.second.is_drained()
     }
 
     /// Lets each core ask the other, closes both and drains them. Whether the answers are right.
@@ -139,17 +153,25 @@ impl House {
     }
 }
 
+/// The notes of a core that is drained.
+fn notes(core: Hosted) -> Option<Journal<u64>> {
+    match core.end().ok() {
+        Some((journal, _ends)) => Some(journal.into_kept()),
+        None => None,
+    }
+}
+
 /// Puts the notes of a core that is drained behind the others. Whether it was.
-fn put_core(journals: &mut Vec<Journal<u64>>, core: Hosted) -> bool {
-    match core.end() {
-        Ok((journal, _ends)) => journals.push(journal.into_kept()).is_ok(),
-        Err(_) => false,
+fn put_core(journals: &mut Vec<Journal<u64>>, host: Box<Host>) -> bool {
+    match notes(Box::into_inner(host).into_core()) {
+        Some(journal) => journals.push(journal).is_ok(),
+        None => false,
     }
 }
 
 /// Puts the notes of the outside actor behind the others.
-fn put_outside(journals: &mut Vec<Journal<u64>>, outside: Outside) -> bool {
-    let (journal, _ends) = outside.end();
+fn put_outside(journals: &mut Vec<Journal<u64>>, outside: Box<Outside>) -> bool {
+    let (journal, _ends) = Box::into_inner(outside).end();
     journals.push(journal.into_kept()).is_ok()
 }
 
@@ -160,8 +182,8 @@ fn put_all(journals: &mut Vec<Journal<u64>>, house: House) -> bool {
         second,
         outside,
     } = house;
-    let first_put = put_core(journals, first.core);
-    let second_put = put_core(journals, second.core);
+    let first_put = put_core(journals, first);
+    let second_put = put_core(journals, second);
     let outside_put = put_outside(journals, outside);
     first_put && second_put && outside_put
 }
