@@ -1,6 +1,7 @@
 //! A house ends: its journals are handed in, are sound, and have a text.
 
-use crate::room::{Room, no_name, open};
+use crate::calls::{answer, closes, delivers, is_drained, send, shuts};
+use crate::room::{Room, open};
 use rt_hosted_calls::names::Name;
 use rt_hosted_calls::orders::job_order;
 use rt_hosted_calls::verdicts::VerdictTold;
@@ -19,60 +20,94 @@ fn no_verdict() -> VerdictTold {
 }
 
 /// Whether the core closes once, and shuts its gates.
-fn closes(room: &mut Room) -> bool {
-    room.core.close(1) == Code::Ok
-        && room.core.close(0) == Code::CoreClosed
-        && room.core.shut(0) == Code::Ok
-        && room.core.shut(1) == Code::Ok
+fn closes_once(core: &mut Member) -> bool {
+    closes(core, 1, Code::Ok)
+        && closes(core, 0, Code::CoreClosed)
+        && shuts(core, 0, Code::Ok)
+        && shuts(core, 1, Code::Ok)
 }
 
 /// Whether the core takes in one order of the outside actor, and no more.
-fn takes_one(room: &mut Room) -> bool {
-    room.core.deliver(1) == Code::Ok && room.core.deliver(1) == Code::Idle
+fn takes_one(core: &mut Member) -> bool {
+    delivers(core, 1, Code::Ok) && delivers(core, 1, Code::Idle)
+}
+
+/// Whether the core closes, and takes in what was submitted before it comes to its end.
+fn closes_and_takes_one(core: &mut Member) -> bool {
+    closes_once(core) && is_drained(core, Code::NotDrained) && takes_one(core)
 }
 
 /// Whether job 7 comes back under this name.
-fn is_back(room: &mut Room, name: &Name) -> bool {
-    let (redeemed, outcome) = room.answer(name);
-    redeemed == Code::Ok && outcome.kind == 1 && outcome.job == 7
+fn is_back(outside: &mut Member, name: &Name) -> bool {
+    match answer(outside, name) {
+        Some(outcome) => outcome.kind == 1 && outcome.job == 7,
+        None => false,
+    }
 }
 
 /// Whether a job of the outside actor comes back from a core that closes, and the core comes to its end.
 pub(crate) fn drains(room: &mut Room) -> bool {
-    let mut name = no_name();
-    room.outside.send(0, job_order(0, 7), &mut name) == Code::Ok
-        && closes(room)
-        && room.core.drained() == Code::NotDrained
-        && takes_one(room)
-        && is_back(room, &name)
-        && room.core.drained() == Code::Ok
+    match send(&mut room.outside, 0, job_order(0, 7)) {
+        Some(name) => {
+            closes_and_takes_one(&mut room.core)
+                && is_back(&mut room.outside, &name)
+                && is_drained(&mut room.core, Code::Ok)
+        }
+        None => false,
+    }
 }
 
 /// Whether a seat ends in the house.
-pub(crate) fn ends(alloc: Global, house: &mut Member, seat: Box<Member>) -> bool {
+fn ends(alloc: Global, house: &mut Member, seat: Box<Member>) -> bool {
     house.end_seat(alloc, seat).is_ok()
+}
+
+/// Whether both seats end in the house, the core first.
+pub(crate) fn both_end(
+    alloc: Global,
+    house: &mut Member,
+    core: Box<Member>,
+    outside: Box<Member>,
+) -> bool {
+    let core_ends = ends(alloc, house, core);
+    let outside_ends = ends(alloc, house, outside);
+    core_ends && outside_ends
+}
+
+/// Whether so many bytes of the text from this one on are copied.
+pub(crate) fn reads(
+    alloc: Global,
+    house: &mut Member,
+    from: u64,
+    bytes: &mut [u8],
+    wanted: u64,
+) -> bool {
+    let mut count = 99;
+    house.read(alloc, from, bytes, &mut count) == Code::Ok && count == wanted
+}
+
+/// Whether a text begins so.
+fn begins(bytes: &[u8; 16]) -> bool {
+    bytes == b"journal 1\ncores "
 }
 
 /// Whether the text of the journals has this beginning, and comes to its end.
 fn tells(alloc: Global, house: &mut Member) -> bool {
     let mut bytes = [0u8; 16];
-    let mut count = 0;
-    let first = house.read(alloc, 0, &mut bytes, &mut count) == Code::Ok && count == 16;
-    let begins = &bytes == b"journal 1\ncores ";
-    let last = house.read(alloc, 1_000_000, &mut bytes, &mut count) == Code::Ok && count == 0;
-    first && begins && last
+    reads(alloc, house, 0, &mut bytes, 16)
+        && begins(&bytes)
+        && reads(alloc, house, 1_000_000, &mut bytes, 0)
 }
 
-/// What the audit of a house answers, and whether it tells that all is sound.
-pub(crate) fn judged(alloc: Global, house: &mut Member) -> (Code, u32) {
+/// Whether the audit of a house is answered so, and tells this of whether all is sound.
+pub(crate) fn judges(alloc: Global, house: &mut Member, code: Code, sound: u32) -> bool {
     let mut verdict = no_verdict();
-    let code = house.audit(alloc, &mut verdict);
-    (code, verdict.sound)
+    house.audit(alloc, &mut verdict) == code && verdict.sound == sound
 }
 
 /// Whether a house whose journals were handed in is sound, and tells its text.
 fn is_judged(alloc: Global, house: &mut Member) -> bool {
-    judged(alloc, house) == (Code::Ok, 1) && tells(alloc, house)
+    judges(alloc, house, Code::Ok, 1) && tells(alloc, house)
 }
 
 /// Whether a house that has drained ends with sound journals.
@@ -83,16 +118,18 @@ fn is_sound(alloc: Global, room: Room) -> bool {
         outside,
     } = room;
     let mut house = house;
-    let (missing, _) = judged(alloc, &mut house);
-    let core_ends = ends(alloc, &mut house, core);
-    let outside_ends = ends(alloc, &mut house, outside);
-    missing == Code::Pending && core_ends && outside_ends && is_judged(alloc, &mut house)
+    let waits = judges(alloc, &mut house, Code::Pending, 99);
+    let ended = both_end(alloc, &mut house, core, outside);
+    waits && ended && is_judged(alloc, &mut house)
 }
 
 /// Whether a house comes to its end, and is sound.
 fn house_ends(alloc: Global) -> bool {
     match open(alloc, 1) {
-        Some(mut room) => drains(&mut room) && is_sound(alloc, room),
+        Some(mut room) => {
+            let drained = drains(&mut room);
+            is_sound(alloc, room) && drained
+        }
         None => false,
     }
 }
@@ -102,29 +139,31 @@ fn a_house_ends(rt: HostRuntime) {
     assert!(rt; house_ends(rt.alloc()));
 }
 
+/// Whether a seat may not end yet, for this reason, and comes back.
+fn comes_back(alloc: Global, house: &mut Member, seat: Box<Member>, code: Code) -> bool {
+    match house.end_seat(alloc, seat) {
+        Ok(()) => false,
+        Err((told, _seat)) => told == code,
+    }
+}
+
 /// Whether seats that may not end come back.
-fn come_back(alloc: Global, room: Room) -> bool {
+fn both_come_back(alloc: Global, room: Room) -> bool {
     let Room {
         house,
         core,
         outside,
     } = room;
     let mut house = house;
-    let early = match house.end_seat(alloc, outside) {
-        Ok(()) => false,
-        Err((code, _outside)) => code == Code::NoActor,
-    };
-    let open = match house.end_seat(alloc, core) {
-        Ok(()) => false,
-        Err((code, _core)) => code == Code::NotDrained,
-    };
+    let early = comes_back(alloc, &mut house, outside, Code::NoActor);
+    let open = comes_back(alloc, &mut house, core, Code::NotDrained);
     early && open
 }
 
 /// Whether the seats of a house that may not end come back.
 fn house_goes_on(alloc: Global) -> bool {
     match open(alloc, 1) {
-        Some(room) => come_back(alloc, room),
+        Some(room) => both_come_back(alloc, room),
         None => false,
     }
 }

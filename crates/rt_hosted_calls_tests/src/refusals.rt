@@ -1,10 +1,10 @@
 //! Calls with numbers that there aren't, out of order, and on a member that they aren't for.
 
-use crate::room::{Room, no_name, no_outcome, no_turn, open};
+use crate::calls::{delivers, redeems_none, sends, settles, shows, shuts, turns, turns_sized};
+use crate::room::{Room, open};
 use rt_hosted_calls::house::{Config, House};
 use rt_hosted_calls::orders::{close_order, core_order, create_order, job_order, shares_order};
 use rt_hosted_calls::{Code, Member};
-use rt_ids::Order;
 use std::alloc::Global;
 
 /// Numbers of configs of which one is out of its range: size, cores, places and burst.
@@ -28,66 +28,75 @@ fn opens_none(alloc: Global, numbers: &[u32; 4]) -> bool {
     matches!(House::open(alloc, &config), Err(Code::BadNumber))
 }
 
-#[test]
-fn a_bad_config_opens_no_house(rt: HostRuntime) {
-    let mut refused = true;
+/// Whether each of these configs opens none.
+fn all_open_none(alloc: Global) -> bool {
     for numbers in &WRONG {
-        refused = refused && opens_none(rt.alloc(), numbers);
+        if !opens_none(alloc, numbers) {
+            return false;
+        }
     }
-    assert!(rt; refused);
+    true
 }
 
-/// What the outside actor answers to an order for this core.
-fn sent(room: &mut Room, core: u32, order: Result<Order<u64>, Code>) -> Code {
-    let mut name = no_name();
-    room.outside.send(core, order, &mut name)
+#[test]
+fn a_bad_config_opens_no_house(rt: HostRuntime) {
+    assert!(rt; all_open_none(rt.alloc()));
+}
+
+/// Whether an outside actor's job for this core and queue is answered so.
+fn sends_job(outside: &mut Member, core: u32, queue: u32, code: Code) -> bool {
+    sends(outside, core, job_order(queue, 1), code)
 }
 
 /// Whether orders with numbers that there aren't are refused.
-fn refuses_orders(room: &mut Room) -> bool {
-    sent(room, 0, job_order(256, 1)) == Code::NoQueue
-        && sent(room, 0, create_order(0)) == Code::BadShares
-        && sent(room, 0, shares_order(256, 1)) == Code::NoQueue
-        && sent(room, 0, close_order(0, 2)) == Code::BadNumber
-        && sent(room, 0, core_order(2)) == Code::BadNumber
+fn refuses_orders(outside: &mut Member) -> bool {
+    sends_job(outside, 0, 256, Code::NoQueue)
+        && sends(outside, 0, create_order(0), Code::BadShares)
+        && sends(outside, 0, shares_order(256, 1), Code::NoQueue)
+        && sends(outside, 0, close_order(0, 2), Code::BadNumber)
+        && sends(outside, 0, core_order(2), Code::BadNumber)
 }
 
-/// Whether cores and senders that there aren't are refused.
-fn refuses_numbers(room: &mut Room) -> bool {
-    sent(room, 1, job_order(0, 1)) == Code::UnknownCore
-        && sent(room, 256, job_order(0, 1)) == Code::UnknownCore
-        && room.core.deliver(2) == Code::NoActor
-        && room.core.deliver(256) == Code::NoActor
+/// Whether cores that there aren't are refused.
+fn refuses_cores(outside: &mut Member) -> bool {
+    sends_job(outside, 1, 0, Code::UnknownCore) && sends_job(outside, 256, 0, Code::UnknownCore)
+}
+
+/// Whether senders that there aren't are refused.
+fn refuses_senders(core: &mut Member) -> bool {
+    delivers(core, 2, Code::NoActor) && delivers(core, 256, Code::NoActor)
 }
 
 /// Whether calls out of order are refused.
-fn refuses_order(room: &mut Room) -> bool {
-    room.core.settle(0, 0, 1) == Code::NoJob
-        && room.core.settle(3, 0, 1) == Code::BadNumber
-        && room.core.shut(0) == Code::Open
+fn refuses_order(core: &mut Member) -> bool {
+    settles(core, 0, 0, 1, Code::NoJob)
+        && settles(core, 3, 0, 1, Code::BadNumber)
+        && shuts(core, 0, Code::Open)
 }
 
 /// Whether a name that was never given is refused, and structs that are too small.
-fn refuses_structs(room: &mut Room) -> bool {
-    let mut turn = no_turn();
-    let mut outcome = no_outcome();
-    let unknown = room.core.redeem(&no_name(), &mut outcome) == Code::Unknown;
-    turn.size = 39;
-    outcome.size = 31;
-    let small = room.core.next(&mut turn) == Code::BadNumber;
-    unknown && small && room.core.redeem(&no_name(), &mut outcome) == Code::BadNumber
+fn refuses_structs(core: &mut Member) -> bool {
+    redeems_none(core, 32, Code::Unknown)
+        && turns_sized(core, 39, Code::BadNumber)
+        && redeems_none(core, 31, Code::BadNumber)
 }
 
-/// Whether each call is refused by a member that it isn't for.
-fn refuses_members(room: &mut Room) -> bool {
-    let mut name = no_name();
-    let mut turn = no_turn();
-    let next = room.outside.next(&mut turn) == Code::Empty;
-    let settle = room.house.settle(0, 0, 1) == Code::Empty;
-    let send = room.house.send(0, job_order(0, 1), &mut name) == Code::Empty;
-    let shows = room.house.shows() == Code::Empty;
-    let house = !room.core.is_house() && room.house.is_house();
-    next && settle && send && shows && house
+/// Whether a core refuses all that it should.
+fn core_refuses(core: &mut Member) -> bool {
+    refuses_senders(core) && refuses_order(core) && refuses_structs(core) && !core.is_house()
+}
+
+/// Whether an outside actor refuses all that it should.
+fn outside_refuses(outside: &mut Member) -> bool {
+    refuses_orders(outside) && refuses_cores(outside) && turns(outside, Code::Empty)
+}
+
+/// Whether a house refuses the calls that are for an actor.
+fn refuses_actors_calls(house: &mut Member) -> bool {
+    settles(house, 0, 0, 1, Code::Empty)
+        && sends_job(house, 0, 0, Code::Empty)
+        && shows(house, Code::Empty)
+        && house.is_house()
 }
 
 /// Whether a house all of whose seats were taken has no more.
@@ -97,11 +106,9 @@ fn has_no_seat(alloc: Global, house: &mut Member) -> bool {
 
 /// Whether all of these are refused.
 fn refuses(alloc: Global, room: &mut Room) -> bool {
-    refuses_orders(room)
-        && refuses_numbers(room)
-        && refuses_order(room)
-        && refuses_structs(room)
-        && refuses_members(room)
+    outside_refuses(&mut room.outside)
+        && core_refuses(&mut room.core)
+        && refuses_actors_calls(&mut room.house)
         && has_no_seat(alloc, &mut room.house)
 }
 

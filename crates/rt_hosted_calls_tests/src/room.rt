@@ -10,7 +10,7 @@ use std::alloc::Global;
 /// The house, its core and the outside actor.
 #[derive(Drop)]
 pub(crate) struct Room {
-    pub(crate) house: Member,
+    pub(crate) house: Box<Member>,
     pub(crate) core: Box<Member>,
     pub(crate) outside: Box<Member>,
 }
@@ -67,28 +67,40 @@ fn seat(alloc: Global, house: &mut Member, wanted: u32) -> Option<Box<Member>> {
     }
 }
 
-/// Opens a house, and takes its seats.
-pub(crate) fn open(alloc: Global, burst: u32) -> Option<Room> {
-    let Ok(kept) = House::open(alloc, &config(burst)) else {
-        return None;
-    };
-    let mut house = Member::House(kept);
-    let outside = seat(alloc, &mut house, 1)?;
-    let core = seat(alloc, &mut house, 0)?;
-    Some(Room {
-        house,
-        core,
-        outside,
-    })
+/// A house whose turns have so many runs.
+fn house(alloc: Global, burst: u32) -> Option<Box<Member>> {
+    match House::open(alloc, &config(burst)) {
+        Ok(kept) => Box::new(alloc, Member::House(kept)).ok(),
+        Err(_) => None,
+    }
 }
 
-impl Room {
-    /// The outcome of a submission of the outside actor, which the core takes in. The code of the redemption, and what it told.
-    pub(crate) fn answer(&mut self, name: &Name) -> (Code, OutcomeTold) {
-        let mut count = 0;
-        let mut outcome = no_outcome();
-        let _collected = self.outside.collect(0, &mut count);
-        let code = self.outside.redeem(name, &mut outcome);
-        (code, outcome)
+/// The house, this seat of it and that of its core.
+fn with_core(alloc: Global, house: Box<Member>, outside: Box<Member>) -> Option<Room> {
+    let mut house = house;
+    match seat(alloc, &mut house, 0) {
+        Some(core) => Some(Room {
+            house,
+            core,
+            outside,
+        }),
+        None => None,
+    }
+}
+
+/// The house and its seats.
+fn with_seats(alloc: Global, house: Box<Member>) -> Option<Room> {
+    let mut house = house;
+    match seat(alloc, &mut house, 1) {
+        Some(outside) => with_core(alloc, house, outside),
+        None => None,
+    }
+}
+
+/// Opens a house, and takes its seats.
+pub(crate) fn open(alloc: Global, burst: u32) -> Option<Room> {
+    match house(alloc, burst) {
+        Some(house) => with_seats(alloc, house),
+        None => None,
     }
 }

@@ -11,7 +11,7 @@ pub(crate) const ASKS: u64 = 100;
 /// A core, the other core, and the submission for whose outcome a job of this core waits.
 #[derive(Drop)]
 pub(crate) struct Host {
-    pub(crate) core: Hosted,
+    core: Hosted,
     other: CoreNo,
     asked: Option<Ticket>,
 }
@@ -23,6 +23,17 @@ impl Host {
             other,
             asked: None,
         }
+    }
+
+    /// Whether the core has come to its end.
+    pub(crate) fn is_drained(&self) -> bool {
+        self.core.is_drained()
+    }
+
+    /// The core, which is given up.
+    pub(crate) fn into_core(self) -> Hosted {
+        let Host { core, .. } = self;
+        core
     }
 
     /// The first run of a job that asks: it submits while it runs.

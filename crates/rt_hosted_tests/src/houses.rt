@@ -6,8 +6,7 @@ use rt_hosted::Hosted;
 use rt_hosted_house::{Outside, open_house};
 use rt_ids::{CoreNo, Mode, Order, Outcome, QueueNo, Ticket};
 use rt_journal_notes::{Assembly, Journal};
-use std::alloc::{AllocError, Global};
-use std::test::Fail;
+use std::alloc::Global;
 
 const CAP: u16 = 4;
 
@@ -16,25 +15,46 @@ const ROOM: u32 = 4096;
 /// Two cores and the outside actor.
 #[derive(Drop)]
 struct House {
-    first: Host,
-    second: Host,
-    outside: Outside,
+    first: Box<Host>,
+    second: Box<Host>,
+    outside: Box<Outside>,
+}
+
+/// The host of the last of these cores, whose jobs submit to the other one.
+fn host(alloc: Global, cores: &mut Vec<Hosted>, other: u8) -> Option<Box<Host>> {
+    match cores.pop() {
+        Some(core) => Box::new(alloc, Host::new(core, CoreNo(other))).ok(),
+        None => None,
+    }
+}
+
+/// The two cores of a house with their hosts, and the outside actor.
+fn settle_in(alloc: Global, cores: Vec<Hosted>, outside: Box<Outside>) -> Option<House> {
+    let mut cores = cores;
+    let second = host(alloc, &mut cores, 0)?;
+    let first = host(alloc, &mut cores, 1)?;
+    Some(House {
+        first,
+        second,
+        outside,
+    })
+}
+
+/// The same of a house that was just opened.
+fn furnish(alloc: Global, house: rt_hosted_house::House) -> Option<House> {
+    let rt_hosted_house::House { cores, outside } = house;
+    match Box::new(alloc, outside).ok() {
+        Some(outside) => settle_in(alloc, cores, outside),
+        None => None,
+    }
 }
 
 /// Opens a house of two cores whose turns have so many polls.
 fn open(alloc: Global, burst: u8) -> Option<House> {
-    let Ok(house) = open_house(alloc, 2, CAP, burst, ROOM) else {
-        return None;
-    };
-    let rt_hosted_house::House { cores, outside } = house;
-    let mut cores = cores;
-    let second = cores.pop()?;
-    let first = cores.pop()?;
-    Some(House {
-        first: Host::new(first, CoreNo(1)),
-        second: Host::new(second, CoreNo(0)),
-        outside,
-    })
+    match open_house(alloc, 2, CAP, burst, ROOM) {
+        Ok(house) => furnish(alloc, house),
+        Err(_) => None,
+    }
 }
 
 /// Submits a job to this core.
@@ -45,9 +65,13 @@ fn send(outside: &mut Outside, core: u8, job: u64) -> Option<Ticket> {
     }
 }
 
-/// The answer of a job that is done, if its outcome shows by now.
-fn answer(outside: &mut Outside, core: u8, ticket: Ticket) -> Option<u64> {
+/// Collects the outcomes that this core shows.
+fn collect(outside: &mut Outside, core: u8) {
     let _count = outside.collect(CoreNo(core));
+}
+
+/// The answer of a job that is done, if its outcome was collected.
+fn redeem(outside: &mut Outside, ticket: Ticket) -> Option<u64> {
     match outside.redeem(ticket) {
         Ok(Outcome::Finished(answer)) => Some(answer),
         Ok(_) | Err(_) => None,
@@ -61,86 +85,139 @@ fn close(outside: &mut Outside, core: u8) -> bool {
         .is_ok()
 }
 
-/// The notes of a core that is drained.
-fn notes(core: Hosted) -> Option<Journal<u64>> {
-    match core.end() {
-        Ok((journal, _ends)) => Some(journal.into_kept()),
-        Err(_) => None,
+impl House {
+    /// One round of each core.
+    fn round(&mut self) {
+        self.first.round();
+        self.second.round();
     }
-}
 
-/// Whether the journals of a house that has ended are sound.
-fn is_sound(
-    alloc: Global,
-    burst: u8,
-    first: Hosted,
-    second: Hosted,
-    outside: Outside,
-) -> Result<bool, AllocError> {
-    let (Some(first), Some(second)) = (notes(first), notes(second)) else {
-        return Ok(false);
-    };
-    let (journal, _ends) = outside.end();
-    let mut journals = Vec::with_capacity(alloc, 3)?;
-    journals.push(first)?;
-    journals.push(second)?;
-    journals.push(journal.into_kept())?;
-    if journals.len() != 3 {
-        return Ok(false);
-    }
-    let assembly = Assembly::of_burst(2, CAP, burst, journals);
-    Ok(matches!(audit(alloc, &assembly), Ok(Verdict::Sound)))
-}
-
-/// Makes rounds of both cores until the job of this core has its outcome. Its answer.
-fn wait(house: &mut House, core: u8, ticket: Ticket) -> Option<u64> {
-    for _ in 0..1000 {
-        house.first.round();
-        house.second.round();
-        if let Some(told) = answer(&mut house.outside, core, ticket) {
-            return Some(told);
+    /// Makes rounds.
+    fn rounds(&mut self, count: u32) {
+        for _ in 0..count {
+            self.round();
         }
     }
-    None
+
+    /// One round, and the answer of this core's job, if its outcome shows by now.
+    fn look(&mut self, core: u8, ticket: Ticket) -> Option<u64> {
+        self.round();
+        collect(&mut self.outside, core);
+        redeem(&mut self.outside, ticket)
+    }
+
+    /// Makes rounds of both cores until the job of this core has its outcome. Its answer.
+    fn wait(&mut self, core: u8, ticket: Ticket) -> Option<u64> {
+        for _ in 0..1000 {
+            let told = self.look(core, ticket);
+            if told.is_some() {
+                return told;
+            }
+        }
+        None
+    }
+
+    /// Whether the job of this core gets this answer.
+    fn answers(&mut self, core: u8, ticket: Ticket, wanted: u64) -> bool {
+        match self.wait(core, ticket) {
+            Some(told) => told == wanted,
+            None => false,
+        }
+    }
+
+    /// The submissions of a job for each core, which asks the other one.
+    fn send_both(&mut self) -> Option<(Ticket, Ticket)> {
+        let one = send(&mut self.outside, 0, ASKS + 7)?;
+        let two = send(&mut self.outside, 1, ASKS + 9)?;
+        Some((one, two))
+    }
+
+    /// Whether the answers of these jobs are right.
+    fn asks(&mut self) -> bool {
+        match self.send_both() {
+            Some((one, two)) => self.answers(0, one, 14) && self.answers(1, two, 18),
+            None => false,
+        }
+    }
+
+    /// Whether both cores drain once they are closed.
+    fn drains(&mut self) -> bool {
+        let closed = close(&mut self.outside, 0) && close(&mut self.outside, 1);
+        self.rounds(100);
+        closed && self.first.is_drained() && self.second.is_drained()
+    }
+
+    /// Lets each core ask the other, closes both and drains them. Whether the answers are right.
+    fn lives(&mut self) -> bool {
+        self.asks() && self.drains()
+    }
 }
 
-/// Lets each core ask the other, closes both and drains them. Whether the answers are right.
-fn lives(house: &mut House) -> bool {
-    let Some(one) = send(&mut house.outside, 0, ASKS + 7) else {
-        return false;
-    };
-    let Some(two) = send(&mut house.outside, 1, ASKS + 9) else {
-        return false;
-    };
-    let answered = wait(house, 0, one) == Some(14) && wait(house, 1, two) == Some(18);
-    let closed = close(&mut house.outside, 0) && close(&mut house.outside, 1);
-    for _ in 0..100 {
-        house.first.round();
-        house.second.round();
+/// The notes of a core that is drained.
+fn notes(core: Hosted) -> Option<Journal<u64>> {
+    match core.end().ok() {
+        Some((journal, _ends)) => Some(journal.into_kept()),
+        None => None,
     }
-    answered && closed && house.first.core.is_drained() && house.second.core.is_drained()
 }
 
-/// Whether a house whose turns have so many polls lives and ends on one thread.
-fn lives_and_ends(alloc: Global, burst: u8) -> Result<bool, AllocError> {
-    let Some(mut house) = open(alloc, burst) else {
-        return Ok(false);
-    };
-    if !lives(&mut house) {
-        return Ok(false);
+/// Puts the notes of a core that is drained behind the others. Whether it was.
+fn put_core(journals: &mut Vec<Journal<u64>>, host: Box<Host>) -> bool {
+    match notes(Box::into_inner(host).into_core()) {
+        Some(journal) => journals.push(journal).is_ok(),
+        None => false,
     }
+}
+
+/// Puts the notes of the outside actor behind the others.
+fn put_outside(journals: &mut Vec<Journal<u64>>, outside: Box<Outside>) -> bool {
+    let (journal, _ends) = Box::into_inner(outside).end();
+    journals.push(journal.into_kept()).is_ok()
+}
+
+/// Puts the notes of all three together.
+fn put_all(journals: &mut Vec<Journal<u64>>, house: House) -> bool {
     let House {
         first,
         second,
         outside,
     } = house;
-    is_sound(alloc, burst, first.core, second.core, outside)
+    let first_put = put_core(journals, first);
+    let second_put = put_core(journals, second);
+    let outside_put = put_outside(journals, outside);
+    first_put && second_put && outside_put
+}
+
+/// Whether these journals are three, and sound.
+fn are_sound(alloc: Global, burst: u8, journals: Vec<Journal<u64>>) -> bool {
+    if journals.len() != 3 {
+        return false;
+    }
+    let assembly = Assembly::of_burst(2, CAP, burst, journals);
+    matches!(audit(alloc, &assembly), Ok(Verdict::Sound))
+}
+
+/// Whether the journals of a house that has ended are sound.
+fn is_sound(alloc: Global, burst: u8, house: House) -> bool {
+    let mut journals = Vec::new(alloc);
+    let put = put_all(&mut journals, house);
+    are_sound(alloc, burst, journals) && put
+}
+
+/// Whether a house whose turns have so many polls lives and ends on one thread.
+fn lives_and_ends(alloc: Global, burst: u8) -> bool {
+    match open(alloc, burst) {
+        Some(mut house) => {
+            let lived = house.lives();
+            is_sound(alloc, burst, house) && lived
+        }
+        None => false,
+    }
 }
 
 #[test]
-fn two_cores_live_on_one_thread(rt: HostRuntime) -> Result<(), Fail> {
+fn two_cores_live_on_one_thread(rt: HostRuntime) {
     for burst in [1, 2, 8] {
-        assert!(rt; lives_and_ends(rt.alloc(), burst)?, "burst {burst}");
+        assert!(rt; lives_and_ends(rt.alloc(), burst), "burst {burst}");
     }
-    Ok(())
 }

@@ -9,3 +9,5 @@ mod houses;
 mod parks;
 #[cfg(test)]
 mod refusals;
+#[cfg(test)]
+mod room;
