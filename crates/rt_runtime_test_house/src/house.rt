@@ -5,7 +5,7 @@ ghost use Rattle.rt_jobs.specs.Ready.{IsReady};
 
 use rt_ids::{ActorNo, CoreNo, JobId, Mode, Note, Order, Outcome, QueueNo, Ticket};
 use rt_jobs::{Job, Task};
-use rt_journal::Journal;
+use rt_journal::{Assembly, Journal};
 use rt_runtime::{Clock, Config, Gate, Runtime, Sink, StartError};
 use rt_shares::Shares;
 use std::alloc::{AllocError, Global};
@@ -190,6 +190,27 @@ pub fn answers<J: Task<Out = u64>, R: Wait>(
     matches!(house.wait(rt, ticket), Ok(Outcome::Finished(number)) if number == answer)
 }
 
+/// Closes so many cores in mode `Finish`. Whether each order is accepted.
+fn closes<J: Task<Out = u64>>(house: &mut House<J>, cores: u8) -> bool {
+    for core in 0..cores {
+        if house.close_core(CoreNo(core), Mode::Finish).is_err() {
+            return false;
+        }
+    }
+    true
+}
+
+/// Where all went well, the journals of a house whose cores are closed. None if it didn't, or a core is open.
+fn journals_if<J, C, G, R>(rt: &R, house: Runtime<J, C, G>, well: bool) -> Option<Assembly>
+where
+    J: Job + Task<Out = u64>,
+    C: Clock + Drop,
+    G: Gate + Drop,
+    R: Threads + Wait,
+{
+    if well { house.finish(rt).ok() } else { None }
+}
+
 /// Closes so many cores in mode `Finish`, and waits until all comes to its end. Whether it does.
 pub fn ends<J: Job + Task<Out = u64>, R: Threads + Wait>(
     rt: &R,
@@ -197,12 +218,8 @@ pub fn ends<J: Job + Task<Out = u64>, R: Threads + Wait>(
     cores: u8,
 ) -> bool {
     let mut house = house;
-    for core in 0..cores {
-        if house.close_core(CoreNo(core), Mode::Finish).is_err() {
-            return false;
-        }
-    }
-    house.finish(rt).is_ok()
+    let closed = closes(&mut house, cores);
+    journals_if(rt, house, closed).is_some()
 }
 
 /// Reads a mark so often that time passes.
