@@ -1,14 +1,13 @@
 //! Boxed jobs on a runtime: their times, and what becomes of one that never ends.
 
-use rt_audit::{Verdict, audit};
-use rt_ids::{ActorNo, CoreNo, Mode, Note, Order, QueueNo, Reason};
+use crate::house::{are_sound, closes, journals_if};
+use rt_ids::{ActorNo, CoreNo, Note, Order, QueueNo, Reason};
 use rt_jobs::{AnyJob, Polled, Range, Step, polled_job};
 use rt_journal::{Assembly, Journal};
-use rt_runtime_test_house::{House, begin, named, new_mark, plain, says};
+use rt_runtime_test_house::{House, Mark, named, new_mark, says, started};
 use std::alloc::{AllocError, Global};
 use std::sync::Wait;
 use std::sync::atomic::Ordering;
-use std::test::Fail;
 use std::thread::Threads;
 
 /// Work that yields so often and then answers 9.
@@ -56,40 +55,17 @@ fn submits(house: &mut House<AnyJob>, alloc: Global, yields: u32) -> Result<bool
     Ok(house.submit(CoreNo(0), order).is_ok())
 }
 
-/// Closes the core of a house, and waits for its end. What the journals are then.
-fn ends<R: Threads + Wait>(rt: &R, house: House<AnyJob>) -> Option<Assembly> {
-    let mut house = house;
-    // Its core may have closed by itself, and shut its gates: then this is refused.
-    let _closed = house.close_core(CoreNo(0), Mode::Finish);
-    match house.finish(rt) {
-        Ok(assembly) => Some(assembly),
-        Err(_) => None,
-    }
-}
-
-/// Submits a box that yields so often, and closes its core. What the journals are then, and how often the gate was asked. None if no house
-/// was started, or the box was refused.
-fn run_box<R>(
-    rt: R,
-    alloc: Global,
-    room: u32,
-    yields: u32,
-) -> Result<Option<(Assembly, u64)>, AllocError>
+/// Submits a box that yields so often, and closes its core, whose gate counts at this mark. What the journals are then. None if no house was
+/// started, or the box was refused.
+fn run_box<R>(rt: R, alloc: Global, room: u32, yields: u32, asked: &Mark) -> Option<Assembly>
 where
     R: Threads + Wait + Copy + Drop + Send + 'static,
 {
-    let asked = new_mark(alloc)?;
-    let config = plain(alloc, 1, 2, room);
-    let Ok(mut house) = begin::<AnyJob, R>(rt, alloc, config, 1, &asked)? else {
-        return Ok(None);
-    };
-    if !submits(&mut house, alloc, yields)? {
-        return Ok(None);
-    }
-    match ends(&rt, house) {
-        Some(assembly) => Ok(Some((assembly, asked.load(Ordering::SeqCst)))),
-        None => Ok(None),
-    }
+    let mut house = started(rt, alloc, 1, 2, room, asked)?;
+    let well = matches!(submits(&mut house, alloc, yields), Ok(true));
+    // Its core may have closed by itself, and shut its gates: then this is refused.
+    let _closed = closes(&mut house, 0);
+    journals_if(&rt, house, well)
 }
 
 /// How many polls took 10 nanoseconds.
@@ -103,26 +79,38 @@ fn polls_of_ten(journal: &Journal<u64>) -> u64 {
     count
 }
 
-#[test]
-fn each_poll_is_timed_and_asked_for(rt: HostRuntime) -> Result<(), Fail> {
-    let Some((assembly, asked)) = run_box(rt, rt.alloc(), 500, 3)? else {
-        assert!(rt; false, "no journals");
-        return Ok(());
-    };
+/// Whether each of four polls is timed, and asked for. None if there are no journals.
+fn is_timed<R>(rt: R, alloc: Global) -> Option<bool>
+where
+    R: Threads + Wait + Copy + Drop + Send + 'static,
+{
+    let asked = new_mark(alloc).ok()?;
+    let assembly = run_box(rt, alloc, 500, 3, &asked)?;
     let journal = assembly.journal(ActorNo(0));
-    assert!(rt; asked == 4 && polls_of_ten(journal) == 4);
-    assert!(rt; says(journal, &Note::Done(named(1, 0, 1), 10, 9)));
-    Ok(())
+    Some(
+        asked.load(Ordering::SeqCst) == 4
+            && polls_of_ten(journal) == 4
+            && says(journal, &Note::Done(named(1, 0, 1), 10, 9)),
+    )
 }
 
 #[test]
-fn a_short_journal_hands_back(rt: HostRuntime) -> Result<(), Fail> {
-    let Some((assembly, _asked)) = run_box(rt, rt.alloc(), 96, u32::MAX)? else {
-        assert!(rt; false, "no journals");
-        return Ok(());
-    };
+fn each_poll_is_timed_and_asked_for(rt: HostRuntime) {
+    assert!(rt; is_timed(rt, rt.alloc()) == Some(true));
+}
+
+/// Whether a core hands back a box that would never end, and the audit finds the journals sound. None if there are no journals.
+fn is_handed_back<R>(rt: R, alloc: Global) -> Option<bool>
+where
+    R: Threads + Wait + Copy + Drop + Send + 'static,
+{
+    let asked = new_mark(alloc).ok()?;
+    let assembly = run_box(rt, alloc, 96, u32::MAX, &asked)?;
     let returned = Note::Returned(named(1, 0, 1), Reason::CoreReturned);
-    assert!(rt; says(assembly.journal(ActorNo(0)), &returned));
-    assert!(rt; matches!(audit(rt.alloc(), &assembly), Ok(Verdict::Sound)));
-    Ok(())
+    Some(says(assembly.journal(ActorNo(0)), &returned) && are_sound(alloc, &assembly))
+}
+
+#[test]
+fn a_short_journal_hands_back(rt: HostRuntime) {
+    assert!(rt; is_handed_back(rt, rt.alloc()) == Some(true));
 }

@@ -3,11 +3,13 @@
 ghost use Rattle.std.specs.Prelude.{◌≡◌, false};
 ghost use Rattle.rt_jobs.specs.Example.{is_ended};
 
-use rt_ids::{CoreNo, Mode, Order, Outcome, QueueNo};
+use crate::house::{begun_plain, closes, finishes_if};
+use rt_ids::{CoreNo, Order, Outcome, QueueNo};
 use rt_jobs::example::Work;
-use rt_runtime_test_house::{House, begin, new_mark, plain};
+use rt_runtime_test_house::House;
+use std::alloc::Global;
 use std::sync::Wait;
-use std::test::Fail;
+use std::thread::Threads;
 
 /// The only core.
 const CORE: CoreNo = CoreNo(0);
@@ -28,14 +30,16 @@ fn endless() -> Work
     }
 }
 
-/// Whether an endless job comes back, and the core then refuses another one as closed.
-fn is_refused<R: Wait>(rt: &R, house: &mut House<Work>) -> bool {
-    let Ok(ticket) = house.submit(CORE, Order::Job(QUEUE, endless())) else {
-        return false;
-    };
-    if !matches!(house.wait(rt, ticket), Ok(Outcome::Returned(_, _))) {
-        return false;
+/// Whether an endless job that is taken comes back.
+fn comes_back<R: Wait>(rt: &R, house: &mut House<Work>) -> bool {
+    match house.submit(CORE, Order::Job(QUEUE, endless())) {
+        Ok(ticket) => matches!(house.wait(rt, ticket), Ok(Outcome::Returned(_, _))),
+        Err(_) => false,
     }
+}
+
+/// Whether the core refuses an endless job as closed.
+fn is_closed(house: &mut House<Work>) -> bool {
     match house.submit(CORE, Order::Job(QUEUE, endless())) {
         Ok(_) => false,
         Err(error) => error.is_closed(),
@@ -62,30 +66,46 @@ fn cause(house: &mut House<Work>) -> Option<bool> {
     None
 }
 
-#[test]
-fn a_short_core_tells_that_it_closed_by_itself(rt: HostRuntime) -> Result<(), Fail> {
-    let asked = new_mark(rt.alloc())?;
-    let config = plain(rt.alloc(), 1, 2, 96);
-    let Ok(mut house) = begin::<Work, _>(rt, rt.alloc(), config, 1, &asked)? else {
-        assert!(rt; false, "no house");
-        return Ok(());
-    };
-    assert!(rt; house.closed_by_itself(CORE).is_none());
-    assert!(rt; is_refused(&rt, &mut house) && cause(&mut house) == Some(true));
-    assert!(rt; house.finish(&rt).is_ok());
-    Ok(())
+/// Whether a core whose journal is short hands back an endless job, refuses another one, and tells that it closed by itself. Before that it
+/// tells nothing.
+fn tells_its_shortness<R: Wait>(rt: &R, house: &mut House<Work>) -> bool {
+    house.closed_by_itself(CORE).is_none()
+        && comes_back(rt, house)
+        && is_closed(house)
+        && cause(house) == Some(true)
+}
+
+/// Whether a house with such a core finishes. None if there is no house.
+fn ends_short<R>(rt: R, alloc: Global) -> Option<bool>
+where
+    R: Threads + Wait + Copy + Drop + Send + 'static,
+{
+    let mut house = begun_plain(rt, alloc, 1, 2, 96)?;
+    let well = tells_its_shortness(&rt, &mut house);
+    Some(finishes_if(&rt, house, well))
 }
 
 #[test]
-fn a_core_closed_by_order_tells_no_other_cause(rt: HostRuntime) -> Result<(), Fail> {
-    let asked = new_mark(rt.alloc())?;
-    let config = plain(rt.alloc(), 1, 2, 96);
-    let Ok(mut house) = begin::<Work, _>(rt, rt.alloc(), config, 1, &asked)? else {
-        assert!(rt; false, "no house");
-        return Ok(());
-    };
-    assert!(rt; house.close_core(CORE, Mode::Finish).is_ok() && cause(&mut house) == Some(false));
-    assert!(rt; house.closed_by_itself(CoreNo(1)).is_none());
-    assert!(rt; house.finish(&rt).is_ok());
-    Ok(())
+fn a_short_core_tells_that_it_closed_by_itself(rt: HostRuntime) {
+    assert!(rt; ends_short(rt, rt.alloc()) == Some(true));
+}
+
+/// Whether a core that is closed by order tells no other cause, and one that there isn't tells nothing.
+fn tells_the_order(house: &mut House<Work>) -> bool {
+    closes(house, 0) && cause(house) == Some(false) && house.closed_by_itself(CoreNo(1)).is_none()
+}
+
+/// Whether a house with such a core finishes. None if there is no house.
+fn ends_by_order<R>(rt: R, alloc: Global) -> Option<bool>
+where
+    R: Threads + Wait + Copy + Drop + Send + 'static,
+{
+    let mut house = begun_plain(rt, alloc, 1, 2, 96)?;
+    let well = tells_the_order(&mut house);
+    Some(finishes_if(&rt, house, well))
+}
+
+#[test]
+fn a_core_closed_by_order_tells_no_other_cause(rt: HostRuntime) {
+    assert!(rt; ends_by_order(rt, rt.alloc()) == Some(true));
 }

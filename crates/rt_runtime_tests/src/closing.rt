@@ -1,15 +1,15 @@
 //! Two cores that close each other while they are polled.
 
-ghost use Rattle.std.specs.Prelude.{◌≡◌, false};
+ghost use Rattle.std.specs.Prelude.{◌≡◌, false, IfSome};
 
-use rt_ids::{CoreNo, Mode, Order, Outcome, QueueNo, SendError, Ticket};
+use crate::house::{begun_plain, finishes_if};
+use rt_ids::{CoreNo, Mode, Order, Outcome, SendError, Ticket};
 use rt_jobs::{Job, Post, Step, Task};
 use rt_runtime::SubmitError;
-use rt_runtime_test_house::{House, Mark, begin, collects, is_set_soon, new_mark, plain};
-use std::alloc::AllocError;
+use rt_runtime_test_house::{House, Mark, collects, is_set_soon, new_mark, submits};
+use std::alloc::Global;
 use std::sync::atomic::Ordering;
 use std::sync::{Arc, Wait};
-use std::test::Fail;
 use std::thread::Threads;
 
 /// Waits until both jobs are submitted, and closes the other core. Answers 1 if that was accepted, else 0.
@@ -51,36 +51,33 @@ impl Job for Closer {
     }
 }
 
-/// Submits a job to a core that closes the other.
-fn submit(
-    house: &mut House<Closer>,
-    both_there: &Mark,
-    core: u8,
-    other: u8,
-) -> Result<Option<Ticket>, AllocError> {
-    let job = Closer {
-        both_there: Arc::try_clone(both_there)?,
+/// A job that closes this core. None if there is no memory for it.
+fn new_closer(both_there: &Mark, other: u8) -> Option<Closer>
+    ensures { IfSome result (λ job. job.ended ≡ false) }
+{
+    Some(Closer {
+        both_there: Arc::try_clone(both_there).ok()?,
         other: CoreNo(other),
         ended: false,
-    };
-    let sent = house.submit(CoreNo(core), Order::Job(QueueNo(0), job));
-    Ok(sent.ok())
+    })
+}
+
+/// Submits a job to a core that closes the other. Its ticket, if it is accepted.
+fn submit(house: &mut House<Closer>, both_there: &Mark, core: u8, other: u8) -> Option<Ticket> {
+    submits(house, CoreNo(core), new_closer(both_there, other)?)
 }
 
 /// Whether the job of a core answers 1.
-fn answers(house: &mut House<Closer>, ticket: Option<Ticket>) -> bool {
-    let Some(ticket) = ticket else {
-        return false;
-    };
+fn answers_one(house: &mut House<Closer>, ticket: Ticket) -> bool {
     collects(house, ticket.name().to) && matches!(house.redeem(ticket), Ok(Outcome::Finished(1)))
 }
 
 /// Whether each of the two cores closes the other.
-fn close_each_other(house: &mut House<Closer>, both_there: &Mark) -> Result<bool, AllocError> {
+fn close_each_other(house: &mut House<Closer>, both_there: &Mark) -> Option<bool> {
     let first = submit(house, both_there, 0, 1)?;
     let second = submit(house, both_there, 1, 0)?;
     both_there.store(1, Ordering::SeqCst);
-    Ok(answers(house, first) && answers(house, second))
+    Some(answers_one(house, first) && answers_one(house, second))
 }
 
 /// Whether the caller's own order to close a core is accepted, or comes after the core has shut its gates.
@@ -91,21 +88,20 @@ fn is_closed(house: &mut House<Closer>, core: u8) -> bool {
     )
 }
 
-/// Whether the caller closes both cores, and all comes to its end.
-fn ends<R: Threads + Wait>(rt: &R, house: House<Closer>) -> bool {
-    let mut house = house;
-    is_closed(&mut house, 0) && is_closed(&mut house, 1) && house.finish(rt).is_ok()
+/// Whether two cores close each other, and the caller closes both, and all comes to its end. None if there is no house.
+fn end_each_other<R>(rt: R, alloc: Global) -> Option<bool>
+where
+    R: Threads + Wait + Copy + Drop + Send + 'static,
+{
+    let both_there = new_mark(alloc).ok()?;
+    let mut house = begun_plain(rt, alloc, 2, 2, 200)?;
+    let well = close_each_other(&mut house, &both_there) == Some(true)
+        && is_closed(&mut house, 0)
+        && is_closed(&mut house, 1);
+    Some(finishes_if(&rt, house, well))
 }
 
 #[test]
-fn two_cores_close_each_other(rt: HostRuntime) -> Result<(), Fail> {
-    let (asked, both_there) = (new_mark(rt.alloc())?, new_mark(rt.alloc())?);
-    let config = plain(rt.alloc(), 2, 2, 200);
-    let Ok(mut house) = begin::<Closer, _>(rt, rt.alloc(), config, 2, &asked)? else {
-        assert!(rt; false, "no house");
-        return Ok(());
-    };
-    assert!(rt; close_each_other(&mut house, &both_there)?);
-    assert!(rt; ends(&rt, house));
-    Ok(())
+fn two_cores_close_each_other(rt: HostRuntime) {
+    assert!(rt; end_each_other(rt, rt.alloc()) == Some(true));
 }

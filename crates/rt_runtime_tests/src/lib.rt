@@ -14,6 +14,8 @@ mod closing;
 #[cfg(test)]
 mod errors;
 #[cfg(test)]
+mod house;
+#[cfg(test)]
 mod locals;
 #[cfg(test)]
 mod watching;

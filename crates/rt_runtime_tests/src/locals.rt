@@ -2,10 +2,12 @@
 
 ghost use Rattle.std.specs.Prelude.{◌≡◌, false};
 
-use rt_ids::{CoreNo, Mode, Order, QueueNo};
+use crate::house::{closes, is_bad};
+use rt_ids::CoreNo;
 use rt_jobs::{CoreState, Job, Post, Step, Task};
+use rt_journal::Assembly;
 use rt_runtime::StartError;
-use rt_runtime_test_house::{House, begin_with_locals, new_mark, plain};
+use rt_runtime_test_house::{House, begin_with_locals, new_mark, plain, submits};
 use std::alloc::{AllocError, Global};
 use std::sync::Wait;
 use std::test::Fail;
@@ -72,57 +74,81 @@ fn tallies(alloc: Global, count: u8) -> Result<Vec<Tally>, AllocError> {
 }
 
 /// Whether so many jobs are taken by a core.
-fn submits(house: &mut House<Counted>, core: CoreNo, count: u8) -> bool {
+fn takes(house: &mut House<Counted>, core: u8, count: u8) -> bool {
     for _ in 0..count {
-        let order = Order::Job(QueueNo(0), Counted { ended: false });
-        if house.submit(core, order).is_err() {
+        if submits(house, CoreNo(core), Counted { ended: false }).is_none() {
             return false;
         }
     }
     true
 }
 
-/// Whether the states come back, each from its core and with the jobs that ended there.
-fn come_back<R: Threads + Wait>(rt: &R, house: House<Counted>) -> bool {
-    let mut house = house;
-    if !submits(&mut house, CoreNo(0), 2) || !submits(&mut house, CoreNo(1), 3) {
-        return false;
-    }
-    for core in 0..2u8 {
-        if house.close_core(CoreNo(core), Mode::Finish).is_err() {
-            return false;
-        }
-    }
-    match house.finish_with_locals(rt) {
-        Ok((_assembly, tallies)) => {
-            let (Some(first), Some(second)) = (tallies.get(0), tallies.get(1)) else {
-                return false;
-            };
-            first.core == Some(0) && first.ended == 2 && second.core == Some(1) && second.ended == 3
-        }
-        Err(_) => false,
+/// Whether one core takes two jobs and the other three, and both take the order to close them.
+fn both_take(house: &mut House<Counted>) -> bool {
+    takes(house, 0, 2) && takes(house, 1, 3) && closes(house, 0) && closes(house, 1)
+}
+
+/// A house of two cores with these states, or why there is none.
+fn begun<R>(
+    rt: R,
+    alloc: Global,
+    locals: Vec<Tally>,
+) -> Result<Result<House<Counted>, StartError>, AllocError>
+where
+    R: Threads + Wait + Copy + Drop + Send + 'static,
+{
+    let asked = new_mark(alloc)?;
+    begin_with_locals::<Counted, R>(rt, alloc, plain(alloc, 2, 4, 300), &asked, locals)
+}
+
+/// The journals of a house, and the states of its cores.
+type Leavings = (Assembly, Vec<Tally>);
+
+/// Where all went well, what a house leaves whose cores are closed. None if it didn't, or a core is open.
+fn left_if<R: Threads + Wait>(rt: &R, house: House<Counted>, well: bool) -> Option<Leavings> {
+    if well {
+        house.finish_with_locals(rt).ok()
+    } else {
+        None
     }
 }
 
+/// What a house of two cores leaves, of which one took two jobs and the other three. None if it came to no end.
+fn left_by<R>(rt: R, alloc: Global) -> Option<Leavings>
+where
+    R: Threads + Wait + Copy + Drop + Send + 'static,
+{
+    let locals = tallies(alloc, 2).ok()?;
+    let mut house = begun(rt, alloc, locals).ok()?.ok()?;
+    let well = both_take(&mut house);
+    left_if(&rt, house, well)
+}
+
+/// Whether a state comes from this core, and so many jobs ended there.
+fn has_counted(state: Option<&Tally>, core: u8, ended: u64) -> bool {
+    match state {
+        Some(tally) => tally.core == Some(core) && tally.ended == ended,
+        None => false,
+    }
+}
+
+/// Whether the states come back, each from its core and with the jobs that ended there. None if they don't.
+fn come_back<R>(rt: R, alloc: Global) -> Option<bool>
+where
+    R: Threads + Wait + Copy + Drop + Send + 'static,
+{
+    let left = left_by(rt, alloc)?;
+    Some(has_counted(left.1.get(0), 0, 2) && has_counted(left.1.get(1), 1, 3))
+}
+
 #[test]
-fn each_core_lends_its_own_state(rt: HostRuntime) -> Result<(), Fail> {
-    let asked = new_mark(rt.alloc())?;
-    let config = plain(rt.alloc(), 2, 4, 300);
-    let locals = tallies(rt.alloc(), 2)?;
-    let Ok(house) = begin_with_locals::<Counted, _>(rt, rt.alloc(), config, &asked, locals)? else {
-        assert!(rt; false, "no house");
-        return Ok(());
-    };
-    assert!(rt; come_back(&rt, house));
-    Ok(())
+fn each_core_lends_its_own_state(rt: HostRuntime) {
+    assert!(rt; come_back(rt, rt.alloc()) == Some(true));
 }
 
 #[test]
 fn a_state_too_few_is_refused(rt: HostRuntime) -> Result<(), Fail> {
-    let asked = new_mark(rt.alloc())?;
-    let config = plain(rt.alloc(), 2, 4, 300);
     let locals = tallies(rt.alloc(), 1)?;
-    let started = begin_with_locals::<Counted, _>(rt, rt.alloc(), config, &asked, locals)?;
-    assert!(rt; matches!(started, Err(StartError::BadConfig)));
+    assert!(rt; is_bad(begun(rt, rt.alloc(), locals)?));
     Ok(())
 }

@@ -3,13 +3,16 @@
 ghost use Rattle.std.specs.Prelude.{◌≡◌, false};
 ghost use Rattle.rt_jobs.specs.Example.{is_ended};
 
-use rt_ids::{ActorNo, CoreNo, CoreStats, Mode, Order, QueueNo, QueueStats};
+use crate::house::{begun_plain, closes, finishes_if, journals_if};
+use rt_ids::{ActorNo, CoreNo, CoreStats, QueueNo, QueueStats};
 use rt_jobs::example::Work;
 use rt_journal::Journal;
-use rt_runtime_test_house::{House, begin, new_mark, plain};
+use rt_runtime_test_house::{House, submits};
 use rt_stats::{core_stats, queue_stats};
+use rt_watch::Watcher;
 use std::alloc::{AllocError, Global};
-use std::test::Fail;
+use std::sync::Wait;
+use std::thread::Threads;
 
 /// The queue of all jobs.
 const QUEUE: QueueNo = QueueNo(0);
@@ -25,10 +28,20 @@ const YIELDS: u32 = 400;
 /// The numbers of a core and of its queue 0.
 type Seen = (CoreStats, QueueStats);
 
+/// What a watcher saw last of its core and of queue 0.
+fn told_to(watcher: &Watcher) -> Option<Seen> {
+    Some((watcher.core_stats(), watcher.queue_stats(QUEUE)?))
+}
+
 /// What was seen last of a core and of its queue 0.
 fn seen(house: &House<Work>, core: CoreNo) -> Option<Seen> {
-    let watcher = house.watched(core)?;
-    Some((watcher.core_stats(), watcher.queue_stats(QUEUE)?))
+    told_to(house.watched(core)?)
+}
+
+/// Looks at a core, and tells what was seen.
+fn look(house: &mut House<Work>, core: CoreNo) -> Option<Seen> {
+    let _found = house.watch(core);
+    seen(house, core)
 }
 
 /// Whether no number that only rises fell.
@@ -51,8 +64,7 @@ fn fits_together(told: &Seen) -> bool {
 fn watch_until(house: &mut House<Work>, core: CoreNo, done: u64, drained: bool) -> Option<Seen> {
     let mut last = seen(house, core)?;
     for _ in 0..LOOKS {
-        let _found = house.watch(core);
-        let told = seen(house, core)?;
+        let told = look(house, core)?;
         if !is_no_less(&last, &told) || !fits_together(&told) {
             return None;
         }
@@ -72,12 +84,9 @@ fn later(yields: u32) -> Work
 }
 
 /// Submits so many such jobs to core 0.
-fn submits(house: &mut House<Work>, count: u64, yields: u32) -> bool {
+fn submits_all(house: &mut House<Work>, count: u64, yields: u32) -> bool {
     for _ in 0..count {
-        let sent = house
-            .submit(CoreNo(0), Order::Job(QUEUE, later(yields)))
-            .is_ok();
-        if !sent {
+        if submits(house, CoreNo(0), later(yields)).is_none() {
             return false;
         }
     }
@@ -91,45 +100,66 @@ fn told_by(alloc: Global, journal: &Journal<u64>) -> Result<Option<Seen>, AllocE
     Ok(queue.map(|queue| (core, queue)))
 }
 
-#[test]
-fn a_core_is_watched_until_it_ends(rt: HostRuntime) -> Result<(), Fail> {
-    let asked = new_mark(rt.alloc())?;
-    let config = plain(rt.alloc(), 1, 32, 60_000);
-    let Ok(mut house) = begin::<Work, _>(rt, rt.alloc(), config, 1, &asked)? else {
-        assert!(rt; false, "no house");
-        return Ok(());
-    };
-    assert!(rt; submits(&mut house, JOBS, YIELDS));
-    assert!(rt; watch_until(&mut house, CoreNo(0), JOBS, false).is_some());
-    assert!(rt; house.close_core(CoreNo(0), Mode::Finish).is_ok());
-    let last = watch_until(&mut house, CoreNo(0), JOBS, true);
-    let Ok(assembly) = house.finish(&rt) else {
-        assert!(rt; false, "not closed");
-        return Ok(());
-    };
-    // The last look tells the numbers of the whole journal.
-    let told = told_by(rt.alloc(), assembly.journal(ActorNo(0)))?;
-    assert!(rt; last.is_some() && last == told);
-    Ok(())
+/// Whether all jobs of core 0 are told as done, and it takes the order to close it.
+fn is_busy(house: &mut House<Work>) -> bool {
+    submits_all(house, JOBS, YIELDS)
+        && watch_until(house, CoreNo(0), JOBS, false).is_some()
+        && closes(house, 0)
+}
+
+/// What was seen last of a core that ended. None if a step before went otherwise.
+fn last_look(house: &mut House<Work>) -> Option<Seen> {
+    if is_busy(house) {
+        watch_until(house, CoreNo(0), JOBS, true)
+    } else {
+        None
+    }
+}
+
+/// Whether the last look at a core tells the numbers of its whole journal. None if it came to no end.
+fn is_seen_to_its_end<R>(rt: R, alloc: Global) -> Option<bool>
+where
+    R: Threads + Wait + Copy + Drop + Send + 'static,
+{
+    let mut house = begun_plain(rt, alloc, 1, 32, 60_000)?;
+    let last = last_look(&mut house);
+    let assembly = journals_if(&rt, house, last.is_some())?;
+    Some(last == told_by(alloc, assembly.journal(ActorNo(0))).ok()?)
 }
 
 #[test]
-fn an_idle_core_has_told_all(rt: HostRuntime) -> Result<(), Fail> {
-    let asked = new_mark(rt.alloc())?;
-    let config = plain(rt.alloc(), 1, 2, 2000);
-    let Ok(mut house) = begin::<Work, _>(rt, rt.alloc(), config, 1, &asked)? else {
-        assert!(rt; false, "no house");
-        return Ok(());
-    };
-    // Nothing was seen yet, and there is one core alone.
-    assert!(rt; matches!(seen(&house, CoreNo(0)), Some((core, _)) if core.turns == 0));
-    assert!(rt; !house.watch(CoreNo(1)) && house.watched(CoreNo(1)).is_none());
+fn a_core_is_watched_until_it_ends(rt: HostRuntime) {
+    assert!(rt; is_seen_to_its_end(rt, rt.alloc()) == Some(true));
+}
+
+/// Whether nothing was seen yet, and there is one core alone.
+fn is_unseen(house: &mut House<Work>) -> bool {
+    matches!(seen(house, CoreNo(0)), Some((core, _)) if core.turns == 0)
+        && !house.watch(CoreNo(1))
+        && house.watched(CoreNo(1)).is_none()
+}
+
+/// Whether a core tells of a job of six turns all that it noted.
+fn tells_all(house: &mut House<Work>) -> bool {
     // Six turns are too few for a publication while the core works. It publishes before it lies down.
-    assert!(rt; submits(&mut house, 1, 5));
-    let told = watch_until(&mut house, CoreNo(0), 1, false);
-    assert!(rt;
-        matches!(told, Some((core, _)) if core.turns == 6 && core.held == 0 && !core.drained)
-    );
-    assert!(rt; house.close_core(CoreNo(0), Mode::Finish).is_ok() && house.finish(&rt).is_ok());
-    Ok(())
+    submits_all(house, 1, 5)
+        && matches!(
+            watch_until(house, CoreNo(0), 1, false),
+            Some((core, _)) if core.turns == 6 && core.held == 0 && !core.drained
+        )
+}
+
+/// Whether an idle core has told all that it noted, and its house finishes. None if there is no house.
+fn is_told_while_idle<R>(rt: R, alloc: Global) -> Option<bool>
+where
+    R: Threads + Wait + Copy + Drop + Send + 'static,
+{
+    let mut house = begun_plain(rt, alloc, 1, 2, 2000)?;
+    let well = is_unseen(&mut house) && tells_all(&mut house) && closes(&mut house, 0);
+    Some(finishes_if(&rt, house, well))
+}
+
+#[test]
+fn an_idle_core_has_told_all(rt: HostRuntime) {
+    assert!(rt; is_told_while_idle(rt, rt.alloc()) == Some(true));
 }
