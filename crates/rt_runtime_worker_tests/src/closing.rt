@@ -14,7 +14,13 @@ use std::alloc::Global;
 use std::process::Abort;
 use std::sync::Wait;
 
-/// Whether the board of a worker tells, once its core is drained, that the core closed by itself.
+/// Whether the board tells that the core closed by itself.
+fn tells(watcher: &mut Watcher) -> bool {
+    let saw = watcher.look();
+    saw && watcher.closed_by_itself()
+}
+
+/// Whether the board of a worker tells that once its core is drained.
 fn tells_own_closing<R: Wait>(
     rt: &R,
     worker: Box<Worker<ScriptJob, Still, Counter, Whole>>,
@@ -23,8 +29,7 @@ fn tells_own_closing<R: Wait>(
     let mut watcher = watcher;
     let worker = Box::into_inner(worker);
     let _ended = worker.run(rt);
-    let saw = watcher.look();
-    saw && watcher.closed_by_itself()
+    tells(&mut watcher)
 }
 
 /// Whether that is told of a worker to which all this was sent. None if it wasn't, or if there is no memory.
