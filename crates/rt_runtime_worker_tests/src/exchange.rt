@@ -7,19 +7,19 @@ ghost use Rattle.rt_jobs.specs.declared.job.Step.TheVariants.{Done};
 ghost use Rattle.rt_ring_mesh.specs.Grid.{AreAllFresh, IsGrid};
 ghost use Rattle.rt_runtime_worker.specs.Opening.{AreEndsOf};
 
+use crate::setup::{last, open_over};
 use rt_ids::{CoreNo, JobId, Mode, Note, Order, QueueNo};
 use rt_jobs::{Asks, Job, Post, Step, Task, poll_asking, submit_and_detach};
 use rt_journal_notes::{Refused, Sink};
 use rt_link::OutEnd;
 use rt_ring_mesh::{Ends, open_all};
 use rt_runtime_config::{Clock, Config, Gate};
-use rt_runtime_team::Team;
+use rt_runtime_team::{Team, Work};
 use rt_runtime_worker::{Bells, Worker};
-use std::alloc::{AllocError, Global};
+use std::alloc::Global;
 use std::snapshot::Snapshot;
 use std::sync::atomic::{AtomicU64, Ordering};
 use std::sync::{Arc, Wait};
-use std::test::Fail;
 use std::thread::Threads;
 use std::time::Duration;
 
@@ -202,31 +202,44 @@ impl Asks for Hopper {
 
 type Parker = Worker<Hopper, Mute, Mute, Slow>;
 
-/// The ends of cores 0 and 1, and those of the outside actor.
-fn apart(all: Vec<Ends<Hopper>>) -> Option<(Ends<Hopper>, Ends<Hopper>, Ends<Hopper>)>
+/// The ends of cores 0 and 1, and those of the outside actor, each in a box.
+fn apart<J: Task<Out = u64>>(
+    alloc: Global,
+    all: Vec<Ends<J>>,
+) -> Option<(Box<Ends<J>>, Box<Ends<J>>, Box<Ends<J>>)>
     requires grid { IsGrid 16 all.items }
     requires fresh { AreAllFresh 16 4 all.items }
-    ensures first { IfSome result (λ ends. AreEndsOf 16 4 ends.0) }
-    ensures second { IfSome result (λ ends. AreEndsOf 16 4 ends.1) }
+    ensures first { IfSome result (λ ends. AreEndsOf 16 4 ends.0.value) }
+    ensures second { IfSome result (λ ends. AreEndsOf 16 4 ends.1.value) }
 {
     let mut all = all;
-    let outside = all.pop()?;
+    let outside = last(alloc, &mut all)?;
     all.truncate(2);
-    let second = all.pop()?;
-    let first = all.pop()?;
+    let second = last(alloc, &mut all)?;
+    let first = last(alloc, &mut all)?;
     Some((first, second, outside))
 }
 
+/// A sink that holds up the worker of this core.
+fn slow_sink(mark: &Mark, core: CoreNo) -> Option<Slow>
+    ensures { IfSome result (λ it. it.core ≡ core) }
+{
+    match Arc::try_clone(mark) {
+        Ok(mark) => Some(Slow {
+            mark,
+            core,
+            looks: HELD,
+        }),
+        Err(_) => None,
+    }
+}
+
 /// A worker that parks after each round in which nothing was done.
-fn open(alloc: Global, own: Ends<Hopper>, bells: &Bells, mark: &Mark) -> Result<Parker, AllocError>
-    requires own { AreEndsOf 16 4 own }
+fn open(alloc: Global, own: Box<Ends<Hopper>>, bells: &Bells, mark: &Mark) -> Option<Box<Parker>>
+    requires own { AreEndsOf 16 4 own.value }
     requires bells { bells.now.rings ≡ replicate 17 0 }
 {
-    let sink = Slow {
-        mark: Arc::try_clone(mark)?,
-        core: CoreNo(own.number.0),
-        looks: HELD,
-    };
+    let sink = slow_sink(mark, CoreNo(own.number.0))?;
     let config = Config {
         cores: CORES,
         cap: CAP,
@@ -234,26 +247,45 @@ fn open(alloc: Global, own: Ends<Hopper>, bells: &Bells, mark: &Mark) -> Result<
         room: ROOM,
         queues: Vec::new(alloc),
     };
-    let (worker, _watcher) = Worker::open(alloc, &config, own, Mute, Mute, bells, sink, ())?;
-    Ok(worker.with_tries(0))
+    match open_over(alloc, &config, own, Mute, Mute, bells, sink, ()) {
+        Some((worker, _watcher)) => Some(worker),
+        None => None,
+    }
+}
+
+/// Both in a list.
+fn both<W: Drop>(alloc: Global, first: Box<W>, second: Box<W>) -> Option<Vec<W>> {
+    let mut all = Vec::with_capacity(alloc, 2).ok()?;
+    all.push(Box::into_inner(first)).ok()?;
+    all.push(Box::into_inner(second)).ok()?;
+    Some(all)
 }
 
 /// Both workers.
 fn open_both(
     alloc: Global,
-    first: Ends<Hopper>,
-    second: Ends<Hopper>,
+    first: Box<Ends<Hopper>>,
+    second: Box<Ends<Hopper>>,
     bells: &Bells,
     mark: &Mark,
-) -> Result<Vec<Parker>, AllocError>
-    requires first { AreEndsOf 16 4 first }
-    requires second { AreEndsOf 16 4 second }
+) -> Option<Vec<Parker>>
+    requires first { AreEndsOf 16 4 first.value }
+    requires second { AreEndsOf 16 4 second.value }
     requires bells { bells.now.rings ≡ replicate 17 0 }
 {
-    let mut workers = Vec::with_capacity(alloc, 2)?;
-    workers.push(open(alloc, first, bells, mark)?)?;
-    workers.push(open(alloc, second, bells, mark)?)?;
-    Ok(workers)
+    let first = open(alloc, first, bells, mark)?;
+    let second = open(alloc, second, bells, mark)?;
+    both(alloc, first, second)
+}
+
+/// Both workers, and the ends of the outside actor.
+fn open_house(alloc: Global, bells: &Bells, mark: &Mark) -> Option<(Vec<Parker>, Box<Ends<Hopper>>)>
+    requires bells { bells.now.rings ≡ replicate 17 0 }
+{
+    let all = open_all::<Hopper>(alloc, CORES, CAP).ok()?;
+    let (first, second, outside) = apart(alloc, all)?;
+    let workers = open_both(alloc, first, second, bells, mark)?;
+    Some((workers, outside))
 }
 
 /// Whether the order was sent to this core.
@@ -312,27 +344,53 @@ fn close(outside: &mut Ends<Hopper>, bells: &mut Bells) -> bool {
     closed
 }
 
-/// How many workers ended, once the job has gone over each time. None if they couldn't be opened, or if a wake was lost. Then their threads
-/// aren't joined, since they may be parked for ever.
+/// How many workers ended, if all went well. If it didn't, their threads aren't joined, since they may be parked for ever.
+fn count_ended<W: Work, R: Threads + Wait>(rt: &R, team: Team<W>, well: bool) -> Option<usize> {
+    if well {
+        Some(team.join(rt).len())
+    } else {
+        None
+    }
+}
+
+/// Runs these workers, and closes their cores once the job has gone over each time. How many ended. None if they couldn't be started, or if a
+/// wake was lost.
+fn runs<W, R>(
+    rt: R,
+    alloc: Global,
+    workers: Vec<W>,
+    outside: &mut Ends<Hopper>,
+    bells: &mut Bells,
+    mark: &Mark,
+) -> Option<usize>
+where
+    W: Work + Send + 'static,
+    W::Ended: Send + 'static,
+    R: Threads + Wait + Copy + Drop + Send + 'static,
+{
+    let sent = send_first(outside, mark);
+    match Team::start(rt, alloc, workers) {
+        Ok(team) => {
+            let well = sent && has_gone_over(&rt, mark) && close(outside, bells);
+            count_ended(&rt, team, well)
+        }
+        Err(_) => None,
+    }
+}
+
+/// How many workers ended, once the job has gone over each time. None if they couldn't be opened, or if a wake was lost.
 fn exchange<R>(rt: R, alloc: Global) -> Option<usize>
 where
     R: Threads + Wait + Copy + Drop + Send + 'static,
 {
     let mut bells = Bells::open(alloc, CORES).ok()?;
-    let all = open_all::<Hopper>(alloc, CORES, CAP).ok()?;
-    let (first, second, mut outside) = apart(all)?;
     let mark = Arc::new(alloc, AtomicU64::new(0)).ok()?;
-    let workers = open_both(alloc, first, second, &bells, &mark).ok()?;
-    let sent = send_first(&mut outside, &mark);
-    let team = Team::start(rt, alloc, workers).ok()?;
-    if !sent || !has_gone_over(&rt, &mark) || !close(&mut outside, &mut bells) {
-        return None;
-    }
-    Some(team.join(&rt).len())
+    let (workers, outside) = open_house(alloc, &bells, &mark)?;
+    let mut outside = outside;
+    runs(rt, alloc, workers, &mut outside, &mut bells, &mark)
 }
 
 #[test]
-fn no_wake_is_lost(rt: HostRuntime) -> Result<(), Fail> {
+fn no_wake_is_lost(rt: HostRuntime) {
     assert!(rt; exchange(rt, rt.alloc()) == Some(2));
-    Ok(())
 }

@@ -1,17 +1,16 @@
 //! One worker whose jobs share the state of their core.
 
-ghost use Rattle.std.specs.Prelude.{◌≡◌, false, replicate};
-ghost use Rattle.rt_runtime_worker.specs.Opening.{AreEndsOf};
-
-use crate::setup::{OUTSIDE, QUEUE, ROOM_OF_BURSTS, Shared, ends, name, open, send};
+use crate::setup::{
+    Counter, OUTSIDE, QUEUE, ROOM_OF_BURSTS, Shared, Still, ends, name, open, send,
+};
 use rt_ids::{CoreNo, JobId, Mode, Note, Order};
 use rt_jobs::{CoreState, Job, Post, Step, Task};
 use rt_journal_notes::{Journal, Whole};
 use rt_ring_mesh::Ends;
 use rt_runtime_team::Work;
-use std::alloc::{AllocError, Global};
+use rt_runtime_worker::Worker;
+use std::alloc::Global;
 use std::sync::Wait;
-use std::test::Fail;
 
 /// The number of its core, once it has begun there, how often it began, and how many jobs ended on it.
 #[derive(Drop)]
@@ -63,25 +62,24 @@ impl Job for Counted {
     }
 }
 
-/// What a worker over these ends notes until its core is drained, and the state that its jobs shared. A turn may have two polls.
-fn serve_sharing<R: Wait>(
-    rt: &R,
-    alloc: Global,
-    own: Ends<Counted>,
-    shared: &Shared,
-) -> Result<(Journal<u64>, Tally), AllocError>
-    requires own { AreEndsOf 1 4 own }
-    requires bells { shared.now.bells.rings ≡ replicate 2 0 }
-{
-    let tally = Tally {
+/// The state of a core that hasn't begun.
+fn unbegun() -> Tally {
+    Tally {
         core: None,
         begun: 0,
         ended: 0,
-    };
-    let worker = open(alloc, own, shared, 2, ROOM_OF_BURSTS, Whole, tally)?;
+    }
+}
+
+/// What a worker notes until its core is drained, and the state that its jobs shared.
+fn left<R: Wait>(
+    rt: &R,
+    worker: Box<Worker<Counted, Still, Counter, Whole>>,
+) -> (Journal<u64>, Tally) {
+    let worker = Box::into_inner(worker);
     let (linked, _sink, tally) = worker.run(rt).into_all();
     let (recorded, _ends) = linked.into_parts();
-    Ok((recorded.into_journal().into_kept(), tally))
+    (recorded.into_journal().into_kept(), tally)
 }
 
 /// Whether so many jobs were sent to the core.
@@ -92,6 +90,11 @@ fn sends(outside: &mut Ends<Counted>, count: u8) -> bool {
         }
     }
     true
+}
+
+/// Whether three jobs were sent to the core, and the order to close it.
+fn sends_three(outside: &mut Ends<Counted>) -> bool {
+    sends(outside, 3) && send(outside, Order::CloseCore(Mode::Finish))
 }
 
 /// Whether the job of this name answered so.
@@ -106,17 +109,31 @@ fn answered(journal: &Journal<u64>, job: JobId, value: u64) -> bool {
     false
 }
 
+/// Whether each of three jobs answered with its place. The second job is polled in the turn of the first.
+fn have_answered(journal: &Journal<u64>) -> bool {
+    let first = answered(journal, name(OUTSIDE, 1), 1);
+    let second = answered(journal, name(OUTSIDE, 2), 2);
+    let third = answered(journal, name(OUTSIDE, 3), 3);
+    first && second && third
+}
+
+/// Whether the state began once, on core 0, and three jobs ended there.
+fn has_counted(tally: &Tally) -> bool {
+    tally.core == Some(0) && tally.begun == 1 && tally.ended == 3
+}
+
+/// Whether a worker lends three jobs the state of its core. A turn may have two polls. None if there is no memory.
+fn shares<R: Wait>(rt: &R, alloc: Global) -> Option<bool> {
+    let shared = Shared::open(alloc)?;
+    let (own, outside) = ends::<Counted>(alloc)?;
+    let mut outside = outside;
+    let sent = sends_three(&mut outside);
+    let worker = open(alloc, own, &shared, 2, ROOM_OF_BURSTS, Whole, unbegun())?;
+    let (journal, tally) = left(rt, worker);
+    Some(sent && have_answered(&journal) && has_counted(&tally))
+}
+
 #[test]
-fn each_poll_is_lent_the_state_of_its_core(rt: HostRuntime) -> Result<(), Fail> {
-    let shared = Shared::new(rt.alloc())?;
-    let (own, mut outside) = ends::<Counted>(rt.alloc())?;
-    let sent = sends(&mut outside, 3) && send(&mut outside, Order::CloseCore(Mode::Finish));
-    let (journal, tally) = serve_sharing(&rt, rt.alloc(), own, &shared)?;
-    let first = answered(&journal, name(OUTSIDE, 1), 1);
-    // The second job is polled in the turn of the first.
-    let second = answered(&journal, name(OUTSIDE, 2), 2);
-    let third = answered(&journal, name(OUTSIDE, 3), 3);
-    assert!(rt; sent && first && second && third);
-    assert!(rt; tally.core == Some(0) && tally.begun == 1 && tally.ended == 3);
-    Ok(())
+fn each_poll_is_lent_the_state_of_its_core(rt: HostRuntime) {
+    assert!(rt; shares(&rt, rt.alloc()) == Some(true));
 }

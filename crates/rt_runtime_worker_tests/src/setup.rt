@@ -1,16 +1,15 @@
 //! One worker alone, and what is sent to it before it begins.
 
-ghost use Rattle.std.specs.Prelude.{◌≡◌, ◌≤◌, ◌<◌, ◌^◌, [], IfOk, replicate};
+ghost use Rattle.std.specs.Prelude.{◌≡◌, ◌+◌, ◌≤◌, ◌<◌, ◌^◌, [], ◌∷◌, ◌++◌, length, IfOk, IfSome, replicate};
 ghost use Rattle.rt_ring_mesh.specs.Grid.{IsGrid, AreAllFresh};
 ghost use Rattle.rt_jobs.specs.Ready.{HasReadyJob};
-ghost use Rattle.rt_runtime_config.specs.Configs.{least_room};
+ghost use Rattle.rt_runtime_config.specs.Configs.{least_room, queues_of};
 ghost use Rattle.rt_runtime_worker.specs.Opening.{AreEndsOf};
 
 use rt_ids::{ActorNo, CoreNo, JobId, Note, Order, QueueNo};
 use rt_jobs::{Poll, ScriptJob, Task};
 use rt_journal_notes::{Journal, Sink};
 use rt_link::OutEnd;
-use rt_ring::OpenError;
 use rt_ring_mesh::{Ends, open_all};
 use rt_runtime_config::{Clock, Config, Gate};
 use rt_runtime_worker::{Bells, Worker};
@@ -78,7 +77,7 @@ pub(crate) struct Shared {
 }
 
 impl Shared {
-    pub(crate) fn new(alloc: Global) -> Result<Self, AllocError>
+    fn new(alloc: Global) -> Result<Self, AllocError>
         ensures { IfOk result (λ shared. shared.bells.rings ≡ replicate 2 0) }
     {
         Ok(Shared {
@@ -87,6 +86,16 @@ impl Shared {
             asked: Arc::new(alloc, AtomicU64::new(0))?,
             wrong: Arc::new(alloc, AtomicU64::new(0))?,
         })
+    }
+
+    /// The same in a box.
+    pub(crate) fn open(alloc: Global) -> Option<Box<Self>>
+        ensures { IfSome result (λ shared. shared.value.bells.rings ≡ replicate 2 0) }
+    {
+        match Shared::new(alloc) {
+            Ok(shared) => Box::new(alloc, shared).ok(),
+            Err(_) => None,
+        }
     }
 
     /// How often the clock was read, and the gate asked for a job of its core and for another.
@@ -149,16 +158,45 @@ fn own_of<J: Task<Out = u64>>(all: &mut Vec<Ends<J>>) -> Ends<J>
     all.remove(0)
 }
 
-/// The ends of the core, and those of the outside actor.
-pub(crate) fn ends<J: Task<Out = u64>>(alloc: Global) -> Result<(Ends<J>, Ends<J>), OpenError>
-    ensures { IfOk result (λ ends. AreEndsOf 1 4 ends.0) }
+/// The last of these, in a box.
+pub(crate) fn last<T: Drop>(alloc: Global, all: &mut Vec<T>) -> Option<Box<T>>
+    ensures items { IfSome result (λ it. all.old.items ≡ all.new.items ++ it.value ∷ []) }
 {
-    let mut all = open_all::<J>(alloc, 1, CAP)?;
-    let own = own_of(&mut all);
     match all.pop() {
-        Some(outside) => Ok((own, outside)),
-        None => Err(OpenError::Memory),
+        Some(it) => Box::new(alloc, it).ok(),
+        None => None,
     }
+}
+
+/// The ends of the core, and those of the outside actor. Each stands in a box, so that it is moved at no cost of proof.
+fn dealt<J: Task<Out = u64>>(
+    alloc: Global,
+    all: Vec<Ends<J>>,
+) -> Option<(Box<Ends<J>>, Box<Ends<J>>)>
+    requires grid { IsGrid 1 all.items }
+    requires fresh { AreAllFresh 1 4 all.items }
+    ensures { IfSome result (λ ends. AreEndsOf 1 4 ends.0.value) }
+{
+    let mut all = all;
+    let own = Box::new(alloc, own_of(&mut all)).ok()?;
+    let outside = last(alloc, &mut all)?;
+    Some((own, outside))
+}
+
+/// The ends of the core, and those of the outside actor, of links that are opened here.
+pub(crate) fn ends<J: Task<Out = u64>>(alloc: Global) -> Option<(Box<Ends<J>>, Box<Ends<J>>)>
+    ensures { IfSome result (λ ends. AreEndsOf 1 4 ends.0.value) }
+{
+    match open_all::<J>(alloc, 1, CAP) {
+        Ok(all) => dealt(alloc, all),
+        Err(_) => None,
+    }
+}
+
+/// What is sent to a worker before it begins.
+pub(crate) trait Sends {
+    /// Whether all was sent.
+    fn send_all<R: Abort>(&self, rt: &R, outside: &mut Ends<ScriptJob>) -> bool;
 }
 
 /// Whether the order was sent to the core.
@@ -171,22 +209,95 @@ pub(crate) fn send<J: Task<Out = u64>>(outside: &mut Ends<J>, order: Order<J>) -
     outside.outs[0].send(order).is_ok()
 }
 
+/// A worker in a box, and the watcher of its numbers.
+pub(crate) type Opened<J, C, G, S> = (Box<Worker<J, C, G, S>>, Watcher);
+
+/// This in a box.
+fn in_box<T: Drop>(alloc: Global, it: T) -> Option<Box<T>> {
+    Box::new(alloc, it).ok()
+}
+
+/// What was opened, in a box, and its watcher.
+fn boxed<W: Drop>(
+    alloc: Global,
+    opened: Result<(W, Watcher), AllocError>,
+) -> Option<(Box<W>, Watcher)> {
+    match opened {
+        Ok((worker, watcher)) => Some((in_box(alloc, worker)?, watcher)),
+        Err(_) => None,
+    }
+}
+
+/// The same worker, which parks after each round in which nothing was done.
+fn without_tries<J: Task<Out = u64>, C: Drop, G: Drop, S: Sink>(
+    alloc: Global,
+    worker: Box<Worker<J, C, G, S>>,
+) -> Option<Box<Worker<J, C, G, S>>> {
+    in_box(alloc, Box::into_inner(worker).with_tries(0))
+}
+
+/// A worker that parks after each round in which nothing was done, and its watcher.
+pub(crate) fn open_over<J: Task<Out = u64>, C: Drop, G: Drop, S: Sink>(
+    alloc: Global,
+    config: &Config,
+    own: Box<Ends<J>>,
+    clock: C,
+    gate: G,
+    bells: &Bells,
+    sink: S,
+    local: J::Local,
+) -> Option<Opened<J, C, G, S>>
+    requires ends { AreEndsOf config.now.cores config.now.cap own.value }
+    requires room { least_room config.now.cores config.now.cap config.now.burst + queues_of own.value.number config.now.queues.items ≤ config.now.room }
+    requires bells { length bells.now.rings ≡ config.now.cores + 1 }
+    requires none { S.has sink ≡ [] }
+{
+    let own = Box::into_inner(own);
+    let opened = Worker::open(alloc, config, own, clock, gate, bells, sink, local);
+    let (worker, watcher) = boxed(alloc, opened)?;
+    let worker = without_tries(alloc, worker)?;
+    Some((worker, watcher))
+}
+
+impl Shared {
+    /// A clock that counts its readings here.
+    fn clock(&self) -> Option<Still> {
+        match Arc::try_clone(&self.readings) {
+            Ok(readings) => Some(Still { readings }),
+            Err(_) => None,
+        }
+    }
+
+    /// A gate that counts here how often it is asked.
+    fn gate(&self) -> Option<Counter> {
+        let asked = Arc::try_clone(&self.asked).ok()?;
+        let wrong = Arc::try_clone(&self.wrong).ok()?;
+        Some(Counter {
+            core: CORE,
+            asked,
+            wrong,
+        })
+    }
+}
+
 /// A worker over these ends, which parks after each round in which nothing was done, and the watcher of its numbers. A turn may have so many polls. Its jobs
 /// share this state.
 pub(crate) fn open_watched<J: Task<Out = u64>, S: Sink>(
     alloc: Global,
-    own: Ends<J>,
+    own: Box<Ends<J>>,
     shared: &Shared,
     burst: u8,
     room: u32,
     sink: S,
     local: J::Local,
-) -> Result<(Worker<J, Still, Counter, S>, Watcher), AllocError>
+) -> Option<Opened<J, Still, Counter, S>>
     requires room { least_room 1 4 burst ≤ room }
     requires none { S.has sink ≡ [] }
-    requires own { AreEndsOf 1 4 own }
+    requires own { AreEndsOf 1 4 own.value }
     requires bells { shared.now.bells.rings ≡ replicate 2 0 }
 {
+    let clock = shared.clock()?;
+    let gate = shared.gate()?;
     let config = Config {
         cores: 1,
         cap: CAP,
@@ -194,44 +305,28 @@ pub(crate) fn open_watched<J: Task<Out = u64>, S: Sink>(
         room,
         queues: Vec::new(alloc),
     };
-    let clock = Still {
-        readings: Arc::try_clone(&shared.readings)?,
-    };
-    let gate = Counter {
-        core: CORE,
-        asked: Arc::try_clone(&shared.asked)?,
-        wrong: Arc::try_clone(&shared.wrong)?,
-    };
-    let (worker, watcher) = Worker::open(
-        alloc,
-        &config,
-        own,
-        clock,
-        gate,
-        &shared.bells,
-        sink,
-        local,
-    )?;
-    Ok((worker.with_tries(0), watcher))
+    open_over(alloc, &config, own, clock, gate, &shared.bells, sink, local)
 }
 
 /// The same worker, watched by nobody.
 pub(crate) fn open<J: Task<Out = u64>, S: Sink>(
     alloc: Global,
-    own: Ends<J>,
+    own: Box<Ends<J>>,
     shared: &Shared,
     burst: u8,
     room: u32,
     sink: S,
     local: J::Local,
-) -> Result<Worker<J, Still, Counter, S>, AllocError>
+) -> Option<Box<Worker<J, Still, Counter, S>>>
     requires room { least_room 1 4 burst ≤ room }
     requires none { S.has sink ≡ [] }
-    requires own { AreEndsOf 1 4 own }
+    requires own { AreEndsOf 1 4 own.value }
     requires bells { shared.now.bells.rings ≡ replicate 2 0 }
 {
-    let (worker, _watcher) = open_watched(alloc, own, shared, burst, room, sink, local)?;
-    Ok(worker)
+    match open_watched(alloc, own, shared, burst, room, sink, local) {
+        Some((worker, _watcher)) => Some(worker),
+        None => None,
+    }
 }
 
 /// Whether the journal begins with these notes.

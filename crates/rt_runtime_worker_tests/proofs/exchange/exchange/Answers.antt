@@ -21,8 +21,8 @@ mute_send = search (crosses, sendable) depth 60 fits 20000
 slow_send : IsSend slow
 slow_send = search (crosses, sendable) depth 60 fits 20000
 
-pub start-requires-send-W : goal.start-requires-send-W
-start-requires-send-W g c κs within = param_send 0 _ (arg_send _ no _ (worker_send _ _ _ _ hopper_send unit_send _ passes slow_send _ _ mute_send mute_send))
+pub runs-requires-send-W : goal.runs-requires-send-W
+runs-requires-send-W g c κs within = param_send 0 _ (arg_send _ no _ (worker_send _ _ _ _ hopper_send unit_send _ passes slow_send _ _ mute_send mute_send))
 
-pub start-requires-send-W-Ended : goal.start-requires-send-W-Ended
-start-requires-send-W-Ended g c κs within = param_send 1 _ (arg_send _ no _ (ended_send _ _ _ _ hopper_send unit_send _ passes slow_send))
+pub runs-requires-send-W-Ended : goal.runs-requires-send-W-Ended
+runs-requires-send-W-Ended g c κs within = param_send 2 _ (arg_send _ no _ (ended_send _ _ _ _ hopper_send unit_send _ passes slow_send))
