@@ -76,15 +76,29 @@ fn all_end<S: Sink, R: Wait>(rt: &R, house: &mut House<S>, count: u32) -> bool {
     true
 }
 
-/// Closes both cores, and waits until they have ended. None if a core was closed already.
-pub fn finish<S: Sink, R: Threads + Wait>(rt: &R, house: House<S>) -> Option<Passed<S>> {
-    let mut house = house;
-    for core in 0..2 {
-        if house.close_core(CoreNo(core), Mode::Finish).is_err() {
-            return None;
-        }
+/// Whether a core accepts the order to close it.
+fn closes<S: Sink>(house: &mut House<S>, core: u8) -> bool {
+    house.close_core(CoreNo(core), Mode::Finish).is_ok()
+}
+
+/// Where all went well, what a house leaves whose cores are closed. None if it didn't, or a core is open.
+fn passed_if<S: Sink, R: Threads + Wait>(rt: &R, house: House<S>, well: bool) -> Option<Passed<S>> {
+    if well {
+        house.finish_with_sinks(rt).ok()
+    } else {
+        None
     }
-    house.finish_with_sinks(rt).ok()
+}
+
+/// Where all went well, closes both cores and waits until they have ended. None if it didn't, or a core was closed already.
+pub fn finish<S: Sink, R: Threads + Wait>(
+    rt: &R,
+    house: House<S>,
+    well: bool,
+) -> Option<Passed<S>> {
+    let mut house = house;
+    let closed = well && closes(&mut house, 0) && closes(&mut house, 1);
+    passed_if(rt, house, closed)
 }
 
 /// What a house leaves each of whose cores ended so many jobs. None if it didn't begin, a job went back, or a core closed by itself.
@@ -95,9 +109,6 @@ where
     requires { All (λ sink. S.has sink ≡ []) sinks.items }
 {
     let mut house = begin(rt, alloc, room, sinks)?;
-    if all_end(&rt, &mut house, count) {
-        finish(&rt, house)
-    } else {
-        None
-    }
+    let well = all_end(&rt, &mut house, count);
+    finish(&rt, house, well)
 }

@@ -89,6 +89,11 @@ fn takes_again<R: Wait>(rt: &R, house: &mut House<Faulty>) -> bool {
         && house.sink().times_refused() == 2
 }
 
+/// Whether all that is kept is passed on.
+fn passes_on(house: &mut House<Faulty>) -> bool {
+    house.pass_on().is_ok() && house.kept().is_empty()
+}
+
 /// What a house leaves whose outside sink refused twice, and took again. None if one of these steps went otherwise.
 fn leaves_later<R>(rt: R, alloc: Global) -> Option<Passed<Faulty>>
 where
@@ -96,11 +101,8 @@ where
 {
     let sinks = faulty(alloc, 0, 2)?;
     let mut house = begin(rt, alloc, LEAST_ROOM, sinks)?;
-    if takes_again(&rt, &mut house) && house.pass_on().is_ok() && house.kept().is_empty() {
-        finish(&rt, house)
-    } else {
-        None
-    }
+    let well = takes_again(&rt, &mut house) && passes_on(&mut house);
+    finish(&rt, house, well)
 }
 
 /// Whether the sinks have all notes of that, and these are sound. None if it went otherwise before.

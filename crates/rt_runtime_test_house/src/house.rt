@@ -5,7 +5,7 @@ ghost use Rattle.rt_jobs.specs.Ready.{IsReady};
 
 use rt_ids::{ActorNo, CoreNo, JobId, Mode, Note, Order, Outcome, QueueNo, Ticket};
 use rt_jobs::{Job, Task};
-use rt_journal::Journal;
+use rt_journal::{Assembly, Journal};
 use rt_runtime::{Clock, Config, Gate, Runtime, Sink, StartError};
 use rt_shares::Shares;
 use std::alloc::{AllocError, Global};
@@ -136,6 +136,37 @@ where
     begun.ok()
 }
 
+/// A house, and the mark at which its gates count.
+#[derive(Drop)]
+pub struct Counted<J: Task<Out = u64>> {
+    pub house: House<J>,
+    pub asked: Mark,
+}
+
+impl<J: Job + Task<Out = u64>> Counted<J> {
+    /// The same as `started`, with a mark of its own.
+    pub fn start<R>(rt: R, alloc: Global, cores: u8, cap: u16, room: u32) -> Option<Self>
+    where
+        J: Task<Out = u64, Local = ()> + Send + 'static,
+        R: Threads + Wait + Copy + Drop + Send + 'static,
+    {
+        let asked = new_mark(alloc).ok()?;
+        let house = started(rt, alloc, cores, cap, room, &asked)?;
+        Some(Counted { house, asked })
+    }
+
+    /// Where all went well, closes so many cores and waits until all comes to its end. How often the gates were asked then. None if it didn't
+    /// go well, or doesn't end.
+    pub fn ends<R: Threads + Wait>(self, rt: &R, cores: u8, well: bool) -> Option<u64> {
+        let Counted { house, asked } = self;
+        if ends_if(rt, house, cores, well) {
+            Some(asked.load(Ordering::SeqCst))
+        } else {
+            None
+        }
+    }
+}
+
 /// A house on threads whose jobs share these states, or why there is none.
 pub fn begin_with_locals<J, R>(
     rt: R,
@@ -180,6 +211,18 @@ pub fn submits<J: Task<Out = u64>>(house: &mut House<J>, core: CoreNo, job: J) -
     house.submit(core, Order::Job(QueueNo(0), job)).ok()
 }
 
+/// Submits a job to queue 0 of a core, and closes the core in mode `Finish`. Whether both orders are accepted.
+pub fn submits_last<J: Task<Out = u64>, C: Drop, G: Drop>(
+    house: &mut Runtime<J, C, G>,
+    core: CoreNo,
+    job: J,
+) -> bool
+    requires { IsReady J.meaning job }
+{
+    house.submit(core, Order::Job(QueueNo(0), job)).is_ok()
+        && house.close_core(core, Mode::Finish).is_ok()
+}
+
 /// Waits until the outcome of this submission is there. Whether it is finished with this answer.
 pub fn answers<J: Task<Out = u64>, R: Wait>(
     rt: &R,
@@ -190,19 +233,46 @@ pub fn answers<J: Task<Out = u64>, R: Wait>(
     matches!(house.wait(rt, ticket), Ok(Outcome::Finished(number)) if number == answer)
 }
 
+/// Closes so many cores in mode `Finish`. Whether each order is accepted.
+fn closes<J: Task<Out = u64>>(house: &mut House<J>, cores: u8) -> bool {
+    for core in 0..cores {
+        if house.close_core(CoreNo(core), Mode::Finish).is_err() {
+            return false;
+        }
+    }
+    true
+}
+
+/// Where all went well, the journals of a house whose cores are closed. None if it didn't, or a core is open.
+pub fn journals_if<J, C, G, R>(rt: &R, house: Runtime<J, C, G>, well: bool) -> Option<Assembly>
+where
+    J: Job + Task<Out = u64>,
+    C: Clock + Drop,
+    G: Gate + Drop,
+    R: Threads + Wait,
+{
+    if well { house.finish(rt).ok() } else { None }
+}
+
+/// Where all went well, closes so many cores and waits until all comes to its end. Whether it does.
+fn ends_if<J: Job + Task<Out = u64>, R: Threads + Wait>(
+    rt: &R,
+    house: House<J>,
+    cores: u8,
+    well: bool,
+) -> bool {
+    let mut house = house;
+    let closed = well && closes(&mut house, cores);
+    journals_if(rt, house, closed).is_some()
+}
+
 /// Closes so many cores in mode `Finish`, and waits until all comes to its end. Whether it does.
 pub fn ends<J: Job + Task<Out = u64>, R: Threads + Wait>(
     rt: &R,
     house: House<J>,
     cores: u8,
 ) -> bool {
-    let mut house = house;
-    for core in 0..cores {
-        if house.close_core(CoreNo(core), Mode::Finish).is_err() {
-            return false;
-        }
-    }
-    house.finish(rt).is_ok()
+    ends_if(rt, house, cores, true)
 }
 
 /// Reads a mark so often that time passes.

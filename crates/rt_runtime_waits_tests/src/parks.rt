@@ -6,10 +6,9 @@ ghost use Rattle.rt_jobs.specs.declared.job.Step.TheVariants.{Done};
 
 use rt_ids::{ActorNo, Answer, CoreNo, Mode, Order, Outcome, QueueNo, Reason, Ticket};
 use rt_jobs::{Asks, Job, Post, Step, Task, poll_asking, submit_and_detach};
-use rt_runtime_test_house::{House, Mark, answers, ends, lets_pass, new_mark, started, submits};
+use rt_runtime_test_house::{Counted, House, Mark, answers, lets_pass, submits};
 use std::alloc::Global;
 use std::snapshot::Snapshot;
-use std::sync::atomic::Ordering;
 use std::sync::{Arc, Wait};
 use std::thread::Threads;
 
@@ -157,15 +156,25 @@ fn is_woken_by_a_job<R: Wait>(rt: &R, house: &mut House<Napper>, mark: &Mark, nu
     }
 }
 
+/// Submits a wake of the caller's job of this number. Its ticket, if it is accepted.
+fn wake(house: &mut House<Napper>, number: u64) -> Option<Ticket> {
+    house.submit(CoreNo(0), Order::Wake(CALLER, number)).ok()
+}
+
+/// Whether a wake is answered by `Woken`. None if it is answered neither so nor by `NoJob`.
+fn says_woken<R: Wait>(rt: &R, house: &mut House<Napper>, ticket: Ticket) -> Option<bool> {
+    match house.wait(rt, ticket) {
+        Ok(Outcome::Answered(Answer::Woken)) => Some(true),
+        Ok(Outcome::Answered(Answer::NoJob)) => Some(false),
+        _ => None,
+    }
+}
+
 /// Whether the caller's wake of a job is answered so.
 fn is_answered<R: Wait>(rt: &R, house: &mut House<Napper>, number: u64, woken: bool) -> bool {
-    let Ok(ticket) = house.submit(CoreNo(0), Order::Wake(CALLER, number)) else {
-        return false;
-    };
-    match house.wait(rt, ticket) {
-        Ok(Outcome::Answered(Answer::Woken)) => woken,
-        Ok(Outcome::Answered(Answer::NoJob)) => !woken,
-        _ => false,
+    match wake(house, number) {
+        Some(ticket) => says_woken(rt, house, ticket) == Some(woken),
+        None => false,
     }
 }
 
@@ -206,6 +215,11 @@ fn both_go_back<R: Wait>(rt: &R, house: &mut House<Napper>, mark: &Mark) -> bool
     }
 }
 
+/// Whether both go back, and the core has closed by itself then, so that its gate refuses to close it.
+fn hands_back<R: Wait>(rt: &R, house: &mut House<Napper>, mark: &Mark) -> bool {
+    both_go_back(rt, house, mark) && house.close_core(CoreNo(0), Mode::Finish).is_err()
+}
+
 /// Whether each job is woken by a job of another core.
 fn jobs_wake<R: Wait>(rt: &R, house: &mut House<Napper>, mark: &Mark) -> bool {
     for round in 0..ROUNDS {
@@ -231,13 +245,9 @@ fn asked_where_jobs_wake<R>(rt: R, alloc: Global) -> Option<u64>
 where
     R: Threads + Wait + Copy + Drop + Send + 'static,
 {
-    let (asked, mark) = (new_mark(alloc).ok()?, new_mark(alloc).ok()?);
-    let mut house = started(rt, alloc, 2, 4, 20_000, &asked)?;
-    if jobs_wake(&rt, &mut house, &mark) && ends(&rt, house, 2) {
-        Some(asked.load(Ordering::SeqCst))
-    } else {
-        None
-    }
+    let mut counted = Counted::start(rt, alloc, 2, 4, 20_000)?;
+    let well = jobs_wake(&rt, &mut counted.house, &counted.asked);
+    counted.ends(&rt, 2, well)
 }
 
 /// How often they were asked where the caller woke all jobs. None if one wasn't woken.
@@ -245,13 +255,9 @@ fn asked_where_the_caller_wakes<R>(rt: R, alloc: Global) -> Option<u64>
 where
     R: Threads + Wait + Copy + Drop + Send + 'static,
 {
-    let (asked, mark) = (new_mark(alloc).ok()?, new_mark(alloc).ok()?);
-    let mut house = started(rt, alloc, 2, 4, 20_000, &asked)?;
-    if the_caller_wakes(&rt, &mut house, &mark) && ends(&rt, house, 2) {
-        Some(asked.load(Ordering::SeqCst))
-    } else {
-        None
-    }
+    let mut counted = Counted::start(rt, alloc, 2, 4, 20_000)?;
+    let well = the_caller_wakes(&rt, &mut counted.house, &counted.asked);
+    counted.ends(&rt, 2, well)
 }
 
 /// Whether the core of a short journal hands both jobs back, and has closed by itself then. None if there is no house.
@@ -259,12 +265,9 @@ fn hands_both_back<R>(rt: R, alloc: Global) -> Option<bool>
 where
     R: Threads + Wait + Copy + Drop + Send + 'static,
 {
-    let mark = new_mark(alloc).ok()?;
-    let mut house = started(rt, alloc, 1, 2, 96, &mark)?;
-    let back = both_go_back(&rt, &mut house, &mark);
-    // The core has closed by itself, so that its gate refuses this.
-    let refused = house.close_core(CoreNo(0), Mode::Finish).is_err();
-    Some(back && refused && house.finish(&rt).is_ok())
+    let mut counted = Counted::start(rt, alloc, 1, 2, 96)?;
+    let well = hands_back(&rt, &mut counted.house, &counted.asked);
+    Some(counted.ends(&rt, 0, well).is_some())
 }
 
 #[test]

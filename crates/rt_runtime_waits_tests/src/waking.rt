@@ -9,7 +9,7 @@ use rt_jobs::{
     Asks, Job, Post, Redeemed, Step, Task, poll_asking, redeem_if_there, submit_and_keep,
 };
 use rt_runtime_test_house::{
-    House, Mark, collects, ends, is_set_soon, lets_pass, new_mark, started, submits,
+    Counted, House, Mark, collects, is_set_soon, lets_pass, new_mark, submits,
 };
 use std::alloc::Global;
 use std::snapshot::Snapshot;
@@ -178,9 +178,10 @@ fn both_wake<R>(rt: R, alloc: Global) -> Option<bool>
 where
     R: Threads + Wait + Copy + Drop + Send + 'static,
 {
-    let (asked, mark) = (new_mark(alloc).ok()?, new_mark(alloc).ok()?);
-    let mut house = started(rt, alloc, 2, 2, 20_000, &asked)?;
-    Some(wakes_each_time(&mut house, &mark) && ends(&rt, house, 2))
+    let mark = new_mark(alloc).ok()?;
+    let mut counted = Counted::start(rt, alloc, 2, 2, 20_000)?;
+    let well = wakes_each_time(&mut counted.house, &mark);
+    Some(counted.ends(&rt, 2, well).is_some())
 }
 
 #[test]
