@@ -72,13 +72,13 @@ struct Marks {
 
 /// The marks of so many cores. None if there is no memory for them.
 fn new_marks(alloc: Global, cores: u8) -> Option<Marks> {
-    let asked = marks(alloc, cores)?;
+    let asked = one_each(alloc, cores)?;
     let strange = new_mark(alloc).ok()?;
     Some(Marks { asked, strange })
 }
 
 /// A mark for each core.
-fn marks(alloc: Global, cores: u8) -> Option<Vec<Mark>> {
+fn one_each(alloc: Global, cores: u8) -> Option<Vec<Mark>> {
     let mut marks = Vec::new(alloc);
     for _ in 0..cores {
         let mark = new_mark(alloc).ok()?;
