@@ -1,8 +1,8 @@
 //! A sink that keeps all notes.
 
-ghost use Rattle.std.specs.Prelude.{◌≡◌, ◌+◌, ◌-◌, ◌^◌, ◌<◌, ◌≤◌, [], ◌∷◌, ◌++◌, length, min, reverse, ℕ, None, IfOk, OnErr, OnOk};
+ghost use Rattle.std.specs.Prelude.{◌≡◌, ◌+◌, ◌-◌, ◌^◌, ◌<◌, ◌≤◌, [], ◌∷◌, ◌++◌, length, min, reverse, ℕ, IfOk, OnErr, OnOk};
 ghost use Rattle.rt_ids.specs.Limits.{most_notes};
-ghost use Rattle.rt_journal_notes.specs.Passing.{IsAsked, KeepsRefusals};
+ghost use Rattle.rt_journal_notes.specs.Passing.{KeepsRefusals};
 ghost use Rattle.rt_sinks.specs.Keeping.{HasRefused, MakesRoom};
 
 use rt_history::History;
