@@ -4,6 +4,7 @@
 use fairexec::linked::{Config, House, Outcome, Step, Ticket};
 use fairexec::{Error, Mode};
 use std::collections::VecDeque;
+use std::sync::mpsc;
 use std::thread;
 use std::time::Instant;
 
@@ -13,7 +14,9 @@ fn round(outstanding: usize) -> Result<(f64, u64), Error> {
     let (_house, mut cores, outside) = House::<u64>::open(&Config { cores: 2, places: 1024, burst: 64, notes: 1 << 20 })?;
     let mut second = cores.pop().expect("there are two");
     let mut first = cores.pop().expect("there are two");
+    let (begins, begun) = mpsc::channel();
     let server = thread::spawn(move || {
+        begins.send(()).expect("it waits");
         // It never sleeps, as the others here.
         while !second.is_drained() {
             second.round(|job, _| Step::Done(*job + 1))?;
@@ -21,6 +24,9 @@ fn round(outstanding: usize) -> Result<(f64, u64), Error> {
         Ok::<_, Error>(())
     });
     let began = Instant::now();
+    // This thread sleeps until the other has begun, as that of tokio does. One that is pinned to another processor begins on this one, and would
+    // wait some milliseconds for it.
+    begun.recv().expect("it begins");
     let mut asked: VecDeque<Ticket> = VecDeque::new();
     let (mut sent, mut done, mut sum) = (0, 0, 0);
     while done < JOBS {

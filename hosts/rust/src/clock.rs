@@ -65,6 +65,15 @@ pub fn wall_clock() -> u64 {
     LAST.with(|last| last.time(counter, wall, is_steady))
 }
 
+/// The time of a clock, or of the wall if there is none.
+#[inline]
+pub(crate) fn now(clock: Option<Clock>) -> u64 {
+    match clock {
+        Some(clock) => clock(),
+        None => wall_clock(),
+    }
+}
+
 impl Reading {
     const fn none() -> Reading {
         Reading { ticks: Cell::new(0), wall: Cell::new(0), rate: Cell::new(0), told: Cell::new(0) }

@@ -55,6 +55,7 @@ pub enum Error {
 }
 
 impl Error {
+    #[cold]
     pub(crate) fn of(code: u32) -> Error {
         match code {
             raw::FX_SPENT => Error::Spent,
@@ -119,6 +120,7 @@ impl fmt::Display for Error {
 
 impl std::error::Error for Error {}
 
+#[inline]
 pub(crate) fn refused(code: u32) -> Result<(), Error> {
     match code {
         raw::FX_OK => Ok(()),

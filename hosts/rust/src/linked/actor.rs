@@ -17,9 +17,12 @@ use std::sync::Arc;
 pub struct Ticket {
     name: Name,
     house: u64,
-    // Where the job stands, if it is one.
-    place: Option<u32>,
+    // Where the job stands, or `NOWHERE` if it is no job.
+    place: u32,
 }
+
+/// The place of an order that is no job.
+const NOWHERE: u32 = u32::MAX;
 
 impl Ticket {
     /// The name of the submission: by it a job is woken.
@@ -33,14 +36,28 @@ impl Ticket {
     }
 }
 
-/// What an actor knows of its submissions to one core.
+/// What an actor knows of its submissions to one core. No other actor has something on these lines of a cache.
+#[repr(align(128))]
 struct Sent {
     // The places where no job of this actor stands, from that which is vacant longest: neighbours are on one line of a cache.
     vacant: VecDeque<u32>,
     // Submissions whose outcome wasn't collected.
     pending: u64,
+    // Whether the core was told that it has to look at the link.
+    is_used: bool,
     // Submissions for whose outcome nobody asks. They are redeemed once they are collected, since a job that comes back has a place.
     loose: VecDeque<Ticket>,
+}
+
+impl Sent {
+    /// Tells before the first order that this link is used.
+    #[inline]
+    fn tell_use<J>(&mut self, lanes: &Lanes<J>, from: u32, to: u32) {
+        if !self.is_used {
+            self.is_used = true;
+            lanes.use_link(from, to);
+        }
+    }
 }
 
 /// An actor and the jobs that it submitted.
@@ -58,6 +75,7 @@ pub(super) struct Actor<J> {
 pub(super) struct Entered<'a, J>(&'a mut Actor<J>);
 
 impl<J> Drop for Entered<'_, J> {
+    #[inline]
     fn drop(&mut self) {
         self.0.seat.leave();
     }
@@ -79,46 +97,63 @@ impl<J> DerefMut for Entered<'_, J> {
 
 impl<J> Actor<J> {
     pub(super) fn new(number: u32, seat: Seat, lanes: Arc<Lanes<J>>) -> Actor<J> {
-        let none = |_| Sent { vacant: (0..Lanes::<J>::room(lanes.places())).collect(), pending: 0, loose: VecDeque::new() };
+        let none = |_| Sent { vacant: (0..Lanes::<J>::room(lanes.places())).collect(), pending: 0, is_used: false, loose: VecDeque::new() };
         let sent = (0..lanes.cores()).map(none).collect();
         Actor { seat, number, lanes, sent, misses: false }
     }
 
     /// Each call below is made by an actor that was entered.
+    #[inline]
     pub(super) fn enter(&mut self) -> Entered<'_, J> {
         self.seat.enter();
         Entered(self)
     }
 
+    #[inline]
     pub(super) fn submit(&mut self, to: u32, queue: u32, job: J) -> Result<Ticket, (Error, J)> {
         let Some(sent) = self.sent.get_mut(to as usize) else { return Err((Error::UnknownCore, job)) };
         // A link that is full has a job in each place but one at most.
         let Some(&place) = sent.vacant.front() else { return Err((Error::Full, job)) };
+        sent.tell_use(&self.lanes, self.number, to);
         // SAFETY: a vacant place is the sender's.
-        unsafe { self.lanes.exchange(self.number, to, place, Some(job)) };
+        unsafe { self.lanes.put(self.number, to, place, job) };
         match self.seat.submit(to, queue, place) {
             Ok(number) => {
                 sent.vacant.pop_front();
-                Ok(self.accepted(Name { from: self.number, to, number }, Some(place)))
+                Ok(self.accepted(Name { from: self.number, to, number }, place))
             }
             Err(error) => {
                 // SAFETY: the order wasn't accepted, so the place still is the sender's.
-                let job = unsafe { self.lanes.exchange(self.number, to, place, None) };
+                let job = unsafe { self.lanes.take(self.number, to, place) };
                 Err((error, job.expect("a job that wasn't accepted stands where it was put")))
             }
         }
     }
 
-    /// An order that is no job.
-    pub(super) fn order(&mut self, order: impl FnOnce(&mut Seat) -> Result<Name, Error>) -> Result<Ticket, Error> {
+    /// An order to a core that is no job.
+    pub(super) fn order(&mut self, to: u32, order: impl FnOnce(&mut Seat) -> Result<Name, Error>) -> Result<Ticket, Error> {
+        // The library refuses an order to a core that isn't there.
+        if let Some(sent) = self.sent.get_mut(to as usize) {
+            sent.tell_use(&self.lanes, self.number, to);
+        }
         let name = order(&mut self.seat)?;
-        Ok(self.accepted(name, None))
+        Ok(self.accepted(name, NOWHERE))
     }
 
-    fn accepted(&mut self, name: Name, place: Option<u32>) -> Ticket {
+    #[inline]
+    fn accepted(&mut self, name: Name, place: u32) -> Ticket {
         self.sent[name.to as usize].pending += 1;
         self.lanes.ring(name.to);
         Ticket { name, house: self.lanes.house(), place }
+    }
+
+    /// Whether the link from an actor to this core may show an order. That from itself shows none if no outcome is missing.
+    #[inline]
+    pub(super) fn may_show(&self, sender: u32) -> bool {
+        if sender == self.number {
+            return self.sent[sender as usize].pending > 0;
+        }
+        self.lanes.is_used(sender, self.number)
     }
 
     /// Collects what the links show. How many outcomes there were.
@@ -158,6 +193,7 @@ impl<J> Actor<J> {
         true
     }
 
+    #[inline]
     pub(super) fn redeem(&mut self, ticket: &Ticket) -> Result<Outcome<J>, Error> {
         // The ticket of another house may have the same name.
         if ticket.house != self.lanes.house() {
@@ -168,19 +204,21 @@ impl<J> Actor<J> {
             Told::Done(answer) => Outcome::Done(answer),
             Told::Answered(answer, queue) => Outcome::Answered(Answer::of(answer, queue)),
             Told::Back(reason, place) => {
-                assert_eq!(Some(place), ticket.place, "a job comes back with its number");
+                assert_eq!(place, ticket.place, "a job comes back with its number");
                 // SAFETY: the outcome hands the place back to the sender.
-                let job = unsafe { self.lanes.exchange(from, to, place, None) };
+                let job = unsafe { self.lanes.take(from, to, place) };
                 Outcome::Back(Reason::of(reason), job.expect("a job that comes back has its place"))
             }
         };
         // An outcome is redeemed once, so no place is vacant twice.
-        self.sent[to as usize].vacant.extend(ticket.place);
+        if ticket.place != NOWHERE {
+            self.sent[to as usize].vacant.push_back(ticket.place);
+        }
         Ok(outcome)
     }
 
     pub(super) fn detach(&mut self, ticket: Ticket) -> Result<(), Error> {
-        let is_order = ticket.place.is_none() && ticket.house == self.lanes.house();
+        let is_order = ticket.place == NOWHERE && ticket.house == self.lanes.house();
         let told = if is_order { self.seat.detach(ticket.name) } else { self.redeem(&ticket).map(|_| ()) };
         if !matches!(told, Err(Error::Pending | Error::JournalFull)) {
             return told;
@@ -210,6 +248,7 @@ macro_rules! submissions {
         /// # Errors
         ///
         /// `NoQueue` above 255, `UnknownCore`, `JournalFull`, `Closed`, `Full`, `Spent`, each with the job.
+        #[inline]
         pub fn submit(&mut self, to: u32, queue: u32, job: J) -> Result<Ticket, (Error, J)> {
             self.$($entered)+.submit(to, queue, job)
         }
@@ -220,7 +259,7 @@ macro_rules! submissions {
         ///
         /// `BadShares`, then as `submit`.
         pub fn create(&mut self, to: u32, shares: u32) -> Result<Ticket, Error> {
-            self.$($entered)+.order(|seat| seat.create(to, shares))
+            self.$($entered)+.order(to, |seat| seat.create(to, shares))
         }
 
         /// Submits an order to give a queue these shares.
@@ -229,7 +268,7 @@ macro_rules! submissions {
         ///
         /// `BadShares`, then as `submit`.
         pub fn set_shares(&mut self, to: u32, queue: u32, shares: u32) -> Result<Ticket, Error> {
-            self.$($entered)+.order(|seat| seat.set_shares(to, queue, shares))
+            self.$($entered)+.order(to, |seat| seat.set_shares(to, queue, shares))
         }
 
         /// Submits an order to close a queue.
@@ -238,7 +277,7 @@ macro_rules! submissions {
         ///
         /// As `submit`.
         pub fn close_queue(&mut self, to: u32, queue: u32, mode: Mode) -> Result<Ticket, Error> {
-            self.$($entered)+.order(|seat| seat.close_queue(to, queue, mode))
+            self.$($entered)+.order(to, |seat| seat.close_queue(to, queue, mode))
         }
 
         /// Submits an order to close a core.
@@ -247,7 +286,7 @@ macro_rules! submissions {
         ///
         /// As `submit`.
         pub fn close_core(&mut self, to: u32, mode: Mode) -> Result<Ticket, Error> {
-            self.$($entered)+.order(|seat| seat.close_core(to, mode))
+            self.$($entered)+.order(to, |seat| seat.close_core(to, mode))
         }
 
         /// Submits an order to wake a job, by its name, to the core where it is.
@@ -256,7 +295,7 @@ macro_rules! submissions {
         ///
         /// As `submit`.
         pub fn wake(&mut self, job: Name) -> Result<Ticket, Error> {
-            self.$($entered)+.order(|seat| seat.wake(job))
+            self.$($entered)+.order(job.to, |seat| seat.wake(job))
         }
 
         /// Collects all outcomes that the links show. How many there were.
@@ -273,6 +312,7 @@ macro_rules! submissions {
         /// # Errors
         ///
         /// `JournalFull`, `Unknown` for the ticket of another actor, `Gone`, `Pending`.
+        #[inline]
         pub fn redeem(&mut self, ticket: &Ticket) -> Result<Outcome<J>, Error> {
             self.$($entered)+.redeem(ticket)
         }

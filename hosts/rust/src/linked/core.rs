@@ -4,7 +4,7 @@ use super::actor::{submissions, Actor, Ticket};
 use super::lanes::Bell;
 use super::names::{Name, Outcome, Step};
 use super::seat::{Next, Settled};
-use crate::clock::{wall_clock, Clock};
+use crate::clock::{now, Clock};
 use crate::core::Mode;
 use crate::error::Error;
 use crate::stats::{CoreStats, QueueStats};
@@ -54,7 +54,8 @@ impl Drop for Leaving {
 /// ```
 pub struct Core<J> {
     pub(super) actor: Actor<J>,
-    clock: Clock,
+    // None is the wall's clock.
+    clock: Option<Clock>,
     // It may be closed: it was when it was asked last, or took in something since.
     may_be_closed: bool,
     // Of each core what tasks of this one spawned there and isn't submitted yet, with its queue.
@@ -101,8 +102,7 @@ struct Running<'a, J> {
     actor: &'a mut Actor<J>,
     name: Name,
     place: u32,
-    job: Option<J>,
-    clock: Clock,
+    clock: Option<Clock>,
     began: u64,
     ended: u64,
     step: Step,
@@ -110,16 +110,19 @@ struct Running<'a, J> {
 }
 
 impl<J> Running<'_, J> {
+    #[inline]
     fn settle(&mut self) {
         // A clock that panics here is charged as little as may be: nothing leaves the core with a job that nobody runs.
-        self.ended = catch_unwind(self.clock).unwrap_or(0);
+        let clock = self.clock;
+        self.ended = catch_unwind(|| now(clock)).unwrap_or(0);
         let spent = self.ended.saturating_sub(self.began);
         let Name { from, to, .. } = self.name;
-        // A job that may run again is in its place before the library gives it on.
-        if !matches!(self.step, Step::Done(_)) {
-            // SAFETY: the place is this core's until the run is settled.
-            unsafe { self.actor.lanes.exchange(from, to, self.place, self.job.take()) };
-        }
+        // A job that is done is out of its place before the library gives that on, and is dropped behind it.
+        let _done = match self.step {
+            // SAFETY: the place is this core's until the run is settled, and nobody has the job that stands there any more.
+            Step::Done(_) => unsafe { self.actor.lanes.take_done(from, to, self.place) },
+            Step::Yield | Step::Park => None,
+        };
         self.settled = self.actor.seat.settle(self.step, spent).ok();
         debug_assert!(self.settled.is_some());
         if self.settled == Some(Settled::Done) && from != to {
@@ -139,8 +142,10 @@ impl<J> Drop for Running<'_, J> {
 /// The run of a turn, from one time to another.
 type Times = (u64, u64);
 
-/// Runs the next job of a core once. The run began at `since`, if that is told. The answer: what the turn came to, and when the job ran.
-fn turn<J, R>(actor: &mut Actor<J>, clock: Clock, since: Option<u64>, run: R) -> Result<(Turn, Option<Times>), Error>
+/// Runs the next job of a core once, where it stands. The run began at `since`, if that is told. The answer: what the turn came to, and when the job
+/// ran.
+#[inline]
+fn turn<J, R>(actor: &mut Actor<J>, clock: Option<Clock>, since: Option<u64>, run: R) -> Result<(Turn, Option<Times>), Error>
 where
     R: FnOnce(&mut J, &mut Cx<'_, J>) -> Step,
 {
@@ -152,11 +157,11 @@ where
         }
         Next::Idle => return Ok((Turn::Idle, None)),
     };
-    // SAFETY: the library told this run, so the place is this core's.
-    let job = unsafe { actor.lanes.exchange(name.from, name.to, place, None) };
-    let mut running = Running { actor, name, place, job, clock, began: u64::MAX, ended: 0, step: Step::Done(0), settled: None };
-    running.began = since.unwrap_or_else(clock);
-    if let Some(job) = &mut running.job {
+    let mut running = Running { actor, name, place, clock, began: u64::MAX, ended: 0, step: Step::Done(0), settled: None };
+    running.began = since.unwrap_or_else(|| now(clock));
+    // SAFETY: the library told this run, so the place is this core's until the run is settled, and the job is used before that. What a job may do
+    // uses other places: those of its own submissions.
+    if let Some(job) = unsafe { running.actor.lanes.standing(name.from, name.to, place) } {
         running.step = run(job, &mut Cx { actor: running.actor, name, queue, stays: PhantomData });
     }
     running.settle();
@@ -169,7 +174,7 @@ where
 }
 
 /// Runs jobs, each from the end of the one before, until some time has passed or no queue has work. Whether there was a job.
-fn turns<J, R>(actor: &mut Actor<J>, clock: Clock, run: &mut R) -> Result<bool, Error>
+fn turns<J, R>(actor: &mut Actor<J>, clock: Option<Clock>, run: &mut R) -> Result<bool, Error>
 where
     R: FnMut(&mut J, &mut Cx<'_, J>) -> Step,
 {
@@ -207,12 +212,12 @@ impl<J> Core<J> {
     pub(super) fn new(actor: Actor<J>) -> Core<J> {
         let spawned = (0..actor.lanes.cores()).map(|_| VecDeque::new()).collect();
         let leaving = Leaving { bells: Arc::clone(actor.lanes.bells()), core: actor.number };
-        Core { actor, clock: wall_clock, may_be_closed: true, spawned, _leaving: leaving }
+        Core { actor, clock: None, may_be_closed: true, spawned, _leaving: leaving }
     }
 
     /// Runs are measured by this clock from now on. At first it is the wall's time.
     pub fn set_clock(&mut self, clock: Clock) {
-        self.clock = clock;
+        self.clock = Some(clock);
     }
 
     /// The number of this core.
@@ -233,8 +238,9 @@ impl<J> Core<J> {
         Ok(turn)
     }
 
-    /// Delivers one order of each actor. If the core is closed, it shuts the gates of the others first, and its own once no actor's order shows
-    /// and no job is inside, since its jobs may still have to be woken. Whether anything happened.
+    /// Delivers one order of each actor, and doesn't look at the links of actors that never submitted to this core. If the core is closed, it shuts
+    /// the gates of the others first, and its own once no actor's order shows and no job is inside, since its jobs may still have to be woken.
+    /// Whether anything happened.
     ///
     /// # Errors
     ///
@@ -256,6 +262,9 @@ impl<J> Core<J> {
             }
         }
         for sender in 0..=cores {
+            if !actor.may_show(sender) {
+                continue;
+            }
             let mut left = most;
             while left > 0 && actor.seat.deliver(sender)? {
                 left -= 1;

@@ -3,7 +3,8 @@
 use super::names::Name;
 use std::cell::UnsafeCell;
 use std::collections::VecDeque;
-use std::sync::atomic::{AtomicBool, AtomicU64, Ordering};
+use std::mem::needs_drop;
+use std::sync::atomic::{AtomicBool, AtomicU32, AtomicU64, Ordering};
 use std::sync::{Arc, Condvar, Mutex, MutexGuard, PoisonError};
 use std::time::Duration;
 
@@ -15,12 +16,18 @@ fn lock<T>(of: &Mutex<T>) -> MutexGuard<'_, T> {
 ///
 /// A place goes with its job, without a lock. First the sender alone has it. An order that was accepted hands it to the core, which has it from
 /// each run that the library tells until it settles that run. An outcome that was redeemed hands it back.
+///
+/// A job runs where it stands. One that is done and has nothing to drop is left there: the core reads its place alone, so no line of a cache goes
+/// back to the sender for it.
 struct Place<J>(UnsafeCell<Option<J>>);
 
-/// Rung where an actor that sleeps has something to do.
+/// Rung where an actor that sleeps has something to do. Each stands on lines of a cache of its own, since others look at it at each submission.
 #[derive(Default)]
+#[repr(align(128))]
 pub(super) struct Bell {
     sleeps: AtomicBool,
+    // A bit for each actor that submits to this core. It doesn't look at the links of others.
+    senders: AtomicU32,
     // Whether this core was dropped.
     has_left: AtomicBool,
     rung: Mutex<bool>,
@@ -31,11 +38,17 @@ pub(super) struct Bell {
 
 impl Bell {
     /// Tells the actor that there is something to do.
+    #[inline]
     fn ring(&self) {
         if self.sleeps.load(Ordering::SeqCst) {
-            *lock(&self.rung) = true;
-            self.rings.notify_one();
+            self.rouse();
         }
+    }
+
+    #[cold]
+    fn rouse(&self) {
+        *lock(&self.rung) = true;
+        self.rings.notify_one();
     }
 
     /// Tells that the core was dropped.
@@ -105,15 +118,68 @@ impl<J> Lanes<J> {
         self.places
     }
 
-    /// Puts a job into its place, or takes it out.
+    /// Tells that an order is about to be submitted over this link.
+    pub(super) fn use_link(&self, from: u32, to: u32) {
+        self.bells[to as usize].senders.fetch_or(1 << from, Ordering::SeqCst);
+    }
+
+    /// Whether that was told. Who sees an order of a link sees this, too.
+    #[inline]
+    pub(super) fn is_used(&self, from: u32, to: u32) -> bool {
+        self.bells[to as usize].senders.load(Ordering::SeqCst) & 1 << from != 0
+    }
+
+    #[inline]
+    fn place(&self, from: u32, to: u32, place: u32) -> *mut Option<J> {
+        self.lanes[(from * self.cores + to) as usize][place as usize].0.get()
+    }
+
+    /// Puts a job into its place.
     ///
     /// # Safety
     ///
     /// The caller is the actor that has the place.
-    pub(super) unsafe fn exchange(&self, from: u32, to: u32, place: u32, job: Option<J>) -> Option<J> {
-        let place = &self.lanes[(from * self.cores + to) as usize][place as usize];
+    #[inline]
+    pub(super) unsafe fn put(&self, from: u32, to: u32, place: u32, job: J) {
+        // SAFETY: nobody else reads or writes it now. What stands there is no job, or one that has nothing to drop.
+        unsafe { *self.place(from, to, place) = Some(job) };
+    }
+
+    /// Takes a job out of its place.
+    ///
+    /// # Safety
+    ///
+    /// The caller is the actor that has the place.
+    #[inline]
+    pub(super) unsafe fn take(&self, from: u32, to: u32, place: u32) -> Option<J> {
         // SAFETY: nobody else reads or writes it now.
-        unsafe { std::mem::replace(&mut *place.0.get(), job) }
+        unsafe { (*self.place(from, to, place)).take() }
+    }
+
+    /// The same for a job that is done, if it has something to drop.
+    ///
+    /// # Safety
+    ///
+    /// The caller is the actor that has the place.
+    #[inline]
+    pub(super) unsafe fn take_done(&self, from: u32, to: u32, place: u32) -> Option<J> {
+        if !needs_drop::<J>() {
+            return None;
+        }
+        // SAFETY: as the caller says.
+        unsafe { self.take(from, to, place) }
+    }
+
+    /// A job where it stands.
+    ///
+    /// # Safety
+    ///
+    /// The caller is the actor that has the place, for as long as it uses this, and while it does it calls nothing else of this place. The lanes
+    /// stay so long.
+    #[inline]
+    pub(super) unsafe fn standing<'a>(&self, from: u32, to: u32, place: u32) -> Option<&'a mut J> {
+        // SAFETY: nobody else reads or writes it until then.
+        unsafe { (*self.place(from, to, place)).as_mut() }
     }
 
     /// The bells of all actors, by their numbers.
@@ -122,6 +188,7 @@ impl<J> Lanes<J> {
     }
 
     /// Tells this actor that there is something to do.
+    #[inline]
     pub(super) fn ring(&self, actor: u32) {
         self.bells[actor as usize].ring();
     }

@@ -146,6 +146,7 @@ impl Seat {
     }
 
     /// Hands the notes to whoever takes them, if there is one. A panic leaves their text where it is: it goes first the next time.
+    #[cold]
     fn hand_on(&mut self) -> Result<(), Error> {
         let Some(Keeper { takes, text }) = &mut self.keeper else { return Err(Error::JournalFull) };
         pass_on(&mut self.handle, text)?;
