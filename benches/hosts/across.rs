@@ -1,6 +1,6 @@
 // Times a job from one core to another through hosts/rust: across OUTSTANDING ROUNDS. Core 0 submits jobs to core 1, with so many outstanding,
-// and redeems their outcomes; core 1 runs each once. A turn may have 64 runs, as a tick of tokio has 61. It prints a line for each round: tenths of
-// nanoseconds a job, and the sum of the answers.
+// and redeems their outcomes; core 1 runs each once. A turn may have 64 runs, and a round time for as many, as a tick of tokio has 61. It prints a
+// line for each round: tenths of nanoseconds a job, and the sum of the answers.
 use fairexec::linked::{Config, House, Outcome, Step, Ticket};
 use fairexec::{Error, Mode};
 use std::collections::VecDeque;
@@ -10,10 +10,14 @@ use std::time::Instant;
 
 const JOBS: u64 = 100_000;
 
+/// Nanoseconds for some 64 runs.
+const ROUND: u64 = 10_000;
+
 fn round(outstanding: usize) -> Result<(f64, u64), Error> {
     let (_house, mut cores, outside) = House::<u64>::open(&Config { cores: 2, places: 1024, burst: 64, notes: 1 << 20 })?;
     let mut second = cores.pop().expect("there are two");
     let mut first = cores.pop().expect("there are two");
+    second.set_round_time(ROUND);
     let (begins, begun) = mpsc::channel();
     let server = thread::spawn(move || {
         begins.send(()).expect("it waits");

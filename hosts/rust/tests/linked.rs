@@ -171,8 +171,9 @@ fn slow() -> u64 {
 #[test]
 fn a_round_runs_many_short_jobs_or_a_long_one() -> Result<(), Error> {
     let (_house, mut core, mut outside) = single(128)?;
-    for (clock, runs) in [(fast as fn() -> u64, 64), (slow, 1)] {
+    for (clock, time, longest, runs) in [(fast as fn() -> u64, 10, None, 64), (slow, 10_000, None, 1), (slow, 10_000, Some(45_000), 5)] {
         core.set_clock(clock);
+        longest.into_iter().for_each(|it| core.set_round_time(it));
         for job in 0..100u64 {
             let ticket = sent(outside.submit(0, 0, job))?;
             outside.detach(ticket)?;
@@ -181,7 +182,7 @@ fn a_round_runs_many_short_jobs_or_a_long_one() -> Result<(), Error> {
         assert!(core.round(|job, _| Step::Done(*job))?);
         assert_eq!(outside.collect()?, runs);
         // Each run begins as the one before ends: a clock is read once more than there are runs.
-        assert_eq!(core.stats_of(0)?.time - before, u128::from(runs) * if runs == 1 { 10_000 } else { 10 });
+        assert_eq!(core.stats_of(0)?.time - before, u128::from(runs) * time);
         while core.round(|job, _| Step::Done(*job))? {}
         assert_eq!(outside.collect()?, 100 - runs);
     }

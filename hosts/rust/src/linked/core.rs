@@ -13,7 +13,7 @@ use std::marker::PhantomData;
 use std::panic::catch_unwind;
 use std::sync::Arc;
 
-/// A round runs jobs for so many nanoseconds at most, or one job. What other actors submit meanwhile waits so long.
+/// A round runs jobs for so many nanoseconds at most, or one job, unless `set_round_time` says otherwise.
 const LONGEST: u64 = 5_000;
 
 /// A round delivers so many orders of an actor at most, and runs so many jobs.
@@ -56,6 +56,8 @@ pub struct Core<J> {
     pub(super) actor: Actor<J>,
     // None is the wall's clock.
     clock: Option<Clock>,
+    // A round runs jobs for so many nanoseconds.
+    longest: u64,
     // It may be closed: it was when it was asked last, or took in something since.
     may_be_closed: bool,
     // Of each core what tasks of this one spawned there and isn't submitted yet, with its queue.
@@ -173,8 +175,8 @@ where
     Ok((turn, Some((running.began, running.ended))))
 }
 
-/// Runs jobs, each from the end of the one before, until some time has passed or no queue has work. Whether there was a job.
-fn turns<J, R>(actor: &mut Actor<J>, clock: Option<Clock>, run: &mut R) -> Result<bool, Error>
+/// Runs jobs, each from the end of the one before, until so much time has passed or no queue has work. Whether there was a job.
+fn turns<J, R>(actor: &mut Actor<J>, clock: Option<Clock>, longest: u64, run: &mut R) -> Result<bool, Error>
 where
     R: FnMut(&mut J, &mut Cx<'_, J>) -> Step,
 {
@@ -186,7 +188,7 @@ where
         }
         let Some((began, ended)) = times else { continue };
         last = Some(ended);
-        if ended.saturating_sub(*first.get_or_insert(began)) >= LONGEST {
+        if ended.saturating_sub(*first.get_or_insert(began)) >= longest {
             break;
         }
     }
@@ -212,12 +214,18 @@ impl<J> Core<J> {
     pub(super) fn new(actor: Actor<J>) -> Core<J> {
         let spawned = (0..actor.lanes.cores()).map(|_| VecDeque::new()).collect();
         let leaving = Leaving { bells: Arc::clone(actor.lanes.bells()), core: actor.number };
-        Core { actor, clock: None, may_be_closed: true, spawned, _leaving: leaving }
+        Core { actor, clock: None, longest: LONGEST, may_be_closed: true, spawned, _leaving: leaving }
     }
 
     /// Runs are measured by this clock from now on. At first it is the wall's time.
     pub fn set_clock(&mut self, clock: Clock) {
         self.clock = Some(clock);
+    }
+
+    /// A round runs jobs for so many nanoseconds from now on, or one job if that takes longer, and 64 jobs at most. At first it is 5 µs. With more
+    /// time a short job pays less for the links, and what other actors submit waits longer.
+    pub fn set_round_time(&mut self, nanoseconds: u64) {
+        self.longest = nanoseconds;
     }
 
     /// The number of this core.
@@ -280,8 +288,8 @@ impl<J> Core<J> {
         Ok(did)
     }
 
-    /// One round: it delivers what the links show, runs jobs for 5 µs or as long as one run takes, and collects. Whether anything happened.
-    /// If a round has several runs, each is measured from the end of the one before, so the time between them counts too.
+    /// One round: it delivers what the links show, runs jobs for 5 µs (see `set_round_time`) or as long as one run takes, and collects. Whether
+    /// anything happened. If a round has several runs, each is measured from the end of the one before, so the time between them counts too.
     ///
     /// # Errors
     ///
@@ -299,7 +307,7 @@ impl<J> Core<J> {
     {
         let mut did = self.deliver_with(needs_own_gate, MOST)?;
         let mut actor = self.actor.enter();
-        did |= turns(&mut actor, self.clock, &mut run)?;
+        did |= turns(&mut actor, self.clock, self.longest, &mut run)?;
         did |= actor.collect()? > 0;
         Ok(did)
     }
