@@ -180,6 +180,18 @@ pub fn submits<J: Task<Out = u64>>(house: &mut House<J>, core: CoreNo, job: J) -
     house.submit(core, Order::Job(QueueNo(0), job)).ok()
 }
 
+/// Submits a job to queue 0 of a core, and closes the core in mode `Finish`. Whether both orders are accepted.
+pub fn submits_last<J: Task<Out = u64>, C: Drop, G: Drop>(
+    house: &mut Runtime<J, C, G>,
+    core: CoreNo,
+    job: J,
+) -> bool
+    requires { IsReady J.meaning job }
+{
+    house.submit(core, Order::Job(QueueNo(0), job)).is_ok()
+        && house.close_core(core, Mode::Finish).is_ok()
+}
+
 /// Waits until the outcome of this submission is there. Whether it is finished with this answer.
 pub fn answers<J: Task<Out = u64>, R: Wait>(
     rt: &R,
@@ -201,7 +213,7 @@ fn closes<J: Task<Out = u64>>(house: &mut House<J>, cores: u8) -> bool {
 }
 
 /// Where all went well, the journals of a house whose cores are closed. None if it didn't, or a core is open.
-fn journals_if<J, C, G, R>(rt: &R, house: Runtime<J, C, G>, well: bool) -> Option<Assembly>
+pub fn journals_if<J, C, G, R>(rt: &R, house: Runtime<J, C, G>, well: bool) -> Option<Assembly>
 where
     J: Job + Task<Out = u64>,
     C: Clock + Drop,
@@ -211,14 +223,15 @@ where
     if well { house.finish(rt).ok() } else { None }
 }
 
-/// Closes so many cores in mode `Finish`, and waits until all comes to its end. Whether it does.
-pub fn ends<J: Job + Task<Out = u64>, R: Threads + Wait>(
+/// Where all went well, closes so many cores in mode `Finish` and waits until all comes to its end. Whether it does.
+pub fn ends_if<J: Job + Task<Out = u64>, R: Threads + Wait>(
     rt: &R,
     house: House<J>,
     cores: u8,
+    well: bool,
 ) -> bool {
     let mut house = house;
-    let closed = closes(&mut house, cores);
+    let closed = well && closes(&mut house, cores);
     journals_if(rt, house, closed).is_some()
 }
 

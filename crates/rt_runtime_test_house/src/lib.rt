@@ -5,6 +5,6 @@ mod house;
 
 pub use house::{
     Counter, House, Mark, PassingHouse, Ticks, answers, begin, begin_with_locals, begin_with_sinks,
-    collects, ends, is_set_soon, lets_pass, named, new_mark, plain, says, started, submits,
-    with_burst, with_queue,
+    collects, ends_if, is_set_soon, journals_if, lets_pass, named, new_mark, plain, says, started,
+    submits, submits_last, with_burst, with_queue,
 };

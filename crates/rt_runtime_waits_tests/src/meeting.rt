@@ -2,11 +2,11 @@
 
 ghost use Rattle.std.specs.Prelude.{◌≡◌, false, IfSome};
 
-use rt_ids::{ActorNo, CoreNo, Mode, Note, Order, QueueNo};
+use rt_ids::{ActorNo, CoreNo, Note};
 use rt_jobs::{Job, Post, Step, Task};
 use rt_journal::Assembly;
 use rt_runtime::{NoGate, Runtime, SystemClock};
-use rt_runtime_test_house::{Mark, is_set_soon, named, new_mark, plain};
+use rt_runtime_test_house::{Mark, is_set_soon, journals_if, named, new_mark, plain, submits_last};
 use std::alloc::Global;
 use std::sync::atomic::Ordering;
 use std::sync::{Arc, Wait};
@@ -65,14 +65,23 @@ impl Job for Meeter {
 
 type House<R> = Runtime<Meeter, SystemClock<R>, NoGate>;
 
+/// A clock for each of two cores.
+fn clocks<R>(rt: R, alloc: Global) -> Option<Vec<SystemClock<R>>>
+where
+    R: Clock + Copy + Drop,
+{
+    let mut clocks = Vec::new(alloc);
+    clocks.push(SystemClock::new(rt)).ok()?;
+    clocks.push(SystemClock::new(rt)).ok()?;
+    Some(clocks)
+}
+
 /// A house of two cores. None if it doesn't begin.
 fn start<R>(rt: R, alloc: Global) -> Option<House<R>>
 where
     R: Threads + Wait + Clock + Copy + Drop + Send + 'static,
 {
-    let mut clocks = Vec::new(alloc);
-    clocks.push(SystemClock::new(rt)).ok()?;
-    clocks.push(SystemClock::new(rt)).ok()?;
+    let clocks = clocks(rt, alloc)?;
     let gates = vec![in alloc; NoGate, NoGate].ok()?;
     House::start(rt, alloc, plain(alloc, 2, 2, 1000), clocks, gates).ok()
 }
@@ -92,11 +101,30 @@ fn new_meeter(mine: &Mark, other: &Mark) -> Option<Meeter>
 
 /// Submits a job to this core, and closes it. Whether both orders were accepted.
 fn submit<R: Drop>(house: &mut House<R>, core: CoreNo, mine: &Mark, other: &Mark) -> bool {
-    let Some(job) = new_meeter(mine, other) else {
-        return false;
-    };
-    house.submit(core, Order::Job(QueueNo(0), job)).is_ok()
-        && house.close_core(core, Mode::Finish).is_ok()
+    match new_meeter(mine, other) {
+        Some(job) => submits_last(house, core, job),
+        None => false,
+    }
+}
+
+/// The marks of two jobs.
+#[derive(Drop)]
+struct Marks {
+    one: Mark,
+    two: Mark,
+}
+
+/// Two marks that aren't set. None if there is no memory for them.
+fn new_marks(alloc: Global) -> Option<Marks> {
+    let one = new_mark(alloc).ok()?;
+    let two = new_mark(alloc).ok()?;
+    Some(Marks { one, two })
+}
+
+/// Submits two jobs that meet, one to each core, and closes both. Whether all orders were accepted.
+fn submit_both<R: Drop>(house: &mut House<R>, marks: &Marks) -> bool {
+    submit(house, CoreNo(0), &marks.one, &marks.two)
+        && submit(house, CoreNo(1), &marks.two, &marks.one)
 }
 
 /// Whether the job of this core answered 1.
@@ -118,13 +146,10 @@ fn journals_of<R>(rt: R, alloc: Global) -> Option<Assembly>
 where
     R: Threads + Wait + Clock + Copy + Drop + Send + 'static,
 {
-    let (one, two) = (new_mark(alloc).ok()?, new_mark(alloc).ok()?);
+    let marks = new_marks(alloc)?;
     let mut house = start(rt, alloc)?;
-    if submit(&mut house, CoreNo(0), &one, &two) && submit(&mut house, CoreNo(1), &two, &one) {
-        house.finish(&rt).ok()
-    } else {
-        None
-    }
+    let well = submit_both(&mut house, &marks);
+    journals_if(&rt, house, well)
 }
 
 /// Whether the jobs of two cores saw each other.

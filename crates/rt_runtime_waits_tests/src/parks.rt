@@ -6,7 +6,9 @@ ghost use Rattle.rt_jobs.specs.declared.job.Step.TheVariants.{Done};
 
 use rt_ids::{ActorNo, Answer, CoreNo, Mode, Order, Outcome, QueueNo, Reason, Ticket};
 use rt_jobs::{Asks, Job, Post, Step, Task, poll_asking, submit_and_detach};
-use rt_runtime_test_house::{House, Mark, answers, ends, lets_pass, new_mark, started, submits};
+use rt_runtime_test_house::{
+    House, Mark, answers, ends_if, journals_if, lets_pass, new_mark, started, submits,
+};
 use std::alloc::Global;
 use std::snapshot::Snapshot;
 use std::sync::atomic::Ordering;
@@ -157,15 +159,25 @@ fn is_woken_by_a_job<R: Wait>(rt: &R, house: &mut House<Napper>, mark: &Mark, nu
     }
 }
 
+/// Submits a wake of the caller's job of this number. Its ticket, if it is accepted.
+fn wake(house: &mut House<Napper>, number: u64) -> Option<Ticket> {
+    house.submit(CoreNo(0), Order::Wake(CALLER, number)).ok()
+}
+
+/// Whether a wake is answered by `Woken`. None if it is answered neither so nor by `NoJob`.
+fn says_woken<R: Wait>(rt: &R, house: &mut House<Napper>, ticket: Ticket) -> Option<bool> {
+    match house.wait(rt, ticket) {
+        Ok(Outcome::Answered(Answer::Woken)) => Some(true),
+        Ok(Outcome::Answered(Answer::NoJob)) => Some(false),
+        _ => None,
+    }
+}
+
 /// Whether the caller's wake of a job is answered so.
 fn is_answered<R: Wait>(rt: &R, house: &mut House<Napper>, number: u64, woken: bool) -> bool {
-    let Ok(ticket) = house.submit(CoreNo(0), Order::Wake(CALLER, number)) else {
-        return false;
-    };
-    match house.wait(rt, ticket) {
-        Ok(Outcome::Answered(Answer::Woken)) => woken,
-        Ok(Outcome::Answered(Answer::NoJob)) => !woken,
-        _ => false,
+    match wake(house, number) {
+        Some(ticket) => says_woken(rt, house, ticket) == Some(woken),
+        None => false,
     }
 }
 
@@ -206,6 +218,11 @@ fn both_go_back<R: Wait>(rt: &R, house: &mut House<Napper>, mark: &Mark) -> bool
     }
 }
 
+/// Whether both go back, and the core has closed by itself then, so that its gate refuses to close it.
+fn hands_back<R: Wait>(rt: &R, house: &mut House<Napper>, mark: &Mark) -> bool {
+    both_go_back(rt, house, mark) && house.close_core(CoreNo(0), Mode::Finish).is_err()
+}
+
 /// Whether each job is woken by a job of another core.
 fn jobs_wake<R: Wait>(rt: &R, house: &mut House<Napper>, mark: &Mark) -> bool {
     for round in 0..ROUNDS {
@@ -226,18 +243,54 @@ fn the_caller_wakes<R: Wait>(rt: &R, house: &mut House<Napper>, mark: &Mark) -> 
     true
 }
 
+/// Whether each job of a house is woken by a job of another core, and the house ends. Its gates count at `asked`. None if there is no house.
+fn ends_where_jobs_wake<R>(rt: R, alloc: Global, asked: &Mark, mark: &Mark) -> Option<bool>
+where
+    R: Threads + Wait + Copy + Drop + Send + 'static,
+{
+    let mut house = started(rt, alloc, 2, 4, 20_000, asked)?;
+    let well = jobs_wake(&rt, &mut house, mark);
+    Some(ends_if(&rt, house, 2, well))
+}
+
+/// The same where the caller wakes each job.
+fn ends_where_the_caller_wakes<R>(rt: R, alloc: Global, asked: &Mark, mark: &Mark) -> Option<bool>
+where
+    R: Threads + Wait + Copy + Drop + Send + 'static,
+{
+    let mut house = started(rt, alloc, 2, 4, 20_000, asked)?;
+    let well = the_caller_wakes(&rt, &mut house, mark);
+    Some(ends_if(&rt, house, 2, well))
+}
+
+/// Whether the core of a short journal hands both jobs back, and has closed by itself then. None if there is no house.
+fn ends_by_itself<R>(rt: R, alloc: Global, mark: &Mark) -> Option<bool>
+where
+    R: Threads + Wait + Copy + Drop + Send + 'static,
+{
+    let mut house = started(rt, alloc, 1, 2, 96, mark)?;
+    let well = hands_back(&rt, &mut house, mark);
+    Some(journals_if(&rt, house, well).is_some())
+}
+
+/// How often the gates were asked, if all went well.
+fn asked_if(asked: &Mark, well: bool) -> Option<u64> {
+    if well {
+        Some(asked.load(Ordering::SeqCst))
+    } else {
+        None
+    }
+}
+
 /// How often the gates were asked where jobs woke all others. None if one wasn't woken.
 fn asked_where_jobs_wake<R>(rt: R, alloc: Global) -> Option<u64>
 where
     R: Threads + Wait + Copy + Drop + Send + 'static,
 {
-    let (asked, mark) = (new_mark(alloc).ok()?, new_mark(alloc).ok()?);
-    let mut house = started(rt, alloc, 2, 4, 20_000, &asked)?;
-    if jobs_wake(&rt, &mut house, &mark) && ends(&rt, house, 2) {
-        Some(asked.load(Ordering::SeqCst))
-    } else {
-        None
-    }
+    let asked = new_mark(alloc).ok()?;
+    let mark = new_mark(alloc).ok()?;
+    let well = ends_where_jobs_wake(rt, alloc, &asked, &mark)?;
+    asked_if(&asked, well)
 }
 
 /// How often they were asked where the caller woke all jobs. None if one wasn't woken.
@@ -245,26 +298,19 @@ fn asked_where_the_caller_wakes<R>(rt: R, alloc: Global) -> Option<u64>
 where
     R: Threads + Wait + Copy + Drop + Send + 'static,
 {
-    let (asked, mark) = (new_mark(alloc).ok()?, new_mark(alloc).ok()?);
-    let mut house = started(rt, alloc, 2, 4, 20_000, &asked)?;
-    if the_caller_wakes(&rt, &mut house, &mark) && ends(&rt, house, 2) {
-        Some(asked.load(Ordering::SeqCst))
-    } else {
-        None
-    }
+    let asked = new_mark(alloc).ok()?;
+    let mark = new_mark(alloc).ok()?;
+    let well = ends_where_the_caller_wakes(rt, alloc, &asked, &mark)?;
+    asked_if(&asked, well)
 }
 
-/// Whether the core of a short journal hands both jobs back, and has closed by itself then. None if there is no house.
+/// The same as `ends_by_itself`, with a mark of its own.
 fn hands_both_back<R>(rt: R, alloc: Global) -> Option<bool>
 where
     R: Threads + Wait + Copy + Drop + Send + 'static,
 {
     let mark = new_mark(alloc).ok()?;
-    let mut house = started(rt, alloc, 1, 2, 96, &mark)?;
-    let back = both_go_back(&rt, &mut house, &mark);
-    // The core has closed by itself, so that its gate refuses this.
-    let refused = house.close_core(CoreNo(0), Mode::Finish).is_err();
-    Some(back && refused && house.finish(&rt).is_ok())
+    ends_by_itself(rt, alloc, &mark)
 }
 
 #[test]

@@ -4,7 +4,7 @@ ghost use Rattle.std.specs.Prelude.{◌≡◌, false, IfSome};
 
 use rt_ids::{CoreNo, Order, Outcome, QueueNo, Ticket, TicketError};
 use rt_jobs::{Asks, Job, Post, Step, Task, poll_asking};
-use rt_runtime_test_house::{House, Mark, answers, ends, new_mark, started, submits};
+use rt_runtime_test_house::{House, Mark, answers, ends_if, new_mark, started, submits};
 use std::alloc::Global;
 use std::snapshot::Snapshot;
 use std::sync::atomic::Ordering;
@@ -100,14 +100,21 @@ fn submit_wait<R: Wait>(rt: &R, house: &mut House<Slow>, mark: &Mark) -> Option<
     house.submit_wait(rt, CoreNo(0), order).ok()
 }
 
-/// Whether core 0 refuses a job since the link is full.
-fn is_full(house: &mut House<Slow>, mark: &Mark, looks: u32) -> bool {
-    let Some(job) = new_slow(mark, 4, looks) else {
-        return false;
-    };
+/// Whether core 0 refuses this job since the link is full.
+fn is_one_too_many(house: &mut House<Slow>, job: Slow) -> bool
+    requires { job.ended ≡ false }
+{
     match house.submit(CoreNo(0), Order::Job(QueueNo(0), job)) {
         Ok(_) => false,
         Err(error) => error.is_full(),
+    }
+}
+
+/// Whether core 0 refuses a job since the link is full.
+fn is_full(house: &mut House<Slow>, mark: &Mark, looks: u32) -> bool {
+    match new_slow(mark, 4, looks) {
+        Some(job) => is_one_too_many(house, job),
+        None => false,
     }
 }
 
@@ -207,34 +214,61 @@ fn are_all_placed<R: Wait>(rt: &R, house: &mut House<Slow>, mark: &Mark) -> bool
     true
 }
 
-/// Whether each outcome of one core wakes the caller. None if there is no house.
+/// Whether each outcome of one core wakes the caller, and the core ends. None if there is no house.
+fn ends_where_each_wakes<R>(rt: R, alloc: Global, mark: &Mark) -> Option<bool>
+where
+    R: Threads + Wait + Copy + Drop + Send + 'static,
+{
+    let mut house = started(rt, alloc, 1, 2, 100_000, mark)?;
+    let well = are_all_awaited(&rt, &mut house, mark);
+    Some(ends_if(&rt, house, 1, well))
+}
+
+/// The same, with a mark of its own.
 fn each_wakes<R>(rt: R, alloc: Global) -> Option<bool>
 where
     R: Threads + Wait + Copy + Drop + Send + 'static,
 {
     let mark = new_mark(alloc).ok()?;
-    let mut house = started(rt, alloc, 1, 2, 100_000, &mark)?;
-    Some(are_all_awaited(&rt, &mut house, &mark) && ends(&rt, house, 1))
+    ends_where_each_wakes(rt, alloc, &mark)
 }
 
-/// Whether either of two cores wakes the caller. None if there is no house.
+/// Whether either of two cores wakes the caller, and both end. None if there is no house.
+fn ends_where_either_wakes<R>(rt: R, alloc: Global, mark: &Mark) -> Option<bool>
+where
+    R: Threads + Wait + Copy + Drop + Send + 'static,
+{
+    let mut house = started(rt, alloc, 2, 2, 20_000, mark)?;
+    let well = either_is_awaited(&rt, &mut house, mark);
+    Some(ends_if(&rt, house, 2, well))
+}
+
+/// The same, with a mark of its own.
 fn either_wakes<R>(rt: R, alloc: Global) -> Option<bool>
 where
     R: Threads + Wait + Copy + Drop + Send + 'static,
 {
     let mark = new_mark(alloc).ok()?;
-    let mut house = started(rt, alloc, 2, 2, 20_000, &mark)?;
-    Some(either_is_awaited(&rt, &mut house, &mark) && ends(&rt, house, 2))
+    ends_where_either_wakes(rt, alloc, &mark)
 }
 
-/// Whether a place of a full link wakes the caller. None if there is no house.
+/// Whether a place of a full link wakes the caller, and the core ends. None if there is no house.
+fn ends_where_a_place_wakes<R>(rt: R, alloc: Global, mark: &Mark) -> Option<bool>
+where
+    R: Threads + Wait + Copy + Drop + Send + 'static,
+{
+    let mut house = started(rt, alloc, 1, 1, 20_000, mark)?;
+    let well = are_all_placed(&rt, &mut house, mark);
+    Some(ends_if(&rt, house, 1, well))
+}
+
+/// The same, with a mark of its own.
 fn a_place_wakes<R>(rt: R, alloc: Global) -> Option<bool>
 where
     R: Threads + Wait + Copy + Drop + Send + 'static,
 {
     let mark = new_mark(alloc).ok()?;
-    let mut house = started(rt, alloc, 1, 1, 20_000, &mark)?;
-    Some(are_all_placed(&rt, &mut house, &mark) && ends(&rt, house, 1))
+    ends_where_a_place_wakes(rt, alloc, &mark)
 }
 
 #[test]

@@ -9,7 +9,7 @@ use rt_jobs::{
     Asks, Job, Post, Redeemed, Step, Task, poll_asking, redeem_if_there, submit_and_keep,
 };
 use rt_runtime_test_house::{
-    House, Mark, collects, ends, is_set_soon, lets_pass, new_mark, started, submits,
+    House, Mark, collects, ends_if, is_set_soon, lets_pass, new_mark, started, submits,
 };
 use std::alloc::Global;
 use std::snapshot::Snapshot;
@@ -173,14 +173,24 @@ fn wakes_each_time(house: &mut House<Waker>, mark: &Mark) -> bool {
     true
 }
 
-/// Whether both cores wake, and end. None if there is no house.
+/// Whether both cores wake, and end. The gates count at `asked`. None if there is no house.
+fn both_end<R>(rt: R, alloc: Global, asked: &Mark, mark: &Mark) -> Option<bool>
+where
+    R: Threads + Wait + Copy + Drop + Send + 'static,
+{
+    let mut house = started(rt, alloc, 2, 2, 20_000, asked)?;
+    let well = wakes_each_time(&mut house, mark);
+    Some(ends_if(&rt, house, 2, well))
+}
+
+/// The same, with marks of their own.
 fn both_wake<R>(rt: R, alloc: Global) -> Option<bool>
 where
     R: Threads + Wait + Copy + Drop + Send + 'static,
 {
-    let (asked, mark) = (new_mark(alloc).ok()?, new_mark(alloc).ok()?);
-    let mut house = started(rt, alloc, 2, 2, 20_000, &asked)?;
-    Some(wakes_each_time(&mut house, &mark) && ends(&rt, house, 2))
+    let asked = new_mark(alloc).ok()?;
+    let mark = new_mark(alloc).ok()?;
+    both_end(rt, alloc, &asked, &mark)
 }
 
 #[test]

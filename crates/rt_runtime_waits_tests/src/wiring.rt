@@ -1,10 +1,10 @@
 //! Clocks and gates that know their core: each worker has those of its number.
 
-use rt_ids::{ActorNo, CoreNo, JobId, Mode, Note, Order, QueueNo};
+use rt_ids::{ActorNo, CoreNo, JobId, Note};
 use rt_jobs::example::Work;
 use rt_journal::{Assembly, Journal};
 use rt_runtime::{Clock, Gate, Runtime};
-use rt_runtime_test_house::{Mark, new_mark, plain};
+use rt_runtime_test_house::{Mark, journals_if, new_mark, plain, submits_last};
 use std::alloc::Global;
 use std::sync::atomic::Ordering;
 use std::sync::{Arc, Wait};
@@ -63,8 +63,22 @@ fn clocks(alloc: Global, cores: u8) -> Option<Vec<Steps>> {
     Some(clocks)
 }
 
+/// Where the gates count: a mark for each core, and one for all.
+#[derive(Drop)]
+struct Marks {
+    asked: Vec<Mark>,
+    strange: Mark,
+}
+
+/// The marks of so many cores. None if there is no memory for them.
+fn new_marks(alloc: Global, cores: u8) -> Option<Marks> {
+    let asked = one_each(alloc, cores)?;
+    let strange = new_mark(alloc).ok()?;
+    Some(Marks { asked, strange })
+}
+
 /// A mark for each core.
-fn marks(alloc: Global, cores: u8) -> Option<Vec<Mark>> {
+fn one_each(alloc: Global, cores: u8) -> Option<Vec<Mark>> {
     let mut marks = Vec::new(alloc);
     for _ in 0..cores {
         let mark = new_mark(alloc).ok()?;
@@ -103,10 +117,7 @@ fn submit(house: &mut House, core: u8) -> bool {
         yields: core as u32 + 2,
         number: 5,
     };
-    house
-        .submit(CoreNo(core), Order::Job(QueueNo(0), job))
-        .is_ok()
-        && house.close_core(CoreNo(core), Mode::Finish).is_ok()
+    submits_last(house, CoreNo(core), job)
 }
 
 /// The same for each core.
@@ -149,25 +160,24 @@ fn are_its_own(assembly: &Assembly, asked: &[Mark]) -> bool {
     true
 }
 
-/// The journals of a house of so many cores, whose gates count at these marks. None if it doesn't begin, or an order is refused.
-fn journals_of<R>(
-    rt: R,
-    alloc: Global,
-    cores: u8,
-    asked: &[Mark],
-    strange: &Mark,
-) -> Option<Assembly>
+/// A house of so many cores, whose gates count at these marks. None if it doesn't begin.
+fn start<R>(rt: R, alloc: Global, cores: u8, marks: &Marks) -> Option<House>
 where
     R: Threads + Wait + Copy + Drop + Send + 'static,
 {
     let clocks = clocks(alloc, cores)?;
-    let gates = gates(alloc, asked, strange)?;
-    let mut house = House::start(rt, alloc, plain(alloc, cores, 4, 2000), clocks, gates).ok()?;
-    if submit_all(&mut house, cores) {
-        house.finish(&rt).ok()
-    } else {
-        None
-    }
+    let gates = gates(alloc, &marks.asked, &marks.strange)?;
+    House::start(rt, alloc, plain(alloc, cores, 4, 2000), clocks, gates).ok()
+}
+
+/// The journals of such a house. None if it doesn't begin, or an order is refused.
+fn journals_of<R>(rt: R, alloc: Global, cores: u8, marks: &Marks) -> Option<Assembly>
+where
+    R: Threads + Wait + Copy + Drop + Send + 'static,
+{
+    let mut house = start(rt, alloc, cores, marks)?;
+    let well = submit_all(&mut house, cores);
+    journals_if(&rt, house, well)
 }
 
 /// Whether in a house of so many cores each has the clock and the gate of its number. None if there is no house.
@@ -175,9 +185,9 @@ fn is_wired<R>(rt: R, alloc: Global, cores: u8) -> Option<bool>
 where
     R: Threads + Wait + Copy + Drop + Send + 'static,
 {
-    let (asked, strange) = (marks(alloc, cores)?, new_mark(alloc).ok()?);
-    let assembly = journals_of(rt, alloc, cores, &asked, &strange)?;
-    Some(are_its_own(&assembly, &asked) && strange.load(Ordering::SeqCst) == 0)
+    let marks = new_marks(alloc, cores)?;
+    let assembly = journals_of(rt, alloc, cores, &marks)?;
+    Some(are_its_own(&assembly, &marks.asked) && marks.strange.load(Ordering::SeqCst) == 0)
 }
 
 #[test]
