@@ -2,18 +2,20 @@
 ghost use Rattle.std.specs.Prelude.{◌≡◌, ◌≤◌, ◌↔◌, false, [], ◌∷◌, length, IsTrue, IsNone, IsSome, IfSome, IfNone, Contains};
 ghost use Rattle.rt_timeline.specs.Rising.{LacksQueue, IsRising, HasDistinctQueues, has_queue, inserted, removed, first_key};
 ghost use Rattle.rt_timeline.specs.Tree.{empty_tree, IsLow};
+ghost use Rattle.rt_timeline.specs.Led.{levels};
 
+use crate::front::Front;
 use crate::slip::Slip;
 use crate::slips::Slips;
-use crate::tree::{Link, Tree, detach, enter, leave};
+use crate::tree::{Tree, detach, enter, leave};
 use rt_ids::{Key, QueueNo};
 use std::alloc::Allocator;
 use std::marker::Model;
 
-/// The keys of the active queues, at most one of each queue: the least one, and the others in a balanced tree.
+/// The keys of the active queues, at most one of each queue: the least ones in a front of few places, and the others in a balanced tree.
 #[derive(Drop)]
 pub struct Timeline<A: Allocator> {
-    first: Link<A>,
+    first: Front<A>,
     later: Tree<A>,
     len: usize,
 }
@@ -37,7 +39,7 @@ impl<A: Allocator> Timeline<A> {
         ensures { result ≡ empty_tree }
     {
         Timeline {
-            first: Link::Empty,
+            first: Front::new(),
             later: Tree::new(),
             len: 0,
         }
@@ -57,10 +59,7 @@ impl<A: Allocator> Timeline<A> {
     pub fn least(&self) -> Option<Key>
         ensures { result ≡ first_key self.now.keys }
     {
-        match &self.first {
-            Link::Empty => None,
-            Link::Top(node, vr) => Some(node.key(*vr)),
-        }
+        self.first.least()
     }
 
     /// Takes the queue of the least key out, with its slip.
@@ -75,9 +74,8 @@ impl<A: Allocator> Timeline<A> {
         if self.len == 0 {
             return None;
         }
-        let Link::Top(node, vr) = leave(&mut self.first, &mut self.later) else {
-            unreachable!()
-        };
+        let mut vr = 0;
+        let node = leave(&mut self.first, &mut self.later, &mut vr);
         self.len -= 1;
         Some((node.key(vr), Slip::from_node(node)))
     }
@@ -117,19 +115,16 @@ impl<A: Allocator> Timeline<A> {
         ensures value { result ≡ has_queue queue self.now.keys }
         ensures absent { result ≡ false → LacksQueue queue self.now.keys }
     {
-        match &self.first {
-            Link::Empty => false,
-            Link::Top(node, _) => node.queue == queue || self.later.has_queue(queue),
-        }
+        self.first.has_queue(queue) || self.later.has_queue(queue)
     }
 
-    /// How many levels the tree has. The least key stands beside it.
+    /// How many levels the tree has, or a tree of the front's keys alone if that has more: what a search goes through at most.
     pub fn height(&self) -> usize
         ensures value { result ≡ self.now.height }
         ensures low { IsLow self.now }
     {
         self.later.know_filled();
-        self.later.height()
+        levels(self.first.len()).max(self.later.height())
     }
 
     /// All slips, by rising key.
@@ -137,5 +132,20 @@ impl<A: Allocator> Timeline<A> {
         ensures { result ≡ self.keys }
     {
         Slips::new(self)
+    }
+}
+
+/// How many levels a balanced tree of so few keys has at least.
+fn levels(count: usize) -> usize
+    ensures { result ≡ levels count }
+{
+    match count {
+        0 => 0,
+        1 => 1,
+        2..=3 => 2,
+        4..=7 => 3,
+        8..=15 => 4,
+        16..=31 => 5,
+        _ => 6,
     }
 }

@@ -12,6 +12,7 @@ use std::mem;
 mod balance;
 mod lead;
 mod levels;
+mod some;
 
 use balance::{parted, tilt};
 pub(crate) use lead::{detach, enter, leave};
@@ -99,7 +100,7 @@ impl<A: Allocator> Tree<A> {
         let _root = &self.root;
     }
 
-    fn is_empty(&self) -> bool
+    pub(crate) fn is_empty(&self) -> bool
         ensures empty { IsTrue result ↔ (self.now ≡ empty_tree) }
         ensures some { result ≡ false → 0 < length self.now.keys }
     {

@@ -1,6 +1,6 @@
-use Rattle.std.proofs.Common.{◌≤◌, arith, subst}
+use Rattle.std.proofs.Common.{◌≤◌, arith, subst, length-append}
 use Rattle.rt_timeline.specs.Tree.{IsLow}
-use Rattle.rt_timeline.proofs.Leading.{length-later, IsLow-led}
+use Rattle.rt_timeline.proofs.Leading.{IsLow-led}
 use Rattle.rt_timeline.proofs.Heights.{IsLow-from_filled}
 use Rattle.rt_timeline.specs.Led.{led_keys}
 use Rattle.rt_timeline.proofs.Queues.{length-le-256}
@@ -11,7 +11,7 @@ height-requires g c =
     let first = c.self.inside.first in
     let later = c.self.inside.later in
     let few = length-le-256 (led_keys first later) c.self.invariant.0 in
-    let low : later.height ≤ 18 = IsLow-from_filled later c.know_filled.ensures 9 (omega (arith, length-later first later)) in
+    let low : later.height ≤ 18 = IsLow-from_filled later c.know_filled.ensures 9 (omega (arith, length-append first later.keys)) in
     omega arith
 
 pub returns-clause-low : goal.returns-clause-low
