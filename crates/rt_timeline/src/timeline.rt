@@ -1,5 +1,5 @@
 //! The keys of the active queues, least first.
-ghost use Rattle.std.specs.Prelude.{◌≡◌, ◌≤◌, ◌↔◌, false, [], ◌∷◌, length, IsTrue, IsNone, IsSome, IfSome, IfNone, Contains};
+ghost use Rattle.std.specs.Prelude.{◌≡◌, ◌≤◌, ◌↔◌, false, [], ◌∷◌, length, IsTrue, IsNone, IsSome, IfSome, IfNone, IfOk, Contains};
 ghost use Rattle.rt_timeline.specs.Rising.{LacksQueue, IsRising, HasDistinctQueues, has_queue, inserted, removed, first_key};
 ghost use Rattle.rt_timeline.specs.Tree.{empty_tree, IsLow};
 ghost use Rattle.rt_timeline.specs.Led.{levels};
@@ -7,15 +7,18 @@ ghost use Rattle.rt_timeline.specs.Led.{levels};
 use crate::front::Front;
 use crate::slip::Slip;
 use crate::slips::Slips;
-use crate::tree::{Tree, detach, enter, leave};
+use crate::tree::{Tree, detach, enter, front_len, has_front_queue, leave};
 use rt_ids::{Key, QueueNo};
-use std::alloc::Allocator;
+use std::alloc::{AllocError, Allocator};
 use std::marker::Model;
 
-/// The keys of the active queues, at most one of each queue: the least ones in a front of few places, and the others in a balanced tree.
+/// The keys of the active queues, at most one of each queue: the least ones in a front of few places, if it has one, and the others in a
+/// balanced tree.
+///
+/// The front lies behind a pointer. An array in each type that holds a timeline would make every proof about such a type longer.
 #[derive(Drop)]
 pub struct Timeline<A: Allocator> {
-    first: Front<A>,
+    first: Option<Box<Front<A>, A>>,
     later: Tree<A>,
     len: usize,
 }
@@ -24,25 +27,41 @@ impl<A: Allocator> Model for Timeline<A> {
     ghost use Rattle.std.specs.Prelude.{◌≡◌, length};
     ghost use Rattle.rt_timeline.specs.Tree.{KeyTree};
     ghost use Rattle.rt_timeline.specs.Rising.{IsOfQueues};
-    ghost use Rattle.rt_timeline.specs.Led.{led, led_keys, IsLed};
+    ghost use Rattle.rt_timeline.specs.Led.{led, led_keys, front_of, IsFronted};
 
     ghost Value = { KeyTree };
 
-    ghost view = { λ t. led t.first t.later };
+    ghost view = { λ t. led (front_of t.first) t.later };
 
-    ghost invariant = { λ t. IsOfQueues (led_keys t.first t.later) × (t.len ≡ length (led_keys t.first t.later)) × IsLed t.first t.later };
+    ghost invariant = { λ t. IsOfQueues (led_keys (front_of t.first) t.later) × (t.len ≡ length (led_keys (front_of t.first) t.later)) × IsFronted t.first t.later };
 }
 
 impl<A: Allocator> Timeline<A> {
-    /// A timeline of no queue.
+    /// A timeline of no queue, and without a front: all keys are in the tree.
     pub fn new() -> Self
         ensures { result ≡ empty_tree }
     {
         Timeline {
-            first: Front::new(),
+            first: None,
             later: Tree::new(),
             len: 0,
         }
+    }
+
+    /// A timeline of no queue, with a front. It asks the allocator for that, and for nothing later.
+    ///
+    /// # Errors
+    ///
+    /// If the allocator has no room for the front, 1.5 kB.
+    pub fn with_front(alloc: A) -> Result<Self, AllocError>
+        ensures { IfOk result (λ timeline. timeline ≡ empty_tree) }
+    {
+        let front = Box::new(alloc, Front::new())?;
+        Ok(Timeline {
+            first: Some(front),
+            later: Tree::new(),
+            len: 0,
+        })
     }
 
     /// Puts the slip's queue into the timeline at this virtual runtime.
@@ -59,7 +78,10 @@ impl<A: Allocator> Timeline<A> {
     pub fn least(&self) -> Option<Key>
         ensures { result ≡ first_key self.now.keys }
     {
-        self.first.least()
+        match &self.first {
+            Some(front) => front.least(),
+            None => self.later.least(),
+        }
     }
 
     /// Takes the queue of the least key out, with its slip.
@@ -115,7 +137,7 @@ impl<A: Allocator> Timeline<A> {
         ensures value { result ≡ has_queue queue self.now.keys }
         ensures absent { result ≡ false → LacksQueue queue self.now.keys }
     {
-        self.first.has_queue(queue) || self.later.has_queue(queue)
+        has_front_queue(&self.first, queue) || self.later.has_queue(queue)
     }
 
     /// How many levels the tree has, or a tree of the front's keys alone if that has more: what a search goes through at most.
@@ -124,7 +146,7 @@ impl<A: Allocator> Timeline<A> {
         ensures low { IsLow self.now }
     {
         self.later.know_filled();
-        levels(self.first.len()).max(self.later.height())
+        levels(front_len(&self.first)).max(self.later.height())
     }
 
     /// All slips, by rising key.

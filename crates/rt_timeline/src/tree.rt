@@ -1,6 +1,6 @@
 //! The tree behind the timeline: balanced nodes, each seen with what hangs on it as keys and a height.
 ghost use Rattle.std.specs.Prelude.{◌≡◌, ◌+◌, ◌^◌, ◌<◌, ◌↔◌, ◌∷◌, true, false, length, Some, is_some, IfSome, IfNone, IsTrue};
-ghost use Rattle.rt_timeline.specs.Rising.{IsRising, stands_before, has_key, has_queue, removed};
+ghost use Rattle.rt_timeline.specs.Rising.{IsRising, stands_before, first_key, has_key, has_queue, removed};
 ghost use Rattle.rt_timeline.specs.Tree.{empty_tree, IsFilled};
 ghost use Rattle.rt_timeline.specs.Nodes.{seen, key_of, keys_of, IsBalanced, IsLoose};
 
@@ -15,7 +15,7 @@ mod levels;
 mod some;
 
 use balance::{parted, tilt};
-pub(crate) use lead::{detach, enter, leave};
+pub(crate) use lead::{detach, enter, front_len, has_front_queue, leave};
 
 /// A side of a node, or the whole: balanced at every level.
 #[cycle(tree)]
@@ -88,6 +88,19 @@ impl<A: Allocator> Tree<A> {
             Link::Top(node, _) => match node.lean {
                 Lean::Right => node.right.height() + 1,
                 Lean::Left | Lean::Even => node.left.height() + 1,
+            },
+        }
+    }
+
+    /// The least key. It goes down the left side.
+    pub(crate) fn least(&self) -> Option<Key>
+        ensures { result ≡ first_key self.now.keys }
+    {
+        match &self.root {
+            Link::Empty => None,
+            Link::Top(node, vr) => match node.left.least() {
+                Some(key) => Some(key),
+                None => Some(node.key(*vr)),
             },
         }
     }

@@ -3,18 +3,64 @@
 //! A turn of a core looks at the least key, takes it out, and puts it back behind others. A look at the front takes no way down, and a
 //! timeline of few queues has no tree to go through.
 ghost use Rattle.std.specs.Prelude.{◌≡◌, ◌≢◌, ◌<◌, ◌≤◌, [], ◌∷◌, length, is_some, IfSome, IfNone};
-ghost use Rattle.rt_timeline.specs.Rising.{IsRising, LacksQueue, has_key, inserted, removed};
+ghost use Rattle.rt_timeline.specs.Rising.{IsRising, LacksQueue, has_key, has_queue, inserted, removed};
 ghost use Rattle.rt_timeline.specs.Nodes.{key_of, IsLoose};
-ghost use Rattle.rt_timeline.specs.Led.{led_keys, IsLed};
+ghost use Rattle.rt_timeline.specs.Led.{led_keys, front_of, IsLed, IsFronted};
 
 use super::{Node, Tree};
 use crate::front::Front;
-use rt_ids::Key;
+use rt_ids::{Key, QueueNo};
 use std::alloc::Allocator;
+
+/// How many keys the front has, if there is one.
+pub(crate) fn front_len<A: Allocator>(first: &Option<Box<Front<A>, A>>) -> usize
+    ensures { result ≡ length (front_of first.now) }
+{
+    match first {
+        Some(front) => front.len(),
+        None => 0,
+    }
+}
+
+/// Whether one of the front's keys is of this queue.
+pub(crate) fn has_front_queue<A: Allocator>(
+    first: &Option<Box<Front<A>, A>>,
+    queue: QueueNo,
+) -> bool
+    ensures { result ≡ has_queue queue (front_of first.now) }
+{
+    match first {
+        Some(front) => front.has_queue(queue),
+        None => false,
+    }
+}
+
+/// Puts a node in the place of its key: into the tree, if there is no front.
+#[inline(always)]
+pub(crate) fn enter<A: Allocator>(
+    first: &mut Option<Box<Front<A>, A>>,
+    later: &mut Tree<A>,
+    node: Box<Node<A>, A>,
+    vr: u128,
+)
+    requires loose { IsLoose node.value }
+    requires fronted { IsFronted first.old later.old }
+    requires rising { IsRising (led_keys (front_of first.old) later.old) }
+    requires absent { LacksQueue node.value.queue (led_keys (front_of first.old) later.old) }
+    ensures keys { led_keys (front_of first.new) later.new ≡ inserted (key_of vr node.value) (led_keys (front_of first.old) later.old) }
+    ensures fronted { IsFronted first.new later.new }
+{
+    match first {
+        Some(front) => enter_front(front, later, node, vr),
+        None => {
+            later.insert(node, vr);
+        }
+    }
+}
 
 /// Puts a node in the place of its key: into the front, if that has room and all that is there, or else if the key stands before its last.
 #[inline(always)]
-pub(crate) fn enter<A: Allocator>(
+fn enter_front<A: Allocator>(
     first: &mut Front<A>,
     later: &mut Tree<A>,
     node: Box<Node<A>, A>,
@@ -91,9 +137,32 @@ fn refill<A: Allocator>(first: &mut Front<A>, later: &mut Tree<A>)
     first.push(node, vr);
 }
 
-/// Takes the least node. Its virtual runtime is written to `vr`.
+/// Takes the least node, of which there has to be one. Its virtual runtime is written to `vr`.
 #[inline(always)]
 pub(crate) fn leave<A: Allocator>(
+    first: &mut Option<Box<Front<A>, A>>,
+    later: &mut Tree<A>,
+    vr: &mut u128,
+) -> Box<Node<A>, A>
+    requires some { 0 < length (led_keys (front_of first.old) later.old) }
+    requires fronted { IsFronted first.old later.old }
+    requires few { length later.old.keys ≤ 256 }
+    ensures keys { led_keys (front_of first.old) later.old ≡ key_of vr.new result.value ∷ led_keys (front_of first.new) later.new }
+    ensures loose { IsLoose result.value }
+    ensures fronted { IsFronted first.new later.new }
+{
+    match first {
+        Some(front) => leave_front(front, later, vr),
+        None => {
+            let (node, _lower) = later.take_first(vr);
+            node
+        }
+    }
+}
+
+/// Takes the first node of the front. Its virtual runtime is written to `vr`.
+#[inline(always)]
+fn leave_front<A: Allocator>(
     first: &mut Front<A>,
     later: &mut Tree<A>,
     vr: &mut u128,
@@ -110,8 +179,33 @@ pub(crate) fn leave<A: Allocator>(
 }
 
 /// Takes the node of this key out, if it is there.
-#[tactic(auto, using(crate::proofs::Leading::of_both))]
 pub(crate) fn detach<A: Allocator>(
+    first: &mut Option<Box<Front<A>, A>>,
+    later: &mut Tree<A>,
+    key: &Key,
+) -> Option<Box<Node<A>, A>>
+    requires fronted { IsFronted first.old later.old }
+    requires few { length later.old.keys ≤ 256 }
+    requires rising { IsRising (led_keys (front_of first.old) later.old) }
+    ensures found { is_some result ≡ has_key key.now (led_keys (front_of first.old) later.old) }
+    ensures unchanged { IfNone result ((front_of first.new ≡ front_of first.old) × (later.new ≡ later.old)) }
+    ensures keys { led_keys (front_of first.new) later.new ≡ removed key.now (led_keys (front_of first.old) later.old) }
+    ensures same_queue { IfSome result (λ node. node.value.queue ≡ key.now.queue) }
+    ensures loose { IfSome result (λ node. IsLoose node.value) }
+    ensures fronted { IsFronted first.new later.new }
+{
+    match first {
+        Some(front) => detach_fronted(front, later, key),
+        None => {
+            let (node, _lower) = later.remove(key)?;
+            Some(node)
+        }
+    }
+}
+
+/// Takes the node of this key out of the front or of the tree, if it is there.
+#[tactic(auto, using(crate::proofs::Leading::of_both))]
+fn detach_fronted<A: Allocator>(
     first: &mut Front<A>,
     later: &mut Tree<A>,
     key: &Key,

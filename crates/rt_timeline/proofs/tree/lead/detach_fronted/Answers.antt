@@ -3,7 +3,7 @@ use Rattle.rt_ids.specs.declared.names.Key.{Key}
 use Rattle.rt_timeline.specs.Rising.{has_key}
 use Rattle.rt_timeline.proofs.Rising.{IsRising-front}
 use Rattle.rt_timeline.proofs.Leading.{IsRising-later, removed-from_front}
-use Rattle.rt_timeline.proofs.tree.lead.detach.Goals as goal
+use Rattle.rt_timeline.proofs.tree.lead.detach_fronted.Goals as goal
 
 pub remove-requires : goal.remove-requires
 remove-requires g c = (assumption, IsRising-front c.args.first.now c.args.later.now.keys c.requires.rising)
