@@ -55,38 +55,11 @@ module _ {A : Type 0} where
         ];
       }
 
-  -- the taken places go to the first ones
-  pub front-compact : (vrs : List ℕ) (nodes : List (Option (Box (Node A) A))) (begin end last : ℕ) → IsFront vrs nodes begin end → last + begin ≡ end → IsFront (drop begin vrs ++ take begin vrs) (drop begin nodes ++ take begin nodes) 0 last
-  front-compact vrs nodes begin end last front is =
-      let behind : length (drop begin nodes) ≡ 64 - begin = length-drop begin nodes ∙ ap (λ n. n - begin) front.nodes_long in
-      record {
-        vrs_long = omega (arith, length-append (drop begin vrs) (take begin vrs), length-drop begin vrs, length-take-le begin vrs (omega (arith, front.vrs_long, front.forward, front.within)), front.vrs_long, front.forward, front.within);
-        nodes_long = omega (arith, length-append (drop begin nodes) (take begin nodes), length-drop begin nodes, length-take-le begin nodes (omega (arith, front.nodes_long, front.forward, front.within)), front.nodes_long, front.forward, front.within);
-        forward = omega arith;
-        within = omega (arith, front.within);
-        few = omega (arith, front.few);
-        taken = λ k low high. rw (get_or_append_left (drop begin nodes) (take begin nodes) None k (omega (arith, front.within)), get_or-drop begin nodes k None) (front.taken (begin + k) (omega arith) (omega arith));
-        free_before = λ k low. absurd (omega arith);
-        free_behind = λ k high. elim (cases_lt k (64 - begin)) [
-          | inl below ↦ get_or_append_left (drop begin nodes) (take begin nodes) None k (omega arith) ∙ get_or-drop begin nodes k None ∙ front.free_behind (begin + k) (omega arith)
-          | inr above ↦ get_or-append_right (drop begin nodes) (take begin nodes) (64 - begin) k None behind above ∙ before-free nodes begin front.free_before (omega (arith, front.nodes_long, front.forward, front.within)) (k - (64 - begin))
-        ];
-      }
-
   -- the places before one and from there on
   keys-parts : (vrs : List ℕ) (nodes : List (Option (Box (Node A) A))) (k : ℕ) → k ≤ length vrs → length vrs ≡ length nodes → front_keys vrs nodes ≡ keys_before vrs nodes k ++ front_keys (drop k vrs) (drop k nodes)
   keys-parts vrs nodes k within long =
       let parts = keys-append (take k vrs) (drop k vrs) (take k nodes) (drop k nodes) (length-take-le k vrs within ∙ sym (length-take-le k nodes (omega arith))) in
       sym (ap (λ vrs. front_keys vrs (take k nodes ++ drop k nodes)) (take-append-drop k vrs) ∙ ap (front_keys vrs) (take-append-drop k nodes)) ∙ parts
-
-  pub keys-compact : (vrs : List ℕ) (nodes : List (Option (Box (Node A) A))) (begin end : ℕ) → IsFront vrs nodes begin end → front_keys (drop begin vrs ++ take begin vrs) (drop begin nodes ++ take begin nodes) ≡ front_keys vrs nodes
-  keys-compact vrs nodes begin end front =
-      let within : begin ≤ length nodes = omega (arith, front.nodes_long, front.forward, front.within) in
-      let none = before-first vrs nodes begin front.free_before within in
-      let parts = keys-parts vrs nodes begin (omega (arith, front.vrs_long, front.forward, front.within)) (front.vrs_long ∙ sym front.nodes_long) in
-      let turned = keys-append (drop begin vrs) (take begin vrs) (drop begin nodes) (take begin nodes) (length-drop begin vrs ∙ ap (λ n. n - begin) (front.vrs_long ∙ sym front.nodes_long) ∙ sym (length-drop begin nodes)) in
-      turned ∙ ap (λ keys. front_keys (drop begin vrs) (drop begin nodes) ++ keys) none ∙ append-nil (front_keys (drop begin vrs) (drop begin nodes))
-      ∙ sym (parts ∙ ap (λ keys. keys ++ front_keys (drop begin vrs) (drop begin nodes)) none)
 
   -- up to the end are all keys
   pub keys-all : (vrs : List ℕ) (nodes : List (Option (Box (Node A) A))) (begin end : ℕ) → IsFront vrs nodes begin end → front_keys vrs nodes ≡ keys_before vrs nodes end

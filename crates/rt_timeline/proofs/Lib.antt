@@ -1,4 +1,5 @@
 pub mod Before
+pub mod FrontCompact
 pub mod FrontEnds
 pub mod FrontKeys
 pub mod FrontPlaces

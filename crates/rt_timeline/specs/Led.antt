@@ -1,5 +1,5 @@
 -- The least nodes before the tree of the later ones.
-use Rattle.std.specs.Prelude.{◌≡◌, ℕ, nat_lt, if◌then◌else◌, max, List, [], ◌++◌, length, Option, Some, None, Box}
+use Rattle.std.specs.Prelude.{◌≡◌, ℕ, nat_lt, if◌then◌else◌, max, List, [], ◌++◌, length, Option, Some, None}
 use Rattle.rt_ids.specs.declared.names.Key.{Key}
 use Rattle.rt_timeline.specs.Tree.{KeyTree, empty_tree}
 
@@ -8,9 +8,9 @@ abbrev pub levels : ℕ → ℕ
 levels count = if nat_lt count 1 then 0 else if nat_lt count 2 then 1 else if nat_lt count 4 then 2 else if nat_lt count 8 then 3 else if nat_lt count 16 then 4 else if nat_lt count 32 then 5 else 6
 
 -- the keys of the front, if there is one
-abbrev pub front_of : {A : Type 0} → Option (Box (List Key) A) → List Key
+abbrev pub front_of : Option (List Key) → List Key
 front_of None = []
-front_of (Some front) = front.value
+front_of (Some front) = front
 
 -- the keys before the tree, and then those of the tree
 abbrev pub led_keys : List Key → KeyTree → List Key
@@ -25,6 +25,6 @@ abbrev pub IsLed : List Key → KeyTree → Type 0
 IsLed first later = first ≡ [] → later ≡ empty_tree
 
 -- a front, if there is one, leads the tree
-abbrev pub IsFronted : {A : Type 0} → Option (Box (List Key) A) → KeyTree → Type 0
+abbrev pub IsFronted : Option (List Key) → KeyTree → Type 0
 IsFronted None later = Unit {0}
-IsFronted (Some front) later = IsLed front.value later
+IsFronted (Some front) later = IsLed front later

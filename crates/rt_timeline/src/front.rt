@@ -1,7 +1,7 @@
 //! The front of a timeline: its least nodes in rising order, before the tree of the later ones.
 //!
 //! Most cores have few queues. As long as these fit the front, a turn moves two or three of them by a place, and goes down no tree.
-ghost use Rattle.std.specs.Prelude.{◌≡◌, ◌≢◌, ◌+◌, ◌<◌, ◌≤◌, ◌↔◌, true, false, [], ◌∷◌, ◌++◌, length, is_some, IsTrue, IfSome, IfNone};
+ghost use Rattle.std.specs.Prelude.{◌≡◌, ◌≢◌, ◌+◌, ◌<◌, ◌≤◌, ◌↔◌, true, false, [], ◌∷◌, ◌++◌, length, is_some, IsTrue, IfSome, IfNone, IfOk};
 ghost use Rattle.rt_timeline.specs.Rising.{IsRising, LastStandsBefore, has_key, has_queue, inserted, removed, first_key};
 ghost use Rattle.rt_timeline.specs.Nodes.{key_of, IsLoose};
 
@@ -11,7 +11,7 @@ mod places;
 use crate::tree::Node;
 use places::Places;
 use rt_ids::{Key, QueueNo};
-use std::alloc::Allocator;
+use std::alloc::{AllocError, Allocator};
 use std::marker::Model;
 
 /// How many nodes the front holds at most.
@@ -33,21 +33,23 @@ impl<A: Allocator> Model for Front<A> {
 
     ghost Value = { List Key };
 
-    ghost view = { λ f. front_keys f.places.vrs f.places.nodes };
+    ghost view = { λ f. front_keys f.places.vrs.items f.places.nodes.items };
 
-    ghost invariant = { λ f. IsFront f.places.vrs f.places.nodes f.places.begin f.places.end };
+    ghost invariant = { λ f. IsFront f.places.vrs.items f.places.nodes.items f.places.begin f.places.end };
+}
+
+impl<A: Allocator + Clone> Front<A> {
+    /// A front of no node, with all its places.
+    pub(crate) fn with_places(alloc: A) -> Result<Self, AllocError>
+        ensures { IfOk result (λ front. front ≡ []) }
+    {
+        Ok(Front {
+            places: Places::free(alloc)?,
+        })
+    }
 }
 
 impl<A: Allocator> Front<A> {
-    /// A front of no node.
-    pub(crate) fn new() -> Self
-        ensures { result ≡ [] }
-    {
-        Front {
-            places: Places::new(),
-        }
-    }
-
     /// How many nodes it holds.
     #[inline]
     pub(crate) fn len(&self) -> usize

@@ -15,10 +15,10 @@ use std::marker::Model;
 /// The keys of the active queues, at most one of each queue: the least ones in a front of few places, if it has one, and the others in a
 /// balanced tree.
 ///
-/// The front lies behind a pointer. An array in each type that holds a timeline would make every proof about such a type longer.
+/// The front's places lie behind pointers. An array in each type that holds a timeline would make every proof about such a type longer.
 #[derive(Drop)]
 pub struct Timeline<A: Allocator> {
-    first: Option<Box<Front<A>, A>>,
+    first: Option<Front<A>>,
     later: Tree<A>,
     len: usize,
 }
@@ -36,6 +36,23 @@ impl<A: Allocator> Model for Timeline<A> {
     ghost invariant = { λ t. IsOfQueues (led_keys (front_of t.first) t.later) × (t.len ≡ length (led_keys (front_of t.first) t.later)) × IsFronted t.first t.later };
 }
 
+impl<A: Allocator + Clone> Timeline<A> {
+    /// A timeline of no queue, with a front. It asks the allocator for that, and for nothing later.
+    ///
+    /// # Errors
+    ///
+    /// If the allocator has no room for the places of the front, 1.5 kB.
+    pub fn with_front(alloc: A) -> Result<Self, AllocError>
+        ensures { IfOk result (λ timeline. timeline ≡ empty_tree) }
+    {
+        Ok(Timeline {
+            first: Some(Front::with_places(alloc)?),
+            later: Tree::new(),
+            len: 0,
+        })
+    }
+}
+
 impl<A: Allocator> Timeline<A> {
     /// A timeline of no queue, and without a front: all keys are in the tree.
     pub fn new() -> Self
@@ -46,22 +63,6 @@ impl<A: Allocator> Timeline<A> {
             later: Tree::new(),
             len: 0,
         }
-    }
-
-    /// A timeline of no queue, with a front. It asks the allocator for that, and for nothing later.
-    ///
-    /// # Errors
-    ///
-    /// If the allocator has no room for the front, 1.5 kB.
-    pub fn with_front(alloc: A) -> Result<Self, AllocError>
-        ensures { IfOk result (λ timeline. timeline ≡ empty_tree) }
-    {
-        let front = Box::new(alloc, Front::new())?;
-        Ok(Timeline {
-            first: Some(front),
-            later: Tree::new(),
-            len: 0,
-        })
     }
 
     /// Puts the slip's queue into the timeline at this virtual runtime.

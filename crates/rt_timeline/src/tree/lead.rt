@@ -13,7 +13,7 @@ use rt_ids::{Key, QueueNo};
 use std::alloc::Allocator;
 
 /// How many keys the front has, if there is one.
-pub(crate) fn front_len<A: Allocator>(first: &Option<Box<Front<A>, A>>) -> usize
+pub(crate) fn front_len<A: Allocator>(first: &Option<Front<A>>) -> usize
     ensures { result ≡ length (front_of first.now) }
 {
     match first {
@@ -24,7 +24,7 @@ pub(crate) fn front_len<A: Allocator>(first: &Option<Box<Front<A>, A>>) -> usize
 
 /// Whether one of the front's keys is of this queue.
 pub(crate) fn has_front_queue<A: Allocator>(
-    first: &Option<Box<Front<A>, A>>,
+    first: &Option<Front<A>>,
     queue: QueueNo,
 ) -> bool
     ensures { result ≡ has_queue queue (front_of first.now) }
@@ -38,7 +38,7 @@ pub(crate) fn has_front_queue<A: Allocator>(
 /// Puts a node in the place of its key: into the tree, if there is no front.
 #[inline(always)]
 pub(crate) fn enter<A: Allocator>(
-    first: &mut Option<Box<Front<A>, A>>,
+    first: &mut Option<Front<A>>,
     later: &mut Tree<A>,
     node: Box<Node<A>, A>,
     vr: u128,
@@ -140,7 +140,7 @@ fn refill<A: Allocator>(first: &mut Front<A>, later: &mut Tree<A>)
 /// Takes the least node, of which there has to be one. Its virtual runtime is written to `vr`.
 #[inline(always)]
 pub(crate) fn leave<A: Allocator>(
-    first: &mut Option<Box<Front<A>, A>>,
+    first: &mut Option<Front<A>>,
     later: &mut Tree<A>,
     vr: &mut u128,
 ) -> Box<Node<A>, A>
@@ -180,7 +180,7 @@ fn leave_front<A: Allocator>(
 
 /// Takes the node of this key out, if it is there.
 pub(crate) fn detach<A: Allocator>(
-    first: &mut Option<Box<Front<A>, A>>,
+    first: &mut Option<Front<A>>,
     later: &mut Tree<A>,
     key: &Key,
 ) -> Option<Box<Node<A>, A>>

@@ -11,13 +11,13 @@ detach-requires g c =
     let first = front_of c.self.inside.first in
     let later = c.self.inside.later in
     let few = length-le-256 (led_keys first later) c.self.invariant.0 in
-    (search rules, (c.self.invariant.2, (omega (arith, few, length-append first later.keys), c.self.invariant.0.rising)))
+    record { fronted = c.self.invariant.2; few = omega (arith, few, length-append first later.keys); rising = c.self.invariant.0.rising }
 
 -- the key isn't there
 pub invariant_of-self : goal.invariant_of-self
 invariant_of-self g c =
     let same = c.in_err-node.ensures.unchanged in
-    rw (same.0, same.1) (c.self.invariant.0, (c.self.invariant.1, rw same.1 at c.detach.ensures.fronted))
+    rw (same.0, same.1) (c.self.invariant.0, c.self.invariant.1, rw same.1 at c.detach.ensures.fronted)
 
 pub returns-in_err-node-clause-found : goal.returns-in_err-node-clause-found
 returns-in_err-node-clause-found g c =

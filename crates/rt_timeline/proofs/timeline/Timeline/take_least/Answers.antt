@@ -12,7 +12,7 @@ leave-node-requires g c =
     let later = c.self.inside.later in
     let few = length-le-256 (led_keys first later) c.self.invariant.0 in
     let some : 0 < length (led_keys first later) = omega (arith, c.self.invariant.1, c.if-self-eq0.false) in
-    (search rules, (some, (c.self.invariant.2, omega (arith, few, length-append first later.keys))))
+    record { some = some; fronted = c.self.invariant.2; few = omega (arith, few, length-append first later.keys) }
 
 pub invariant_of-self : goal.invariant_of-self
 invariant_of-self g c =

@@ -6,7 +6,7 @@ use Rattle.rt_timeline.proofs.Leading.{IsRising-later, removed-from_front}
 use Rattle.rt_timeline.proofs.tree.lead.detach_fronted.Goals as goal
 
 pub remove-requires : goal.remove-requires
-remove-requires g c = (assumption, IsRising-front c.args.first.now c.args.later.now.keys c.requires.rising)
+remove-requires g c = IsRising-front c.args.first.now c.args.later.now.keys c.requires.rising
 
 pub returns-in-Some-clause-keys : goal.returns-in-Some-clause-keys
 returns-in-Some-clause-keys g c =

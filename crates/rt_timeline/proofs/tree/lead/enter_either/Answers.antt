@@ -20,7 +20,7 @@ returns-then-stands_before-clause-keys g c =
 
 -- the front has room
 pub insert-requires-then-not-is_full : goal.insert-requires-then-not-is_full
-insert-requires-then-not-is_full g c = (assumption, (c.requires.loose, (IsRising-front c.args.first.now c.args.later.now.keys c.requires.rising, c.is_full.ensures.full c.if-not-is_full.true)))
+insert-requires-then-not-is_full g c = record { loose = c.requires.loose; rising = IsRising-front c.args.first.now c.args.later.now.keys c.requires.rising; room = c.is_full.ensures.full c.if-not-is_full.true }
 
 pub returns-then-not-is_full-clause-keys : goal.returns-then-not-is_full-clause-keys
 returns-then-not-is_full-clause-keys g c =
@@ -45,7 +45,7 @@ insert-requires-3 g c =
     let front = c.take_last-last.new.self in
     let rising : IsRising (front ++ last ∷ []) = subst IsRising c.take_last-last.ensures.keys (IsRising-front c.args.first.now c.args.later.now.keys c.requires.rising) in
     let whole = ap (λ (keys : List Key). length keys) c.take_last-last.ensures.keys in
-    (assumption, (c.requires.loose, (IsRising-front front (last ∷ []) rising, omega (arith, whole, length-append front (last ∷ []), c.is_full.ensures.few))))
+    record { loose = c.requires.loose; rising = IsRising-front front (last ∷ []) rising; room = omega (arith, whole, length-append front (last ∷ []), c.is_full.ensures.few) }
 
 pub returns-clause-keys : goal.returns-clause-keys
 returns-clause-keys g c =

@@ -3,4 +3,4 @@ use Rattle.rt_timeline.specs.Front.{front_keys, HasGap}
 use Rattle.rt_timeline.proofs.front.places.Places.close_gap.Given as goal
 
 abbrev pub invariant-loop-at : goal.invariant-loop-at
-invariant-loop-at g l = HasGap l.self.vrs l.self.nodes l.self.begin l.at l.last × (front_keys l.self.vrs l.self.nodes ≡ front_keys l.initial.self.vrs l.initial.self.nodes)
+invariant-loop-at g l = HasGap l.self.vrs.items l.self.nodes.items l.self.begin l.at l.last × (front_keys l.self.vrs.items l.self.nodes.items ≡ front_keys l.initial.self.vrs.items l.initial.self.nodes.items)

@@ -4,4 +4,4 @@ use Rattle.rt_timeline.proofs.FrontKeys.{keys_before}
 use Rattle.rt_timeline.proofs.front.places.Places.find.Given as goal
 
 abbrev pub invariant-loop-at : goal.invariant-loop-at
-invariant-loop-at g l = has_key l.key (keys_before l.self.vrs l.self.nodes l.at) ≡ false
+invariant-loop-at g l = has_key l.key (keys_before l.self.vrs.items l.self.nodes.items l.at) ≡ false

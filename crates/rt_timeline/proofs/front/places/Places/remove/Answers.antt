@@ -1,4 +1,4 @@
-use Rattle.std.proofs.Common.{rules, ◌-◌, sym, ◌∙◌, arith}
+use Rattle.std.proofs.Common.{◌-◌, sym, ◌∙◌, arith}
 use Rattle.rt_timeline.specs.Front.{front_keys}
 use Rattle.rt_timeline.proofs.FrontPlaces.{front-take}
 use Rattle.rt_timeline.proofs.FrontSearch.{IsFound, found, removed-absent}
@@ -6,11 +6,11 @@ use Rattle.rt_timeline.proofs.front.places.Places.remove.Given.{Over}
 use Rattle.rt_timeline.proofs.front.places.Places.remove.Goals as goal
 use Rattle.rt_timeline.proofs.front.places.Places.remove.Goals.{After-take-node}
 
-taken-out : (g : Over) (c : After-take-node g) → IsFound c.args.key.now c.take-node.result.value (front_keys c.args.self.now.vrs c.args.self.now.nodes) (front_keys c.take-node.new.self.vrs c.take-node.new.self.nodes)
+taken-out : (g : Over) (c : After-take-node g) → IsFound c.args.key.now c.take-node.result.value (front_keys c.args.self.now.vrs.items c.args.self.now.nodes.items) (front_keys c.take-node.new.self.vrs.items c.take-node.new.self.nodes.items)
 taken-out g c =
     let old = c.args.self.now in
     let taken = c.take-node.ensures in
-    rw (taken.vrs, taken.nodes) (found c.args.key.now old.vrs old.nodes old.begin c.in_ok-at.at old.end c.take-node.result c.requires.front c.in_ok-at.ensures.to_end taken.here c.in_ok-at.ensures.here c.requires.rising)
+    rw (taken.vrs, taken.nodes) (found c.args.key.now old.vrs.items old.nodes.items old.begin c.in_ok-at.at old.end c.take-node.result c.requires.front c.in_ok-at.ensures.to_end taken.here c.in_ok-at.ensures.here c.requires.rising)
 
 pub returns-in_err-at-clause-keys : goal.returns-in_err-at-clause-keys
 returns-in_err-at-clause-keys g c = sym (removed-absent c.args.key.now _ c.in_err-at.ensures.nowhere)
@@ -21,8 +21,8 @@ close_gap-requires g c =
     let taken = c.take-node.ensures in
     let low = c.in_ok-at.ensures.from_begin in
     let high = c.in_ok-at.ensures.to_end in
-    let gap = front-take old.vrs old.nodes old.begin c.in_ok-at.at (old.end - 1) old.end c.requires.front low (omega arith) (omega arith) in
-    (search rules, (rw (taken.vrs, taken.nodes, taken.begin, taken.end) gap, omega arith))
+    let gap = front-take old.vrs.items old.nodes.items old.begin c.in_ok-at.at (old.end - 1) old.end c.requires.front low (omega arith) (omega arith) in
+    record { gap = rw (taken.vrs, taken.nodes, taken.begin, taken.end) gap; some = omega arith }
 
 pub returns-clause-found : goal.returns-clause-found
 returns-clause-found g c = sym (taken-out g (goal.at.returns-clause-found g c).After-take-node).has

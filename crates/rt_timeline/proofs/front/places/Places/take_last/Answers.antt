@@ -6,4 +6,4 @@ pub returns-clause-keys : goal.returns-clause-keys
 returns-clause-keys g c =
     let old = c.args.self.now in
     let taken = c.take-node.ensures in
-    rw (taken.vrs, taken.nodes) (keys-last old.vrs old.nodes old.begin (old.end - 1) old.end _ c.take-node.result c.requires.front (omega (arith, c.requires.some)) (omega arith) taken.here taken.vr)
+    rw (taken.vrs, taken.nodes) (keys-last old.vrs.items old.nodes.items old.begin (old.end - 1) old.end _ c.take-node.result c.requires.front (omega (arith, c.requires.some)) (omega arith) taken.here taken.vr)
