@@ -1,5 +1,5 @@
 -- The places of a front when it is made, and while its nodes move to the first places.
-use Rattle.std.proofs.Common.{◌≡◌, ℕ, zero, suc, ◌+◌, ◌<◌, ◌≤◌, List, [], ◌∷◌, ◌++◌, length, get_or, set, Option, Some, None, Box, sym, ap, ◌∙◌, subst, inl, inr, arith, length-set}
+use Rattle.std.proofs.Common.{◌≡◌, ℕ, zero, suc, ◌+◌, ◌<◌, ◌≤◌, List, [], ◌∷◌, ◌++◌, length, get_or, set, Option, Some, None, Box, sym, ap, ◌∙◌, inl, inr, arith, length-set}
 use Rattle.std.proofs.lemmas.Bool.{cases_eq, cases_lt}
 use Rattle.std.proofs.lemmas.List.{get_or-set_same, get_or-set_other, get_or_append_left, get_or_push, get_or_past}
 use Rattle.rt_timeline.specs.declared.tree.Node.{Node}
@@ -67,21 +67,23 @@ module _ {A : Type 0} where
   compact-next vrs nodes begin k from count is some more within at =
       let long : length (set nodes from None) ≡ 64 = length-set nodes from None ∙ is.nodes_long in
       let node = get_or nodes from None in
-      let other : (j : ℕ) → ¬ (j ≡ k) → ¬ (j ≡ from) → get_or (set (set nodes from None) k node) j None ≡ get_or nodes j None = λ j not_k not_from. get_or-set_other (set nodes from None) k j node None not_k ∙ get_or-set_other nodes from j None None not_from in
-      (record {
-        vrs_long = length-set vrs k (get_or vrs from 0) ∙ is.vrs_long;
-        nodes_long = length-set (set nodes from None) k node ∙ long;
-        moved = λ j below. elim (cases_eq j k) [
-          | inl same ↦ rw (same, get_or-set_same (set nodes from None) k node None (omega (arith, long))) (is.taken from (omega arith) (omega arith))
-          | inr apart ↦ rw (other j apart (omega arith)) (is.moved j (omega arith))
-        ];
-        free = λ j low high. elim (cases_eq j from) [
-          | inl same ↦ rw same (get_or-set_other (set nodes from None) k from node None (omega arith) ∙ get_or-set_same nodes from None None (omega (arith, is.nodes_long)))
-          | inr apart ↦ other j (omega arith) apart ∙ is.free j (omega arith) (omega arith)
-        ];
-        taken = λ j low high. rw (other j (omega arith) (omega arith)) (is.taken j (omega arith) high);
-        free_behind = λ j low. other j (omega arith) (omega arith) ∙ is.free_behind j low;
-      }, keys-move vrs nodes k from (omega arith) (omega (arith, is.vrs_long)) (is.vrs_long ∙ sym is.nodes_long) (λ j low high. is.free j low (omega arith)))
+      let other : (j : ℕ) → ¬ (j ≡ k) → ¬ (j ≡ from) → get_or (set (set nodes from None) k node) j None ≡ get_or nodes j None = λ j not_k not_from. get_or-set_other (set nodes from None) k j node None not_k ∙ get_or-set_other nodes from j None None not_from in (
+        record {
+          vrs_long = length-set vrs k (get_or vrs from 0) ∙ is.vrs_long;
+          nodes_long = length-set (set nodes from None) k node ∙ long;
+          moved = λ j below. elim (cases_eq j k) [
+            | inl same ↦ rw (same, get_or-set_same (set nodes from None) k node None (omega (arith, long))) (is.taken from (omega arith) (omega arith))
+            | inr apart ↦ rw (other j apart (omega arith)) (is.moved j (omega arith))
+          ];
+          free = λ j low high. elim (cases_eq j from) [
+            | inl same ↦ rw same (get_or-set_other (set nodes from None) k from node None (omega arith) ∙ get_or-set_same nodes from None None (omega (arith, is.nodes_long)))
+            | inr apart ↦ other j (omega arith) apart ∙ is.free j (omega arith) (omega arith)
+          ];
+          taken = λ j low high. rw (other j (omega arith) (omega arith)) (is.taken j (omega arith) high);
+          free_behind = λ j low. other j (omega arith) (omega arith) ∙ is.free_behind j low;
+        },
+        keys-move vrs nodes k from (omega arith) (omega (arith, is.vrs_long)) (is.vrs_long ∙ sym is.nodes_long) (λ j low high. is.free j low (omega arith)),
+      )
 
   pub compact-end : (vrs : List ℕ) (nodes : List (Option (Box (Node A) A))) (begin k count : ℕ) → IsCompacting vrs nodes begin k count → k ≡ count → count ≤ 32 → IsFront vrs nodes 0 count
   compact-end vrs nodes begin k count is all few =

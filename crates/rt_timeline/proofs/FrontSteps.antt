@@ -1,7 +1,7 @@
 -- What becomes of the keys of a front as nodes come, go and move.
-use Rattle.std.proofs.Common.{◌≡◌, ℕ, zero, suc, ◌+◌, ◌-◌, ◌<◌, ◌≤◌, true, false, List, [], ◌∷◌, ◌++◌, length, get_or, take, drop, set, Option, Some, None, Box, refl, sym, ap, ◌∙◌, subst, inl, inr, arith, append-nil, length-append, length-drop}
+use Rattle.std.proofs.Common.{◌≡◌, ℕ, zero, suc, ◌+◌, ◌-◌, ◌<◌, ◌≤◌, true, false, List, [], ◌∷◌, ◌++◌, length, get_or, take, drop, set, Option, Some, None, Box, refl, sym, ap, ◌∙◌, subst, inl, inr, arith, append-nil, length-append}
 use Rattle.std.proofs.lemmas.Bool.{cases_lt}
-use Rattle.std.proofs.lemmas.List.{get_or_past, get_or-drop, get_or_append_left, get_or-append_right, length-take-le, take-append-drop}
+use Rattle.std.proofs.lemmas.List.{get_or_past, get_or-drop, length-take-le, take-append-drop}
 use Rattle.rt_ids.specs.declared.names.Key.{Key}
 use Rattle.rt_timeline.specs.declared.tree.Node.{Node}
 use Rattle.rt_timeline.specs.Nodes.{key_of}
@@ -10,7 +10,7 @@ use Rattle.rt_timeline.specs.Front.{front_keys, keys_at, IsTaken, IsFront, HasGa
 use Rattle.rt_timeline.proofs.Before.{Decides-stands_before, not_before_earlier}
 use Rattle.rt_timeline.proofs.Rising.{EachKey-append, EachKey-weaker, IsRising-front, front_before, inserted-before, inserted-behind}
 use Rattle.rt_timeline.proofs.FrontKeys.{keys_before, keys_behind, keys-split, keys-free, keys-append, keys-next, keys-up, behind-up, keys-down}
-use Rattle.rt_timeline.proofs.FrontPlaces.{front-take, gap-last, gap-move, front-none, before-free, before-first, behind-last, keys-gap, keys-put, keys-taken}
+use Rattle.rt_timeline.proofs.FrontPlaces.{front-take, gap-last, gap-move, front-none, before-first, behind-last, keys-gap, keys-put, keys-taken}
 
 -- the key between those that it doesn't stand before and those that it does
 pub inserted-between : (key : Key) (front back : List Key) → EachKey (λ there. stands_before key there ≡ false) front → EachKey (StandsBefore key) back → inserted key (front ++ back) ≡ front ++ key ∷ back

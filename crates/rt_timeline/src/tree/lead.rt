@@ -23,10 +23,7 @@ pub(crate) fn front_len<A: Allocator>(first: &Option<Front<A>>) -> usize
 }
 
 /// Whether one of the front's keys is of this queue.
-pub(crate) fn has_front_queue<A: Allocator>(
-    first: &Option<Front<A>>,
-    queue: QueueNo,
-) -> bool
+pub(crate) fn has_front_queue<A: Allocator>(first: &Option<Front<A>>, queue: QueueNo) -> bool
     ensures { result ≡ has_queue queue (front_of first.now) }
 {
     match first {

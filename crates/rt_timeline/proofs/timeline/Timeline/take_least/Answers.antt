@@ -1,4 +1,4 @@
-use Rattle.std.proofs.Common.{◌≡◌, ◌<◌, List, ◌∷◌, length, subst, ap, arith, rules, length-append}
+use Rattle.std.proofs.Common.{◌<◌, List, ◌∷◌, length, subst, ap, arith, length-append}
 use Rattle.rt_ids.specs.declared.names.Key.{Key}
 use Rattle.rt_timeline.specs.Rising.{IsOfQueues}
 use Rattle.rt_timeline.specs.Nodes.{key_of}

@@ -1,4 +1,4 @@
-use Rattle.std.proofs.Common.{◌+◌, ◌-◌, ◌∙◌, refl, arith}
+use Rattle.std.proofs.Common.{◌-◌, ◌∙◌, refl, arith}
 use Rattle.rt_timeline.proofs.FrontCompact.{compact-start, compact-next, compact-end}
 use Rattle.rt_timeline.proofs.front.places.Places.compact.Goals as goal
 
