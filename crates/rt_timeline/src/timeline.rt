@@ -41,7 +41,7 @@ impl<A: Allocator + Clone> Timeline<A> {
     ///
     /// # Errors
     ///
-    /// If the allocator has no room for the places of the front, 1.5 kB.
+    /// If the allocator has no room for the places of the front, 2 kB.
     pub fn with_front(alloc: A) -> Result<Self, AllocError>
         ensures { IfOk result (λ timeline. timeline ≡ empty_tree) }
     {
