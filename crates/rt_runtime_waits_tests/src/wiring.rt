@@ -63,7 +63,7 @@ fn clocks(alloc: Global, cores: u8) -> Option<Vec<Steps>> {
     Some(clocks)
 }
 
-/// Where the gates count: a mark for each core, and one for all.
+/// The marks at which the gates count: one for each core, and one for all.
 #[derive(Drop)]
 struct Marks {
     asked: Vec<Mark>,
