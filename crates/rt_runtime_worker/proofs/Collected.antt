@@ -1,8 +1,8 @@
 -- A core and its ends after the outcomes of one link were collected.
-use Rattle.std.proofs.Common.{◌≡◌, inl, inr, ℕ, ◌+◌, ◌<◌, ◌≤◌, get_or, length, set, get_or-set_same, get_or-set_other, length-set, refl, sym, ◌∙◌, ap, subst, arith}
+use Rattle.std.proofs.Common.{◌≡◌, inl, inr, ℕ, ◌+◌, ◌<◌, ◌≤◌, length, set, get_or-set_same, get_or-set_other, length-set, refl, sym, ◌∙◌, ap, subst, arith}
 use Rattle.std.specs.Prelude.{Some, slice_get}
 use Rattle.std.proofs.lemmas.Bool.Decides.{eqb_tells}
-use Rattle.std.proofs.lemmas.List.{get_or_default, length-append}
+use Rattle.std.proofs.lemmas.List.{length-append}
 use Rattle.std.proofs.lemmas.Option.{slice_get-get_or}
 use Rattle.rt_desk.proofs.Cores.{changed, unchanged}
 use Rattle.rt_jobs.specs.Meanings.{Meaning}
@@ -12,9 +12,10 @@ use Rattle.rt_journal_desk.specs.Ends.{IsOutOf}
 use Rattle.rt_journal.specs.Ends.{IsSameSeat, KeepsIn}
 use Rattle.rt_journal_desk.specs.Posts.{AreOutsOf}
 use Rattle.rt_journal_desk.specs.Tickets.{HasLane, StaysBeside, CollectsFrom, GetsAll}
-use Rattle.rt_ring_mesh.specs.Ends.{EndsView, out_at, no_out, SameEnds}
+use Rattle.rt_ring_mesh.specs.Ends.{EndsView, out_at, no_out}
+use Rattle.rt_ring_mesh.specs.Lending.{with_out}
 use Rattle.rt_ring_mesh.proofs.Using.{out_used}
-use Rattle.rt_runtime_worker.specs.Linked.{AreBeside, IsLinked, PollsAsOwed, SeesNoLess}
+use Rattle.rt_runtime_worker.specs.Linked.{AreBeside, IsLinked, PollsAsOwed}
 use Rattle.rt_runtime_worker.specs.Steps.{CollectsOf}
 use Rattle.rt_journal_notes.specs.Journals.{JournalView}
 use Rattle.rt_journal.specs.OwedPolls.{seen_by}
@@ -22,23 +23,17 @@ use Rattle.rt_journal.proofs.OwedSteps.{collects_keep, sees_more_owed}
 use Rattle.rt_journal.proofs.OwedTurns.{seen_got}
 use Rattle.rt_runtime_worker.specs.Queues.{opening_of}
 use Rattle.rt_runtime_worker.proofs.Openings.{opening_collected}
-use Rattle.rt_runtime_worker.proofs.Stepping.{Opens}
 use Rattle.rt_runtime_worker.proofs.Posted.{resent_beside}
 use Rattle.rt_runtime_worker.proofs.Seen.{out_put_sees, prefix_shorter}
 use Rattle.rt_link.specs.Fits.{Fits}
 
-module _ {J T : Type 0} (meaning : Meaning J T) (core : ℕ) (recorded : RecordedView J T) (ends : EndsView J T) (known : core < recorded.core.cores) (at : ℕ) (inside : EndsView J T)
-    (opens : Opens core ends at inside) (before : Sending J T) (is : before ≡ get_or inside.outs at before) (beside : AreBeside (Fits meaning) recorded ends) where
+module _ {J T : Type 0} (meaning : Meaning J T) (core : ℕ) (recorded : RecordedView J T) (ends : EndsView J T) (known : core < recorded.core.cores)
+    (before : Sending J T) (is : before ≡ out_at core ends) (beside : AreBeside (Fits meaning) recorded ends) where
   out_in_place : core < length ends.outs
   out_in_place = omega (arith, known, beside.outs.count)
 
-  out_here : before ≡ out_at core ends
-  out_here =
-      subst (λ number. before ≡ get_or ends.outs number before) opens.number (subst (λ ends. before ≡ get_or ends.outs at before) opens.seen is)
-      ∙ get_or_default ends.outs core before no_out out_in_place
-
   out_there : slice_get ends.outs core ≡ Some before
-  out_there = subst (λ end. slice_get ends.outs core ≡ Some end) (sym out_here) (slice_get-get_or ends.outs core no_out out_in_place)
+  out_there = subst (λ end. slice_get ends.outs core ≡ Some end) (sym is) (slice_get-get_or ends.outs core no_out out_in_place)
 
   pub out_beside : IsOutOf core (desk_of recorded) before.out before.credited
   out_beside = beside.outs.beside core before out_there
@@ -47,10 +42,6 @@ module _ {J T : Type 0} (meaning : Meaning J T) (core : ℕ) (recorded : Recorde
   out_lane = beside.outs.lanes core before out_there
 
   module _ (now : RecordedView J T) (after : Sending J T) where
-    -- the end is put back
-    put_seen : record ends { outs = set ends.outs core after } ≡ record inside { outs = set inside.outs at after }
-    put_seen = ap (λ number. record ends { outs = set ends.outs number after }) (sym opens.number) ∙ ap (λ (ends : EndsView J T). record ends { outs = set ends.outs at after }) (sym opens.seen)
-
     module _ (stays : StaysBeside (Fits meaning) core (desk_of recorded) (desk_of now) after.out after.credited) where
       outs_now : AreOutsOf (Fits meaning) (λ (end : Sending J T). end.out) (λ (end : Sending J T). end.credited) (desk_of now) (set ends.outs core after)
       outs_now = record {
@@ -67,21 +58,19 @@ module _ {J T : Type 0} (meaning : Meaning J T) (core : ℕ) (recorded : Recorde
         ];
       }
 
-      collected_beside : ((sender : ℕ) → KeepsIn sender recorded now) → IsSameSeat recorded now → AreBeside (Fits meaning) now (record inside { outs = set inside.outs at after })
-      collected_beside ins seat =
-          subst (AreBeside (Fits meaning) now) put_seen (resent_beside recorded now ends ends refl (set ends.outs core after) beside ins seat outs_now)
+      collected_beside : ((sender : ℕ) → KeepsIn sender recorded now) → IsSameSeat recorded now → AreBeside (Fits meaning) now (with_out core after ends)
+      collected_beside ins seat = resent_beside recorded now ends ends refl (set ends.outs core after) beside ins seat outs_now
 
       -- each poll is owed as before, where an end has seen more
       collected_polls : (count : ℕ) → CollectsFrom core (desk_of recorded) count (desk_of now) → GetsAll before.out after.out → now ≡ record recorded { journal = now.journal; lanes = now.lanes } →
-          PollsAsOwed meaning recorded ends → PollsAsOwed meaning now (record inside { outs = set inside.outs at after })
+          PollsAsOwed meaning recorded ends → PollsAsOwed meaning now (with_out core after ends)
       collected_polls count collects all rest polls =
-          subst (λ (ends : EndsView J T). PollsAsOwed meaning now ends) put_seen
-          (sees_more_owed meaning (seen_by (λ (end : Sending J T). end.out) ends.outs) (seen_by (λ (end : Sending J T). end.out) (set ends.outs core after)) (seen_got (λ (end : Sending J T). end.out) ends.outs core before after out_there all) now
-          (collects_keep meaning (seen_by (λ (end : Sending J T). end.out) ends.outs) recorded now rest core count collects polls))
+          sees_more_owed meaning (seen_by (λ (end : Sending J T). end.out) ends.outs) (seen_by (λ (end : Sending J T). end.out) (set ends.outs core after)) (seen_got (λ (end : Sending J T). end.out) ends.outs core before after out_there all) now
+          (collects_keep meaning (seen_by (λ (end : Sending J T). end.out) ends.outs) recorded now rest core count collects polls)
 
       module _ (linked : IsLinked meaning (record { recorded = recorded; ends = ends }))
           (rest : now ≡ record recorded { journal = now.journal; lanes = now.lanes }) (ins : (sender : ℕ) → KeepsIn sender recorded now) (seat : IsSameSeat recorded now) where
-        pub collected_linked : IsRecorded meaning now → (count : ℕ) → CollectsFrom core (desk_of recorded) count (desk_of now) → GetsAll before.out after.out → IsLinked meaning (record { recorded = now; ends = record inside { outs = set inside.outs at after } })
+        pub collected_linked : IsRecorded meaning now → (count : ℕ) → CollectsFrom core (desk_of recorded) count (desk_of now) → GetsAll before.out after.out → IsLinked meaning (record { recorded = now; ends = with_out core after ends })
         collected_linked sound count collects all = record {
           recorded = sound;
           at_rest = ap (λ view. view.core.out) rest ∙ linked.at_rest;
@@ -92,25 +81,24 @@ module _ {J T : Type 0} (meaning : Meaning J T) (core : ℕ) (recorded : Recorde
     sees_more : GetsAll before.out after.out → length (out_at core ends).out.seen ≤ length after.out.seen
     sees_more all =
         let more = prefix_shorter before.out.seen after.out.seen all.1 in
-        let same : length before.out.seen ≡ length (out_at core ends).out.seen = ap (λ (end : Sending J T). length end.out.seen) out_here in
+        let same : length before.out.seen ≡ length (out_at core ends).out.seen = ap (λ (end : Sending J T). length end.out.seen) is in
         omega (arith, more, same)
 
     pub collected_does : (count : ℕ) → CollectsFrom core (desk_of recorded) count (desk_of now) → GetsAll before.out after.out → now ≡ record recorded { journal = now.journal; lanes = now.lanes } →
         IsSameSeat recorded now → after.link ≡ before.link → length now.journal.notes ≤ length recorded.journal.notes + recorded.cap →
-        CollectsOf core (record { recorded = recorded; ends = ends }) count (record { recorded = now; ends = record inside { outs = set inside.outs at after } })
+        CollectsOf core (record { recorded = recorded; ends = ends }) count (record { recorded = now; ends = with_out core after ends })
     collected_does count collects all rest seat link few = record {
       collects = collects;
       all =
-          subst (λ (ends' : EndsView J T). GetsAll (out_at core ends).out (out_at core ends').out) put_seen
-          (subst (λ (end : Sending J T). GetsAll end.out (get_or (set ends.outs core after) core no_out).out) out_here
-          (subst (λ (end : Sending J T). GetsAll before.out end.out) (sym (get_or-set_same ends.outs core after no_out out_in_place)) all));
-      others = λ other away. subst (λ (now : EndsView J T). out_at other now ≡ out_at other ends) put_seen (get_or-set_other ends.outs core other after no_out away);
+          subst (λ (end : Sending J T). GetsAll end.out (out_at core (with_out core after ends)).out) is
+          (subst (λ (end : Sending J T). GetsAll before.out end.out) (sym (get_or-set_same ends.outs core after no_out out_in_place)) all);
+      others = λ other away. get_or-set_other ends.outs core other after no_out away;
       few = omega (arith, few, collects.2, ap (λ journal. length journal.notes) collects.3, length-append collects.0 recorded.journal.notes);
       rest = rest;
       stays = record {
         seat = seat;
-        sees = subst (SeesNoLess ends) put_seen (out_put_sees core ends after out_in_place (sees_more all));
-        ends = subst (SameEnds ends) put_seen (out_used ends core after out_in_place (link ∙ ap (λ (end : Sending J T). end.link) out_here));
+        sees = out_put_sees core ends after out_in_place (sees_more all);
+        ends = out_used ends core after out_in_place (link ∙ ap (λ (end : Sending J T). end.link) is);
         opening = ap (λ (journal : JournalView T). opening_of journal.notes) collects.3 ∙ opening_collected core collects.0 recorded.journal.notes collects.1;
         grows = (collects.0, ap (λ (journal : JournalView T). journal.notes) collects.3);
       };

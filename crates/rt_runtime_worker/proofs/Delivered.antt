@@ -13,23 +13,21 @@ use Rattle.rt_journal.specs.OwedPolls.{seen_by}
 use Rattle.rt_journal.proofs.OwedSteps.{delivers_keep, shuts_keep}
 use Rattle.rt_journal.specs.Steps.{Delivers, TellsShut, out_told}
 use Rattle.rt_ring_mesh.specs.Ends.{EndsView, in_at}
+use Rattle.rt_ring_mesh.specs.Lending.{with_in}
 use Rattle.rt_runtime_worker.specs.Linked.{Grows, IsLinked, PollsAsOwed, StaysLinked}
 use Rattle.rt_runtime_worker.specs.Steps.{ShutsGate, DeliversFrom}
 use Rattle.rt_runtime_worker.specs.Queues.{opening_of}
 use Rattle.rt_runtime_worker.proofs.Openings.{opening_delivers, opening_shut}
 use Rattle.rt_runtime_worker.proofs.Growing.{grows_delivers}
 use Rattle.rt_runtime_worker.proofs.Seen.{delivers_seen, prefix_shorter}
-use Rattle.rt_runtime_worker.proofs.Stepping.{StepsOn, Opens, lent, lent_beside, lent_here, put_back, put_sees, same_ends, put_beside, others_put, end_put}
+use Rattle.rt_runtime_worker.proofs.Stepping.{StepsOn, lent_beside, put_sees, same_ends, beside_now, others_put, end_now}
 use Rattle.rt_link.specs.Fits.{Fits}
 
 module _ {J T : Type 0} {meaning : Meaning J T} where
-  module _ (sender : ℕ) (recorded now : RecordedView J T) (ends : EndsView J T) (at : ℕ) (inside : EndsView J T) (before after : Receiving J T) (opens : Opens sender ends at inside)
-      (linked : IsLinked meaning (record { recorded = recorded; ends = ends })) (known : sender ≤ recorded.core.cores) (is : lent at inside before) where
-    before_is : before ≡ in_at sender ends
-    before_is = lent_here sender recorded ends at inside before opens linked.beside known is
-
+  module _ (sender : ℕ) (recorded now : RecordedView J T) (ends : EndsView J T) (before after : Receiving J T)
+      (linked : IsLinked meaning (record { recorded = recorded; ends = ends })) (known : sender ≤ recorded.core.cores) (is : before ≡ in_at sender ends) where
     from_is : before.inward.from ≡ sender
-    from_is = (lent_beside sender recorded ends at inside before opens linked.beside known is).from
+    from_is = (lent_beside linked.beside known is).from
 
     stepped : IsInOf sender now after.inward → ((other : ℕ) → other ≢ sender → KeepsIn other recorded now) → KeepsOuts (desk_of recorded) (desk_of now) → now.lanes ≡ recorded.lanes → IsSameSeat recorded now →
         after.link ≡ before.link → length before.inward.seen ≤ length after.inward.seen → opening_of now.journal.notes ≡ opening_of recorded.journal.notes → Grows recorded.journal.notes now.journal.notes →
@@ -42,23 +40,23 @@ module _ {J T : Type 0} {meaning : Meaning J T} where
       others = others;
       outs = outs;
       lanes = lanes;
-      link = link ∙ ap (λ end. end.link) before_is;
-      sees = subst (λ (end : Receiving J T). length end.inward.seen ≤ length after.inward.seen) before_is longer;
+      link = link ∙ ap (λ end. end.link) is;
+      sees = subst (λ (end : Receiving J T). length end.inward.seen ≤ length after.inward.seen) is longer;
       opening = opening;
       grows = grows;
     }
 
     module _ (step : StepsOn (Fits meaning) sender recorded now ends after) where
-      pub linked_here : now.core.out ≡ None → IsRecorded meaning now → PollsAsOwed meaning now ends → IsLinked meaning (record { recorded = now; ends = put_back at inside after })
+      pub linked_here : now.core.out ≡ None → IsRecorded meaning now → PollsAsOwed meaning now ends → IsLinked meaning (record { recorded = now; ends = with_in sender after ends })
       linked_here at_rest sound polls = record {
         recorded = sound;
         at_rest = at_rest;
-        beside = put_beside sender recorded now ends at inside after opens step;
-        owed = subst (λ (ends : EndsView J T). PollsAsOwed meaning now ends) (sym opens.seen) polls;
+        beside = beside_now step;
+        owed = polls;
       }
 
-      pub stays_here : StaysLinked (record { recorded = recorded; ends = ends }) (record { recorded = now; ends = put_back at inside after })
-      stays_here = record { seat = step.seat; ends = same_ends sender recorded now ends at inside after opens step; sees = put_sees sender recorded now ends at inside after opens step; opening = step.opening; grows = step.grows }
+      pub stays_here : StaysLinked (record { recorded = recorded; ends = ends }) (record { recorded = now; ends = with_in sender after ends })
+      stays_here = record { seat = step.seat; ends = same_ends step; sees = put_sees step; opening = step.opening; grows = step.grows }
 
     at_rest_after : (found : Bool) → Delivers recorded before.inward now after.inward found → now.core.out ≡ None
     at_rest_after true does = does.2.out ∙ ap (out_told now.journal.notes) linked.at_rest
@@ -71,16 +69,16 @@ module _ {J T : Type 0} {meaning : Meaning J T} where
           stepped (subst (λ from. IsInOf from now after.inward) from_is its_own) (λ other away. others other (λ one. away (one ∙ from_is))) outs lanes seat link
           (delivers_seen recorded now before.inward after.inward found does) (opening_delivers recorded now before.inward after.inward found does) (grows_delivers recorded now before.inward after.inward found does)
 
-      pub delivers_linked : IsRecorded meaning now → IsLinked meaning (record { recorded = now; ends = put_back at inside after })
+      pub delivers_linked : IsRecorded meaning now → IsLinked meaning (record { recorded = now; ends = with_in sender after ends })
       delivers_linked sound =
           linked_here delivered_step (at_rest_after found does) sound (delivers_keep meaning (seen_by (λ (end : Sending J T). end.out) ends.outs) recorded now seat before.inward after.inward found does linked.owed)
 
-      pub delivers_does : DeliversFrom sender (record { recorded = recorded; ends = ends }) found (record { recorded = now; ends = put_back at inside after })
+      pub delivers_does : DeliversFrom sender (record { recorded = recorded; ends = ends }) found (record { recorded = now; ends = with_in sender after ends })
       delivers_does = record {
         delivers =
-            subst (λ end. Delivers recorded end.inward now (in_at sender (put_back at inside after)).inward found) before_is
-            (subst (λ end. Delivers recorded before.inward now end.inward found) (sym (end_put sender recorded now ends at inside after opens delivered_step)) does);
-        others = others_put sender recorded now ends at inside after opens delivered_step;
+            subst (λ end. Delivers recorded end.inward now (in_at sender (with_in sender after ends)).inward found) is
+            (subst (λ end. Delivers recorded before.inward now end.inward found) (sym (end_now delivered_step)) does);
+        others = others_put delivered_step;
         stays = stays_here delivered_step;
       }
 
@@ -89,17 +87,17 @@ module _ {J T : Type 0} {meaning : Meaning J T} where
       shut_step : StepsOn (Fits meaning) sender recorded now ends after
       shut_step = stepped its_own others outs lanes seat link (prefix_shorter before.inward.seen after.inward.seen shuts.1.0) (opening_shut recorded now sender count tells) (Shut sender count ∷ [], ap (λ journal. journal.notes) tells.journal)
 
-      pub shuts_linked : IsRecorded meaning now → IsLinked meaning (record { recorded = now; ends = put_back at inside after })
+      pub shuts_linked : IsRecorded meaning now → IsLinked meaning (record { recorded = now; ends = with_in sender after ends })
       shuts_linked sound =
           linked_here shut_step (tells.out ∙ linked.at_rest) sound (shuts_keep meaning (seen_by (λ (end : Sending J T). end.out) ends.outs) recorded now seat sender count tells linked.owed)
 
-      pub shuts_does : ShutsGate sender (record { recorded = recorded; ends = ends }) (record { recorded = now; ends = put_back at inside after })
+      pub shuts_does : ShutsGate sender (record { recorded = recorded; ends = ends }) (record { recorded = now; ends = with_in sender after ends })
       shuts_does = record {
         count = count;
         tells = tells;
         shuts =
-            subst (λ end. Shuts end.inward (in_at sender (put_back at inside after)).inward count) before_is
-            (subst (λ end. Shuts before.inward end.inward count) (sym (end_put sender recorded now ends at inside after opens shut_step)) shuts);
-        others = others_put sender recorded now ends at inside after opens shut_step;
+            subst (λ end. Shuts end.inward (in_at sender (with_in sender after ends)).inward count) is
+            (subst (λ end. Shuts before.inward end.inward count) (sym (end_now shut_step)) shuts);
+        others = others_put shut_step;
         stays = stays_here shut_step;
       }

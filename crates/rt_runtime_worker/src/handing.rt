@@ -48,7 +48,7 @@ fn give_on<J: Task<Out = u64>>(
     ensures ends { SameEnds ends.old ends.new }
     ensures sees { SeesNoLess ends.old ends.new }
 {
-    recorded.give_back(&mut ends.ins[name.from.0 as usize], name, reason, order);
+    recorded.give_back(ends.in_mut(name.from), name, reason, order);
 }
 
 /// Hands back the job that the next pick hands back, and gives its outcome.

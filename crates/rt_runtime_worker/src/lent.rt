@@ -27,7 +27,7 @@ pub(crate) fn shut_on<J: Task<Out = u64>>(
     ensures linked { IsLinked J.meaning (record { recorded = recorded.new; ends = ends.new }) }
     ensures does { ShutsGate sender (record { recorded = recorded.old; ends = ends.old }) (record { recorded = recorded.new; ends = ends.new }) }
 {
-    recorded.shut(&mut ends.ins[sender.0 as usize], sender);
+    recorded.shut(ends.in_mut(sender), sender);
 }
 
 /// Delivers the next order of this sender, if one shows. Whether there was one.
@@ -42,7 +42,7 @@ pub(crate) fn deliver_on<J: Task<Out = u64>>(
     ensures linked { IsLinked J.meaning (record { recorded = recorded.new; ends = ends.new }) }
     ensures does { DeliversFrom sender (record { recorded = recorded.old; ends = ends.old }) result (record { recorded = recorded.new; ends = ends.new }) }
 {
-    recorded.deliver(&mut ends.ins[sender.0 as usize])
+    recorded.deliver(ends.in_mut(sender))
 }
 
 /// Collects all outcomes that the end to this core shows. How many there were.
@@ -57,7 +57,7 @@ pub(crate) fn collect_on<J: Task<Out = u64>>(
     ensures linked { IsLinked J.meaning (record { recorded = recorded.new; ends = ends.new }) }
     ensures does { CollectsOf core (record { recorded = recorded.old; ends = ends.old }) result (record { recorded = recorded.new; ends = ends.new }) }
 {
-    recorded.collect_from(&mut ends.outs[core.0 as usize], core)
+    recorded.collect_from(ends.out_mut(core), core)
 }
 
 /// What the end of this sender tells of itself: how many orders may be without an outcome.

@@ -99,7 +99,7 @@ fn done_on<J: Job + Task<Out = u64>>(
     ensures ends { SameEnds ends.old ends.new }
     ensures sees { SeesNoLess ends.old ends.new }
 {
-    recorded.give_done(&mut ends.ins[name.from.0 as usize], name, settled);
+    recorded.give_done(ends.in_mut(name.from), name, settled);
 }
 
 /// Makes the first poll of the turn of the job that was told ahead, for which the gate was asked, and gives its outcome.

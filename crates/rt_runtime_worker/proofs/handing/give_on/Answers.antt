@@ -1,43 +1,24 @@
-use Rattle.std.proofs.Common.{sym, ◌∙◌, ap, subst}
-use Rattle.rt_ring_mesh.specs.Ends.{EndsView}
-use Rattle.rt_runtime_worker.specs.Linked.{PollsAsOwed}
-use Rattle.rt_runtime_worker.proofs.Stepping.{owing_here, owing_end, given_beside, given_ends, given_sees}
+use Rattle.rt_runtime_worker.proofs.Stepping.{owing_end, given_beside, given_ends, given_sees}
 use Rattle.rt_runtime_worker.proofs.Seen.{gives_seen}
 use Rattle.std.specs.Prelude.{Some}
 use Rattle.rt_ids.specs.declared.order.Outcome.TheVariants.{Returned}
 use Rattle.rt_runtime_worker.proofs.handing.give_on.Goals as goal
 
 pub give_back-requires-clause-owed : goal.give_back-requires-clause-owed
-give_back-requires-clause-owed g c =
-    owing_end c.args.name.from _ c.args.recorded.now c.args.ends.now c.name.inside.0.0.0 _ (record { number = ap (λ name. name.from) c.name.view_is; seen = c.ends.view_is }) c.requires.owing c.requires.known c.index_mut.result.now c.index_mut.ensures.value
+give_back-requires-clause-owed g c = owing_end c.requires.owing c.requires.known c.in_mut.ensures.value
 
 pub returns-clause-linked : goal.returns-clause-linked
 returns-clause-linked g c = record {
   recorded = c.requires.sound;
   at_rest = c.requires.rest;
-  beside =
-      given_beside c.args.name.from _ c.args.recorded.now c.args.ends.now c.name.inside.0.0.0 _ (record { number = ap (λ name. name.from) c.name.view_is; seen = c.ends.view_is }) c.requires.owing c.requires.known c.give_back.new.end c.give_back.ensures.beside
-      (c.give_back.ensures.untouched
-      ∙ ap (λ end. end.link)
-      (owing_here c.args.name.from _ c.args.recorded.now c.args.ends.now c.name.inside.0.0.0 _ (record { number = ap (λ name. name.from) c.name.view_is; seen = c.ends.view_is })
-      c.requires.owing c.requires.known c.index_mut.result.now c.index_mut.ensures.value));
-  owed = subst (λ (ends : EndsView _ _). PollsAsOwed g.J.Task.meaning c.args.recorded.now ends) (sym c.ends.view_is) c.requires.polls;
+  beside = given_beside c.requires.owing c.requires.known c.in_mut.ensures.value c.give_back.new.end c.give_back.ensures.beside c.give_back.ensures.untouched;
+  owed = c.requires.polls;
 }
 
 pub returns-clause-ends : goal.returns-clause-ends
-returns-clause-ends g c =
-    given_ends c.args.name.from _ c.args.recorded.now c.args.ends.now c.name.inside.0.0.0 _ (record { number = ap (λ name. name.from) c.name.view_is; seen = c.ends.view_is }) c.requires.owing c.requires.known c.give_back.new.end c.give_back.ensures.beside
-    (c.give_back.ensures.untouched
-    ∙ ap (λ end. end.link)
-    (owing_here c.args.name.from _ c.args.recorded.now c.args.ends.now c.name.inside.0.0.0 _ (record { number = ap (λ name. name.from) c.name.view_is; seen = c.ends.view_is })
-    c.requires.owing c.requires.known c.index_mut.result.now c.index_mut.ensures.value))
+returns-clause-ends g c = given_ends c.requires.owing c.requires.known c.in_mut.ensures.value c.give_back.new.end c.give_back.ensures.beside c.give_back.ensures.untouched
 
 pub returns-clause-sees : goal.returns-clause-sees
 returns-clause-sees g c =
-    given_sees c.args.name.from _ c.args.recorded.now c.args.ends.now c.name.inside.0.0.0 _ (record { number = ap (λ name. name.from) c.name.view_is; seen = c.ends.view_is }) c.requires.owing c.requires.known c.give_back.new.end c.give_back.ensures.beside
-    (c.give_back.ensures.untouched
-    ∙ ap (λ end. end.link)
-    (owing_here c.args.name.from _ c.args.recorded.now c.args.ends.now c.name.inside.0.0.0 _ (record { number = ap (λ name. name.from) c.name.view_is; seen = c.ends.view_is }) c.requires.owing c.requires.known c.index_mut.result.now c.index_mut.ensures.value))
-    (gives_seen c.index_mut.result.now.inward c.args.name.number (Some (Returned c.args.reason c.args.order)) c.give_back.new.end.inward c.give_back.ensures.gives
-    ∙ ap (λ end. end.inward.seen)
-    (owing_here c.args.name.from _ c.args.recorded.now c.args.ends.now c.name.inside.0.0.0 _ (record { number = ap (λ name. name.from) c.name.view_is; seen = c.ends.view_is }) c.requires.owing c.requires.known c.index_mut.result.now c.index_mut.ensures.value))
+    given_sees c.requires.owing c.requires.known c.in_mut.ensures.value c.give_back.new.end c.give_back.ensures.beside c.give_back.ensures.untouched
+    (gives_seen c.in_mut.result.now.inward c.args.name.number (Some (Returned c.args.reason c.args.order)) c.give_back.new.end.inward c.give_back.ensures.gives)
