@@ -1,4 +1,4 @@
--- The end of one sender, as code borrows it from the ends of a core, and what a delivery, a shut gate or a settled run on it leaves. A job may be out meanwhile.
+-- The end of one sender, as it is lent, and what a delivery, a shut gate or a settled run on it leaves. A job may be out meanwhile.
 use Rattle.std.proofs.Common.{◌≡◌, ◌≢◌, ℕ, ◌≤◌, length, refl, sym, subst, ◌∙◌, ap, arith}
 use Rattle.std.specs.Prelude.{Bool, [], ◌∷◌}
 use Rattle.rt_ids.specs.declared.names.JobId.{JobId}
@@ -17,13 +17,14 @@ use Rattle.rt_journal.specs.Steps.{Delivers, TellsShut}
 use Rattle.rt_journal.specs.Turns.{Settles}
 use Rattle.rt_journal_desk.specs.Ends.{KeepsOuts}
 use Rattle.rt_ring_mesh.specs.Ends.{EndsView, in_at}
+use Rattle.rt_ring_mesh.specs.Lending.{with_in}
 use Rattle.rt_runtime_worker.specs.Linked.{AreBeside, Grows, StaysLinked}
 use Rattle.rt_runtime_worker.specs.Steps.{ShutsGate, DeliversFrom}
 use Rattle.rt_runtime_worker.specs.Queues.{opening_of}
 use Rattle.rt_runtime_worker.proofs.Openings.{opening_delivers, opening_shut}
 use Rattle.rt_runtime_worker.proofs.Growing.{grows_delivers}
 use Rattle.rt_runtime_worker.proofs.Seen.{delivers_seen, prefix_shorter}
-use Rattle.rt_runtime_worker.proofs.Stepping.{StepsOn, Opens, end_put, its_sender, lent, lent_beside, lent_here, others_put, put_back, put_beside, put_sees, same_ends}
+use Rattle.rt_runtime_worker.proofs.Stepping.{StepsOn, beside_now, end_now, its_sender, lent_beside, others_put, put_sees, same_ends}
 use Rattle.rt_hosted.specs.declared.job.HostJob.{HostJob}
 use Rattle.rt_hosted.specs.Jobs.{host_meaning}
 
@@ -43,16 +44,11 @@ Ends = EndsView HostJob ℕ
 abbrev End : Type 0
 End = Receiving HostJob ℕ
 
--- the end of a sender as it was borrowed, and where the code has it
-pub record LendsIn (sender : ℕ) (recorded : View) (ends : Ends) (at : ℕ) (inside : Ends) (before : End) : Type 0 where
-  pub opens : Opens sender ends at inside
+-- the end of a sender as it is lent
+pub record LendsIn (sender : ℕ) (recorded : View) (ends : Ends) (before : End) : Type 0 where
   pub beside : AreBeside (Fits host_meaning) recorded ends
   pub known : sender ≤ recorded.core.cores
-  pub is : lent at inside before
-
--- the same, with the ends as the code has seen them
-abbrev pub LendsAs : {inside ends : Ends} → inside ≡ ends → ℕ → ℕ → View → End → Type 0
-LendsAs {inside} {ends} seen sender at recorded before = LendsIn sender recorded ends at inside before
+  pub is : before ≡ in_at sender ends
 
 -- what a call on it left of the core and of this end
 pub record LeavesIn (sender : ℕ) (recorded now : View) (before after : End) : Type 0 where
@@ -63,12 +59,9 @@ pub record LeavesIn (sender : ℕ) (recorded now : View) (before after : End) : 
   pub seat : IsSameSeat recorded now
   pub link : after.link ≡ before.link
 
-module _ {sender at : ℕ} {recorded : View} {ends inside : Ends} {before : End} (lends : LendsIn sender recorded ends at inside before) where
-  before_is : before ≡ in_at sender ends
-  before_is = lent_here sender recorded ends at inside before lends.opens lends.beside lends.known lends.is
-
+module _ {sender : ℕ} {recorded : View} {ends : Ends} {before : End} (lends : LendsIn sender recorded ends before) where
   pub its_in : IsInOf sender recorded before.inward
-  its_in = lent_beside sender recorded ends at inside before lends.opens lends.beside lends.known lends.is
+  its_in = lent_beside lends.beside lends.known lends.is
 
   pub from_in : IsInOf before.inward.from recorded before.inward
   from_in = its_sender sender recorded before its_in
@@ -84,30 +77,30 @@ module _ {sender at : ℕ} {recorded : View} {ends inside : Ends} {before : End}
       others = leaves.others;
       outs = leaves.outs;
       lanes = leaves.lanes;
-      link = leaves.link ∙ ap (λ end. end.link) before_is;
-      sees = subst (λ (end : End). length end.inward.seen ≤ length after.inward.seen) before_is longer;
+      link = leaves.link ∙ ap (λ end. end.link) lends.is;
+      sees = subst (λ (end : End). length end.inward.seen ≤ length after.inward.seen) lends.is longer;
       opening = opening;
       grows = grows;
     }
 
     module _ (step : StepsOn (Fits host_meaning) sender recorded now ends after) where
-      pub beside_here : AreBeside (Fits host_meaning) now (put_back at inside after)
-      beside_here = put_beside sender recorded now ends at inside after lends.opens step
+      pub beside_here : AreBeside (Fits host_meaning) now (with_in sender after ends)
+      beside_here = beside_now step
 
-      pub stays_here : StaysLinked (record { recorded = recorded; ends = ends }) (record { recorded = now; ends = put_back at inside after })
+      pub stays_here : StaysLinked (record { recorded = recorded; ends = ends }) (record { recorded = now; ends = with_in sender after ends })
       stays_here = record {
         seat = step.seat;
-        ends = same_ends sender recorded now ends at inside after lends.opens step;
-        sees = put_sees sender recorded now ends at inside after lends.opens step;
+        ends = same_ends step;
+        sees = put_sees step;
         opening = step.opening;
         grows = step.grows;
       }
 
-      others_here : (other : ℕ) → other ≢ sender → in_at other (put_back at inside after) ≡ in_at other ends
-      others_here = others_put sender recorded now ends at inside after lends.opens step
+      others_here : (other : ℕ) → other ≢ sender → in_at other (with_in sender after ends) ≡ in_at other ends
+      others_here = others_put step
 
-      here_now : in_at sender (put_back at inside after) ≡ after
-      here_now = end_put sender recorded now ends at inside after lends.opens step
+      here_now : in_at sender (with_in sender after ends) ≡ after
+      here_now = end_now step
 
     -- an order is delivered, on the end of the sender that the end names
     module _ (found : Bool) (does : Delivers recorded before.inward now after.inward found) (leaves : LeavesIn before.inward.from recorded now before after) where
@@ -116,10 +109,10 @@ module _ {sender at : ℕ} {recorded : View} {ends inside : Ends} {before : End}
           stepped (subst (λ from. LeavesIn from recorded now before after) its_in.from leaves) (delivers_seen recorded now before.inward after.inward found does)
           (opening_delivers recorded now before.inward after.inward found does) (grows_delivers recorded now before.inward after.inward found does)
 
-      pub delivers_does : DeliversFrom sender (record { recorded = recorded; ends = ends }) found (record { recorded = now; ends = put_back at inside after })
+      pub delivers_does : DeliversFrom sender (record { recorded = recorded; ends = ends }) found (record { recorded = now; ends = with_in sender after ends })
       delivers_does = record {
         delivers =
-            subst (λ end. Delivers recorded end.inward now (in_at sender (put_back at inside after)).inward found) before_is
+            subst (λ end. Delivers recorded end.inward now (in_at sender (with_in sender after ends)).inward found) lends.is
             (subst (λ end. Delivers recorded before.inward now end.inward found) (sym (here_now delivered_step)) does);
         others = others_here delivered_step;
         stays = stays_here delivered_step;
@@ -130,12 +123,12 @@ module _ {sender at : ℕ} {recorded : View} {ends inside : Ends} {before : End}
       pub shut_step : StepsOn (Fits host_meaning) sender recorded now ends after
       shut_step = stepped leaves (prefix_shorter before.inward.seen after.inward.seen shuts.1.0) (opening_shut recorded now sender count tells) (Shut sender count ∷ [], ap (λ journal. journal.notes) tells.journal)
 
-      pub shuts_does : ShutsGate sender (record { recorded = recorded; ends = ends }) (record { recorded = now; ends = put_back at inside after })
+      pub shuts_does : ShutsGate sender (record { recorded = recorded; ends = ends }) (record { recorded = now; ends = with_in sender after ends })
       shuts_does = record {
         count = count;
         tells = tells;
         shuts =
-            subst (λ end. Shuts end.inward (in_at sender (put_back at inside after)).inward count) before_is
+            subst (λ end. Shuts end.inward (in_at sender (with_in sender after ends)).inward count) lends.is
             (subst (λ end. Shuts before.inward end.inward count) (sym (here_now shut_step)) shuts);
         others = others_here shut_step;
         stays = stays_here shut_step;

@@ -1,8 +1,7 @@
--- The end to one core, as code borrows it from the ends of an actor, and what a call on it leaves.
-use Rattle.std.proofs.Common.{◌≡◌, inl, inr, ℕ, ◌+◌, ◌<◌, ◌≤◌, List, get_or, length, set, get_or-set_same, get_or-set_other, length-set, refl, sym, ◌∙◌, ap, subst, arith}
+-- The end to one core, as it is lent, and what a call on it leaves.
+use Rattle.std.proofs.Common.{◌≡◌, inl, inr, ℕ, ◌+◌, ◌<◌, ◌≤◌, List, length, set, get_or-set_same, get_or-set_other, length-set, refl, sym, ◌∙◌, ap, subst, arith}
 use Rattle.std.specs.Prelude.{Some, Result, Ok, Err, IfOk, slice_get}
 use Rattle.std.proofs.lemmas.Bool.Decides.{eqb_tells}
-use Rattle.std.proofs.lemmas.List.{get_or_default}
 use Rattle.std.proofs.lemmas.Option.{slice_get-get_or}
 use Rattle.rt_ids.specs.declared.order.Order.{Order}
 use Rattle.rt_ids.specs.declared.order.SendError.{SendError}
@@ -19,11 +18,11 @@ use Rattle.rt_journal_desk.specs.Posts.{AreOutsOf}
 use Rattle.rt_journal_desk.specs.Submissions.{DeskView}
 use Rattle.rt_journal_desk.specs.Tickets.{GetsAll, HasLane, StaysBeside}
 use Rattle.rt_ring_mesh.specs.Ends.{EndsView, out_at, no_out, SameEnds}
+use Rattle.rt_ring_mesh.specs.Lending.{with_out}
 use Rattle.rt_ring_mesh.proofs.Using.{out_used}
 use Rattle.rt_runtime_worker.specs.Linked.{AreBeside, SeesNoLess, StaysLinked}
 use Rattle.rt_runtime_worker.proofs.Posted.{resent_beside}
 use Rattle.rt_runtime_worker.proofs.Seen.{out_put_sees}
-use Rattle.rt_runtime_worker.proofs.Stepping.{Opens}
 use Rattle.rt_hosted.specs.declared.job.HostJob.{HostJob}
 use Rattle.rt_hosted.specs.Jobs.{host_meaning}
 use Rattle.rt_hosted.specs.Submissions.{UsesOut}
@@ -45,20 +44,11 @@ End = Sending HostJob ℕ
 abbrev pub AreOuts : Desk → List End → Type 0
 AreOuts desk outs = AreOutsOf (Fits host_meaning) (λ (end : End). end.out) (λ (end : End). end.credited) desk outs
 
--- the ends, with this one back in its place
-abbrev pub put_out : ℕ → Ends → End → Ends
-put_out at ends end = record ends { outs = set ends.outs at end }
-
--- the end to a core as it was borrowed, and where the code has it
-pub record LendsOut (core : ℕ) (desk : Desk) (ends : Ends) (at : ℕ) (inside : Ends) (before : End) : Type 0 where
+-- the end to a core as it is lent
+pub record LendsOut (core : ℕ) (desk : Desk) (ends : Ends) (before : End) : Type 0 where
   pub known : core < desk.cores
-  pub opens : Opens core ends at inside
-  pub is : before ≡ get_or inside.outs at before
+  pub is : before ≡ out_at core ends
   pub outs : AreOuts desk ends.outs
-
--- the same, with the ends as the code has seen them
-abbrev pub LendsAs : {inside ends : Ends} → inside ≡ ends → ℕ → ℕ → Desk → End → Type 0
-LendsAs {inside} {ends} seen core at desk before = LendsOut core desk ends at inside before
 
 -- a send sees no more than before
 pub sends_seen : (old : Outward HostJob ℕ) (credited : ℕ) (order : Order HostJob) (new : Outward HostJob ℕ) (answer : Result ℕ (SendError HostJob)) → Sends old credited order new answer → new.seen ≡ old.seen
@@ -68,21 +58,16 @@ sends_seen old credited order new (Err (Full back)) sends = ap (λ out. out.seen
 sends_seen old credited order new (Err (Spent back)) sends = ap (λ out. out.seen) sends.4
 sends_seen old credited order new (Err (NoCore back)) sends = absurd sends
 
-module _ {core : ℕ} {desk : Desk} {ends : Ends} {at : ℕ} {inside : Ends} {before : End} (lent : LendsOut core desk ends at inside before) where
+module _ {core : ℕ} {desk : Desk} {ends : Ends} {before : End} (lent : LendsOut core desk ends before) where
   in_place : core < length ends.outs
   in_place = omega (arith, lent.known, lent.outs.count)
 
-  out_here : before ≡ out_at core ends
-  out_here =
-      subst (λ number. before ≡ get_or ends.outs number before) lent.opens.number (subst (λ ends. before ≡ get_or ends.outs at before) lent.opens.seen lent.is)
-      ∙ get_or_default ends.outs core before no_out in_place
-
   out_there : slice_get ends.outs core ≡ Some before
-  out_there = subst (λ end. slice_get ends.outs core ≡ Some end) (sym out_here) (slice_get-get_or ends.outs core no_out in_place)
+  out_there = subst (λ end. slice_get ends.outs core ≡ Some end) (sym lent.is) (slice_get-get_or ends.outs core no_out in_place)
 
   -- what was sent on this end was sent on that to the core
   pub out_fits : {A E : Type 0} (answer : Result A E) (fact : Outward HostJob ℕ → A → Type 0) → IfOk answer (fact before.out) → IfOk answer (fact (out_at core ends).out)
-  out_fits answer fact holds = subst (λ (end : End). IfOk answer (fact end.out)) out_here holds
+  out_fits answer fact holds = subst (λ (end : End). IfOk answer (fact end.out)) lent.is holds
 
   pub out_beside : IsOutOf core desk before.out before.credited
   out_beside = lent.outs.beside core before out_there
@@ -95,35 +80,32 @@ module _ {core : ℕ} {desk : Desk} {ends : Ends} {at : ℕ} {inside : Ends} {be
   out_room room = omega (arith, room, out_lane.lane_of.sound.room, out_lane.lane_of.sound.credits, out_beside.capacity)
 
   module _ (after : End) where
-    put_seen : put_out core ends after ≡ put_out at inside after
-    put_seen = ap (λ number. put_out number ends after) (sym lent.opens.number) ∙ ap (λ (ends : Ends). put_out at ends after) (sym lent.opens.seen)
-
-    out_now : out_at core (put_out at inside after) ≡ after
-    out_now = subst (λ (ends : Ends). out_at core ends ≡ after) put_seen (get_or-set_same ends.outs core after no_out in_place)
+    out_now : out_at core (with_out core after ends) ≡ after
+    out_now = get_or-set_same ends.outs core after no_out in_place
 
     -- what is done on this end is done on that to the core
     pub out_sends : (order : Order HostJob) (answer : Result ℕ (SendError HostJob)) → Sends before.out before.credited order after.out answer →
-        Sends (out_at core ends).out (out_at core ends).credited order (out_at core (put_out at inside after)).out answer
+        Sends (out_at core ends).out (out_at core ends).credited order (out_at core (with_out core after ends)).out answer
     out_sends order answer sends =
-        subst (λ (end : End). Sends end.out end.credited order (out_at core (put_out at inside after)).out answer) out_here
+        subst (λ (end : End). Sends end.out end.credited order (out_at core (with_out core after ends)).out answer) lent.is
         (subst (λ (end : End). Sends before.out before.credited order end.out answer) (sym out_now) sends)
 
-    pub out_gets : GetsAll before.out after.out → GetsAll (out_at core ends).out (out_at core (put_out at inside after)).out
+    pub out_gets : GetsAll before.out after.out → GetsAll (out_at core ends).out (out_at core (with_out core after ends)).out
     out_gets gets =
-        subst (λ (end : End). GetsAll end.out (out_at core (put_out at inside after)).out) out_here
+        subst (λ (end : End). GetsAll end.out (out_at core (with_out core after ends)).out) lent.is
         (subst (λ (end : End). GetsAll before.out end.out) (sym out_now) gets)
 
     -- no other end changes
-    pub out_uses : UsesOut core ends (put_out at inside after)
-    out_uses = subst (UsesOut core ends) put_seen (record { others = λ other away. get_or-set_other ends.outs core other after no_out away; rest = refl })
+    pub out_uses : UsesOut core ends (with_out core after ends)
+    out_uses = record { others = λ other away. get_or-set_other ends.outs core other after no_out away; rest = refl }
 
-    pub out_ends : after.link ≡ before.link → SameEnds ends (put_out at inside after)
-    out_ends link = subst (SameEnds ends) put_seen (out_used ends core after in_place (link ∙ ap (λ (end : End). end.link) out_here))
+    pub out_ends : after.link ≡ before.link → SameEnds ends (with_out core after ends)
+    out_ends link = out_used ends core after in_place (link ∙ ap (λ (end : End). end.link) lent.is)
 
-    pub out_sees : length before.out.seen ≤ length after.out.seen → SeesNoLess ends (put_out at inside after)
+    pub out_sees : length before.out.seen ≤ length after.out.seen → SeesNoLess ends (with_out core after ends)
     out_sees longer =
-        let same : length before.out.seen ≡ length (out_at core ends).out.seen = ap (λ (end : End). length end.out.seen) out_here in
-        subst (SeesNoLess ends) put_seen (out_put_sees core ends after in_place (omega (arith, longer, same)))
+        let same : length before.out.seen ≡ length (out_at core ends).out.seen = ap (λ (end : End). length end.out.seen) lent.is in
+        out_put_sees core ends after in_place (omega (arith, longer, same))
 
     module _ {now : Desk} (stays : StaysBeside (Fits host_meaning) core desk now after.out after.credited) where
       outs_now : AreOuts now (set ends.outs core after)
@@ -143,14 +125,11 @@ module _ {core : ℕ} {desk : Desk} {ends : Ends} {at : ℕ} {inside : Ends} {be
         ];
       }
 
-      pub outs_put : AreOuts now (put_out at inside after).outs
-      outs_put = subst (λ (ends : Ends). AreOuts now ends.outs) put_seen outs_now
-
 -- the same of a core, whose other ends stay
-module _ {recorded : View} {ends : Ends} (beside : AreBeside (Fits host_meaning) recorded ends) {core at : ℕ} {inside : Ends} {before : End} (lent : LendsOut core (desk_of recorded) ends at inside before) (now : View) (after : End) where
+module _ {recorded : View} {ends : Ends} (beside : AreBeside (Fits host_meaning) recorded ends) {core : ℕ} {before : End} (lent : LendsOut core (desk_of recorded) ends before) (now : View) (after : End) where
   pub out_stays : {count : ℕ} → IsSameSeat recorded now → after.link ≡ before.link → length before.out.seen ≤ length after.out.seen → Adds count recorded.journal.notes now.journal.notes →
-      StaysLinked (record { recorded = recorded; ends = ends }) (record { recorded = now; ends = put_out at inside after })
+      StaysLinked (record { recorded = recorded; ends = ends }) (record { recorded = now; ends = with_out core after ends })
   out_stays seat link longer adds = record { seat = seat; sees = out_sees lent after longer; ends = out_ends lent after link; opening = adds.opening; grows = adds.grows }
 
-  pub out_put_beside : StaysBeside (Fits host_meaning) core (desk_of recorded) (desk_of now) after.out after.credited → ((sender : ℕ) → KeepsIn sender recorded now) → IsSameSeat recorded now → AreBeside (Fits host_meaning) now (put_out at inside after)
-  out_put_beside stays ins seat = resent_beside recorded now ends inside lent.opens.seen (set inside.outs at after) beside ins seat (outs_put lent after stays)
+  pub out_put_beside : StaysBeside (Fits host_meaning) core (desk_of recorded) (desk_of now) after.out after.credited → ((sender : ℕ) → KeepsIn sender recorded now) → IsSameSeat recorded now → AreBeside (Fits host_meaning) now (with_out core after ends)
+  out_put_beside stays ins seat = resent_beside recorded now ends ends refl (set ends.outs core after) beside ins seat (outs_now lent after stays)

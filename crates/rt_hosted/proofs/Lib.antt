@@ -1,6 +1,5 @@
 mod Asked
 mod Begun
-mod Given
 mod Kept
 mod LentIn
 pub mod LentOut

@@ -26,7 +26,7 @@ pub(crate) fn deliver_on(
     ensures beside { AreBeside (Fits host_meaning) recorded.new ends.new }
     ensures sound { IsRecorded host_meaning recorded.new }
 {
-    recorded.deliver(&mut ends.ins[sender.0 as usize])
+    recorded.deliver(ends.in_mut(sender))
 }
 
 /// Shuts the gate of this sender in a closed core.
@@ -40,7 +40,7 @@ pub(crate) fn shut_on(recorded: &mut Recorded<HostJob>, ends: &mut Ends<HostJob>
     ensures beside { AreBeside (Fits host_meaning) recorded.new ends.new }
     ensures sound { IsRecorded host_meaning recorded.new }
 {
-    recorded.shut(&mut ends.ins[sender.0 as usize], sender);
+    recorded.shut(ends.in_mut(sender), sender);
 }
 
 /// Collects all outcomes that the end to this core shows. How many there were.
@@ -56,5 +56,5 @@ pub(crate) fn collect_on(
     ensures beside { AreBeside (Fits host_meaning) recorded.new ends.new }
     ensures sound { IsRecorded host_meaning recorded.new }
 {
-    recorded.collect_from(&mut ends.outs[core.0 as usize], core)
+    recorded.collect_from(ends.out_mut(core), core)
 }

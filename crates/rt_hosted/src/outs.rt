@@ -31,7 +31,7 @@ pub(crate) fn submit_on(
     ensures beside { AreBeside (Fits host_meaning) recorded.new ends.new }
     ensures sound { IsRecorded host_meaning recorded.new }
 {
-    told_sent(recorded.submit(&mut ends.outs[to.0 as usize], to, order))
+    told_sent(recorded.submit(ends.out_mut(to), to, order))
 }
 
 /// Redeems a ticket on the end to its core.
@@ -52,7 +52,7 @@ pub(crate) fn redeem_on(
         return Err(Refusal::Unknown);
     }
     let to = ticket.name().to;
-    told_redeemed(recorded.redeem(&mut ends.outs[to.0 as usize], ticket))
+    told_redeemed(recorded.redeem(ends.out_mut(to), ticket))
 }
 
 /// Detaches a ticket on the end to its core.
@@ -73,5 +73,5 @@ pub(crate) fn detach_on(
         return Err(Refusal::Unknown);
     }
     let to = ticket.name().to;
-    told_detached(recorded.detach(&mut ends.outs[to.0 as usize], ticket))
+    told_detached(recorded.detach(ends.out_mut(to), ticket))
 }

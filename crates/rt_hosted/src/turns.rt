@@ -109,7 +109,7 @@ fn give_on(
     ensures ends { SameEnds ends.old ends.new }
     ensures sees { SeesNoLess ends.old ends.new }
 {
-    recorded.give_back(&mut ends.ins[name.from.0 as usize], name, reason, order);
+    recorded.give_back(ends.in_mut(name.from), name, reason, order);
 }
 
 /// Makes the next turn: what the host is told of it, and the job that it is to run. An outcome of a job that goes back is given at once.
@@ -158,5 +158,5 @@ pub(crate) fn settle_on(
     ensures hosted { IsHosted (record { recorded = recorded.new; ends = ends.new }) }
     ensures stays { StaysLinked (record { recorded = recorded.old; ends = ends.old }) (record { recorded = recorded.new; ends = ends.new }) }
 {
-    recorded.settle(&mut ends.ins[name.from.0 as usize], name, ran, spent)
+    recorded.settle(ends.in_mut(name.from), name, ran, spent)
 }
