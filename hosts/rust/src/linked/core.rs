@@ -119,7 +119,7 @@ impl<J> Running<'_, J> {
         self.ended = catch_unwind(|| now(clock)).unwrap_or(0);
         let spent = self.ended.saturating_sub(self.began);
         let Name { from, to, .. } = self.name;
-        // A job that is done is out of its place before the library gives that on, and is dropped behind it.
+        // A job that is done and has something to drop leaves its place before the library gives that on, and is dropped behind it.
         let _done = match self.step {
             // SAFETY: the place is this core's until the run is settled, and nobody has the job that stands there any more.
             Step::Done(_) => unsafe { self.actor.lanes.take_done(from, to, self.place) },
