@@ -130,11 +130,12 @@ impl<J: Task, A: Allocator + Clone> Core<J, A> {
         let mut tallies = Vec::with_capacity(alloc.clone()?, MOST_QUEUES)?;
         tallies.push_reserved(Tally::NONE);
         let senders = Senders::open(alloc.clone()?, count)?;
+        let ready = Timeline::with_front(alloc.clone()?)?;
         Ok(Core {
             core,
             cores,
             queues: Queues::open(alloc, room)?,
-            ready: Timeline::new(),
+            ready,
             tallies: SealedVec::sealed(tallies),
             senders,
             floor: 0,

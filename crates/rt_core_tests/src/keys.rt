@@ -3,7 +3,7 @@
 use linked_list_allocator::LocalHeap;
 use rt_ids::{Key, QueueNo};
 use rt_timeline::{Slip, Slips, Timeline};
-use std::alloc::Allocator;
+use std::alloc::{AllocError, Allocator};
 use std::test::Fail;
 
 /// The bytes of a slip in this heap.
@@ -60,8 +60,10 @@ fn gives<A: Allocator>(timeline: &mut Timeline<A>, queue: u8, vr: u128) -> bool 
 }
 
 /// Of two keys with one virtual runtime the lower number goes first. Then the timeline is empty.
-fn ties_go_to_the_lower_number(heap: &LocalHeap) -> bool {
-    let mut timeline = Timeline::new();
+fn ties_go_to_the_lower_number<'a>(
+    mut timeline: Timeline<&'a LocalHeap>,
+    heap: &'a LocalHeap,
+) -> bool {
     comes(&mut timeline, heap, 1, 5)
         && comes(&mut timeline, heap, 0, 5)
         && comes(&mut timeline, heap, 2, 3)
@@ -75,8 +77,10 @@ fn ties_go_to_the_lower_number(heap: &LocalHeap) -> bool {
 }
 
 /// All queues make a low tree, and fill the heap. The slip of a queue that went out makes room for another.
-fn rising_keys_make_a_low_tree(heap: &LocalHeap) -> bool {
-    let mut timeline = Timeline::new();
+fn rising_keys_make_a_low_tree<'a>(
+    mut timeline: Timeline<&'a LocalHeap>,
+    heap: &'a LocalHeap,
+) -> bool {
     rise(&mut timeline, heap, 255)
         && timeline.len() == 256
         && timeline.height() <= 18
@@ -114,19 +118,62 @@ fn slips_are<A: Allocator>(slips: &mut Slips<A>, queues: &[u8]) -> bool {
 }
 
 /// Queue 3 of seven goes out and comes back at 0, where it is second.
-fn a_slip_comes_back(heap: &LocalHeap) -> bool {
-    let mut timeline = Timeline::new();
+fn a_slip_comes_back<'a>(mut timeline: Timeline<&'a LocalHeap>, heap: &'a LocalHeap) -> bool {
     let came = rise(&mut timeline, heap, 6)
         && timeline.height() == 3
         && goes_and_comes(&mut timeline, 0);
     slips_are(&mut timeline.into_slips(), &[0, 3, 1, 2, 4, 5, 6]) && came
 }
 
+/// The rows of timelines in this heap, which have a front if they are told to. The heap has room for the front, if there is one, and for
+/// 256 slips.
+fn rows_hold(heap: &LocalHeap, front: bool) -> Result<bool, AllocError> {
+    let ties = ties_go_to_the_lower_number(empty(heap, front)?, heap) && heap.used() == 0;
+    let rises = rising_keys_make_a_low_tree(empty(heap, front)?, heap) && heap.used() == 0;
+    let comes_back = a_slip_comes_back(empty(heap, front)?, heap) && heap.used() == 0;
+    Ok(ties && rises && comes_back)
+}
+
+fn empty(heap: &LocalHeap, front: bool) -> Result<Timeline<&LocalHeap>, AllocError> {
+    if front {
+        Timeline::with_front(heap)
+    } else {
+        Ok(Timeline::new())
+    }
+}
+
+/// How many bytes a front takes in such a heap.
+fn front_bytes(heap: &LocalHeap) -> Result<usize, AllocError> {
+    let _timeline = Timeline::with_front(heap)?;
+    Ok(heap.used())
+}
+
 #[test]
 fn keys_come_in_order_and_slips_come_back(rt: HostRuntime) -> Result<(), Fail> {
     let heap = LocalHeap::new(rt.alloc(), 256 * SLIP)?;
-    assert!(rt; ties_go_to_the_lower_number(&heap) && heap.used() == 0);
-    assert!(rt; rising_keys_make_a_low_tree(&heap) && heap.used() == 0);
-    assert!(rt; a_slip_comes_back(&heap) && heap.used() == 0);
+    assert!(rt; rows_hold(&heap, false)?);
+    Ok(())
+}
+
+#[test]
+fn a_front_changes_no_row(rt: HostRuntime) -> Result<(), Fail> {
+    let ample = LocalHeap::new(rt.alloc(), 1 << 14)?;
+    let bytes = front_bytes(&ample)?;
+    assert!(rt; bytes <= 4096 && ample.used() == 0);
+    let heap = LocalHeap::new(rt.alloc(), 256 * SLIP + bytes)?;
+    assert!(rt; rows_hold(&heap, true)?);
+    Ok(())
+}
+
+#[test]
+fn a_front_asks_for_memory_at_the_opening_alone(rt: HostRuntime) -> Result<(), Fail> {
+    let ample = LocalHeap::new(rt.alloc(), 1 << 14)?;
+    let bytes = front_bytes(&ample)?;
+    for step in 0..256 {
+        let heap = LocalHeap::new(rt.alloc(), 16 * step)?;
+        assert!(rt;
+            Timeline::with_front(&heap).is_ok() == (16 * step >= bytes) && heap.used() == 0
+        );
+    }
     Ok(())
 }

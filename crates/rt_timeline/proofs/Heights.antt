@@ -1,7 +1,7 @@
--- How many keys a balanced tree has at least.
+-- How many keys a balanced tree has at least, and at most.
 use Rattle.std.proofs.Common.{◌≡◌, ℕ, zero, suc, ◌+◌, ◌*◌, ◌<◌, ◌≤◌, ◌^◌, max, Bool, true, false, ◌∷◌, ◌++◌, length, refl, inl, inr, arith, length-append}
 use Rattle.std.proofs.lemmas.Bool.{both_ways, cases_order}
-use Rattle.std.proofs.Math.Nat.{pow-suc}
+use Rattle.std.proofs.Math.Nat.{pow-suc, pow-le-pow_right}
 use Rattle.rt_ids.specs.declared.names.Key.{Key}
 use Rattle.rt_timeline.specs.Tree.{KeyTree, fewest, IsFilled, IsLow}
 use Rattle.rt_timeline.specs.declared.tree.Link.{Link}
@@ -37,12 +37,23 @@ fewest-joined left right m n many more near =
       | inr (inr higher) ↦ let r : left ≡ suc right = omega arith in let e : max left right + 1 ≡ suc (suc right) = omega arith in rw e (let s : fewest left ≡ fewest (suc right) = cc in omega (arith, fewest-rises right))
     ]
 
+-- two trees under one key, whatever their heights
+most-joined : (left right m n : ℕ) → m + 1 ≤ 2 ^ left → n + 1 ≤ 2 ^ right → (m + suc n) + 1 ≤ 2 ^ (max left right + 1)
+most-joined left right m n few less =
+    let on_left : 2 ^ left ≤ 2 ^ max left right = pow-le-pow_right (omega arith) (omega arith) in
+    let on_right : 2 ^ right ≤ 2 ^ max left right = pow-le-pow_right (omega arith) (omega arith) in
+    let e : max left right + 1 ≡ suc (max left right) = omega arith in
+    rw e (omega (arith, pow-suc 2 (max left right)))
+
 pub IsFilled-joined : (left : KeyTree) (key : Key) (right : KeyTree) → IsFilled left → IsFilled right → DifferByOne left.height right.height → IsFilled (record { keys = left.keys ++ key ∷ right.keys; height = max left.height right.height + 1 })
-IsFilled-joined left key right many more near =
-    rw length-append (fewest-joined left.height right.height (length left.keys) (length right.keys) many more near)
+IsFilled-joined left key right filled also near =
+    record {
+      enough = rw length-append (fewest-joined left.height right.height (length left.keys) (length right.keys) filled.enough also.enough near);
+      few = rw length-append (most-joined left.height right.height (length left.keys) (length right.keys) filled.few also.few);
+    }
 
 pub IsFilled-seen : {A : Type 0} (root : Link A) → IsBalanced root → IsFilled (seen root)
-IsFilled-seen Empty balanced = omega arith
+IsFilled-seen Empty balanced = record { enough = omega arith; few = omega arith }
 IsFilled-seen (Top node vr) balanced =
     IsFilled-joined node.value.left (key_of vr node.value) node.value.right balanced.left_filled balanced.right_filled (Leans-near node.value.lean node.value.left.height node.value.right.height balanced.leans)
 
@@ -60,8 +71,23 @@ fewest-low (suc (suc height)) count (suc digits) many below =
     let half = fewest-low height (fewest height) digits (omega arith) (omega (arith, pow-suc 2 digits)) in
     omega (arith, half)
 
+fewest-some : (height : ℕ) → 0 < height → 2 ≤ fewest height
+fewest-some zero some = absurd (omega arith)
+fewest-some (suc zero) some = omega arith
+fewest-some (suc (suc height)) some = omega (arith, fewest-pos height)
+
+-- a tree with a level has a key
+pub length-some : (tree : KeyTree) → IsFilled tree → 0 < tree.height → 0 < length tree.keys
+length-some tree filled some = omega (arith, fewest-some tree.height some)
+
+-- and one of five levels at most has 31 keys at most
+pub length-few : (tree : KeyTree) → IsFilled tree → tree.height ≤ 5 → length tree.keys ≤ 31
+length-few tree filled low =
+    let most : 2 ^ tree.height ≤ 2 ^ 5 = pow-le-pow_right (omega arith) low in
+    omega arith
+
 pub IsLow-from_filled : (tree : KeyTree) → IsFilled tree → IsLow tree
-IsLow-from_filled tree filled = λ digits below. fewest-low tree.height (length tree.keys + 1) digits filled below
+IsLow-from_filled tree filled = λ digits below. fewest-low tree.height (length tree.keys + 1) digits filled.enough below
 
 -- the height of a node that is settled, of which the one side rose by a level against the other
 pub record IsRisen (before height : ℕ) (even : Bool) : Type 0 where

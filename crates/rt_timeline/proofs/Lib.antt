@@ -1,4 +1,10 @@
 pub mod Before
+pub mod FrontCompact
+pub mod FrontEnds
+pub mod FrontKeys
+pub mod FrontPlaces
+pub mod FrontSearch
+pub mod FrontSteps
 pub mod Heights
 pub mod Leading
 pub mod Places

@@ -1,27 +1,30 @@
--- The least node beside the tree of the later ones.
-use Rattle.std.specs.Prelude.{◌≡◌, Bool, false, List, ◌∷◌}
+-- The least nodes before the tree of the later ones.
+use Rattle.std.specs.Prelude.{◌≡◌, ℕ, nat_lt, if◌then◌else◌, max, List, [], ◌++◌, length, Option, Some, None}
 use Rattle.rt_ids.specs.declared.names.Key.{Key}
-use Rattle.rt_timeline.specs.declared.tree.Link.{Link}
-use Rattle.rt_timeline.specs.declared.tree.Link.TheVariants.{Empty, Top}
-use Rattle.rt_timeline.specs.Rising.{same_key}
 use Rattle.rt_timeline.specs.Tree.{KeyTree, empty_tree}
-use Rattle.rt_timeline.specs.Nodes.{key_of, IsLoose}
 
--- the key of the node beside the tree, if there is one, and then the keys of the tree
-abbrev pub led_keys : {A : Type 0} → Link A → KeyTree → List Key
-led_keys Empty later = later.keys
-led_keys (Top node vr) later = key_of vr node.value ∷ later.keys
+-- how many levels a tree of so few keys has at least: the number of its binary digits
+abbrev pub levels : ℕ → ℕ
+levels count = if nat_lt count 1 then 0 else if nat_lt count 2 then 1 else if nat_lt count 4 then 2 else if nat_lt count 8 then 3 else if nat_lt count 16 then 4 else if nat_lt count 32 then 5 else 6
 
--- the same with the levels of the tree
-abbrev pub led : {A : Type 0} → Link A → KeyTree → KeyTree
-led least later = record { keys = led_keys least later; height = later.height }
+-- the keys of the front, if there is one
+abbrev pub front_of : Option (List Key) → List Key
+front_of None = []
+front_of (Some front) = front
 
--- the node beside the tree has nothing on its sides, and if there is none, the tree is empty
-abbrev pub IsLed : {A : Type 0} → Link A → KeyTree → Type 0
-IsLed Empty later = later ≡ empty_tree
-IsLed (Top node vr) later = IsLoose node.value
+-- the keys before the tree, and then those of the tree
+abbrev pub led_keys : List Key → KeyTree → List Key
+led_keys first later = first ++ later.keys
 
--- whether this is the key of the node beside the tree
-abbrev pub leads : {A : Type 0} → Key → Link A → Bool
-leads key Empty = false
-leads key (Top node vr) = same_key key (key_of vr node.value)
+-- the same with the levels of the tree, or those of a tree of the keys before it if they are more
+abbrev pub led : List Key → KeyTree → KeyTree
+led first later = record { keys = led_keys first later; height = max (levels (length first)) later.height }
+
+-- if no key stands before the tree, the tree is empty
+abbrev pub IsLed : List Key → KeyTree → Type 0
+IsLed first later = first ≡ [] → later ≡ empty_tree
+
+-- a front, if there is one, leads the tree
+abbrev pub IsFronted : Option (List Key) → KeyTree → Type 0
+IsFronted None later = Unit {0}
+IsFronted (Some front) later = IsLed front later

@@ -4,3 +4,4 @@ pub mod Nodes
 pub mod Sides
 pub mod Middle
 pub mod Led
+pub mod Front

@@ -1,5 +1,5 @@
 -- What a node of the tree is seen as with its two sides, and what holds of it.
-use Rattle.std.specs.Prelude.{◌≡◌, ℕ, ◌+◌, ◌<◌, Bool, true, false, max, List, ◌∷◌, ◌++◌}
+use Rattle.std.specs.Prelude.{◌≡◌, ℕ, ◌+◌, ◌<◌, ◌≤◌, Bool, true, false, max, List, ◌∷◌, ◌++◌}
 use Rattle.rt_ids.specs.declared.names.Key.{Key}
 use Rattle.rt_timeline.specs.declared.tree.Lean.{Lean}
 use Rattle.rt_timeline.specs.declared.tree.Lean.TheVariants.{Left, Even, Right}
@@ -91,3 +91,8 @@ IsUpright false old new even = IsUprightLeft old new even
 abbrev pub HasOnlyRight : {A : Type 0} → Link A → Type 0
 HasOnlyRight Empty = ⊥
 HasOnlyRight (Top node vr) = node.value.left ≡ empty_tree
+
+-- there is a top node, of which the left side isn't higher than the right one
+abbrev pub IsLowOnLeft : {A : Type 0} → Link A → Type 0
+IsLowOnLeft Empty = ⊥
+IsLowOnLeft (Top node vr) = node.value.left.height ≤ node.value.right.height

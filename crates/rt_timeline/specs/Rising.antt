@@ -56,6 +56,12 @@ abbrev pub first_key : List Key → Option Key
 first_key [] = None
 first_key (key ∷ later) = Some key
 
+-- the last key stands before this one
+abbrev pub LastStandsBefore : List Key → Key → Type 0
+LastStandsBefore [] key = ⊥
+LastStandsBefore (last ∷ []) key = StandsBefore last key
+LastStandsBefore (one ∷ next ∷ later) key = LastStandsBefore (next ∷ later) key
+
 -- the queues of the keys, in their order
 abbrev pub queues_of : List Key → List ℕ
 queues_of keys = map (λ key. key.queue) keys

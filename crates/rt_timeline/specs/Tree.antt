@@ -14,12 +14,13 @@ empty_tree = record { keys = []; height = 0 }
 -- one more than the count of keys of a balanced tree of this height is at least this much: it doubles with each two levels
 abbrev pub fewest : ℕ → ℕ
 fewest zero = 1
-fewest (suc zero) = 1
+fewest (suc zero) = 2
 fewest (suc (suc height)) = 2 * fewest height
 
--- the tree has as many keys as its height asks for
-abbrev pub IsFilled : KeyTree → Type 0
-IsFilled tree = fewest tree.height ≤ length tree.keys + 1
+-- the tree has as many keys as its height asks for, and no more than so many levels have places for
+pub record IsFilled (tree : KeyTree) : Type 0 where
+  pub enough : fewest tree.height ≤ length tree.keys + 1
+  pub few : length tree.keys + 1 ≤ 2 ^ tree.height
 
 -- the height is at most twice the number of binary digits of one more than the count of keys: a number below 2 ^ digits has at most so many
 abbrev pub IsLow : KeyTree → Type 0

@@ -4,6 +4,7 @@
 //! asks for memory; no clause says so.
 #![tactic(auto)]
 
+mod front;
 mod slip;
 mod slips;
 mod timeline;

@@ -1,19 +1,24 @@
 //! The keys of the active queues, least first.
-ghost use Rattle.std.specs.Prelude.{◌≡◌, ◌≤◌, ◌↔◌, false, [], ◌∷◌, length, IsTrue, IsNone, IsSome, IfSome, IfNone, Contains};
+ghost use Rattle.std.specs.Prelude.{◌≡◌, ◌≤◌, ◌↔◌, false, [], ◌∷◌, length, IsTrue, IsNone, IsSome, IfSome, IfNone, IfOk, Contains};
 ghost use Rattle.rt_timeline.specs.Rising.{LacksQueue, IsRising, HasDistinctQueues, has_queue, inserted, removed, first_key};
 ghost use Rattle.rt_timeline.specs.Tree.{empty_tree, IsLow};
+ghost use Rattle.rt_timeline.specs.Led.{levels};
 
+use crate::front::Front;
 use crate::slip::Slip;
 use crate::slips::Slips;
-use crate::tree::{Link, Tree, detach, enter, leave};
+use crate::tree::{Tree, detach, enter, front_len, has_front_queue, leave};
 use rt_ids::{Key, QueueNo};
-use std::alloc::Allocator;
+use std::alloc::{AllocError, Allocator};
 use std::marker::Model;
 
-/// The keys of the active queues, at most one of each queue: the least one, and the others in a balanced tree.
+/// The keys of the active queues, at most one of each queue: the least ones in a front of few places, if it has one, and the others in a
+/// balanced tree.
+///
+/// The front's places lie behind pointers. An array in each type that holds a timeline would make every proof about such a type longer.
 #[derive(Drop)]
 pub struct Timeline<A: Allocator> {
-    first: Link<A>,
+    first: Option<Front<A>>,
     later: Tree<A>,
     len: usize,
 }
@@ -22,22 +27,39 @@ impl<A: Allocator> Model for Timeline<A> {
     ghost use Rattle.std.specs.Prelude.{◌≡◌, length};
     ghost use Rattle.rt_timeline.specs.Tree.{KeyTree};
     ghost use Rattle.rt_timeline.specs.Rising.{IsOfQueues};
-    ghost use Rattle.rt_timeline.specs.Led.{led, led_keys, IsLed};
+    ghost use Rattle.rt_timeline.specs.Led.{led, led_keys, front_of, IsFronted};
 
     ghost Value = { KeyTree };
 
-    ghost view = { λ t. led t.first t.later };
+    ghost view = { λ t. led (front_of t.first) t.later };
 
-    ghost invariant = { λ t. IsOfQueues (led_keys t.first t.later) × (t.len ≡ length (led_keys t.first t.later)) × IsLed t.first t.later };
+    ghost invariant = { λ t. IsOfQueues (led_keys (front_of t.first) t.later) × (t.len ≡ length (led_keys (front_of t.first) t.later)) × IsFronted t.first t.later };
+}
+
+impl<A: Allocator + Clone> Timeline<A> {
+    /// A timeline of no queue, with a front. It asks the allocator for that, and for nothing later.
+    ///
+    /// # Errors
+    ///
+    /// If the allocator has no room for the places of the front, 2 kB.
+    pub fn with_front(alloc: A) -> Result<Self, AllocError>
+        ensures { IfOk result (λ timeline. timeline ≡ empty_tree) }
+    {
+        Ok(Timeline {
+            first: Some(Front::with_places(alloc)?),
+            later: Tree::new(),
+            len: 0,
+        })
+    }
 }
 
 impl<A: Allocator> Timeline<A> {
-    /// A timeline of no queue.
+    /// A timeline of no queue, and without a front: all keys are in the tree.
     pub fn new() -> Self
         ensures { result ≡ empty_tree }
     {
         Timeline {
-            first: Link::Empty,
+            first: None,
             later: Tree::new(),
             len: 0,
         }
@@ -58,8 +80,8 @@ impl<A: Allocator> Timeline<A> {
         ensures { result ≡ first_key self.now.keys }
     {
         match &self.first {
-            Link::Empty => None,
-            Link::Top(node, vr) => Some(node.key(*vr)),
+            Some(front) => front.least(),
+            None => self.later.least(),
         }
     }
 
@@ -75,9 +97,8 @@ impl<A: Allocator> Timeline<A> {
         if self.len == 0 {
             return None;
         }
-        let Link::Top(node, vr) = leave(&mut self.first, &mut self.later) else {
-            unreachable!()
-        };
+        let mut vr = 0;
+        let node = leave(&mut self.first, &mut self.later, &mut vr);
         self.len -= 1;
         Some((node.key(vr), Slip::from_node(node)))
     }
@@ -117,19 +138,16 @@ impl<A: Allocator> Timeline<A> {
         ensures value { result ≡ has_queue queue self.now.keys }
         ensures absent { result ≡ false → LacksQueue queue self.now.keys }
     {
-        match &self.first {
-            Link::Empty => false,
-            Link::Top(node, _) => node.queue == queue || self.later.has_queue(queue),
-        }
+        has_front_queue(&self.first, queue) || self.later.has_queue(queue)
     }
 
-    /// How many levels the tree has. The least key stands beside it.
+    /// How many levels the tree has, or a tree of the front's keys alone if that has more: what a search goes through at most.
     pub fn height(&self) -> usize
         ensures value { result ≡ self.now.height }
         ensures low { IsLow self.now }
     {
         self.later.know_filled();
-        self.later.height()
+        levels(front_len(&self.first)).max(self.later.height())
     }
 
     /// All slips, by rising key.
@@ -137,5 +155,20 @@ impl<A: Allocator> Timeline<A> {
         ensures { result ≡ self.keys }
     {
         Slips::new(self)
+    }
+}
+
+/// How many levels a balanced tree of so few keys has at least.
+fn levels(count: usize) -> usize
+    ensures { result ≡ levels count }
+{
+    match count {
+        0 => 0,
+        1 => 1,
+        2..=3 => 2,
+        4..=7 => 3,
+        8..=15 => 4,
+        16..=31 => 5,
+        _ => 6,
     }
 }

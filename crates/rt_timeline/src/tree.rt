@@ -1,6 +1,6 @@
 //! The tree behind the timeline: balanced nodes, each seen with what hangs on it as keys and a height.
 ghost use Rattle.std.specs.Prelude.{◌≡◌, ◌+◌, ◌^◌, ◌<◌, ◌↔◌, ◌∷◌, true, false, length, Some, is_some, IfSome, IfNone, IsTrue};
-ghost use Rattle.rt_timeline.specs.Rising.{IsRising, stands_before, has_key, has_queue, removed};
+ghost use Rattle.rt_timeline.specs.Rising.{IsRising, stands_before, first_key, has_key, has_queue, removed};
 ghost use Rattle.rt_timeline.specs.Tree.{empty_tree, IsFilled};
 ghost use Rattle.rt_timeline.specs.Nodes.{seen, key_of, keys_of, IsBalanced, IsLoose};
 
@@ -12,9 +12,10 @@ use std::mem;
 mod balance;
 mod lead;
 mod levels;
+mod some;
 
 use balance::{parted, tilt};
-pub(crate) use lead::{detach, enter, leave};
+pub(crate) use lead::{detach, enter, front_len, has_front_queue, leave};
 
 /// A side of a node, or the whole: balanced at every level.
 #[cycle(tree)]
@@ -91,6 +92,19 @@ impl<A: Allocator> Tree<A> {
         }
     }
 
+    /// The least key. It goes down the left side.
+    pub(crate) fn least(&self) -> Option<Key>
+        ensures { result ≡ first_key self.now.keys }
+    {
+        match &self.root {
+            Link::Empty => None,
+            Link::Top(node, vr) => match node.left.least() {
+                Some(key) => Some(key),
+                None => Some(node.key(*vr)),
+            },
+        }
+    }
+
     /// For the proofs alone: a tree has as many keys as its height asks for.
     pub(crate) fn know_filled(&self)
         ensures { IsFilled self.now }
@@ -99,7 +113,7 @@ impl<A: Allocator> Tree<A> {
         let _root = &self.root;
     }
 
-    fn is_empty(&self) -> bool
+    pub(crate) fn is_empty(&self) -> bool
         ensures empty { IsTrue result ↔ (self.now ≡ empty_tree) }
         ensures some { result ≡ false → 0 < length self.now.keys }
     {

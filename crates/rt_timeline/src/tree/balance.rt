@@ -11,7 +11,7 @@ use std::alloc::Allocator;
 use std::mem;
 
 /// Takes the tree out, and leaves none.
-fn take<A: Allocator>(place: &mut Tree<A>) -> Tree<A>
+pub(super) fn take<A: Allocator>(place: &mut Tree<A>) -> Tree<A>
     ensures whole { result ≡ place.old }
     ensures none_left { place.new ≡ empty_tree }
 {
