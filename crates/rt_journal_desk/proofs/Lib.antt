@@ -12,3 +12,4 @@ pub mod TakenCalls
 pub mod TicketCalls
 pub mod Posts
 pub mod Posting
+pub mod LentPosts

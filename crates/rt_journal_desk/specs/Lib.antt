@@ -6,3 +6,4 @@ pub mod Tickets
 pub mod Spending
 pub mod Posts
 pub mod Calls
+pub mod Lent

@@ -89,20 +89,6 @@ impl<J: Task<Out = u64>> RecordedDesk<J> {
         })
     }
 
-    /// One more, of no core and no note. It stands where this one was taken out, until that is put back, and takes no memory.
-    pub fn emptied(&self) -> Self
-        ensures { result ≡ opened_desk 0 0 0 0 1 }
-    {
-        RecordedDesk {
-            actor: ActorNo(0),
-            cores: 0,
-            cap: 0,
-            burst: 1,
-            journal: self.journal.emptied(),
-            lanes: self.lanes.emptied(),
-        }
-    }
-
     /// How many submissions to one core may be outstanding.
     pub fn cap(&self) -> u16
         ensures { result ≡ self.now.cap }

@@ -5,4 +5,4 @@ pub mod desk;
 pub mod post;
 
 pub use desk::RecordedDesk;
-pub use post::RecordedPost;
+pub use post::{LentDesk, RecordedPost};

@@ -26,11 +26,10 @@ use rt_core::{Ahead, Core, Next, PickError, Settled};
 use rt_fixed::SealedVec;
 use rt_ids::{JobId, Note};
 use rt_jobs::{Job, Step, Task};
-use rt_journal_desk::{RecordedDesk, RecordedPost};
+use rt_journal_desk::{LentDesk, RecordedDesk, RecordedPost};
 use rt_link::{InEnd, OutEnd};
 use rt_taskqueue::Meter;
 use std::alloc::{Allocator, Global};
-use std::mem;
 
 /// The notes of the pick of this job.
 #[inline(always)]
@@ -110,41 +109,15 @@ fn note_settled<J: Task<Out = u64>>(
     settled(step, next.woken)
 }
 
-/// The desk and its ends, lent as a post beside what the jobs share. What stays in their places owns no memory, and nothing is dropped
-/// when they come back.
+/// A desk and its ends that were lent have come back. The prover knows what two borrows leave if both are used once more in one call.
 #[inline(always)]
-fn lend_out<'a, J: Job<Out = u64>, O: OutEnd<J> + Drop>(
-    said: &mut RecordedDesk<J>,
-    ends: &mut SealedVec<O, Global>,
-    local: &'a mut J::Local,
-) -> RecordedPost<'a, J, O>
-    requires outs { AreOutsOf (Fits J.meaning) O.out O.credited said.old ends.old.items }
-    requires spare { length said.old.journal.notes + sum_by left_of said.old.lanes < said.old.journal.room }
-    ensures { result ≡ lends said.old ends.old.items }
-{
-    let nothing = said.emptied();
-    let desk = mem::replace(said, nothing);
-    let none = ends.emptied();
-    let lent = mem::replace(ends, none);
-    RecordedPost::lend_further(desk, lent, local)
-}
-
-/// Puts the desk and its ends back.
-#[inline(always)]
-fn put_back<J: Job<Out = u64>, O: OutEnd<J> + Drop>(
-    said: &mut RecordedDesk<J>,
-    ends: &mut SealedVec<O, Global>,
-    post: RecordedPost<'_, J, O>,
-)
-    ensures back { lends said.new ends.new.items ≡ post.entry }
-    ensures outs { AreOutsOf (Fits J.meaning) O.out O.credited said.new ends.new.items }
-    ensures room { length said.new.journal.notes < said.new.journal.room }
+fn came_back<J: Task<Out = u64>, E>(said: &mut RecordedDesk<J>, ends: &mut E)
+    ensures said { said.new ≡ said.old }
+    ensures ends { ends.new ≡ ends.old }
     ensures written { IsWritten (terms_of_desk said.new) said.new.journal.notes }
 {
-    let (desk, lent) = post.into_parts();
-    desk.see_lanes();
-    mem::forget(mem::replace(said, desk));
-    mem::forget(mem::replace(ends, lent));
+    said.see_lanes();
+    let _ends = &*ends;
 }
 
 /// Polls the job that is told ahead where it stands, and settles its poll. The desk and the ends are lent to it for that long. The
@@ -168,9 +141,15 @@ fn turn_lent<J: Job<Out = u64>, A: Allocator + Clone, O: OutEnd<J> + Drop, M: Me
     ensures room { length said.new.journal.notes < said.new.journal.room }
     ensures written { IsWritten (terms_of_desk said.new) said.new.journal.notes }
 {
-    let mut post = lend_out(said, ends, local);
+    let lent = LentDesk::of(said, ends, local);
+    let mut post = RecordedPost::lend(lent);
     let (step, time) = core.turn_metered(next, &mut post, meter);
-    put_back(said, ends, post);
+    let LentDesk {
+        said: desk,
+        ends: lent,
+        local: _,
+    } = post.into_parts();
+    came_back(desk, lent);
     (step, time)
 }
 
@@ -193,9 +172,15 @@ fn further_lent<J: Job<Out = u64>, A: Allocator + Clone, O: OutEnd<J> + Drop, M:
     ensures room { length said.new.journal.notes < said.new.journal.room }
     ensures written { IsWritten (terms_of_desk said.new) said.new.journal.notes }
 {
-    let mut post = lend_out(said, ends, local);
+    let lent = LentDesk::of(said, ends, local);
+    let mut post = RecordedPost::lend(lent);
     let (step, time) = core.turn_further_metered(next, &mut post, meter);
-    put_back(said, ends, post);
+    let LentDesk {
+        said: desk,
+        ends: lent,
+        local: _,
+    } = post.into_parts();
+    came_back(desk, lent);
     (step, time)
 }
 
