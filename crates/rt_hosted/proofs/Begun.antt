@@ -5,6 +5,7 @@ use Rattle.rt_journal.specs.Recorded.{RecordedView, IsRecorded}
 use Rattle.rt_journal.specs.Steps.{opened_beside}
 use Rattle.rt_ring_mesh.specs.Ends.{EndsView}
 use Rattle.rt_runtime_worker.specs.Opening.{AreEndsOf, CreatesSince, IsOpenedOver}
+use Rattle.rt_runtime_worker.specs.Seats.{IsSeated}
 use Rattle.rt_runtime_worker.proofs.Opened.{created_none, opened_linked, opened_over}
 use Rattle.rt_hosted.specs.declared.job.HostJob.{HostJob}
 use Rattle.rt_hosted.specs.Hosted.{HasRoom, IsHosted, IsRunOf}
@@ -31,12 +32,11 @@ module _ {core cores cap burst room : ℕ} {recorded : View} {ends : EndsView Ho
       subst (CreatesSince host_meaning 0 (opened_beside core cores cap room burst)) (sym begins.is)
       (created_none (opened_beside core cores cap room burst) 0 tt (subst (IsRecorded host_meaning) begins.is begins.sound))
 
+  pub begun_seated : IsSeated host_meaning (record { recorded = recorded; ends = ends })
+  begun_seated = record { recorded = begins.sound; beside = (opened_linked core cores cap burst room 0 recorded ends created begins.are begins.number).beside }
+
   pub begun_hosted : IsHosted (record { recorded = recorded; ends = ends })
-  begun_hosted = record {
-    recorded = begins.sound;
-    beside = (opened_linked core cores cap burst room 0 recorded ends created begins.are begins.number).beside;
-    room = subst (HasRoom 0) (sym begins.is) (omega arith);
-  }
+  begun_hosted = record { recorded = begun_seated.recorded; beside = begun_seated.beside; room = subst (HasRoom 0) (sym begins.is) (omega arith) }
 
   pub begun_runs : IsRunOf recorded.core.out None
   begun_runs = subst (λ (view : View). IsRunOf view.core.out None) (sym begins.is) tt

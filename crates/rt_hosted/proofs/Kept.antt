@@ -7,15 +7,14 @@ use Rattle.rt_ids.specs.declared.order.Mode.{Mode}
 use Rattle.rt_ids.specs.Journal.{Journal}
 use Rattle.rt_core.specs.State.{JobOut}
 use Rattle.rt_link.specs.declared.ends.Inward.{Inward}
-use Rattle.rt_link.specs.Fits.{Fits}
 use Rattle.rt_journal.specs.Ends.{IsSameSeat}
-use Rattle.rt_journal.specs.Recorded.{RecordedView, IsRecorded}
+use Rattle.rt_journal.specs.Recorded.{IsRecorded, RecordedView}
 use Rattle.rt_journal.specs.Steps.{ClosesItself, Delivers, out_told}
-use Rattle.rt_ring_mesh.specs.Ends.{EndsView}
-use Rattle.rt_runtime_worker.specs.Linked.{AreBeside}
+use Rattle.rt_runtime_worker.specs.Linked.{StaysLinked}
+use Rattle.rt_runtime_worker.specs.Seats.{IsSeated}
 use Rattle.rt_hosted.specs.declared.job.HostJob.{HostJob}
 use Rattle.rt_hosted.specs.declared.turns.Run.{Run}
-use Rattle.rt_hosted.specs.Hosted.{HasRoom, IsHosted, IsRunOf}
+use Rattle.rt_hosted.specs.Hosted.{HasRoom, HostedView, IsHosted, IsRunOf}
 use Rattle.rt_hosted.specs.Jobs.{host_meaning}
 
 abbrev View : Type 0
@@ -62,23 +61,22 @@ room_after count old new room few keeps seat =
     let kept : number_if (is_some new.core.out) ≡ number_if (is_some old.core.out) = ap (λ out. number_if out) keeps.out in
     omega (arith, room, few, kept, seat.room)
 
--- what a call that took so many notes at most left of a core, and of its ends as the code has them
-pub record Leaves (count : ℕ) (old new : View) (ends : EndsView HostJob ℕ) : Type 0 where
-  pub sound : IsRecorded host_meaning new
-  pub beside : AreBeside (Fits host_meaning) new ends
-  pub room : HasRoom count old
-  pub few : length new.journal.notes ≤ length old.journal.notes + count
-  pub keeps : KeepsRun old.core.out new.core.out
-  pub seat : IsSameSeat old new
+-- what a call that took so many notes at most left of a core and its ends
+pub record Leaves (count : ℕ) (old new : HostedView) : Type 0 where
+  pub seated : IsSeated host_meaning new
+  pub room : HasRoom count old.recorded
+  pub few : length new.recorded.journal.notes ≤ length old.recorded.journal.notes + count
+  pub keeps : KeepsRun old.recorded.core.out new.recorded.core.out
+  pub stays : StaysLinked old new
 
-module _ {count : ℕ} {old new : View} {ends : EndsView HostJob ℕ} (leaves : Leaves count old new ends) where
-  pub hosted_after : IsHosted (record { recorded = new; ends = ends })
-  hosted_after = record { recorded = leaves.sound; beside = leaves.beside; room = room_after count old new leaves.room leaves.few leaves.keeps leaves.seat }
+module _ {count : ℕ} {old new : HostedView} (leaves : Leaves count old new) where
+  pub hosted_after : IsHosted new
+  hosted_after = record { recorded = leaves.seated.recorded; beside = leaves.seated.beside; room = room_after count old.recorded new.recorded leaves.room leaves.few leaves.keeps leaves.stays.seat }
 
   -- with them the job that the host runs, the count of cores, and what was passed on
-  pub holds_after : (run : Option Run) {cores : ℕ} {passed : Journal ℕ} → IsRunOf old.core.out run → cores ≡ old.core.cores → passed ≡ old.journal.passed →
-      IsHosted (record { recorded = new; ends = ends }) × IsRunOf new.core.out run × (cores ≡ new.core.cores) × (passed ≡ new.journal.passed)
-  holds_after run runs counts had = (hosted_after, leaves.keeps.runs run runs, counts ∙ sym leaves.seat.cores, had ∙ sym leaves.seat.passed)
+  pub holds_after : (run : Option Run) {cores : ℕ} {passed : Journal ℕ} → IsRunOf old.recorded.core.out run → cores ≡ old.recorded.core.cores → passed ≡ old.recorded.journal.passed →
+      IsHosted new × IsRunOf new.recorded.core.out run × (cores ≡ new.recorded.core.cores) × (passed ≡ new.recorded.journal.passed)
+  holds_after run runs counts had = (hosted_after, leaves.keeps.runs run runs, counts ∙ sym leaves.stays.seat.cores, had ∙ sym leaves.stays.seat.passed)
 
 -- the sender of the job that the host runs is there
 pub run_known : (view : View) (run : Option Run) (one : Run) → IsRecorded host_meaning view → IsRunOf view.core.out run → run ≡ Some one → one.name.from ≤ view.core.cores

@@ -1,11 +1,6 @@
 mod Asked
 mod Begun
-mod Given
 mod Kept
-mod LentIn
-pub mod LentOut
-pub mod Noted
-pub mod Passed
-pub mod Submitted
+mod Passed
 mod TakenOut
 mod Turned

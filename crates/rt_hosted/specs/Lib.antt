@@ -5,5 +5,6 @@ pub mod Jobs
 pub mod Links
 pub mod Passing
 pub mod Submissions
+pub mod Takings
 pub mod Turns
 pub mod Words

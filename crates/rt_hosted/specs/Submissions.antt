@@ -1,5 +1,5 @@
 -- What an actor of the house does with its submissions, by what the host is told.
-use Rattle.std.specs.Prelude.{◌≡◌, ◌≢◌, ◌⊎◌, ℕ, ◌<◌, ◌≤◌, false, Result, Ok, Err, IfOk}
+use Rattle.std.specs.Prelude.{◌≡◌, ◌⊎◌, ℕ, ◌<◌, ◌≤◌, false, Result, Ok, Err, IfOk}
 use Rattle.rt_ids.specs.declared.names.JobId.{JobId}
 use Rattle.rt_ids.specs.declared.names.TicketError.{TicketError}
 use Rattle.rt_ids.specs.declared.names.TicketError.TheVariants as ticket
@@ -14,7 +14,8 @@ use Rattle.rt_link.specs.Fits.{Fits}
 use Rattle.rt_journal.specs.Recorded.{desk_of}
 use Rattle.rt_journal_desk.specs.Submissions.{Submits, numbered}
 use Rattle.rt_journal_desk.specs.Tickets.{RedeemsTicket, DetachesTicket}
-use Rattle.rt_ring_mesh.specs.Ends.{EndsView, out_at}
+use Rattle.rt_ring_mesh.specs.Ends.{out_at}
+use Rattle.rt_runtime_worker.specs.Seats.{UsesOut}
 use Rattle.rt_hosted.specs.declared.answers.Refusal.{Refusal}
 use Rattle.rt_hosted.specs.declared.answers.Refusal.TheVariants as refusal
 use Rattle.rt_hosted.specs.declared.job.HostJob.{HostJob}
@@ -47,11 +48,6 @@ refusal_of_ticket ticket.Pending = refusal.Pending
 abbrev pub told_of_ticket : {A : Type 0} → Result A TicketError → Result A Refusal
 told_of_ticket (Ok outcome) = Ok outcome
 told_of_ticket (Err error) = Err (refusal_of_ticket error)
-
--- no end changes but the one to this core
-pub record UsesOut {J T : Type 0} (core : ℕ) (old new : EndsView J T) : Type 0 where
-  pub others : (other : ℕ) → other ≢ core → out_at other new ≡ out_at other old
-  pub rest : new ≡ record old { outs = new.outs }
 
 -- an order is sent to a core, and noted if it is accepted
 pub record SubmitsTo (to : ℕ) (order : Order HostJob) (old : HostedView) (told : Result JobId Refusal) (new : HostedView) : Type 0 where

@@ -4,36 +4,28 @@ use Rattle.rt_ids.specs.Bursts.{queue_in_turn}
 use Rattle.rt_jobs.specs.declared.job.Step.{Step}
 use Rattle.rt_jobs.specs.Steps.{AfterPoll}
 use Rattle.rt_core.specs.declared.turn.Turn.{Turn}
-use Rattle.rt_core.specs.declared.turn.Turn.TheVariants as turn
 use Rattle.rt_core.specs.declared.turn.PickError.{PickError}
-use Rattle.rt_core.specs.declared.turn.PickError.TheVariants as error
 use Rattle.rt_core.specs.declared.turn.Settled.{Settled}
 use Rattle.rt_core.specs.Answers.{IsReadyTurn}
-use Rattle.rt_journal.specs.Ends.{IsSameSeat, LeavesOwed}
-use Rattle.rt_journal.specs.Owed.{owed_back}
-use Rattle.rt_journal.specs.Recorded.{IsRecorded, RecordedView, desk_of}
+use Rattle.rt_journal.specs.Recorded.{RecordedView}
 use Rattle.rt_journal.specs.Turns.{EndsTurn, Follows, Picks, Settles}
-use Rattle.rt_journal_desk.specs.Ends.{KeepsOuts}
+use Rattle.rt_runtime_worker.specs.Linked.{StaysLinked}
+use Rattle.rt_runtime_worker.specs.Seats.{IsSeated, taken_of}
 use Rattle.rt_hosted.specs.declared.answers.Picked.{Picked}
-use Rattle.rt_hosted.specs.declared.answers.Picked.TheVariants as picked
 use Rattle.rt_hosted.specs.declared.answers.Refusal.{Refusal}
 use Rattle.rt_hosted.specs.declared.answers.Refusal.TheVariants as refusal
 use Rattle.rt_hosted.specs.declared.job.HostJob.{HostJob}
 use Rattle.rt_hosted.specs.Hosted.{HostedView, HasRoom}
 use Rattle.rt_hosted.specs.Jobs.{host_meaning}
+use Rattle.rt_hosted.specs.Takings.{Taking, told_taking}
 
 -- a turn by a pick, or within an open turn
 abbrev pub Turned : Type 0
 Turned = Result (Turn HostJob) PickError
 
--- what the host is told of a turn: of a job by its name, its queue and the host's number of it
+-- what the host is told of a turn
 abbrev pub told_of : Turned → Result Picked Refusal
-told_of (Ok (turn.Start name queue job)) = Ok (picked.Start name queue job.handle)
-told_of (Ok (turn.Resume name queue job)) = Ok (picked.Resume name queue job.handle)
-told_of (Ok (turn.Back name reason order)) = Ok (picked.Back name reason)
-told_of (Ok turn.Idle) = Ok picked.Idle
-told_of (Err error.Busy) = Err refusal.Busy
-told_of (Err error.Spent) = Err refusal.Spent
+told_of turned = told_taking (taken_of turned)
 
 -- no turn is open: none was, and nothing changed, or the open one may not go on and has ended
 abbrev pub EndsIfOpen : RecordedView HostJob ℕ → RecordedView HostJob ℕ → Type 0
@@ -48,15 +40,14 @@ GoesOn old (Err error) new = ⊥
 abbrev pub TurnsTo : RecordedView HostJob ℕ → Turned → RecordedView HostJob ℕ → Type 0
 TurnsTo old turned new = GoesOn old turned new ⊎ ((over : RecordedView HostJob ℕ) × EndsIfOpen old over × Picks host_meaning over turned new)
 
--- what a turn leaves of the core: the outcome of a job that goes back is owed to its sender, and all other ends stay
-pub record TakesOut (old : RecordedView HostJob ℕ) (turned : Turned) (new : RecordedView HostJob ℕ) : Type 0 where
-  pub turns : TurnsTo old turned new
+-- what a turn leaves of the core: the outcome of a job that goes back is given to its sender
+pub record TakesOut (old : HostedView) (out : Taking) (new : HostedView) : Type 0 where
+  pub turned : Turned
+  pub turns : TurnsTo old.recorded turned new.recorded
   pub ready : IsReadyTurn host_meaning turned
-  pub ins : (sender : ℕ) → LeavesOwed sender (owed_back turned sender) old new
-  pub outs : KeepsOuts (desk_of old) (desk_of new)
-  pub seat : IsSameSeat old new
-  pub lanes : new.lanes ≡ old.lanes
-  pub sound : IsRecorded host_meaning new
+  pub out_is : out ≡ taken_of turned
+  pub stays : StaysLinked old new
+  pub seated : IsSeated host_meaning new
 
 -- a turn, and what the host is told of it
 pub record Goes (old : HostedView) (told : Result Picked Refusal) (new : HostedView) : Type 0 where

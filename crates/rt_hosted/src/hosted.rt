@@ -14,11 +14,9 @@ ghost use Rattle.rt_hosted.specs.Turns.{Nexts, SettlesStep};
 
 use crate::answers::{Picked, Refusal};
 use crate::job::HostJob;
-use crate::lent::{collect_on, deliver_on, shut_on};
-use crate::outs::{detach_on, redeem_on, submit_on};
 use crate::passing::hand_on;
-use crate::told::host_order;
-use crate::turns::{Run, go_on, settle_on};
+use crate::told::{host_order, told_detached, told_redeemed, told_sent};
+use crate::turns::{Run, go_on};
 use crate::word::poll_told;
 use arrayvec::ArrayVec;
 use rt_core::Settled;
@@ -27,6 +25,7 @@ use rt_ids::{ActorNo, CoreNo, CoreStats, Mode, Order, Outcome, QueueStats, Ticke
 use rt_jobs::Step;
 use rt_journal::{Recorded, RunningJournal, told_stats};
 use rt_ring_mesh::Ends;
+use rt_runtime_worker::Seat;
 use rt_sinks::Discard;
 use std::alloc::{AllocError, Global};
 use std::marker::Model;
@@ -34,12 +33,11 @@ use std::marker::Model;
 /// The notes that a turn may take: the end of the one before, a pick with its note, and the settling.
 const TURN_NOTES: u16 = 4;
 
-/// A core beside its journal, its actor's ends of the links, and the job of it that the host runs.
+/// A core at its seat, between its journal and its actor's ends of the links, and the job of it that the host runs.
 #[derive(Drop)]
 pub struct Hosted {
     cores: u8,
-    recorded: Recorded<HostJob>,
-    ends: Ends<HostJob>,
+    seat: Seat<HostJob>,
     run: Option<Run>,
     /// What was passed on.
     passed: Discard,
@@ -52,11 +50,10 @@ impl Model for Hosted {
 
     ghost use Rattle.std.specs.Prelude.{◌≡◌};
 
-    ghost view = { λ h. record { recorded = h.recorded; ends = h.ends } };
+    ghost view = { λ h. h.seat };
 
     ghost invariant = { λ h.
-        IsHosted (record { recorded = h.recorded; ends = h.ends }) × IsRunOf h.recorded.core.out h.run × (h.cores ≡ h.recorded.core.cores)
-        × (h.passed ≡ h.recorded.journal.passed) };
+        IsHosted h.seat × IsRunOf h.seat.recorded.core.out h.run × (h.cores ≡ h.seat.recorded.core.cores) × (h.passed ≡ h.seat.recorded.journal.passed) };
 }
 
 impl Hosted {
@@ -78,8 +75,7 @@ impl Hosted {
         recorded.prefault();
         Ok(Hosted {
             cores,
-            recorded,
-            ends,
+            seat: Seat::of(recorded, ends),
             run: None,
             passed: Discard::new(),
         })
@@ -89,14 +85,14 @@ impl Hosted {
     pub fn number(&self) -> CoreNo
         ensures { result ≡ self.now.recorded.core.core }
     {
-        CoreNo(self.ends.number.0)
+        CoreNo(self.actor().0)
     }
 
     /// The number of the core, as that of an actor.
     fn actor(&self) -> ActorNo
         ensures { result ≡ self.now.recorded.core.core }
     {
-        self.ends.number
+        self.seat.actor()
     }
 
     /// Whether there is room for so many notes, beside the one that settles the job that is out.
@@ -104,7 +100,7 @@ impl Hosted {
         ensures { IsTrue result ↔ HasRoom count self.now.recorded }
     {
         let kept: u64 = if self.run.is_some() { 1 } else { 0 };
-        kept + u64::from(count) <= u64::from(self.recorded.journal().free())
+        kept + u64::from(count) <= u64::from(self.seat.recorded().journal().free())
     }
 
     /// Makes the next turn: a job goes out for the host to run it, or is handed back to its sender.
@@ -124,7 +120,7 @@ impl Hosted {
         if !self.has_room(TURN_NOTES) {
             return Err(Refusal::JournalFull);
         }
-        let (told, run) = go_on(&mut self.recorded, &mut self.ends);
+        let (told, run) = go_on(&mut self.seat);
         self.run = run;
         told
     }
@@ -144,7 +140,7 @@ impl Hosted {
         };
         let Run { name, job } = run;
         let ran = poll_told(job, step);
-        Ok(settle_on(&mut self.recorded, &mut self.ends, name, ran, spent))
+        Ok(self.seat.settle(name, ran, spent))
     }
 
     /// Delivers the next order of this sender, if one shows. Whether there was one. The host may run a job meanwhile.
@@ -163,7 +159,7 @@ impl Hosted {
         if !self.has_room(2) {
             return Err(Refusal::JournalFull);
         }
-        Ok(deliver_on(&mut self.recorded, &mut self.ends, sender))
+        Ok(self.seat.deliver(sender))
     }
 
     /// Collects all outcomes that the link to this core shows. How many there were.
@@ -179,10 +175,10 @@ impl Hosted {
         if core.0 >= self.cores {
             return Err(Refusal::NoCore);
         }
-        if !self.has_room(self.recorded.cap()) {
+        if !self.has_room(self.seat.recorded().cap()) {
             return Err(Refusal::JournalFull);
         }
-        Ok(collect_on(&mut self.recorded, &mut self.ends, core))
+        Ok(self.seat.collect_from(core))
     }
 
     /// Shuts the gate of this sender.
@@ -198,16 +194,16 @@ impl Hosted {
         if sender.0 > self.cores {
             return Err(Refusal::NoActor);
         }
-        if !self.recorded.is_closed() {
+        if !self.seat.recorded().is_closed() {
             return Err(Refusal::Open);
         }
-        if self.recorded.gate(sender).is_some() {
+        if self.seat.recorded().gate(sender).is_some() {
             return Err(Refusal::Shut);
         }
         if !self.has_room(1) {
             return Err(Refusal::JournalFull);
         }
-        shut_on(&mut self.recorded, &mut self.ends, sender);
+        self.seat.shut(sender);
         Ok(())
     }
 
@@ -224,7 +220,7 @@ impl Hosted {
         if !self.has_room(1) {
             return Err(Refusal::JournalFull);
         }
-        Ok(self.recorded.close(mode))
+        Ok(self.seat.close(mode))
     }
 
     /// Sends an order to a core, this one or another, with the host's number of its job. A job that the host runs may do so.
@@ -244,7 +240,7 @@ impl Hosted {
             return Err(Refusal::JournalFull);
         }
         let order = host_order(order);
-        submit_on(&mut self.recorded, &mut self.ends, to, order)
+        told_sent(self.seat.submit(to, order))
     }
 
     /// The outcome of a submission, which is gone from then on.
@@ -260,7 +256,7 @@ impl Hosted {
         if !self.has_room(1) {
             return Err(Refusal::JournalFull);
         }
-        redeem_on(&mut self.recorded, &mut self.ends, ticket)
+        told_redeemed(self.seat.redeem(ticket))
     }
 
     /// Nobody will ask for the outcome of a submission.
@@ -276,20 +272,19 @@ impl Hosted {
         if !self.has_room(1) {
             return Err(Refusal::JournalFull);
         }
-        detach_on(&mut self.recorded, &mut self.ends, ticket)
+        told_detached(self.seat.detach(ticket))
     }
 
     /// Whether a link shows an order or an outcome that wasn't seen yet: one load for each link. No clause says that the answer is right.
     pub fn shows(&self) -> bool {
-        self.ends.ins.as_slice().iter().any(|end| end.shows())
-            || self.ends.outs.as_slice().iter().any(|end| end.shows())
+        self.seat.shows()
     }
 
     /// Whether the host runs no job of this core, and no turn of it is open.
     fn is_at_rest(&self) -> bool
         ensures { IsTrue result ↔ IsAtRest self.now.recorded }
     {
-        !self.run.is_some() && !self.recorded.has_open_turn()
+        !self.run.is_some() && !self.seat.recorded().has_open_turn()
     }
 
     /// Whether the core has come to its end: the host runs no job of it, no turn is open, every gate is shut, all behind it was delivered, no
@@ -297,7 +292,7 @@ impl Hosted {
     pub fn is_drained(&self) -> bool
         ensures { IsTrue result ↔ (IsAtRest self.now.recorded × IsDrained self.now.recorded.core.cores self.now.recorded.journal.notes) }
     {
-        self.is_at_rest() && self.recorded.is_drained()
+        self.is_at_rest() && self.seat.recorded().is_drained()
     }
 
     /// The numbers of the core and of its queues, by number. Times are in nanoseconds.
@@ -305,7 +300,7 @@ impl Hosted {
         ensures core { TellsCore self.now.recorded.core.cores self.now.recorded.journal.notes result.0 }
         ensures queues { length self.now.recorded.journal.notes < 2 ^ 64 → TellsQueues self.now.recorded.core.bursts.burst self.now.recorded.journal.notes (array_vec_len result.1) result.1.items }
     {
-        told_stats(&self.recorded)
+        told_stats(self.seat.recorded())
     }
 
     /// Whether the host runs a job of this core.
@@ -319,21 +314,21 @@ impl Hosted {
     pub fn mode(&self) -> Option<Mode>
         ensures { result ≡ self.now.recorded.core.mode }
     {
-        self.recorded.core().mode()
+        self.seat.recorded().core().mode()
     }
 
     /// For how many jobs there is room.
     pub fn room(&self) -> u64
         ensures { result ≡ (self.now.recorded.core.cores + 1) * self.now.recorded.cap }
     {
-        (u64::from(self.cores) + 1) * u64::from(self.recorded.cap())
+        (u64::from(self.cores) + 1) * u64::from(self.seat.recorded().cap())
     }
 
     /// The notes of this core.
     pub fn journal(&self) -> &RunningJournal<u64>
         ensures { result.now ≡ self.now.recorded.journal }
     {
-        self.recorded.journal()
+        self.seat.recorded().journal()
     }
 
     /// Hands on the text of the notes that the journal keeps, in the form of the journal text. It keeps none of them from then on, and has as many
@@ -347,7 +342,7 @@ impl Hosted {
         ensures hosted { IsHosted self.new }
     {
         let number = self.actor();
-        hand_on(alloc, number, &mut self.recorded, &mut self.passed, bytes)
+        hand_on(alloc, number, &mut self.seat, &mut self.passed, bytes)
     }
 
     /// Whether a note was passed on.
@@ -370,7 +365,8 @@ impl Hosted {
         if !self.is_drained() {
             return Err(self);
         }
-        let Hosted { recorded, ends, .. } = self;
+        let Hosted { seat, .. } = self;
+        let (recorded, ends) = seat.into_parts();
         Ok((recorded.into_journal(), ends))
     }
 }

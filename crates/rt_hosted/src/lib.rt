@@ -5,8 +5,6 @@ pub mod answers;
 pub mod flag;
 pub mod hosted;
 pub mod job;
-mod lent;
-mod outs;
 mod passing;
 pub mod told;
 mod turns;

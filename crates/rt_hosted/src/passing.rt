@@ -1,15 +1,15 @@
 //! How a core hands on the notes that its journal keeps.
 
 ghost use Rattle.std.specs.Prelude.{◌≡◌};
-ghost use Rattle.rt_journal.specs.Recorded.{IsRecorded};
 ghost use Rattle.rt_journal_notes.specs.Journals.{passed_all};
 ghost use Rattle.rt_hosted_parts.specs.Parts.{PassesPart};
+ghost use Rattle.rt_runtime_worker.specs.Seats.{IsSeated};
 ghost use Rattle.rt_hosted.specs.Jobs.{host_meaning};
 
 use crate::job::HostJob;
 use rt_hosted_parts::{PassError, copy_kept};
 use rt_ids::ActorNo;
-use rt_journal::Recorded;
+use rt_runtime_worker::Seat;
 use rt_sinks::Discard;
 use std::alloc::Global;
 
@@ -17,30 +17,29 @@ use std::alloc::Global;
 pub(crate) fn hand_on(
     alloc: Global,
     number: ActorNo,
-    recorded: &mut Recorded<HostJob>,
+    seat: &mut Seat<HostJob>,
     passed: &mut Discard,
     bytes: &mut [u8],
 ) -> Result<u64, PassError>
-    requires had { passed.old ≡ recorded.old.journal.passed }
-    requires sound { IsRecorded host_meaning recorded.old }
-    ensures parts { PassesPart number recorded.old.journal bytes.old result bytes.new recorded.new.journal }
-    ensures rest { recorded.new ≡ record recorded.old { journal = recorded.new.journal } }
-    ensures has { passed.new ≡ recorded.new.journal.passed }
-    ensures sound { IsRecorded host_meaning recorded.new }
+    requires { passed.old ≡ seat.old.recorded.journal.passed }
+    ensures parts { PassesPart number seat.old.recorded.journal bytes.old result bytes.new seat.new.recorded.journal }
+    ensures rest { seat.new ≡ record seat.old { recorded = record seat.old.recorded { journal = seat.new.recorded.journal } } }
+    ensures has { passed.new ≡ seat.new.recorded.journal.passed }
+    ensures seated { IsSeated host_meaning seat.new }
 {
-    let count = copy_kept(alloc, number, recorded.journal(), bytes)?;
-    forget(recorded, passed);
+    let count = copy_kept(alloc, number, seat.recorded().journal(), bytes)?;
+    forget(seat, passed);
     Ok(count)
 }
 
 /// Passes on all notes that the journal keeps, to a sink that keeps none.
-fn forget(recorded: &mut Recorded<HostJob>, passed: &mut Discard)
-    requires { passed.old ≡ recorded.old.journal.passed }
-    ensures rest { recorded.new ≡ record recorded.old { journal = passed_all recorded.old.journal } }
-    ensures has { passed.new ≡ recorded.new.journal.passed }
-    ensures sound { IsRecorded host_meaning recorded.new }
+fn forget(seat: &mut Seat<HostJob>, passed: &mut Discard)
+    requires { passed.old ≡ seat.old.recorded.journal.passed }
+    ensures rest { seat.new ≡ record seat.old { recorded = record seat.old.recorded { journal = passed_all seat.old.recorded.journal } } }
+    ensures has { passed.new ≡ seat.new.recorded.journal.passed }
+    ensures seated { IsSeated host_meaning seat.new }
 {
-    let Ok(()) = recorded.pass_on(passed) else {
+    let Ok(()) = seat.pass_on(passed) else {
         unreachable!()
     };
 }

@@ -1,28 +1,21 @@
-//! How a job goes out for the host to run it, and how its run is settled.
+//! How a job goes out for the host to run it.
 
-ghost use Rattle.std.specs.Prelude.{◌≡◌, ℕ, ◌+◌, ◌<◌, ◌≤◌, None, Ok, Some, IfSome, length};
+ghost use Rattle.std.specs.Prelude.{◌≡◌, ◌+◌, ◌<◌, ◌≤◌, None, Ok, Some, IfSome, length};
 ghost use Rattle.rt_core.specs.Answers.{IsReadyTurn};
-ghost use Rattle.rt_ids.specs.declared.note.OutcomeNote.TheVariants.{Returned};
-ghost use Rattle.rt_journal.specs.Ends.{IsSameSeat, KeepsIn};
-ghost use Rattle.rt_journal.specs.Owed.{IsSentUnder};
-ghost use Rattle.rt_journal.specs.Recorded.{IsRecorded, desk_of};
-ghost use Rattle.rt_journal.specs.Turns.{Follows, IsOut, IsOutUnder, IsPolled, Settles};
-ghost use Rattle.rt_journal_desk.specs.Ends.{KeepsOuts};
-ghost use Rattle.rt_link.specs.Fits.{Fits};
-ghost use Rattle.rt_ring_mesh.specs.Ends.{SameEnds};
-ghost use Rattle.rt_runtime_worker.specs.Linked.{AreBeside, AreOwing, SeesNoLess, StaysLinked};
-ghost use Rattle.rt_hosted.specs.declared.answers.Picked.TheVariants.{Back, Resume, Start};
+ghost use Rattle.rt_journal.specs.Turns.{Follows};
+ghost use Rattle.rt_runtime_worker.specs.Linked.{StaysLinked};
+ghost use Rattle.rt_runtime_worker.specs.Seats.{IsSeated};
+ghost use Rattle.rt_hosted.specs.declared.answers.Picked.TheVariants.{Resume, Start};
 ghost use Rattle.rt_hosted.specs.Hosted.{IsHosted, IsRunOf};
 ghost use Rattle.rt_hosted.specs.Jobs.{host_meaning};
+ghost use Rattle.rt_hosted.specs.Takings.{run_of, told_taking};
 ghost use Rattle.rt_hosted.specs.Turns.{EndsIfOpen, Goes, TakesOut};
 
 use crate::answers::{Picked, Refusal};
 use crate::job::HostJob;
-use rt_core::{PickError, Settled, Turn};
-use rt_ids::{JobId, Order, QueueNo, Reason};
-use rt_jobs::Ran;
-use rt_journal::Recorded;
-use rt_ring_mesh::Ends;
+use rt_core::{PickError, Turn};
+use rt_ids::{JobId, QueueNo};
+use rt_runtime_worker::{Seat, Taken};
 
 /// A job that the host runs, under its name.
 #[derive(Drop)]
@@ -49,114 +42,64 @@ fn resumed(run: Run, queue: QueueNo) -> (Result<Picked, Refusal>, Option<Run>)
     (Ok(told), Some(run))
 }
 
-/// This job was handed back to its sender.
-fn back(name: &JobId, reason: &Reason) -> Picked
-    ensures { result ≡ Back name.now reason.now }
+/// What the host is told of a turn, and the job that it is to run.
+fn told_turn(taken: Result<Taken<HostJob>, PickError>) -> (Result<Picked, Refusal>, Option<Run>)
+    ensures told { result.0 ≡ told_taking taken }
+    ensures run { result.1 ≡ run_of taken }
 {
-    Picked::Back(*name, *reason)
-}
-
-/// Takes out the next job of the open turn. If none is open, or the open one may not go on and is ended, there is none.
-fn follow_or_end(recorded: &mut Recorded<HostJob>) -> Option<Turn<HostJob>>
-    requires rest { recorded.old.core.out ≡ None }
-    requires sound { IsRecorded host_meaning recorded.old }
-    requires room { length recorded.old.journal.notes < recorded.old.journal.room }
-    ensures follows { IfSome result (λ turn. Follows recorded.old (Some turn) recorded.new) }
-    ensures ready { IfSome result (λ turn. IsReadyTurn host_meaning (Ok turn)) }
-    ensures over { result ≡ None → EndsIfOpen recorded.old recorded.new }
-    ensures few { length recorded.new.journal.notes ≤ length recorded.old.journal.notes + 1 }
-    ensures ins { (sender : ℕ) → KeepsIn sender recorded.old recorded.new }
-    ensures outs { KeepsOuts (desk_of recorded.old) (desk_of recorded.new) }
-    ensures seat { IsSameSeat recorded.old recorded.new }
-    ensures lanes { recorded.new.lanes ≡ recorded.old.lanes }
-    ensures sound { IsRecorded host_meaning recorded.new }
-{
-    if !recorded.has_open_turn() {
-        return None;
-    }
-    if let Some(turn) = recorded.follow() {
-        return Some(turn);
-    }
-    recorded.end_turn();
-    None
-}
-
-/// Takes out the next job of the open turn, or that of the right pick once no turn is open, or hands it back.
-fn take_out(recorded: &mut Recorded<HostJob>) -> Result<Turn<HostJob>, PickError>
-    requires rest { recorded.old.core.out ≡ None }
-    requires sound { IsRecorded host_meaning recorded.old }
-    requires room { length recorded.old.journal.notes + 3 ≤ recorded.old.journal.room }
-    ensures { TakesOut recorded.old result recorded.new }
-{
-    match follow_or_end(recorded) {
-        Some(turn) => Ok(turn),
-        None => recorded.pick(),
-    }
-}
-
-/// Gives the outcome of a job that was handed back, on the end of its sender.
-fn give_on(
-    recorded: &Recorded<HostJob>,
-    ends: &mut Ends<HostJob>,
-    name: JobId,
-    reason: Reason,
-    order: Order<HostJob>,
-)
-    requires known { name.from ≤ recorded.now.core.cores }
-    requires sent { IsSentUnder host_meaning recorded.now.took name order }
-    requires owing { AreOwing (Fits host_meaning) name.from (Some (name, Returned reason)) recorded.now ends.old }
-    ensures beside { AreBeside (Fits host_meaning) recorded.now ends.new }
-    ensures ends { SameEnds ends.old ends.new }
-    ensures sees { SeesNoLess ends.old ends.new }
-{
-    recorded.give_back(&mut ends.ins[name.from.0 as usize], name, reason, order);
-}
-
-/// Makes the next turn: what the host is told of it, and the job that it is to run. An outcome of a job that goes back is given at once.
-pub(crate) fn go_on(
-    recorded: &mut Recorded<HostJob>,
-    ends: &mut Ends<HostJob>,
-) -> (Result<Picked, Refusal>, Option<Run>)
-    requires rest { recorded.old.core.out ≡ None }
-    requires sound { IsRecorded host_meaning recorded.old }
-    requires beside { AreBeside (Fits host_meaning) recorded.old ends.old }
-    requires room { length recorded.old.journal.notes + 4 ≤ recorded.old.journal.room }
-    ensures goes { Goes (record { recorded = recorded.old; ends = ends.old }) result.0 (record { recorded = recorded.new; ends = ends.new }) }
-    ensures runs { IsRunOf recorded.new.core.out result.1 }
-    ensures hosted { IsHosted (record { recorded = recorded.new; ends = ends.new }) }
-    ensures stays { StaysLinked (record { recorded = recorded.old; ends = ends.old }) (record { recorded = recorded.new; ends = ends.new }) }
-{
-    match take_out(recorded) {
-        Ok(Turn::Start(name, queue, job)) => started(Run { name, job }, queue),
-        Ok(Turn::Resume(name, queue, job)) => resumed(Run { name, job }, queue),
-        Ok(Turn::Back(name, reason, order)) => {
-            let told = back(&name, &reason);
-            give_on(recorded, ends, name, reason, order);
-            (Ok(told), None)
-        }
-        Ok(Turn::Idle) => (Ok(Picked::Idle), None),
+    match taken {
+        Ok(Taken::Start(name, queue, job)) => started(Run { name, job }, queue),
+        Ok(Taken::Resume(name, queue, job)) => resumed(Run { name, job }, queue),
+        Ok(Taken::Back(name, reason)) => (Ok(Picked::Back(name, reason)), None),
+        Ok(Taken::Idle) => (Ok(Picked::Idle), None),
         Err(PickError::Busy) => (Err(Refusal::Busy), None),
         Err(PickError::Spent) => (Err(Refusal::Spent), None),
     }
 }
 
-/// Settles the run of the job that is out, and gives its outcome on the end of its sender, if it is done.
-pub(crate) fn settle_on(
-    recorded: &mut Recorded<HostJob>,
-    ends: &mut Ends<HostJob>,
-    name: JobId,
-    ran: Ran<HostJob>,
-    spent: u64,
-) -> Settled<u64>
-    requires out { IsOut recorded.old.core.out ran.before }
-    requires named { IsOutUnder recorded.old.core.out name }
-    requires known { name.from ≤ recorded.old.core.cores }
-    requires beside { AreBeside (Fits host_meaning) recorded.old ends.old }
-    requires polled { IsPolled host_meaning ran }
-    requires room { length recorded.old.journal.notes < recorded.old.journal.room }
-    ensures settles { Settles host_meaning recorded.old ran spent result recorded.new }
-    ensures hosted { IsHosted (record { recorded = recorded.new; ends = ends.new }) }
-    ensures stays { StaysLinked (record { recorded = recorded.old; ends = ends.old }) (record { recorded = recorded.new; ends = ends.new }) }
+/// Takes out the next job of the open turn. If none is open, or the open one may not go on and is ended, there is none.
+fn follow_or_end(seat: &mut Seat<HostJob>) -> Option<Turn<HostJob>>
+    requires rest { seat.old.recorded.core.out ≡ None }
+    requires room { length seat.old.recorded.journal.notes < seat.old.recorded.journal.room }
+    ensures follows { IfSome result (λ turn. Follows seat.old.recorded (Some turn) seat.new.recorded) }
+    ensures ready { IfSome result (λ turn. IsReadyTurn host_meaning (Ok turn)) }
+    ensures over { result ≡ None → EndsIfOpen seat.old.recorded seat.new.recorded }
+    ensures few { length seat.new.recorded.journal.notes ≤ length seat.old.recorded.journal.notes + 1 }
+    ensures stays { StaysLinked seat.old seat.new }
+    ensures seated { IsSeated host_meaning seat.new }
 {
-    recorded.settle(&mut ends.ins[name.from.0 as usize], name, ran, spent)
+    if !seat.recorded().has_open_turn() {
+        return None;
+    }
+    if let Some(turn) = seat.follow() {
+        return Some(turn);
+    }
+    seat.end_turn();
+    None
+}
+
+/// Takes out the next job of the open turn, or that of the right pick once no turn is open, or hands it back.
+fn take_out(seat: &mut Seat<HostJob>) -> Result<Taken<HostJob>, PickError>
+    requires rest { seat.old.recorded.core.out ≡ None }
+    requires room { length seat.old.recorded.journal.notes + 3 ≤ seat.old.recorded.journal.room }
+    ensures { TakesOut seat.old result seat.new }
+{
+    match follow_or_end(seat) {
+        Some(Turn::Start(name, queue, job)) => Ok(Taken::Start(name, queue, job)),
+        Some(Turn::Resume(name, queue, job)) => Ok(Taken::Resume(name, queue, job)),
+        Some(Turn::Back(..)) | Some(Turn::Idle) => unreachable!(),
+        None => seat.pick(),
+    }
+}
+
+/// Makes the next turn: what the host is told of it, and the job that it is to run.
+pub(crate) fn go_on(seat: &mut Seat<HostJob>) -> (Result<Picked, Refusal>, Option<Run>)
+    requires rest { seat.old.recorded.core.out ≡ None }
+    requires room { length seat.old.recorded.journal.notes + 4 ≤ seat.old.recorded.journal.room }
+    ensures goes { Goes seat.old result.0 seat.new }
+    ensures runs { IsRunOf seat.new.recorded.core.out result.1 }
+    ensures hosted { IsHosted seat.new }
+    ensures stays { StaysLinked seat.old seat.new }
+{
+    told_turn(take_out(seat))
 }

@@ -5,6 +5,7 @@ use Rattle.std.proofs.Crossing.{crosses}
 use Rattle.std.specs.contracts.alloc.Global.{the_row as global}
 use Rattle.std.specs.contracts.impls.GlobalAllocator.TheImpl.{ghosts as its_alloc}
 use Rattle.std.below.core.specs.contracts.clone.Clone+copy.TheImpl.{ghosts as copied}
+use Rattle.rt_jobs.specs.contracts.state.UnitCoreState.TheImpl.{ghosts as local}
 use Rattle.rt_timeline.proofs.tree.Tree.TheLaws.TheKnot as tree
 use Rattle.rt_desk.proofs.trie.Trie.TheLaws.TheKnot as trie
 use Rattle.rt_desk.specs.contracts.lane.Lane.{the_row as lane}
@@ -15,6 +16,7 @@ use Rattle.rt_sinks.proofs.discard.Discard.TheSendSync as discard
 use Rattle.rt_core.specs.contracts.one_core.Core.{the_row as core}
 use Rattle.rt_journal_desk.specs.contracts.desk.RecordedDesk.{the_row as desk}
 use Rattle.rt_journal.specs.contracts.recorded.Recorded.{the_row as recorded}
+use Rattle.rt_runtime_worker.specs.contracts.seat.Seat.{the_row as seat}
 use Rattle.rt_hosted.specs.contracts.job.HostJob.{the_row as job}
 use Rattle.rt_hosted.specs.contracts.job.HostJobTask.TheImpl.{ghosts as task}
 use Rattle.rt_hosted.specs.contracts.hosted.Hosted.{the_row as hosted}
@@ -38,9 +40,12 @@ desk_send = search (lane_send, journal.the_send, crosses, sendable) depth 60 fit
 recorded_send : IsSend (recorded job global unit-field.row task its_alloc (copied global))
 recorded_send = search (core_send, desk_send, crosses, sendable) depth 60 fits 20000
 
+seat_send : IsSend (seat job unit-field.row task local)
+seat_send = search (recorded_send, ends.the_send, crosses, sendable) depth 60 fits 20000
+
 -- a core
 pub hosted_send : IsSend hosted
-hosted_send = search (recorded_send, ends.the_send, discard.the_send, job_send, crosses, sendable) depth 60 fits 20000
+hosted_send = search (seat_send, discard.the_send, crosses, sendable) depth 60 fits 20000
 
 -- the outside actor
 pub outside_send : IsSend outside

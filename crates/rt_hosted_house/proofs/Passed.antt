@@ -2,12 +2,13 @@
 use Rattle.std.proofs.Common.{◌≡◌, ℕ, List, sym, ap, ◌∙◌, subst}
 use Rattle.std.specs.Prelude.{Result, Ok, Err}
 use Rattle.rt_journal_desk.specs.Submissions.{DeskView}
-use Rattle.rt_journal_notes.specs.Journals.{JournalView}
+use Rattle.rt_journal_notes.specs.Journals.{JournalView, passed_all}
 use Rattle.rt_ring_mesh.specs.Ends.{EndsView}
 use Rattle.rt_hosted_parts.specs.declared.part.PassError.{PassError}
 use Rattle.rt_hosted_parts.specs.Parts.{PassesPart}
+use Rattle.rt_runtime_worker.proofs.Passed.{outs_again}
 use Rattle.rt_hosted.specs.declared.job.HostJob.{HostJob}
-use Rattle.rt_hosted.proofs.Passed.{outs_again}
+use Rattle.rt_hosted.specs.Jobs.{host_meaning}
 use Rattle.rt_hosted_house.specs.Outside.{CallerView, SendsFrom}
 
 abbrev Desk : Type 0
@@ -24,7 +25,7 @@ HandedView old new ends = the_caller new ends ≡ the_caller (record old { journ
 pub handed_sends : (actor : ℕ) (before after : List ℕ) (answer : Result ℕ PassError) (old new : Desk) (ends : EndsView HostJob ℕ) → PassesPart actor old.journal before answer after new.journal → new ≡ record old { journal = new.journal } →
     SendsFrom (record { desk = old; ends = ends }) → SendsFrom (record { desk = new; ends = ends })
 handed_sends actor before after (Ok count) old new ends passes rest sends =
-    subst (λ (desk : Desk). SendsFrom (record { desk = desk; ends = ends })) (sym (rest ∙ ap (λ (journal : JournalView ℕ). record old { journal = journal }) passes.1)) (outs_again old ends.outs sends)
+    subst (λ (desk : Desk). SendsFrom (record { desk = desk; ends = ends })) (sym (rest ∙ ap (λ (journal : JournalView ℕ). record old { journal = journal }) passes.1)) (outs_again old.journal.notes (passed_all old.journal).room host_meaning old ends.outs sends)
 handed_sends actor before after (Err error) old new ends passes rest sends =
     subst (λ (desk : Desk). SendsFrom (record { desk = desk; ends = ends })) (sym (rest ∙ ap (λ (journal : JournalView ℕ). record old { journal = journal }) passes.1)) sends
 

@@ -13,12 +13,13 @@ use Rattle.rt_journal_desk.specs.Submissions.{DeskView, Submits, numbered}
 use Rattle.rt_journal_desk.specs.Tickets.{CollectsFrom, DetachesTicket, GetsAll, RedeemsTicket}
 use Rattle.rt_ring_mesh.specs.Ends.{EndsView, SameEnds, out_at}
 use Rattle.rt_runtime_worker.specs.Linked.{Grows}
+use Rattle.rt_runtime_worker.specs.Seats.{UsesOut}
 use Rattle.rt_runtime_worker.specs.Together.{OutsideView}
 use Rattle.rt_hosted.specs.declared.answers.Refusal.{Refusal}
 use Rattle.rt_hosted.specs.declared.answers.Refusal.TheVariants as refusal
 use Rattle.rt_hosted.specs.declared.job.HostJob.{HostJob}
 use Rattle.rt_hosted.specs.Jobs.{host_meaning}
-use Rattle.rt_hosted.specs.Submissions.{UsesOut, told_of_send, told_of_ticket}
+use Rattle.rt_hosted.specs.Submissions.{told_of_send, told_of_ticket}
 
 -- its journal, and its ends
 abbrev pub CallerView : Type 0

@@ -26,7 +26,7 @@ pub(crate) fn submit_on(
     ensures stays { StaysOutside (record { desk = desk.old; ends = ends.old }) (record { desk = desk.new; ends = ends.new }) }
     ensures sends { SendsFrom (record { desk = desk.new; ends = ends.new }) }
 {
-    told_sent(desk.submit(&mut ends.outs[to.0 as usize], to, order))
+    told_sent(desk.submit(ends.out_mut(to), to, order))
 }
 
 /// Collects all outcomes that the end to this core shows. How many there were.
@@ -42,7 +42,7 @@ pub(crate) fn collect_on(
     ensures stays { StaysOutside (record { desk = desk.old; ends = ends.old }) (record { desk = desk.new; ends = ends.new }) }
     ensures sends { SendsFrom (record { desk = desk.new; ends = ends.new }) }
 {
-    desk.collect_from(&mut ends.outs[core.0 as usize], core)
+    desk.collect_from(ends.out_mut(core), core)
 }
 
 /// Redeems a ticket on the end to its core.
@@ -61,7 +61,7 @@ pub(crate) fn redeem_on(
         return Err(Refusal::Unknown);
     }
     let to = ticket.name().to;
-    told_redeemed(desk.redeem(&mut ends.outs[to.0 as usize], ticket))
+    told_redeemed(desk.redeem(ends.out_mut(to), ticket))
 }
 
 /// Detaches a ticket on the end to its core.
@@ -80,5 +80,5 @@ pub(crate) fn detach_on(
         return Err(Refusal::Unknown);
     }
     let to = ticket.name().to;
-    told_detached(desk.detach(&mut ends.outs[to.0 as usize], ticket))
+    told_detached(desk.detach(ends.out_mut(to), ticket))
 }

@@ -1,3 +1,4 @@
 pub mod Ends
 pub mod Grid
 pub mod Laws
+pub mod Lending

@@ -1,9 +1,11 @@
 //! What one actor has of the links.
 
 ghost use Rattle.std.specs.Prelude.{◌≡◌, ◌<◌, [], ◌∷◌, ◌++◌, length, IfOk, OnOk, IfSome, IsSome};
+ghost use Rattle.std.specs.Borrow.{sem};
+ghost use Rattle.rt_ring_mesh.specs.Ends.{out_at, in_at};
 
 use rt_fixed::SealedVec;
-use rt_ids::ActorNo;
+use rt_ids::{ActorNo, CoreNo};
 use rt_jobs::Task;
 use rt_ring::{RingIn, RingOut};
 use std::alloc::{AllocError, Global};
@@ -37,6 +39,26 @@ impl<J: Task> Model for Ends<J> {
 }
 
 impl<J: Task> Ends<J> {
+    ghost use Rattle.rt_ring_mesh.specs.Lending.{LendsOut, LendsIn};
+
+    /// The end of the link to this core.
+    pub fn out_mut(&mut self, core: CoreNo) -> &mut RingOut<J>
+        requires there { core < length self.old.outs }
+        ensures value { result.now ≡ out_at core self.old }
+        ensures* lends { sem 𝓛 (LendsOut J.row J.Out.row J.Local.row J.Task J.Local.CoreState self.entry core result) }
+    {
+        &mut self.outs[core.0 as usize]
+    }
+
+    /// The end of the link from this actor.
+    pub fn in_mut(&mut self, sender: ActorNo) -> &mut RingIn<J>
+        requires there { sender < length self.old.ins }
+        ensures value { result.now ≡ in_at sender self.old }
+        ensures* lends { sem 𝓛 (LendsIn J.row J.Out.row J.Local.row J.Task J.Local.CoreState self.entry sender result) }
+    {
+        &mut self.ins[sender.0 as usize]
+    }
+
     // Takes out the end of the link to the last core.
     pub(crate) fn pop_out(&mut self) -> Option<RingOut<J>>
         ensures some { IfSome result (λ end. self.old ≡ record self.new { outs = self.new.outs ++ end ∷ [] }) }

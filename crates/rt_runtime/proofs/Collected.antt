@@ -1,5 +1,5 @@
 -- What a collection tells: all that the end shows, and how many outcomes of it are new.
-use Rattle.std.proofs.Common.{◌≡◌, ℕ, ◌+◌, List, [], ◌∷◌, ◌++◌, length, ◌∙◌, ap, arith, take, Some, None, length-append}
+use Rattle.std.proofs.Common.{◌≡◌, ℕ, ◌+◌, ◌<◌, List, [], ◌∷◌, ◌++◌, length, ◌∙◌, ap, arith, take, subst, Some, None, length-append}
 use Rattle.std.proofs.lemmas.List.{length-map, length-take-le, take_all}
 use Rattle.std.proofs.lemmas.Bool.{eq-eqb}
 use Rattle.std.specs.Prelude.{cond}
@@ -10,7 +10,16 @@ use Rattle.rt_ids.specs.Journal.{Journal, with_last}
 use Rattle.rt_link.specs.declared.ends.Outward.{Outward}
 use Rattle.rt_journal_desk.specs.Ends.{IsOutOf, named_outcomes}
 use Rattle.rt_journal_desk.specs.Submissions.{DeskView}
-use Rattle.rt_journal_desk.specs.Tickets.{AreCollected, CollectsFrom}
+use Rattle.rt_journal_desk.specs.Tickets.{AreCollected, CollectsFrom, GetsAll}
+use Rattle.rt_ids.specs.declared.order.Order.{Order}
+use Rattle.rt_ids.specs.declared.order.Outcome.{Outcome}
+use Rattle.rt_ring_mesh.specs.Ends.{out_at}
+use Rattle.rt_runtime_worker.specs.Together.{OutsideView}
+use Rattle.rt_runtime.specs.Outside.{UsesOut}
+use Rattle.rt_runtime.specs.State.{RuntimeView, outside_of}
+use Rattle.rt_runtime.specs.Stored.{IsRuntime}
+use Rattle.rt_runtime.specs.Tickets.{CollectsHere}
+use Rattle.rt_runtime.proofs.Sent.{nothing_on}
 
 -- so many notes of collections tell so many outcomes more
 told_more : {T : Type 0} (core : ℕ) (notes : List (Note T)) (before : Journal T) → AreCollected core notes → length (collected_outcomes core (notes ++ before)) ≡ length notes + length (collected_outcomes core before)
@@ -42,3 +51,18 @@ module _ {J T : Type 0} where
       let last = told_count core new later credits is in
       let more = ap (λ journal. length (collected_outcomes core journal.notes)) noted ∙ told_more core notes old.journal.notes are in
       omega (arith, first, last, more, long)
+
+-- a runtime whose outside actor collected all that the end to one core shows, over what was seen of it
+pub collects_here : {J T : Type 0} {fits : Order J → Outcome J T → Type 0} (view : RuntimeView J T) → IsRuntime fits view → (core : ℕ) → core < view.desk.cores → (outside : OutsideView J T) → UsesOut fits core (outside_of view) outside →
+    (count : ℕ) → CollectsFrom core view.desk count outside.desk → GetsAll (out_at core view.ends).out (out_at core outside.ends).out → (seen : RuntimeView J T) → view ≡ seen → CollectsHere core seen count (record view { desk = outside.desk; ends = outside.ends })
+collects_here {J} {T} view is core low outside uses count collects shown seen same =
+    let was = is.outside.outs core low in
+    let now = uses.seated.outside.outs core (omega (arith, low, ap (λ desk. desk.cores) uses.rest)) in
+    subst (λ (was : RuntimeView J T). CollectsHere core was count (record view { desk = outside.desk; ends = outside.ends })) same
+    (record {
+      collects = collects;
+      shown = shown;
+      told = told_all core outside.desk _ _ shown.2 now;
+      counted = counted_all core view.desk outside.desk _ _ _ _ count collects was now;
+      nothing = nothing_on view core outside uses (ap (λ out. out.sent) shown.0) (ap (λ out. out.closed) shown.0);
+    })

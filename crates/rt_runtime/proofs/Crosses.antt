@@ -21,6 +21,7 @@ use Rattle.rt_journal_desk.specs.contracts.desk.RecordedDesk.{the_row as desk}
 use Rattle.rt_journal.specs.contracts.recorded.Recorded.{the_row as recorded}
 use Rattle.rt_runtime_worker.proofs.bell.Bell.TheSendSync as bell
 use Rattle.rt_watch.proofs.publisher.Publisher.TheSendSync as publisher
+use Rattle.rt_runtime_worker.specs.contracts.seat.Seat.{the_row as seat}
 use Rattle.rt_runtime_worker.specs.contracts.linked.Linked.{the_row as linked}
 use Rattle.rt_runtime_worker.specs.contracts.ended.Ended.{the_row as ended}
 use Rattle.rt_runtime_worker.specs.contracts.worker.Worker.{the_row as worker}
@@ -39,8 +40,11 @@ module _ (T L : RattleType) (n : ℕ) (t : Ghosts (param 0 T).Denot ℕ (param n
   recorded_send : IsSend (recorded (param 0 T) global (param n L) t its_alloc (copied global))
   recorded_send = search (core_send, desk_send, crosses, sendable) depth 60 fits 20000
 
+  seat_send : IsSend (seat (param 0 T) (param n L) t b)
+  seat_send = search (recorded_send, ends.the_send, crosses, sendable) depth 60 fits 20000
+
   linked_send : IsSend (linked (param 0 T) (param n L) t b)
-  linked_send = search (recorded_send, ends.the_send, crosses, sendable) depth 60 fits 20000
+  linked_send = search (seat_send, crosses, sendable) depth 60 fits 20000
 
   module _ (S : RattleType) (sink : Passes (param 3 S).Denot) (s : IsSend (param 3 S)) where
     pub ended_send : IsSend (ended (param 0 T) (param 3 S) (param n L) t b sink)

@@ -1,33 +1,29 @@
 -- The outside actor after it passed on what is kept, and the room that there is then.
-use Rattle.std.proofs.Common.{◌≡◌, ℕ, zero, suc, ◌+◌, ◌*◌, ◌<◌, ◌≤◌, Bool, List, [], ◌∷◌, ◌++◌, length, map, take, sym, ◌∙◌, ap, subst, arith, inr, Result, Ok, Err}
+use Rattle.std.proofs.Common.{◌≡◌, ℕ, zero, suc, ◌+◌, ◌*◌, ◌<◌, ◌≤◌, Bool, true, List, length, sym, ◌∙◌, ap, subst, arith, inr, Result, Ok, Err}
 use Rattle.std.specs.Prelude.{OnErr, OnOk, Option, is_err, sum_by}
 use Rattle.rt_ids.specs.declared.order.Order.{Order}
 use Rattle.rt_ids.specs.declared.order.Outcome.{Outcome}
-use Rattle.rt_ids.specs.Filters.{accepted_orders, collected_outcomes}
 use Rattle.rt_ids.specs.Journal.{Journal}
 use Rattle.rt_ids.specs.Outstanding.{outstanding_count}
-use Rattle.rt_ids.specs.Spelled.{IsWithinLimits}
-use Rattle.rt_journal_notes.specs.Journals.{JournalView, free_notes, places_of}
+use Rattle.rt_journal_notes.specs.Journals.{JournalView, free_notes, passed_all, places_of}
 use Rattle.rt_journal_notes.specs.Passing.{IsAsked, PassesOn}
 use Rattle.rt_journal_notes.specs.declared.sink.Refused.{Refused}
-use Rattle.rt_journal_desk.specs.Ends.{IsOutOf, named_outcomes}
-use Rattle.rt_journal_desk.specs.Orders.{numbered_orders}
+use Rattle.rt_journal_desk.specs.Ends.{IsOutOf}
 use Rattle.rt_journal_desk.specs.Spending.{booked, due_of}
-use Rattle.rt_journal_desk.specs.Submissions.{DeskView, IsWritten, terms_of_desk}
+use Rattle.rt_journal_desk.specs.Submissions.{DeskView}
 use Rattle.rt_journal_desk.specs.Tickets.{HasLane}
+use Rattle.rt_journal_desk.proofs.Passed.{passed_holds}
 use Rattle.rt_journal_desk.proofs.Spending.{within_room}
 use Rattle.rt_ring_mesh.specs.Ends.{out_at}
-use Rattle.rt_ring_mesh.specs.Grid.{IsGrid}
-use Rattle.rt_runtime_config.specs.Configs.{least_room}
-use Rattle.rt_runtime_worker.specs.Opening.{IsWorkerOf}
-use Rattle.rt_runtime_worker.specs.Together.{worker_at}
+use Rattle.rt_runtime_worker.specs.Together.{OutsideView}
+use Rattle.rt_runtime.specs.Outside.{IsSeated}
 use Rattle.rt_runtime.specs.Passing.{AsksOnce, PassesHere, passed_on, refused_of}
 use Rattle.rt_runtime.specs.Sends.{MakesRoom, outstanding_upto, room_left}
-use Rattle.rt_runtime.specs.State.{PassesNothing, RuntimeView}
-use Rattle.rt_runtime.specs.Stored.{IsRuntime, IsSinkOf, IsStored}
+use Rattle.rt_runtime.specs.State.{RuntimeView, outside_of}
+use Rattle.rt_runtime.specs.Stored.{IsHeld}
 use Rattle.rt_runtime.proofs.Booked.{due_all}
 
-module _ {J T : Type 0} {fits : Order J → Outcome J T → Type 0} (view : RuntimeView J T) (is : IsRuntime fits view) where
+module _ {J T : Type 0} {fits : Order J → Outcome J T → Type 0} (view : OutsideView J T) (is : IsSeated fits view) where
   -- no more submissions to a core are outstanding than a link holds
   few_at : (core : ℕ) → core < view.desk.cores → outstanding_count core view.desk.journal.notes ≤ view.desk.cap
   few_at core low =
@@ -44,38 +40,14 @@ module _ {J T : Type 0} {fits : Order J → Outcome J T → Type 0} (view : Runt
   places_enough = omega (arith, is.places, due_all view is, few_upto view.desk.cores (omega arith))
 
   -- behind a pass there is room for a send, and for what is due
-  pub room_behind : booked (passed_on view).desk + 3 ≤ (passed_on view).desk.journal.room
+  pub room_behind : booked (record view.desk { journal = passed_all view.desk.journal }) + 3 ≤ (passed_all view.desk.journal).room
   room_behind = omega (arith, places_enough)
 
-module _ {T S : Type 0} (has : S → Journal T) (refused : S → ℕ → Type 0) where
-  -- passing on changes no note
-  pub passes_notes : (old new : JournalView T) (before after : S) (answer : Result (Unit {0}) Refused) → PassesOn has refused old before answer new after → new.notes ≡ old.notes
-  passes_notes old new before after (Ok done) passes = ap (λ journal. journal.notes) passes.0
-  passes_notes old new before after (Err why) passes = ap (λ journal. journal.notes) passes.0
+  abbrev desk_behind : DeskView J T
+  desk_behind = record view.desk { journal = passed_all view.desk.journal }
 
-  -- nor how many notes may be kept
-  pub passes_places : (old new : JournalView T) (before after : S) (answer : Result (Unit {0}) Refused) → PassesOn has refused old before answer new after → places_of new ≡ places_of old
-  passes_places old new before after (Ok done) passes = ap places_of passes.0 ∙ omega arith
-  passes_places old new before after (Err why) passes = ap places_of passes.0
-
-  -- there is room for what there was room for, and for as many notes as may be kept behind those that there are
-  pub passes_room : (old new : JournalView T) (before after : S) (answer : Result (Unit {0}) Refused) → PassesOn has refused old before answer new after → (due : ℕ) → due ≤ places_of old → length old.notes + due ≤ old.room →
-      length new.notes + due ≤ new.room
-  passes_room old new before after (Ok done) passes due few room = omega (arith, few, ap (λ journal. journal.room) passes.0, ap (λ journal. length journal.notes) passes.0)
-  passes_room old new before after (Err why) passes due few room = omega (arith, room, ap (λ journal. journal.room) passes.0, ap (λ journal. length journal.notes) passes.0)
-
-module _ {J T : Type 0} {fits : Order J → Outcome J T → Type 0} (view : RuntimeView J T) (is : IsRuntime fits view) (desk : DeskView J T) (rest : desk ≡ record view.desk { journal = desk.journal })
-    (notes : desk.journal.notes ≡ view.desk.journal.notes) (places : places_of desk.journal ≡ places_of view.desk.journal) where
-  -- what is booked of it
-  pub booked_passed : length desk.journal.notes + sum_by due_of view.desk.lanes ≤ desk.journal.room → booked desk ≤ desk.journal.room
-  booked_passed room = omega (arith, room, ap (λ (desk : DeskView J T). sum_by due_of desk.lanes) rest)
-
-  -- the same of a desk that has another journal of the same notes
-  same_desk : (P : DeskView J T → Type 0) → P (record view.desk { journal = desk.journal }) → P desk
-  same_desk P = subst P (sym rest)
-
-  out_stays : (core : ℕ) → core < view.desk.cores → IsOutOf core (record view.desk { journal = desk.journal }) (out_at core view.ends).out (out_at core view.ends).credited
-  out_stays core low =
+  out_behind : (core : ℕ) → core < view.desk.cores → IsOutOf core desk_behind (out_at core view.ends).out (out_at core view.ends).credited
+  out_behind core low =
       let was = is.outside.outs core low in
       record {
         known = was.known;
@@ -83,78 +55,90 @@ module _ {J T : Type 0} {fits : Order J → Outcome J T → Type 0} (view : Runt
         to = was.to;
         base = was.base;
         capacity = was.capacity;
-        accepted = subst (λ notes. accepted_orders core notes ≡ numbered_orders view.desk.actor core 0 (out_at core view.ends).out.sent) (sym notes) was.accepted;
-        outstanding = subst (λ notes. outstanding_count core notes + (out_at core view.ends).credited ≡ length (out_at core view.ends).out.sent) (sym notes) was.outstanding;
+        accepted = was.accepted;
+        outstanding = was.outstanding;
         behind = was.behind;
-        collected = subst (λ notes. collected_outcomes core notes ≡ named_outcomes view.desk.actor core (take (out_at core view.ends).out.got (out_at core view.ends).out.seen)) (sym notes) was.collected;
+        collected = was.collected;
       }
 
-  lane_stays : (core : ℕ) → core < view.desk.cores → HasLane fits core (record view.desk { journal = desk.journal }) (out_at core view.ends).out (out_at core view.ends).credited
-  lane_stays core low = let has = is.lanes core low in record { lane = has.lane; is = has.is; lane_of = has.lane_of }
+  lane_behind : (core : ℕ) → core < view.desk.cores → HasLane fits core desk_behind (out_at core view.ends).out (out_at core view.ends).credited
+  lane_behind core low = let has = is.lanes core low in record { lane = has.lane; is = has.is; lane_of = has.lane_of }
 
-  -- whatever its sink answered, and however often it was asked
-  module _ (refused : Bool) (asks : Option ℕ) (marks : List ℕ) where
-    abbrev later : RuntimeView J T
-    later = record view { desk = desk; refused = refused; asks = asks; marks = marks }
+  -- it stands beside its ends as before
+  seated_behind : IsSeated fits (record view { desk = desk_behind })
+  seated_behind = record {
+    outside = record { outs_are = is.outside.outs_are; written = is.outside.written; outs = out_behind };
+    lanes = lane_behind;
+    lanes_are = is.lanes_are;
+    room_is = omega (arith, room_behind);
+    places = omega (arith, is.places);
+  }
 
-    -- it is a runtime as before
-    pub runtime_passed : booked desk ≤ desk.journal.room → IsRuntime fits later
-    runtime_passed room = record {
-      count = same_desk (λ desk. length view.workers ≡ desk.cores) is.count;
-      each = same_desk (λ desk. (core : ℕ) → core < desk.cores → IsWorkerOf core desk.cores desk.cap desk.burst view.room (worker_at core view.workers)) is.each;
-      actor = same_desk (λ desk. desk.actor ≡ desk.cores) is.actor;
-      outside = record {
-        outs_are = same_desk (λ desk. length view.ends.outs ≡ desk.cores) is.outside.outs_are;
-        written = same_desk (λ desk. IsWritten (terms_of_desk desk) desk.journal.notes) (subst (IsWritten (terms_of_desk view.desk)) (sym notes) is.outside.written);
-        outs = same_desk (λ desk. (core : ℕ) → core < desk.cores → IsOutOf core desk (out_at core view.ends).out (out_at core view.ends).credited) out_stays;
-      };
-      grid = same_desk (λ desk. IsGrid desk.cores (map (λ worker. worker.ends) view.workers ++ view.ends ∷ [])) is.grid;
-      closings = same_desk (λ desk. length view.closing ≡ desk.cores) is.closings;
-      bells = same_desk (λ desk. length view.rung.times ≡ desk.cores + 1) is.bells;
-      lanes = same_desk (λ desk. (core : ℕ) → core < desk.cores → HasLane fits core desk (out_at core view.ends).out (out_at core view.ends).credited) lane_stays;
-      lanes_are = same_desk (λ desk. length desk.lanes ≡ desk.cores) is.lanes_are;
-      room_is = room;
-      places = same_desk (λ desk. least_room desk.cores desk.cap desk.burst ≤ places_of desk.journal) (omega (arith, is.places, places));
-      limits = same_desk (λ desk. IsWithinLimits desk.cores desk.cap desk.burst) is.limits;
-    }
+  -- the same, whatever the sink answered
+  pub seated_passed : {S : Type 0} (has : S → Journal T) (refused : S → ℕ → Type 0) (desk : DeskView J T) (before after : S) (answer : Result (Unit {0}) Refused) →
+      PassesOn has refused view.desk.journal before answer desk.journal after → desk ≡ record view.desk { journal = desk.journal } → IsSeated fits (record view { desk = desk })
+  seated_passed has refused desk before after answer passes rest =
+      subst (λ (desk : DeskView J T). IsSeated fits (record view { desk = desk })) (sym rest)
+      (passed_holds has refused (λ journal. IsSeated fits (record view { desk = record view.desk { journal = journal } })) view.desk.journal before answer desk.journal after is seated_behind passes)
 
-    pub stored_passed : {cores cap ends actors journals : ℕ} → IsStored view cores cap ends actors journals → IsStored later cores cap ends actors journals
-    stored_passed stored = record {
-      cores_are = stored.cores_are ∙ sym (ap (λ desk. desk.cores) rest);
-      cap_is = stored.cap_is ∙ sym (ap (λ desk. desk.cap) rest);
-      room_ends = stored.room_ends;
-      room_actors = stored.room_actors;
-      room_journals = stored.room_journals;
-    }
+module _ {S : Type 0} (has : S → Journal ℕ) (refused : S → ℕ → Type 0) (old new : JournalView ℕ) (before after : S) where
+  -- behind a pass the sink has all notes, or what it had
+  sink_has : (answer : Result (Unit {0}) Refused) → PassesOn has refused old before answer new after → has before ≡ old.passed → has after ≡ new.passed
+  sink_has (Ok done) passes had = passes.1 ∙ (ap (λ journal. journal.notes) passes.0 ∙ sym (ap (λ journal. journal.passed) passes.0))
+  sink_has (Err why) passes had = passes.1 ∙ (had ∙ sym (ap (λ journal. journal.passed) passes.0))
 
-module _ {J S : Type 0} {has : S → Journal ℕ} {refused : S → ℕ → Type 0} where
-  -- where nothing is passed on the sink stays what it is to the runtime
-  pub sink_stays : (old new : RuntimeView J ℕ) (sink : S) → PassesNothing old new → IsSinkOf has refused old sink → IsSinkOf has refused new sink
-  sink_stays old new sink nothing was =
-      let passed = ap (λ journal. journal.passed) nothing.journal in
-      record {
-        has_passed = was.has_passed ∙ sym passed;
-        refusal = λ told. subst (λ passed. refused sink (length passed)) (sym passed) (was.refusal (sym nothing.refused ∙ told));
-      }
+  -- it refused, if that is told
+  sink_refused : (answer : Result (Unit {0}) Refused) → PassesOn has refused old before answer new after → (told : Bool) → told ≡ is_err answer → told ≡ true → refused after (length new.passed)
+  sink_refused (Ok done) passes told is tells = absurd cc
+  sink_refused (Err why) passes told is tells = subst (λ passed. refused after (length passed)) (sym (ap (λ journal. journal.passed) passes.0)) passes.2
 
-  -- behind a pass the sink has all notes, or it refused
-  pub sink_passed : (view : RuntimeView J ℕ) (desk : DeskView J ℕ) (answer : Result (Unit {0}) Refused) (before after : S) (told : Bool) (asks : Option ℕ) (marks : List ℕ) → told ≡ is_err answer →
-      PassesOn has refused view.desk.journal before answer desk.journal after → IsSinkOf has refused view before → IsSinkOf has refused (record view { desk = desk; refused = told; asks = asks; marks = marks }) after
-  sink_passed view desk (Ok done) before after told asks marks is passes was =
-      record { has_passed = passes.1 ∙ (ap (λ journal. journal.notes) passes.0 ∙ sym (ap (λ journal. journal.passed) passes.0)); refusal = λ yes. absurd cc }
-  sink_passed view desk (Err why) before after told asks marks is passes was =
-      let passed = ap (λ journal. journal.passed) passes.0 in
-      record { has_passed = passes.1 ∙ (was.has_passed ∙ sym passed); refusal = λ yes. subst (λ passed. refused after (length passed)) (sym passed) passes.2 }
+-- a runtime with another outside actor, whose sink was asked
+abbrev asked_later : {J : Type 0} → RuntimeView J ℕ → Bool → Option ℕ → List ℕ → OutsideView J ℕ → RuntimeView J ℕ
+asked_later view told asks marks outside = record view { desk = outside.desk; ends = outside.ends; refused = told; asks = asks; marks = marks }
 
-module _ {J S : Type 0} (has : S → Journal ℕ) (refused : S → ℕ → Type 0) where
+-- a runtime whose outside actor passed its notes on
+module _ {J S : Type 0} (has : S → Journal ℕ) (refused : S → ℕ → Type 0) (view : RuntimeView J ℕ) (outside : OutsideView J ℕ)
+    (rest : outside ≡ record (outside_of view) { desk = record view.desk { journal = outside.desk.journal } }) (before after : S) (told : Bool) (asks : Option ℕ) (marks : List ℕ) where
+  -- it is a runtime as before, whatever its sink answered
+  pub held_passed : {fits : Order J → Outcome J ℕ → Type 0} {cores cap : ℕ} → IsHeld fits has refused view cores cap before → IsSeated fits outside → (answer : Result (Unit {0}) Refused) → told ≡ is_err answer →
+      PassesOn has refused view.desk.journal before answer outside.desk.journal after → IsHeld fits has refused (asked_later view told asks marks outside) cores cap after
+  held_passed {fits} {cores} {cap} held seated answer told_is passes =
+      let is = held.runtime in
+      let now : IsSeated fits (record (outside_of view) { desk = record view.desk { journal = outside.desk.journal } }) = subst (IsSeated fits) rest seated in
+      subst (λ (outside : OutsideView J ℕ). IsHeld fits has refused (asked_later view told asks marks outside) cores cap after) (sym rest)
+      (record {
+        runtime = record {
+          count = is.count;
+          each = is.each;
+          actor = is.actor;
+          outside = now.outside;
+          grid = is.grid;
+          closings = is.closings;
+          bells = is.bells;
+          lanes = now.lanes;
+          lanes_are = now.lanes_are;
+          room_is = now.room_is;
+          places = now.places;
+          limits = is.limits;
+        };
+        cores_are = held.cores_are;
+        cap_is = held.cap_is;
+        has_passed = sink_has has refused view.desk.journal outside.desk.journal before after answer passes held.has_passed;
+        refusal = sink_refused has refused view.desk.journal outside.desk.journal before after answer passes told told_is;
+      })
+
   -- the sink was asked once, and the rest follows from what it answered
-  pub passes_here : (view : RuntimeView J ℕ) (desk : DeskView J ℕ) (answer : Result (Unit {0}) Refused) (before after : S) (told : Bool) (asks : Option ℕ) (marks : List ℕ) → told ≡ is_err answer →
-      PassesOn has refused view.desk.journal before answer desk.journal after → desk ≡ record view.desk { journal = desk.journal } → IsAsked view.asks asks → marks ≡ view.marks →
-      PassesHere view answer (record view { desk = desk; refused = told; asks = asks; marks = marks })
-  passes_here view desk (Ok done) before after told asks marks is passes rest asked same =
-      let desk_is = rest ∙ ap (λ (journal : JournalView ℕ). record view.desk { journal = journal }) passes.0 in (asked, λ i. record view { desk = desk_is i; refused = is i; asks = asks; marks = same i })
-  passes_here view desk (Err why) before after told asks marks is passes rest asked same =
-      let desk_is = rest ∙ ap (λ (journal : JournalView ℕ). record view.desk { journal = journal }) passes.0 in (asked, λ i. record view { desk = desk_is i; refused = is i; asks = asks; marks = same i })
+  asked_once : (answer : Result (Unit {0}) Refused) → told ≡ is_err answer → PassesOn has refused view.desk.journal before answer outside.desk.journal after → IsAsked view.asks asks → marks ≡ view.marks →
+      PassesHere view answer (asked_later view told asks marks outside)
+  asked_once (Ok done) is passes asked same =
+      let outside_is = rest ∙ ap (λ (journal : JournalView ℕ). record (outside_of view) { desk = record view.desk { journal = journal } }) passes.0 in (asked, λ i. asked_later view (is i) asks (same i) (outside_is i))
+  asked_once (Err why) is passes asked same =
+      let outside_is = rest ∙ ap (λ (journal : JournalView ℕ). record (outside_of view) { desk = record view.desk { journal = journal } }) passes.0 in (asked, λ i. asked_later view (is i) asks (same i) (outside_is i))
+
+  -- the same, over the runtime as it was seen
+  pub passes_here : (answer : Result (Unit {0}) Refused) → told ≡ is_err answer → PassesOn has refused view.desk.journal before answer outside.desk.journal after → IsAsked view.asks asks → marks ≡ view.marks → (seen : RuntimeView J ℕ) → view ≡ seen →
+      PassesHere seen answer (asked_later view told asks marks outside)
+  passes_here answer is passed asked marked seen same = subst (λ was. PassesHere was answer (asked_later view told asks marks outside)) same (asked_once answer is passed asked marked)
 
 module _ {J T : Type 0} (each : ℕ) (old new : RuntimeView J T) where
   -- where the sink took all there is room for a send

@@ -1,5 +1,5 @@
 -- A runtime after a ticket was redeemed or detached.
-use Rattle.std.proofs.Common.{◌≡◌, ◌-◌, ◌<◌, Some, [], ◌∷◌, length, set, ap, subst, arith}
+use Rattle.std.proofs.Common.{◌≡◌, ◌-◌, ◌<◌, Some, [], ◌∷◌, length, ap, subst, arith}
 use Rattle.std.specs.Prelude.{IfOk, IfSome, Result, Ok, Err, slice_get}
 use Rattle.rt_ids.specs.declared.names.JobId.{JobId}
 use Rattle.rt_ids.specs.declared.names.TicketError.{TicketError}
@@ -8,27 +8,28 @@ use Rattle.rt_ids.specs.declared.note.Note.TheVariants.{Redeemed, Detached}
 use Rattle.rt_ids.specs.declared.order.Order.{Order}
 use Rattle.rt_ids.specs.declared.order.Outcome.{Outcome}
 use Rattle.rt_ids.specs.Outcomes.{outcome_note}
-use Rattle.rt_ring.specs.declared.ring_out.Sending.{Sending}
 use Rattle.rt_ring.proofs.Fronts.{slice_get-there}
 use Rattle.rt_desk.specs.Lanes.{FitsSent, IsGot}
 use Rattle.rt_desk.proofs.Taken.{taken-get}
 use Rattle.rt_journal_desk.specs.Submissions.{DeskView}
-use Rattle.rt_journal_desk.specs.Tickets.{DetachesTicket, RedeemsTicket, StaysBeside}
-use Rattle.rt_ring_mesh.specs.Ends.{EndsView, out_at}
+use Rattle.rt_journal_desk.specs.Tickets.{DetachesTicket, RedeemsTicket}
+use Rattle.rt_ring_mesh.specs.Ends.{out_at}
 use Rattle.rt_runtime_worker.specs.Linked.{Grows}
-use Rattle.rt_runtime.specs.State.{RuntimeView, is_told_shut, submitted}
+use Rattle.rt_runtime_worker.specs.Together.{OutsideView}
+use Rattle.rt_runtime.specs.Outside.{UsesOut}
+use Rattle.rt_runtime.specs.State.{RuntimeView, SubmitsNothing, outside_of, submitted}
 use Rattle.rt_runtime.specs.Stored.{IsRuntime}
 use Rattle.rt_runtime.specs.Tickets.{DetachesHere, FitsSubmitted, RedeemsHere}
 use Rattle.rt_runtime.proofs.Sent.{nothing_on}
 
 module _ {J T : Type 0} where
   -- a redemption adds one note at most
-  redeemed_grows : (name : JobId) (old new : DeskView J T) (answer : Result (Outcome J T) TicketError) → RedeemsTicket name old answer new → Grows old.journal.notes new.journal.notes
+  pub redeemed_grows : (name : JobId) (old new : DeskView J T) (answer : Result (Outcome J T) TicketError) → RedeemsTicket name old answer new → Grows old.journal.notes new.journal.notes
   redeemed_grows name old new (Ok outcome) redeems = (Redeemed name (outcome_note outcome) ∷ [], ap (λ journal. journal.notes) redeems.2)
   redeemed_grows name old new (Err error) redeems = ([], ap (λ desk. desk.journal.notes) redeems.1)
 
   -- so does a detachment
-  detached_grows : (name : JobId) (old new : DeskView J T) (answer : Result (Unit {0}) TicketError) → DetachesTicket name old answer new → Grows old.journal.notes new.journal.notes
+  pub detached_grows : (name : JobId) (old new : DeskView J T) (answer : Result (Unit {0}) TicketError) → DetachesTicket name old answer new → Grows old.journal.notes new.journal.notes
   detached_grows name old new (Ok done) detaches = (Detached name ∷ [], ap (λ journal. journal.notes) detaches.1)
   detached_grows name old new (Err Unknown) detaches = ([], ap (λ desk. desk.journal.notes) detaches.1)
   detached_grows name old new (Err Gone) detaches = ([], ap (λ desk. desk.journal.notes) detaches.1)
@@ -49,20 +50,20 @@ module _ {J T : Type 0} {fits : Order J → Outcome J T → Type 0} where
       let at : slice_get (submitted name.to view) (name.number - (out_at name.to view.ends).out.base - 1) ≡ Some order.0 = rw place order.1 in
       record { order = order.0; is = order.1; fit = subst (λ found. IfSome found (λ order. fits order outcome)) at fit }
 
-  module _ (inside view : RuntimeView J T) (seen : inside ≡ view) (is : IsRuntime fits inside) (name : JobId) (low : name.to < inside.desk.cores) (desk : DeskView J T) (later : Sending J T)
-      (stays : StaysBeside fits name.to inside.desk desk later.out later.credited) (link : later.link ≡ (out_at name.to inside.ends).link) (ends : EndsView J T)
-      (is_put : ends ≡ record inside.ends { outs = set inside.ends.outs name.to later }) (sent : later.out.sent ≡ submitted name.to inside)
-      (gate : later.out.closed ≡ is_told_shut name.to inside) where
+  -- a call for a ticket
+  module _ (inside view : RuntimeView J T) (seen : inside ≡ view) (is : IsRuntime fits inside) (name : JobId) (low : name.to < inside.desk.cores) (outside : OutsideView J T)
+      (uses : UsesOut fits name.to (outside_of inside) outside) (out : (out_at name.to outside.ends).out ≡ (out_at name.to inside.ends).out) where
     abbrev new : RuntimeView J T
-    new = record inside { desk = desk; ends = ends }
+    new = record inside { desk = outside.desk; ends = outside.ends }
 
-    pub redeemed_here : (answer : Result (Outcome J T) TicketError) → RedeemsTicket name inside.desk answer desk → IfOk answer (IsGot (out_at name.to inside.ends).out name.number) →
+    nothing : SubmitsNothing inside new
+    nothing = nothing_on inside name.to outside uses (ap (λ out. out.sent) out) (ap (λ out. out.closed) out)
+
+    pub redeemed_here : (answer : Result (Outcome J T) TicketError) → RedeemsTicket name inside.desk answer outside.desk → IfOk answer (IsGot (out_at name.to inside.ends).out name.number) →
         IfOk answer (FitsSent fits (out_at name.to inside.ends).out name.number) → RedeemsHere fits name view answer new
     redeemed_here answer redeems got fit =
         subst (λ view. RedeemsHere fits name view answer new) seen
-        (record { redeems = redeems; given = got; fitting = fits_submitted inside is name low answer got fit; nothing = nothing_on inside is name.to low desk later stays link ends is_put sent gate (redeemed_grows name inside.desk desk answer redeems) })
+        (record { redeems = redeems; given = got; fitting = fits_submitted inside is name low answer got fit; nothing = nothing })
 
-    pub detached_here : (answer : Result (Unit {0}) TicketError) → DetachesTicket name inside.desk answer desk → DetachesHere name view answer new
-    detached_here answer detaches =
-        subst (λ view. DetachesHere name view answer new) seen
-        (record { detaches = detaches; nothing = nothing_on inside is name.to low desk later stays link ends is_put sent gate (detached_grows name inside.desk desk answer detaches) })
+    pub detached_here : (answer : Result (Unit {0}) TicketError) → DetachesTicket name inside.desk answer outside.desk → DetachesHere name view answer new
+    detached_here answer detaches = subst (λ view. DetachesHere name view answer new) seen (record { detaches = detaches; nothing = nothing })

@@ -26,8 +26,9 @@ use Rattle.rt_ring_mesh.proofs.Parts.{at_end}
 use Rattle.rt_runtime_worker.specs.Linked.{LinkedView}
 use Rattle.rt_runtime_worker.specs.Opening.{IsWorkerOf}
 use Rattle.rt_runtime_worker.specs.Queues.{creations}
-use Rattle.rt_runtime_worker.specs.Together.{IsOutside, no_linked, worker_at}
+use Rattle.rt_runtime_worker.specs.Together.{OutsideView, no_linked, worker_at}
 use Rattle.rt_runtime_worker.proofs.Opened.{fresh_out}
+use Rattle.rt_runtime.specs.Outside.{IsSeated}
 use Rattle.rt_runtime.specs.Rings.{RingsView}
 use Rattle.rt_watch.specs.declared.watcher.Watching.{Watching}
 use Rattle.rt_runtime.specs.Stored.{IsRuntime}
@@ -93,23 +94,14 @@ module _ {J T : Type 0} (cores cap burst room : ℕ) (queues : List Entry) where
   pub none_submitted : (workers : List (LinkedView J T)) (ends : EndsView J T) → IsHouse cores cap burst room queues workers ends → (core : ℕ) → core < cores → (out_at core ends).out.sent ≡ []
   none_submitted workers ends house core low = ap (λ out. out.sent) (house.fresh.outs core (omega (arith, low, house.outs))).out
 
-  -- a runtime in which nothing has happened
-  module _ (workers : List (LinkedView J T)) (ends : EndsView J T) (desk : DeskView J T) (closing : List Bool) (house : IsHouse cores cap burst room queues workers ends) (opened : desk ≡ opened_desk cores cores cap room burst)
-      (written : IsWritten (terms_of_desk desk) desk.journal.notes) (none : closing ≡ replicate cores false)
-      (rung : RingsView J T) (bells : List (List ℕ)) (silent : rung.times ≡ replicate (cores + 1) 0)
-      (refused : Bool) (asks : Option ℕ) (watched : List Watching) (marks tries : List ℕ) (enough : least_room cores cap burst ≤ room) (limits : IsWithinLimits cores cap burst) where
+  -- an outside actor that has noted nothing
+  module _ (workers : List (LinkedView J T)) (ends : EndsView J T) (desk : DeskView J T) (house : IsHouse cores cap burst room queues workers ends) (opened : desk ≡ opened_desk cores cores cap room burst)
+      (written : IsWritten (terms_of_desk desk) desk.journal.notes) (enough : least_room cores cap burst ≤ room) where
     outs_opened : (core : ℕ) → core < cores → IsOutOf core (opened_desk cores cores cap room burst) (out_at core ends).out (out_at core ends).credited
     outs_opened core low =
         let is = house.fresh.outs core (omega (arith, low, house.outs)) in
         subst (λ out. IsOutOf core (opened_desk cores cores cap room burst) out (out_at core ends).credited) (sym is.out)
         (subst (IsOutOf core (opened_desk cores cores cap room burst) (out_of (fresh cores core cap 0))) (sym is.credited) (fresh_out cores core cores cap room burst low))
-
-    outside_opened : IsOutside {J = J} {T = T} (record { desk = desk; ends = ends })
-    outside_opened = record {
-      outs_are = house.outs ∙ ap (λ desk. desk.cores) (sym opened);
-      written = written;
-      outs = subst (λ desk. (core : ℕ) → core < desk.cores → IsOutOf core desk (out_at core ends).out (out_at core ends).credited) (sym opened) outs_opened;
-    }
 
     lanes_opened : (fits : Order J → Outcome J T → Type 0) (core : ℕ) → core < cores → HasLane fits core (opened_desk cores cores cap room burst) (out_at core ends).out (out_at core ends).credited
     lanes_opened fits core low =
@@ -122,19 +114,36 @@ module _ {J T : Type 0} (cores cap burst room : ℕ) (queues : List Entry) where
     none_due : sum_by due_of (replicate cores (fresh_lane {J = J} {T = T} cap)) ≡ 0
     none_due = sum_by-replicate due_of cores (fresh_lane cap) ∙ omega arith
 
-    pub started : (fits : Order J → Outcome J T → Type 0) → IsRuntime fits (record { desk = desk; ends = ends; closing = closing; workers = workers; room = room; rung = rung; bells = bells; refused = refused; asks = asks; watched = watched; marks = marks; tries = tries })
-    started fits = record {
+    pub seated : (fits : Order J → Outcome J T → Type 0) → IsSeated fits (record { desk = desk; ends = ends })
+    seated fits = record {
+      outside = record {
+        outs_are = house.outs ∙ ap (λ desk. desk.cores) (sym opened);
+        written = written;
+        outs = subst (λ (desk : DeskView J T). (core : ℕ) → core < desk.cores → IsOutOf core desk (out_at core ends).out (out_at core ends).credited) (sym opened) outs_opened;
+      };
       lanes = subst (λ (desk : DeskView J T). (core : ℕ) → core < desk.cores → HasLane fits core desk (out_at core ends).out (out_at core ends).credited) (sym opened) (lanes_opened fits);
-      count = house.count ∙ ap (λ desk. desk.cores) (sym opened);
-      each = subst (λ (desk : DeskView J T). (core : ℕ) → core < desk.cores → IsWorkerOf core desk.cores desk.cap desk.burst room (worker_at core workers)) (sym opened) house.each;
-      actor = ap (λ desk. desk.actor) opened ∙ ap (λ desk. desk.cores) (sym opened);
-      outside = outside_opened;
-      grid = subst (λ (desk : DeskView J T). IsGrid desk.cores (map (λ worker. worker.ends) workers ++ ends ∷ [])) (sym opened) house.grid;
-      bells = ap length silent ∙ (length-replicate (cores + 1) 0 ∙ ap (λ desk. desk.cores + 1) (sym opened));
-      closings = ap length none ∙ (length-replicate cores false ∙ ap (λ desk. desk.cores) (sym opened));
       lanes_are = ap (λ desk. length desk.lanes) opened ∙ (length-replicate cores (fresh_lane cap) ∙ ap (λ desk. desk.cores) (sym opened));
       room_is = subst (λ (desk : DeskView J T). booked desk ≤ desk.journal.room) (sym opened) (omega (arith, none_due));
       places = subst (λ (desk : DeskView J T). least_room desk.cores desk.cap desk.burst ≤ places_of desk.journal) (sym opened) (omega (arith, enough));
+    }
+
+  -- a runtime in which nothing has happened
+  module _ {fits : Order J → Outcome J T → Type 0} (workers : List (LinkedView J T)) (outside : OutsideView J T) (seated : IsSeated fits outside) (house : IsHouse cores cap burst room queues workers outside.ends)
+      (opened : outside.desk ≡ opened_desk cores cores cap room burst) (limits : IsWithinLimits cores cap burst) where
+    pub started : (closing : List Bool) → closing ≡ replicate cores false → (rung : RingsView J T) → rung.times ≡ replicate (cores + 1) 0 → (bells : List (List ℕ)) (refused : Bool) (asks : Option ℕ) (watched : List Watching) (marks tries : List ℕ) →
+        IsRuntime fits (record { desk = outside.desk; ends = outside.ends; closing = closing; workers = workers; room = room; rung = rung; bells = bells; refused = refused; asks = asks; watched = watched; marks = marks; tries = tries })
+    started closing none rung silent bells refused asks watched marks tries = record {
+      count = house.count ∙ ap (λ desk. desk.cores) (sym opened);
+      each = subst (λ (desk : DeskView J T). (core : ℕ) → core < desk.cores → IsWorkerOf core desk.cores desk.cap desk.burst room (worker_at core workers)) (sym opened) house.each;
+      actor = ap (λ desk. desk.actor) opened ∙ ap (λ desk. desk.cores) (sym opened);
+      outside = seated.outside;
+      grid = subst (λ (desk : DeskView J T). IsGrid desk.cores (map (λ worker. worker.ends) workers ++ outside.ends ∷ [])) (sym opened) house.grid;
+      closings = ap length none ∙ (length-replicate cores false ∙ ap (λ desk. desk.cores) (sym opened));
+      bells = ap length silent ∙ (length-replicate (cores + 1) 0 ∙ ap (λ desk. desk.cores + 1) (sym opened));
+      lanes = seated.lanes;
+      lanes_are = seated.lanes_are;
+      room_is = seated.room_is;
+      places = seated.places;
       limits = subst (λ (desk : DeskView J T). IsWithinLimits desk.cores desk.cap desk.burst) (sym opened) limits;
     }
 

@@ -13,7 +13,7 @@ use Rattle.rt_ids.specs.declared.order.Outcome.{Outcome}
 use Rattle.rt_ids.specs.Journal.{Journal}
 use Rattle.rt_runtime_worker.specs.Workers.{WorkerView}
 use Rattle.rt_runtime.specs.State.{RuntimeView}
-use Rattle.rt_runtime.specs.Stored.{IsRuntime, IsSinkOf, IsStored}
+use Rattle.rt_runtime.specs.Stored.{IsHeld}
 use Rattle.rt_runtime.specs.Watching.{AreWatching, Watches, no_watch, watch_at}
 
 module _ {J S : Type 0} (ended : List (EndedView J ℕ S)) (watchers : List Watching) (boards : map (λ (watcher : Watching). watcher.board) watchers ≡ map (λ (worker : EndedView J ℕ S). worker.shown.board) ended) where
@@ -70,35 +70,31 @@ pub watch_count : {J T C G S : Type 0} (watchers : List Watching) (workers : Lis
 watch_count {J} {T} {C} {G} {S} watchers workers are =
     sym (length-map watchers (λ (watcher : Watching). watcher.board)) ∙ (ap length are ∙ length-map workers (λ (worker : WorkerView J T C G S). worker.shown.board))
 
-module _ {J T : Type 0} (view : RuntimeView J T) (watched : List Watching) where
-  -- it is a runtime as before, whatever was seen
-  pub runtime_watched : {fits : Order J → Outcome J T → Type 0} → IsRuntime fits view → IsRuntime fits (record view { watched = watched })
-  runtime_watched is = record {
-    count = is.count;
-    each = is.each;
-    actor = is.actor;
-    outside = is.outside;
-    grid = is.grid;
-    closings = is.closings;
-    bells = is.bells;
-    lanes = is.lanes;
-    lanes_are = is.lanes_are;
-    room_is = is.room_is;
-    places = is.places;
-    limits = is.limits;
-  }
-
-  pub stored_watched : {cores cap ends actors journals : ℕ} → IsStored view cores cap ends actors journals → IsStored (record view { watched = watched }) cores cap ends actors journals
-  stored_watched stored = record {
-    cores_are = stored.cores_are;
-    cap_is = stored.cap_is;
-    room_ends = stored.room_ends;
-    room_actors = stored.room_actors;
-    room_journals = stored.room_journals;
-  }
-
-pub sink_watched : {J S : Type 0} {has : S → Journal ℕ} {refused : S → ℕ → Type 0} (view : RuntimeView J ℕ) (watched : List Watching) (sink : S) → IsSinkOf has refused view sink → IsSinkOf has refused (record view { watched = watched }) sink
-sink_watched view watched sink is = record { has_passed = is.has_passed; refusal = is.refusal }
+-- it is a runtime as before, whatever was seen
+pub held_watched : {J S : Type 0} {fits : Order J → Outcome J ℕ → Type 0} {has : S → Journal ℕ} {refused : S → ℕ → Type 0} (view : RuntimeView J ℕ) (watched : List Watching) {cores cap : ℕ} (sink : S) → IsHeld fits has refused view cores cap sink →
+    IsHeld fits has refused (record view { watched = watched }) cores cap sink
+held_watched view watched sink held =
+    let is = held.runtime in
+    record {
+      runtime = record {
+        count = is.count;
+        each = is.each;
+        actor = is.actor;
+        outside = is.outside;
+        grid = is.grid;
+        closings = is.closings;
+        bells = is.bells;
+        lanes = is.lanes;
+        lanes_are = is.lanes_are;
+        room_is = is.room_is;
+        places = is.places;
+        limits = is.limits;
+      };
+      cores_are = held.cores_are;
+      cap_is = held.cap_is;
+      has_passed = held.has_passed;
+      refusal = held.refusal;
+    }
 
 -- a look of the watcher at one place
 module _ {J T : Type 0} (old : RuntimeView J T) (core : ℕ) (low : core < length old.watched) (before after : Watching) (found : Bool) (at : before ≡ get_or old.watched core before) where
@@ -123,3 +119,7 @@ module _ {J T : Type 0} (old : RuntimeView J T) (core : ℕ) (low : core < lengt
     );
     rest = ap (λ (watcher : Watching). record old { watched = set old.watched core watcher }) (sym now);
   }
+
+-- the same of a core and over a runtime as they were seen
+pub watches_as : {J T : Type 0} (old seen new : RuntimeView J T) (at core : ℕ) (found : Bool) → old ≡ seen → at ≡ core → Watches at old found new → Watches core seen found new
+watches_as {J} {T} old seen new at core found same here watched = subst (λ core. Watches core seen found new) here (subst (λ (seen : RuntimeView J T). Watches at seen found new) same watched)

@@ -1,5 +1,5 @@
 -- What is true of a runtime at any time, and what stands in it beside what a caller sees.
-use Rattle.std.specs.Prelude.{◌≡◌, ℕ, ◌+◌, ◌<◌, ◌≤◌, true, length}
+use Rattle.std.specs.Prelude.{◌≡◌, ℕ, ◌+◌, ◌<◌, ◌≤◌, Bool, true, Option, List, [], ◌∷◌, ◌++◌, length, map}
 use Rattle.rt_ids.specs.declared.order.Order.{Order}
 use Rattle.rt_ids.specs.declared.order.Outcome.{Outcome}
 use Rattle.rt_ids.specs.Journal.{Journal}
@@ -11,8 +11,11 @@ use Rattle.rt_ring_mesh.specs.Ends.{out_at}
 use Rattle.rt_ring_mesh.specs.Grid.{IsGrid}
 use Rattle.rt_runtime_config.specs.Configs.{least_room}
 use Rattle.rt_runtime_worker.specs.Opening.{IsWorkerOf}
-use Rattle.rt_runtime_worker.specs.Together.{IsOutside, worker_at, all_ends}
+use Rattle.rt_runtime_worker.specs.Together.{IsOutside, OutsideView, worker_at, all_ends}
+use Rattle.rt_runtime_worker.specs.Workers.{WorkerView}
+use Rattle.rt_runtime.specs.Rings.{RingsView}
 use Rattle.rt_runtime.specs.State.{RuntimeView, outside_of}
+use Rattle.rt_watch.specs.declared.watcher.Watching.{Watching}
 
 module _ {J T : Type 0} (fits : Order J → Outcome J T → Type 0) where
   -- Each core has its worker and its bell, and the outside actor has one; all links of the house are there, and the outside actor's journal is written by the rules and beside its ends.
@@ -31,15 +34,33 @@ module _ {J T : Type 0} (fits : Order J → Outcome J T → Type 0) where
     pub places : least_room view.desk.cores view.desk.cap view.desk.burst ≤ places_of view.desk.journal
     pub limits : IsWithinLimits view.desk.cores view.desk.cap view.desk.burst
 
--- its numbers, and room for what the workers give back
-pub record IsStored {J T : Type 0} (view : RuntimeView J T) (cores cap ends actors journals : ℕ) : Type 0 where
-  pub cores_are : cores ≡ view.desk.cores
-  pub cap_is : cap ≡ view.desk.cap
-  pub room_ends : cores + 1 ≤ ends
-  pub room_actors : cores + 1 ≤ actors
-  pub room_journals : cores + 1 ≤ journals
+module _ {J C G S : Type 0} (asks : S → Option ℕ) (mark : S → ℕ) where
+  -- what a caller sees of a runtime that has these parts
+  abbrev pub view_of : OutsideView J ℕ → List Bool → List (WorkerView J ℕ C G S) → ℕ → RingsView J ℕ → Bool → S → List Watching → RuntimeView J ℕ
+  view_of outside closing team room rung refused sink watched = record {
+    desk = outside.desk;
+    ends = outside.ends;
+    closing = closing;
+    workers = map (λ worker. worker.linked) team;
+    room = room;
+    rung = rung;
+    bells = map (λ worker. worker.bells) team;
+    refused = refused;
+    asks = asks sink;
+    watched = watched;
+    marks = map (λ worker. mark worker.sink) team ++ mark sink ∷ [];
+    tries = map (λ worker. worker.tries) team;
+  }
 
--- The outside actor's sink has the notes that were passed on. If it refused when it was last asked, it says so.
-pub record IsSinkOf {J S : Type 0} (has : S → Journal ℕ) (refused : S → ℕ → Type 0) (view : RuntimeView J ℕ) (sink : S) : Type 0 where
-  pub has_passed : has sink ≡ view.desk.journal.passed
-  pub refusal : view.refused ≡ true → refused sink (length view.desk.journal.passed)
+module _ {J S : Type 0} (fits : Order J → Outcome J ℕ → Type 0) (has : S → Journal ℕ) (refused : S → ℕ → Type 0) where
+  -- A runtime with its numbers. The outside actor's sink has the notes that were passed on. If it refused when it was last asked, it says so.
+  pub record IsHeld (view : RuntimeView J ℕ) (cores cap : ℕ) (sink : S) : Type 0 where
+    pub runtime : IsRuntime fits view
+    pub cores_are : cores ≡ view.desk.cores
+    pub cap_is : cap ≡ view.desk.cap
+    pub has_passed : has sink ≡ view.desk.journal.passed
+    pub refusal : view.refused ≡ true → refused sink (length view.desk.journal.passed)
+
+-- an empty list, with room for what each actor gives back
+abbrev pub IsSpare : {A : Type 0} → ℕ → List A → ℕ → Type 0
+IsSpare cores items capacity = (items ≡ []) × (cores + 1 ≤ capacity)

@@ -1,28 +1,18 @@
 //! The outside actor's calls.
 
-ghost use Rattle.std.specs.Prelude.{◌≡◌, ◌+◌, ◌-◌, ◌<◌, ◌≤◌, ◌^◌, ◌↔◌, ◌++◌, IfOk, IsTrue, Some, length, false, slice_get, slice_index_or, slice_set, ◌||◌};
+ghost use Rattle.std.specs.Prelude.{◌≡◌, ◌+◌, ◌<◌, ◌≤◌, ◌^◌, ◌↔◌, IsTrue, length, false, slice_index_or, slice_set, ◌||◌};
 ghost use Rattle.rt_journal_notes.specs.Journals.{free_notes};
 ghost use Rattle.rt_jobs.specs.Ready.{HasReadyJob};
 ghost use Rattle.rt_ids.specs.declared.order.Order.TheVariants.{CloseCore};
-ghost use Rattle.rt_ids.specs.Outstanding.{outstanding_count};
-ghost use Rattle.rt_link.specs.Calls as link;
-ghost use Rattle.rt_link.specs.Fits.{Fits};
-ghost use Rattle.rt_journal_desk.specs.Ends.{IsOutOf};
-ghost use Rattle.rt_journal_desk.specs.Submissions.{Submits, numbered};
-ghost use Rattle.rt_journal_desk.specs.Tickets.{HasLane, StaysBeside};
-ghost use Rattle.rt_journal_desk.specs.Spending.{Spends, booked};
-ghost use Rattle.rt_ring_mesh.specs.Ends.{out_at};
+ghost use Rattle.rt_journal_desk.specs.Spending.{booked};
 ghost use Rattle.rt_runtime.specs.Passing.{passed_on};
-ghost use Rattle.rt_runtime.specs.Sends.{Sends, SubmitsTo, accepted, is_closing, outstanding_upto, room_left, tells_closing};
+ghost use Rattle.rt_runtime.specs.Sends.{Sends, SubmitsTo, is_closing, outstanding_upto, room_left, tells_closing};
 
 use crate::error::SubmitError;
 use crate::runtime::Runtime;
 use rt_ids::{CoreNo, Mode, Order, SendError, Ticket};
 use rt_jobs::Task;
-use rt_journal::RecordedDesk;
 use rt_journal_notes::Sink;
-use rt_link::OutEnd;
-use rt_ring_mesh::Ends;
 
 /// Whether the order closes the core.
 fn closes<J>(order: &Order<J>) -> bool
@@ -54,39 +44,6 @@ fn mark(closing: &mut Vec<bool>, core: usize, told: bool)
     closing[core] = was || told;
 }
 
-/// Sends an order on the end to its core.
-fn send_on<J: Task<Out = u64>>(
-    desk: &mut RecordedDesk<J>,
-    ends: &mut Ends<J>,
-    to: CoreNo,
-    order: Order<J>,
-) -> Result<Ticket, SendError<J>>
-    requires there { to < length ends.old.outs }
-    requires beside { IsOutOf to desk.old (out_at to ends.old).out (out_at to ends.old).credited }
-    requires lane { HasLane (Fits J.meaning) to desk.old (out_at to ends.old).out (out_at to ends.old).credited }
-    requires room { length desk.old.journal.notes < desk.old.journal.room }
-    requires ready { HasReadyJob J.meaning order }
-    ensures submits { Submits to order desk.old result desk.new }
-    ensures answers { link.Sends (out_at to ends.old).out (out_at to ends.old).credited order (out_at to ends.new).out (numbered result) }
-    ensures orders { (out_at to ends.new).out.sent ≡ (out_at to ends.old).out.sent ++ accepted order result }
-    ensures named { IfOk result (λ name. slice_get (out_at to ends.new).out.sent (name.number - 1) ≡ Some order) }
-    ensures spends { IfOk result (λ _. Spends to 3 desk.old desk.new) }
-    ensures stays { StaysBeside (Fits J.meaning) to desk.old desk.new (out_at to ends.new).out (out_at to ends.new).credited }
-    ensures ends { ends.new ≡ record ends.old { outs = slice_set ends.old.outs to (out_at to ends.new) } }
-    ensures link { (out_at to ends.new).link ≡ (out_at to ends.old).link }
-{
-    desk.submit(&mut ends.outs[to.0 as usize], to, order)
-}
-
-/// How many submissions to one core are outstanding.
-fn outstanding_at<J: Task<Out = u64>>(desk: &RecordedDesk<J>, ends: &Ends<J>, core: u8) -> u64
-    requires there { core < length ends.now.outs }
-    requires beside { IsOutOf core desk.now (out_at core ends.now).out (out_at core ends.now).credited }
-    ensures { result ≡ outstanding_count core desk.now.journal.notes }
-{
-    desk.outstanding(&ends.outs[core as usize], CoreNo(core))
-}
-
 impl<J: Task<Out = u64>, C: Drop, G: Drop, S: Sink> Runtime<J, C, G, S> {
     /// How many submissions are outstanding on all links.
     fn outstanding(&self) -> u128
@@ -95,7 +52,7 @@ impl<J: Task<Out = u64>, C: Drop, G: Drop, S: Sink> Runtime<J, C, G, S> {
     {
         let mut count: u128 = 0;
         for core in 0..self.cores {
-            count += outstanding_at(&self.desk, &self.ends, core) as u128;
+            count += self.outside.outstanding(CoreNo(core)) as u128;
         }
         count
     }
@@ -108,7 +65,7 @@ impl<J: Task<Out = u64>, C: Drop, G: Drop, S: Sink> Runtime<J, C, G, S> {
         ensures behind { booked (passed_on self.now).desk + 3 ≤ (passed_on self.now).desk.journal.room }
     {
         let places = 3 * (self.outstanding() + 1) + each as u128 * self.cores as u128;
-        (self.desk.journal().free() as u128) < places
+        (self.outside.journal().free() as u128) < places
     }
 
     /// Sends an order to a core.
@@ -122,9 +79,9 @@ impl<J: Task<Out = u64>, C: Drop, G: Drop, S: Sink> Runtime<J, C, G, S> {
         }
         let core = to.0 as usize;
         let closing = closes(&order);
-        let answer = send_on(&mut self.desk, &mut self.ends, to, order);
+        let answer = self.outside.submit(to, order);
         mark(&mut self.closing, core, tells(closing, &answer));
-        self.bells.ring(&self.ends, to);
+        self.bells.ring(self.outside.ends(), to);
         answer
     }
 

@@ -166,8 +166,7 @@ impl<J: Job + Task<Out = u64>, C: Clock + Drop, G: Gate + Drop, S: Sink> Runtime
         let Runtime {
             cores,
             cap,
-            desk,
-            ends,
+            outside,
             sink,
             team,
             watchers,
@@ -181,6 +180,7 @@ impl<J: Job + Task<Out = u64>, C: Clock + Drop, G: Gate + Drop, S: Sink> Runtime
         let mut ended = team.join(rt);
         compare_all(&mut ended, &mut watchers);
         let (mut all, mut actors, locals) = part_all(ended, spare_ends, spare_actors, spare_locals);
+        let (desk, ends) = outside.into_parts();
         let burst = desk.burst();
         all.push_reserved(ends);
         actors.push_reserved(part_outside(desk, sink));

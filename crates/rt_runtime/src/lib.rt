@@ -5,6 +5,7 @@ mod calls;
 pub mod error;
 mod finishing;
 pub mod laws;
+mod outside;
 pub mod passed;
 mod passing;
 mod quiet;

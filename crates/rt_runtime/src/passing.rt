@@ -17,7 +17,7 @@ impl<J: Task<Out = u64>, C: Drop, G: Drop, S: Sink> Runtime<J, C, G, S> {
         ensures room { length self.now.desk.journal.passed + result.now.room ≡ self.now.desk.journal.room }
         ensures whole { self.now.desk.journal.passed ≡ [] → result.now ≡ self.now.desk.journal }
     {
-        self.desk.journal().kept()
+        self.outside.journal().kept()
     }
 
     /// The outside actor's sink. It has the notes that were passed on. If it refused when it was last asked, it says so.
@@ -39,7 +39,7 @@ impl<J: Task<Out = u64>, C: Drop, G: Drop, S: Sink> Runtime<J, C, G, S> {
     pub fn pass_on(&mut self) -> Result<(), Refused>
         ensures { PassesHere self.old result self.new }
     {
-        let answer = self.desk.pass_on(&mut self.sink);
+        let answer = self.outside.pass_on(&mut self.sink);
         self.refused = answer.is_err();
         answer
     }

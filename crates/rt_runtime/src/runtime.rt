@@ -2,10 +2,10 @@
 
 ghost use Rattle.std.specs.Prelude.{◌≡◌};
 
+use crate::outside::Outside;
 use crate::passed::ActorNotes;
 use crate::rings::Rings;
 use rt_jobs::Task;
-use rt_journal::RecordedDesk;
 use rt_journal_notes::{Journal, Sink, Whole};
 use rt_ring_mesh::Ends;
 use rt_runtime_team::Team;
@@ -27,9 +27,8 @@ pub struct Runtime<J: Task<Out = u64>, C: Drop, G: Drop, S: Sink = Whole> {
     pub(crate) cores: u8,
     pub(crate) cap: u16,
     pub(crate) room: u32,
-    /// The outside actor's journal, and its end to each core.
-    pub(crate) desk: RecordedDesk<J>,
-    pub(crate) ends: Ends<J>,
+    /// The outside actor: its journal, and its end to each core.
+    pub(crate) outside: Outside<J>,
     /// The outside actor's sink, and whether it refused when it was last asked.
     pub(crate) sink: S,
     pub(crate) refused: bool,
@@ -53,73 +52,20 @@ impl<J: Task<Out = u64>, C: Drop, G: Drop, S: Sink> Model for Runtime<J, C, G, S
 
     ghost Value = { RuntimeView J ℕ };
 
-    ghost use Rattle.std.specs.Prelude.{◌≡◌, ◌+◌, ◌≤◌, [], ◌∷◌, ◌++◌, map, vec_capacity};
+    ghost use Rattle.std.specs.Prelude.{vec_capacity};
     ghost use Rattle.rt_link.specs.Fits.{Fits};
-    ghost use Rattle.rt_runtime.specs.Stored.{IsRuntime, IsSinkOf, IsStored};
+    ghost use Rattle.rt_runtime.specs.Stored.{IsHeld, IsSpare, view_of};
     ghost use Rattle.rt_runtime.specs.Watching.{AreWatching};
 
-    ghost view = { λ r.
-        record {
-          desk = r.desk;
-          ends = r.ends;
-          closing = r.closing.items;
-          workers = map (λ worker. worker.linked) r.team;
-          room = r.room;
-          rung = r.bells;
-          bells = map (λ worker. worker.bells) r.team;
-          refused = r.refused;
-          asks = S.asks r.sink;
-          watched = r.watchers.items;
-          marks = map (λ worker. S.mark worker.sink) r.team ++ S.mark r.sink ∷ [];
-          tries = map (λ worker. worker.tries) r.team;
-        } };
+    ghost view = { λ r. view_of S.asks S.mark r.outside r.closing.items r.team r.room r.bells r.refused r.sink r.watchers.items };
 
     ghost invariant = { λ r.
-        IsRuntime (Fits J.meaning) (record {
-          desk = r.desk;
-          ends = r.ends;
-          closing = r.closing.items;
-          workers = map (λ worker. worker.linked) r.team;
-          room = r.room;
-          rung = r.bells;
-          bells = map (λ worker. worker.bells) r.team;
-          refused = r.refused;
-          asks = S.asks r.sink;
-          watched = r.watchers.items;
-          marks = map (λ worker. S.mark worker.sink) r.team ++ S.mark r.sink ∷ [];
-          tries = map (λ worker. worker.tries) r.team;
-        })
-        × IsStored (record {
-          desk = r.desk;
-          ends = r.ends;
-          closing = r.closing.items;
-          workers = map (λ worker. worker.linked) r.team;
-          room = r.room;
-          rung = r.bells;
-          bells = map (λ worker. worker.bells) r.team;
-          refused = r.refused;
-          asks = S.asks r.sink;
-          watched = r.watchers.items;
-          marks = map (λ worker. S.mark worker.sink) r.team ++ S.mark r.sink ∷ [];
-          tries = map (λ worker. worker.tries) r.team;
-        })
-        r.cores r.cap (vec_capacity r.spare_ends) (vec_capacity r.spare_actors) (vec_capacity r.spare_journals)
-        × IsSinkOf S.has S.refused (record {
-          desk = r.desk;
-          ends = r.ends;
-          closing = r.closing.items;
-          workers = map (λ worker. worker.linked) r.team;
-          room = r.room;
-          rung = r.bells;
-          bells = map (λ worker. worker.bells) r.team;
-          refused = r.refused;
-          asks = S.asks r.sink;
-          watched = r.watchers.items;
-          marks = map (λ worker. S.mark worker.sink) r.team ++ S.mark r.sink ∷ [];
-          tries = map (λ worker. worker.tries) r.team;
-        }) r.sink
-        × (r.spare_ends.items ≡ []) × (r.spare_actors.items ≡ []) × (r.spare_journals.items ≡ []) × AreWatching r.watchers.items r.team
-        × (r.spare_locals.items ≡ []) × (r.cores + 1 ≤ vec_capacity r.spare_locals) };
+        (IsSpare r.cores r.spare_ends.items (vec_capacity r.spare_ends)
+        × IsSpare r.cores r.spare_actors.items (vec_capacity r.spare_actors)
+        × IsSpare r.cores r.spare_journals.items (vec_capacity r.spare_journals)
+        × IsSpare r.cores r.spare_locals.items (vec_capacity r.spare_locals))
+        × AreWatching r.watchers.items r.team
+        × IsHeld (Fits J.meaning) S.has S.refused (view_of S.asks S.mark r.outside r.closing.items r.team r.room r.bells r.refused r.sink r.watchers.items) r.cores r.cap r.sink };
 }
 
 impl<J: Task<Out = u64>, C: Drop, G: Drop> Runtime<J, C, G> {
@@ -127,6 +73,6 @@ impl<J: Task<Out = u64>, C: Drop, G: Drop> Runtime<J, C, G> {
     pub fn journal(&self) -> &Journal<u64>
         ensures { result.now ≡ self.now.desk.journal }
     {
-        self.desk.journal().kept()
+        self.outside.journal().kept()
     }
 }

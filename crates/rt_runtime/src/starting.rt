@@ -11,6 +11,7 @@ ghost use Rattle.rt_runtime.specs.WithLocals.{without_locals};
 ghost use Rattle.rt_runtime.specs.WithSinks.{HasSinks};
 
 use crate::error::StartError;
+use crate::outside::Outside;
 use crate::passed::ActorNotes;
 use crate::rings::Rings;
 use crate::runtime::Runtime;
@@ -274,6 +275,7 @@ impl<J: Task<Out = u64>, C: Drop, G: Drop, S: Sink> Runtime<J, C, G, S> {
             return Err(StartError::Memory);
         };
         let bells = Rings::of(bells, &ends);
+        let outside = Outside::of(desk, ends);
         let given = Snapshot::of(&workers);
         match Team::start(rt, alloc, workers) {
             Ok(team) => Ok((
@@ -281,8 +283,7 @@ impl<J: Task<Out = u64>, C: Drop, G: Drop, S: Sink> Runtime<J, C, G, S> {
                     cores: config.cores,
                     cap: config.cap,
                     room: config.room,
-                    desk,
-                    ends,
+                    outside,
                     sink,
                     refused: false,
                     bells,

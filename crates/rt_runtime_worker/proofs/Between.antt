@@ -7,22 +7,11 @@ use Rattle.rt_ids.specs.declared.note.Note.TheVariants as writes
 use Rattle.rt_ids.specs.Bursts.{has_bursts, queue_begun_last, queue_in_turn}
 use Rattle.rt_ids.specs.Commands.{IsOpening}
 use Rattle.rt_ids.specs.Journal.{Journal}
-use Rattle.rt_jobs.specs.Meanings.{Meaning}
-use Rattle.rt_journal.specs.Ends.{IsSameSeat, KeepsIn}
-use Rattle.rt_journal.specs.OwedPolls.{seen_by}
-use Rattle.rt_journal.specs.Recorded.{IsRecorded, RecordedView, desk_of}
+use Rattle.rt_journal.specs.Recorded.{RecordedView}
 use Rattle.rt_journal.specs.Turns.{EndsTurn}
-use Rattle.rt_journal.proofs.OwedSteps.{quiet_keeps}
-use Rattle.rt_journal_desk.specs.Ends.{KeepsOuts}
 use Rattle.rt_journal_notes.specs.Journals.{JournalView}
-use Rattle.rt_ring.specs.declared.ring_out.Sending.{Sending}
-use Rattle.rt_ring_mesh.specs.Ends.{EndsView}
-use Rattle.rt_ring_mesh.proofs.Using.{ends_same}
 use Rattle.rt_runtime_worker.specs.Asks.{NotesNoPoll, name_polled, polls_of, with_poll}
-use Rattle.rt_runtime_worker.specs.Linked.{Grows, IsBetweenTurns, IsLinked, LinkedView, StaysLinked}
-use Rattle.rt_runtime_worker.specs.Queues.{opening_of}
-use Rattle.rt_runtime_worker.proofs.Along.{sees_same}
-use Rattle.rt_runtime_worker.proofs.Stepping.{sends_kept}
+use Rattle.rt_runtime_worker.specs.Linked.{Grows, IsBetweenTurns, LinkedView, StaysLinked}
 
 -- one poll more, or none
 no_fewer : (name : Option JobId) (polls : List JobId) → length polls ≤ length (with_poll name polls)
@@ -103,31 +92,6 @@ module _ {J T : Type 0} where
   pub between_notes : (old new : RecordedView J T) → new.core.bursts.burst ≡ old.core.bursts.burst → new.journal.notes ≡ old.journal.notes → IsBetweenTurns old → IsBetweenTurns new
   between_notes old new burst notes between = ap (λ burst. queue_in_turn burst new.journal.notes) burst ∙ (ap (queue_in_turn old.core.bursts.burst) notes ∙ between)
 
-module _ {J T : Type 0} (old new : RecordedView J T) (ends : EndsView J T) (time : ℕ) (did : EndsTurn old time new) (seat : IsSameSeat old new) where
-  -- the end of a turn leaves no turn open, and each note stays
-  pub ended_between : IsBetweenTurns new
-  ended_between = subst (λ (journal : JournalView T). queue_in_turn new.core.bursts.burst journal.notes ≡ None) (sym did.journal) (none_behind_end new.core.bursts.burst did.queue time old.journal.notes)
-
-  pub ended_stays : StaysLinked (record { recorded = old; ends = ends }) (record { recorded = new; ends = ends })
-  ended_stays = record {
-    seat = seat;
-    ends = ends_same ends;
-    sees = sees_same ends;
-    opening = ap (λ journal. opening_of journal.notes) did.journal;
-    grows = (writes.Turned did.queue time ∷ [], ap (λ journal. journal.notes) did.journal);
-  }
-
-  -- core, journal and ends agree behind it
-  pub ended_linked : {meaning : Meaning J T} → IsLinked meaning (record { recorded = old; ends = ends }) → ((sender : ℕ) → KeepsIn sender old new) → KeepsOuts (desk_of old) (desk_of new) → new.lanes ≡ old.lanes → IsRecorded meaning new →
-      IsLinked meaning (record { recorded = new; ends = ends })
-  ended_linked {meaning = meaning} linked ins outs lanes sound = record {
-    recorded = sound;
-    at_rest = did.out;
-    beside = record {
-      number = linked.beside.number ∙ sym seat.number;
-      ins_are = linked.beside.ins_are ∙ ap (λ cores. cores + 1) (sym seat.cores);
-      outs = sends_kept old new ends outs lanes seat linked.beside.outs;
-      ins = λ sender known. (ins sender).each _ (linked.beside.ins sender (omega (arith, known, seat.cores)));
-    };
-    owed = quiet_keeps meaning (seen_by (λ (end : Sending J T). end.out) ends.outs) old new seat did.took (writes.Turned did.queue time ∷ []) (refl, tt) (ap (λ journal. journal.notes) did.journal) linked.owed;
-  }
+-- the end of a turn leaves no turn open
+pub ended_between : {J T : Type 0} (old new : RecordedView J T) (time : ℕ) → EndsTurn old time new → IsBetweenTurns new
+ended_between {T = T} old new time did = subst (λ (journal : JournalView T). queue_in_turn new.core.bursts.burst journal.notes ≡ None) (sym did.journal) (none_behind_end new.core.bursts.burst did.queue time old.journal.notes)

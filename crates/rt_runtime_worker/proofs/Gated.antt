@@ -1,8 +1,8 @@
 -- Gates that are shut one after another, and the room that is left behind.
-use Rattle.std.proofs.Common.{◌≡◌, ◌≢◌, inl, inr, ℕ, suc, ◌+◌, ◌*◌, ◌≤◌, cond, [], ◌∷◌, length, refl, sym, ◌∙◌, ap, subst, arith, ⊎_elim}
+use Rattle.std.proofs.Common.{◌≡◌, ◌≢◌, inl, inr, ℕ, suc, ◌+◌, ◌*◌, ◌≤◌, cond, ◌∷◌, length, refl, sym, ◌∙◌, ap, subst, arith, ⊎_elim}
 use Rattle.std.specs.Prelude.{Bool, true, false, Option, Some, None, unwrap_or, is_some, IsSome}
 use Rattle.std.proofs.lemmas.Bool.{cases_eq, eq-eqb, ne_eqb}
-use Rattle.rt_ids.specs.declared.note.Note.TheVariants.{CoreClosed, Shut}
+use Rattle.rt_ids.specs.declared.note.Note.TheVariants.{Shut}
 use Rattle.rt_ids.specs.declared.order.Mode.{Mode}
 use Rattle.rt_ids.specs.declared.order.Mode.TheVariants.{Finish, Return}
 use Rattle.rt_ids.specs.Journal.{Journal, EachNote, or_else}
@@ -12,26 +12,20 @@ use Rattle.rt_link.specs.declared.ends.Inward.{Inward}
 use Rattle.rt_link.specs.Ends.{SoundIn}
 use Rattle.rt_link.specs.Calls.{final_of}
 use Rattle.rt_journal_notes.specs.Journals.{JournalView}
-use Rattle.rt_journal.specs.Recorded.{RecordedView, IsRecorded, desk_of, sum_upto, given_count}
-use Rattle.rt_journal.specs.Ends.{IsInOf, IsSameSeat, KeepsIn}
-use Rattle.rt_journal_desk.specs.Ends.{KeepsOuts, name_of}
-use Rattle.rt_ring_mesh.specs.Ends.{EndsView, in_at}
-use Rattle.rt_ring_mesh.proofs.Using.{ends_same}
+use Rattle.rt_journal.specs.Recorded.{RecordedView, sum_upto, given_count}
+use Rattle.rt_journal.specs.Ends.{IsInOf}
+use Rattle.rt_journal_desk.specs.Ends.{name_of}
+use Rattle.rt_ring_mesh.specs.Ends.{in_at}
 use Rattle.rt_ids.specs.Outcomes.{outcome_note}
-use Rattle.rt_journal.specs.OwedPolls.{seen_by}
-use Rattle.rt_journal.proofs.OwedSteps.{closes_keep}
-use Rattle.rt_ring.specs.declared.ring_out.Sending.{Sending}
 use Rattle.rt_journal.specs.Steps.{ClosesItself}
 use Rattle.rt_runtime_worker.specs.Linked.{LinkedView, IsLinked, StaysLinked}
-use Rattle.rt_runtime_worker.specs.Queues.{opening_of}
 use Rattle.rt_runtime_worker.specs.Steps.{ShutsGate}
 use Rattle.rt_runtime_worker.specs.Gates.{WritesShut, WritesReturn, IsShutWithin, LeavesShut, LeavesReturning, ShutsFirst, KeepsTaken}
 use Rattle.rt_runtime_worker.specs.Rooms.{last_through, least_free, MayAct, ActsAsItMay, ActsByCommand, HasSpare, IsShort, IsEnding}
 use Rattle.rt_runtime_worker.proofs.Acting.{acts_at, command_acts}
-use Rattle.rt_runtime_worker.proofs.Along.{seat_along, sees_same, stays_along, stays_same}
+use Rattle.rt_runtime_worker.proofs.Along.{seat_along, stays_along, stays_same}
 use Rattle.rt_runtime_worker.proofs.Asking.{return_notes_none, shut_notes_none}
 use Rattle.rt_runtime_worker.specs.Asks.{NotesNoPoll}
-use Rattle.rt_runtime_worker.proofs.Stepping.{sends_kept}
 use Rattle.rt_runtime_worker.proofs.Spare.{sums_within, places_more}
 use Rattle.std.proofs.lemmas.List.{length-map}
 
@@ -165,37 +159,13 @@ module _ {J T : Type 0} where
   pub ending_notes_none : (old middle new : LinkedView J T) (count : ℕ) → LeavesReturning old middle → ShutsFirst count middle new → NotesNoPoll old.recorded.journal.notes new.recorded.journal.notes
   ending_notes_none old middle new count returns shuts = shuts.polls ∙ return_notes_none old.recorded.journal middle.recorded.journal returns.wrote
 
-  -- a core that closed by itself is linked as before
-  pub returned_linked : {meaning : Meaning J T} (old new : RecordedView J T) (ends : EndsView J T) → IsLinked meaning (record { recorded = old; ends = ends }) →
-      (did : Bool) → ClosesItself old Return did new → ((sender : ℕ) → KeepsIn sender old new) → KeepsOuts (desk_of old) (desk_of new) → new.lanes ≡ old.lanes → IsSameSeat old new → IsRecorded meaning new →
-      IsLinked meaning (record { recorded = new; ends = ends })
-  returned_linked {meaning = meaning} old new ends linked did closes ins outs lanes seat sound = record {
-    recorded = sound;
-    at_rest = still did closes;
-    beside = record {
-      number = linked.beside.number ∙ sym seat.number;
-      ins_are = linked.beside.ins_are ∙ ap (λ cores. cores + 1) (sym seat.cores);
-      outs = sends_kept old new ends outs lanes seat linked.beside.outs;
-      ins = λ sender known. (ins sender).each _ (linked.beside.ins sender (omega (arith, known, seat.cores)));
-    };
-    owed = closes_keep meaning (seen_by (λ (end : Sending J T). end.out) ends.outs) old new seat Return did closes linked.owed;
-  }
-    where
-      still : (did : Bool) → ClosesItself old Return did new → new.core.out ≡ None
-      still true closes = closes.2 ∙ linked.at_rest
-      still false closes = ap (λ view. view.core.out) closes.1 ∙ linked.at_rest
-
-  -- it noted that it closed in that mode, or it was in it before
-  pub returned_leaves : (old new : RecordedView J T) (ends : EndsView J T) (did : Bool) → ClosesItself old Return did new → IsSameSeat old new → LeavesReturning (record { recorded = old; ends = ends }) (record { recorded = new; ends = ends })
-  returned_leaves old new ends true closes seat = record {
-    wrote = inr closes.1;
-    returning = ap (λ journal. core_mode journal.notes) closes.1;
-    stays = record { seat = seat; ends = ends_same ends; sees = sees_same ends; opening = ap (λ journal. opening_of journal.notes) closes.1; grows = (CoreClosed Return ∷ [], ap (λ journal. journal.notes) closes.1) };
-  }
-  returned_leaves old new ends false closes seat = record {
+  -- a core that closed by itself noted that it closed in that mode, or it was in it before
+  pub returned_leaves : (old new : LinkedView J T) (did : Bool) → ClosesItself old.recorded Return did new.recorded → StaysLinked old new → LeavesReturning old new
+  returned_leaves old new true closes stays = record { wrote = inr closes.1; returning = ap (λ journal. core_mode journal.notes) closes.1; stays = stays }
+  returned_leaves old new false closes stays = record {
     wrote = inl (ap (λ view. view.journal) closes.1);
-    returning = ap (λ view. core_mode view.journal.notes) closes.1 ∙ was_returning (core_mode old.journal.notes) closes.0;
-    stays = record { seat = seat; ends = ends_same ends; sees = sees_same ends; opening = ap (λ view. opening_of view.journal.notes) closes.1; grows = ([], ap (λ view. view.journal.notes) closes.1) };
+    returning = ap (λ view. core_mode view.journal.notes) closes.1 ∙ was_returning (core_mode old.recorded.journal.notes) closes.0;
+    stays = stays;
   }
 
   -- a gate that was shut just now

@@ -21,10 +21,14 @@ mod RestsRefused
 mod ParksRest
 mod WatchesRefused
 pub mod Stepping
-pub mod Delivered
+pub mod Adding
+pub mod AddedTurns
+pub mod LentIn
+pub mod LentOut
+pub mod Kept
+pub mod Picked
 pub mod Posted
 pub mod InPlace
-pub mod Collected
 pub mod HandedBack
 pub mod Noted
 pub mod Acting
@@ -41,7 +45,7 @@ pub mod Telling
 pub mod Fewer
 pub mod Heard
 mod Looked
-mod Passed
+pub mod Passed
 mod Supplied
 pub mod GivenBack
 mod Resting

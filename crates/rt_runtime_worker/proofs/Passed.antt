@@ -1,11 +1,10 @@
 -- What it changes to pass on notes: nothing but what is kept, and how many notes there may be.
-use Rattle.std.proofs.Common.{◌≡◌, ◌⊎◌, inl, inr, ℕ, ◌+◌, ◌≤◌, length, sym, ◌∙◌, ap, subst, arith}
+use Rattle.std.proofs.Common.{◌≡◌, ◌⊎◌, inl, inr, ℕ, ◌+◌, ◌≤◌, List, length, sym, ◌∙◌, ap, subst, arith}
 use Rattle.std.specs.Prelude.{Result, Ok, Err}
 use Rattle.rt_ids.specs.Journal.{Journal}
-use Rattle.rt_ids.specs.declared.order.Order.{Order}
-use Rattle.rt_ids.specs.declared.order.Outcome.{Outcome}
 use Rattle.rt_jobs.specs.Meanings.{Meaning}
 use Rattle.rt_journal_desk.specs.Ends.{IsOutOf}
+use Rattle.rt_journal_desk.specs.Submissions.{DeskView}
 use Rattle.rt_journal_notes.specs.Journals.{JournalView, free_notes, places_of}
 use Rattle.rt_journal_notes.specs.Passing.{PassesOn}
 use Rattle.rt_journal_notes.specs.declared.sink.Refused.{Refused}
@@ -14,8 +13,11 @@ use Rattle.rt_journal.specs.Recorded.{IsRecorded, RecordedView, desk_of}
 use Rattle.rt_link.specs.Fits.{Fits}
 use Rattle.rt_link.specs.declared.ends.Inward.{Inward}
 use Rattle.rt_link.specs.declared.ends.Outward.{Outward}
+use Rattle.rt_ring.specs.declared.ring_out.Sending.{Sending}
 use Rattle.rt_ring_mesh.specs.Ends.{EndsView}
-use Rattle.rt_runtime_worker.specs.Linked.{AreBeside, IsLinked}
+use Rattle.rt_runtime_worker.specs.Linked.{AreBeside, IsLinked, PollsAsOwed}
+use Rattle.rt_runtime_worker.specs.Seats.{IsSeated}
+use Rattle.rt_runtime_worker.proofs.LentOut.{AreOuts}
 
 module _ {J T : Type 0} where
   -- the same core and the same notes, of which others were passed on
@@ -25,9 +27,13 @@ module _ {J T : Type 0} where
   pub core_kept : (old new : RecordedView J T) → new ≡ record old { journal = new.journal } → new.core ≡ old.core
   core_kept old new rest = ap (λ view. view.core) rest
 
-  module _ (passed : Journal T) (room : ℕ) (view : RecordedView J T) where
-    in_again : (sender : ℕ) (inward : Inward J T) → IsInOf sender view inward → IsInOf sender (passed_from passed room view) inward
-    in_again sender inward is = record {
+  -- the same of a desk
+  abbrev pub desk_passed : Journal T → ℕ → DeskView J T → DeskView J T
+  desk_passed passed room desk = record desk { journal = record desk.journal { passed = passed; room = room } }
+
+  module _ (passed : Journal T) (room : ℕ) where
+    in_again : (view : RecordedView J T) (sender : ℕ) (inward : Inward J T) → IsInOf sender view inward → IsInOf sender (passed_from passed room view) inward
+    in_again view sender inward is = record {
       known = is.known;
       from = is.from;
       to = is.to;
@@ -41,8 +47,8 @@ module _ {J T : Type 0} where
       orders = is.orders;
     }
 
-    out_again : (core : ℕ) (out : Outward J T) (credited : ℕ) → IsOutOf core (desk_of view) out credited → IsOutOf core (desk_of (passed_from passed room view)) out credited
-    out_again core out credited is = record {
+    out_again : (desk : DeskView J T) (core : ℕ) (out : Outward J T) (credited : ℕ) → IsOutOf core desk out credited → IsOutOf core (desk_passed passed room desk) out credited
+    out_again desk core out credited is = record {
       known = is.known;
       from = is.from;
       to = is.to;
@@ -54,31 +60,40 @@ module _ {J T : Type 0} where
       collected = is.collected;
     }
 
-    module _ (fits : Order J → Outcome J T → Type 0) (ends : EndsView J T) where
-      beside_again : AreBeside fits view ends → AreBeside fits (passed_from passed room view) ends
-      beside_again are = record {
-        number = are.number;
-        ins_are = are.ins_are;
-        outs = record {
-          count = are.outs.count;
-          beside = λ core end there. out_again core end.out end.credited (are.outs.beside core end there);
-          lanes = λ core end there. let had = are.outs.lanes core end there in record { lane = had.lane; is = had.is; lane_of = had.lane_of };
-        };
-        ins = λ sender known. in_again sender _ (are.ins sender known);
-      }
+    -- the ends on which an actor sends are beside its desk as before
+    pub outs_again : (meaning : Meaning J T) (desk : DeskView J T) (outs : List (Sending J T)) → AreOuts meaning desk outs → AreOuts meaning (desk_passed passed room desk) outs
+    outs_again meaning desk outs are = record {
+      count = are.count;
+      beside = λ core end there. out_again desk core end.out end.credited (are.beside core end there);
+      lanes = λ core end there. let had = are.lanes core end there in record { lane = had.lane; is = had.is; lane_of = had.lane_of };
+    }
 
-    linked_again : (meaning : Meaning J T) (ends : EndsView J T) → IsLinked meaning (record { recorded = view; ends = ends }) → IsRecorded meaning (passed_from passed room view) →
-        IsLinked meaning (record { recorded = passed_from passed room view; ends = ends })
-    linked_again meaning ends linked sound = record { recorded = sound; at_rest = linked.at_rest; beside = beside_again (Fits meaning) ends linked.beside; owed = linked.owed }
+    beside_again : (meaning : Meaning J T) (view : RecordedView J T) (ends : EndsView J T) → AreBeside (Fits meaning) view ends → AreBeside (Fits meaning) (passed_from passed room view) ends
+    beside_again meaning view ends are = record {
+      number = are.number;
+      ins_are = are.ins_are;
+      outs = outs_again meaning (desk_of view) ends.outs are.outs;
+      ins = λ sender known. in_again view sender _ (are.ins sender known);
+    }
 
-  -- a core is linked as before, whatever was passed on
-  pub passed_linked : {meaning : Meaning J T} (old new : RecordedView J T) (ends : EndsView J T) → new ≡ record old { journal = new.journal } → new.journal.notes ≡ old.journal.notes →
-      IsLinked meaning (record { recorded = old; ends = ends }) → IsRecorded meaning new → IsLinked meaning (record { recorded = new; ends = ends })
-  passed_linked {meaning = meaning} old new ends rest same linked sound =
-      let is : new ≡ passed_from new.journal.passed new.journal.room old =
-      rest ∙ ap (λ notes. record old { journal = record { notes = notes; passed = new.journal.passed; room = new.journal.room } }) same in
-      subst (λ view. IsLinked meaning (record { recorded = view; ends = ends })) (sym is)
-      (linked_again new.journal.passed new.journal.room old meaning ends linked (subst (IsRecorded meaning) is sound))
+  module _ (old new : RecordedView J T) (rest : new ≡ record old { journal = new.journal }) (same : new.journal.notes ≡ old.journal.notes) where
+    passed_is : new ≡ passed_from new.journal.passed new.journal.room old
+    passed_is = rest ∙ ap (λ notes. record old { journal = record { notes = notes; passed = new.journal.passed; room = new.journal.room } }) same
+
+    pub passed_beside : (meaning : Meaning J T) (ends : EndsView J T) → AreBeside (Fits meaning) old ends → AreBeside (Fits meaning) new ends
+    passed_beside meaning ends beside = subst (λ (view : RecordedView J T). AreBeside (Fits meaning) view ends) (sym passed_is) (beside_again new.journal.passed new.journal.room meaning old ends beside)
+
+    -- the core and its ends agree as before, whatever was passed on
+    pub passed_seated : {meaning : Meaning J T} (ends : EndsView J T) → IsSeated meaning (record { recorded = old; ends = ends }) → IsRecorded meaning new → IsSeated meaning (record { recorded = new; ends = ends })
+    passed_seated {meaning} ends seated sound = record { recorded = sound; beside = passed_beside meaning ends seated.beside }
+
+    pub passed_linked : {meaning : Meaning J T} (ends : EndsView J T) → IsLinked meaning (record { recorded = old; ends = ends }) → IsRecorded meaning new → IsLinked meaning (record { recorded = new; ends = ends })
+    passed_linked {meaning} ends linked sound = record {
+      recorded = sound;
+      at_rest = ap (λ view. view.core.out) rest ∙ linked.at_rest;
+      beside = passed_beside meaning ends linked.beside;
+      owed = subst (λ (view : RecordedView J T). PollsAsOwed meaning view ends) (sym passed_is) linked.owed;
+    }
 
 module _ {T S : Type 0} (has : S → Journal T) (refused : S → ℕ → Type 0) (old new : JournalView T) (before after : S) where
   -- no note is lost, and none comes

@@ -1,8 +1,7 @@
 -- A step on the end of one sender leaves a core linked as before.
-use Rattle.std.proofs.Common.{◌≡◌, ◌≢◌, ℕ, ◌+◌, ◌<◌, ◌≤◌, get_or, length, set, get_or-set_same, get_or-set_other, length-set, sym, ◌∙◌, ap, subst, arith, ⊎_elim}
+use Rattle.std.proofs.Common.{◌≡◌, ◌≢◌, ℕ, ◌+◌, ◌<◌, ◌≤◌, length, get_or-set_same, get_or-set_other, length-set, sym, ◌∙◌, ap, subst, arith, ⊎_elim}
 use Rattle.std.specs.Prelude.{Option, slice_get}
 use Rattle.std.proofs.lemmas.Bool.{cases_eq}
-use Rattle.std.proofs.lemmas.List.{get_or_default}
 use Rattle.rt_ids.specs.declared.names.JobId.{JobId}
 use Rattle.rt_ids.specs.declared.order.Order.{Order}
 use Rattle.rt_ids.specs.declared.order.Outcome.{Outcome}
@@ -12,34 +11,13 @@ use Rattle.rt_journal.specs.Recorded.{RecordedView, desk_of}
 use Rattle.rt_journal.specs.Ends.{IsInOf, IsInOwing, IsSameSeat, KeepsIn}
 use Rattle.rt_journal_desk.specs.Ends.{KeepsOuts}
 use Rattle.rt_ring_mesh.specs.Ends.{EndsView, in_at, no_in, SameEnds}
+use Rattle.rt_ring_mesh.specs.Lending.{with_in}
 use Rattle.rt_ring_mesh.proofs.Using.{in_used}
 use Rattle.rt_runtime_worker.specs.Linked.{AreBeside, AreOwing, Grows, SeesNoLess, SendsOn}
 use Rattle.rt_runtime_worker.specs.Queues.{opening_of}
 use Rattle.rt_runtime_worker.proofs.Seen.{in_put_sees}
 
 module _ {J T : Type 0} where
-  -- the end in its place
-  abbrev pub lent : ℕ → EndsView J T → Receiving J T → Type 0
-  lent sender ends end = end ≡ get_or ends.ins sender end
-
-  pub lent_at : (sender : ℕ) (ends : EndsView J T) (end : Receiving J T) → sender < length ends.ins → lent sender ends end → end ≡ in_at sender ends
-  lent_at sender ends end low is = is ∙ get_or_default ends.ins sender end no_in low
-
-  -- the end is put back, as it is now
-  abbrev pub put_back : ℕ → EndsView J T → Receiving J T → EndsView J T
-  put_back sender ends end = record ends { ins = set ends.ins sender end }
-
-  -- the ends as the code has them, under the number as the code has it
-  pub record Opens (sender : ℕ) (ends : EndsView J T) (at : ℕ) (inside : EndsView J T) : Type 0 where
-    pub number : at ≡ sender
-    pub seen : inside ≡ ends
-
-  pub lent_seen : (sender : ℕ) (ends : EndsView J T) (at : ℕ) (inside : EndsView J T) (end : Receiving J T) → Opens sender ends at inside → lent at inside end → lent sender ends end
-  lent_seen sender ends at inside end opens is = subst (λ number. lent number ends end) opens.number (subst (λ ends. lent at ends end) opens.seen is)
-
-  pub put_seen : (sender : ℕ) (ends : EndsView J T) (at : ℕ) (inside : EndsView J T) (end : Receiving J T) → Opens sender ends at inside → put_back sender ends end ≡ put_back at inside end
-  put_seen sender ends at inside end opens = ap (λ number. put_back number ends end) (sym opens.number) ∙ ap (λ ends. put_back at ends end) (sym opens.seen)
-
   -- an end beside its core, where it names its sender
   pub its_sender : (sender : ℕ) (recorded : RecordedView J T) (end : Receiving J T) → IsInOf sender recorded end.inward → IsInOf end.inward.from recorded end.inward
   its_sender sender recorded end is = subst (λ from. IsInOf from recorded end.inward) (sym is.from) is
@@ -73,36 +51,29 @@ module _ {J T : Type 0} {fits : Order J → Outcome J T → Type 0} where
   pub in_place : (sender : ℕ) (recorded : RecordedView J T) (ends : EndsView J T) → AreBeside fits recorded ends → sender ≤ recorded.core.cores → sender < length ends.ins
   in_place sender recorded ends beside known = omega (arith, beside.ins_are, known)
 
-  -- the end that is lent is beside the core
-  pub lent_here : (sender : ℕ) (recorded : RecordedView J T) (ends : EndsView J T) (at : ℕ) (inside : EndsView J T) (end : Receiving J T) → Opens sender ends at inside → AreBeside fits recorded ends →
-      sender ≤ recorded.core.cores → lent at inside end → end ≡ in_at sender ends
-  lent_here sender recorded ends at inside end opens beside known is =
-      lent_at sender ends end (in_place sender recorded ends beside known) (lent_seen sender ends at inside end opens is)
+  -- the end of a sender is beside the core
+  pub lent_beside : {sender : ℕ} {recorded : RecordedView J T} {ends : EndsView J T} {end : Receiving J T} → AreBeside fits recorded ends → sender ≤ recorded.core.cores → end ≡ in_at sender ends → IsInOf sender recorded end.inward
+  lent_beside {sender} {recorded} beside known is = subst (λ end. IsInOf sender recorded end.inward) (sym is) (beside.ins sender known)
 
-  pub lent_beside : (sender : ℕ) (recorded : RecordedView J T) (ends : EndsView J T) (at : ℕ) (inside : EndsView J T) (end : Receiving J T) → Opens sender ends at inside → AreBeside fits recorded ends →
-      sender ≤ recorded.core.cores → lent at inside end → IsInOf sender recorded end.inward
-  lent_beside sender recorded ends at inside end opens beside known is =
-      subst (λ end. IsInOf sender recorded end.inward) (sym (lent_here sender recorded ends at inside end opens beside known is)) (beside.ins sender known)
-
-  module _ (sender : ℕ) (recorded now : RecordedView J T) (ends : EndsView J T) (at : ℕ) (inside : EndsView J T) (end : Receiving J T) (opens : Opens sender ends at inside) (step : StepsOn fits sender recorded now ends end) where
+  module _ {sender : ℕ} {recorded now : RecordedView J T} {ends : EndsView J T} {end : Receiving J T} (step : StepsOn fits sender recorded now ends end) where
     here : sender < length ends.ins
     here = in_place sender recorded ends step.beside step.known
 
-    end_now : in_at sender (put_back sender ends end) ≡ end
+    pub end_now : in_at sender (with_in sender end ends) ≡ end
     end_now = get_or-set_same ends.ins sender end no_in here
 
-    ins_now : (other : ℕ) → other ≤ now.core.cores → IsInOf other now (in_at other (put_back sender ends end)).inward
+    ins_now : (other : ℕ) → other ≤ now.core.cores → IsInOf other now (in_at other (with_in sender end ends)).inward
     ins_now other known =
         ⊎_elim
         (λ (is : other ≡ sender).
-        subst (λ one. IsInOf one now (in_at one (put_back sender ends end)).inward) (sym is)
+        subst (λ one. IsInOf one now (in_at one (with_in sender end ends)).inward) (sym is)
         (subst (λ lent. IsInOf sender now lent.inward) (sym end_now) step.its_own))
         (λ (away : other ≢ sender).
         subst (λ lent. IsInOf other now lent.inward) (sym (get_or-set_other ends.ins sender other end no_in away))
         ((step.others other away).each _ (step.beside.ins other (omega (arith, known, step.seat.cores)))))
         (cases_eq other sender)
 
-    beside_now : AreBeside fits now (put_back sender ends end)
+    pub beside_now : AreBeside fits now (with_in sender end ends)
     beside_now = record {
       number = step.beside.number ∙ sym step.seat.number;
       ins_are = length-set ends.ins sender end ∙ step.beside.ins_are ∙ ap (λ cores. cores + 1) (sym step.seat.cores);
@@ -110,58 +81,47 @@ module _ {J T : Type 0} {fits : Order J → Outcome J T → Type 0} where
       ins = ins_now;
     }
 
-    pub same_ends : SameEnds ends (put_back at inside end)
-    same_ends = subst (SameEnds ends) (put_seen sender ends at inside end opens) (in_used ends sender end here step.link)
+    pub same_ends : SameEnds ends (with_in sender end ends)
+    same_ends = in_used ends sender end here step.link
 
-    pub put_sees : SeesNoLess ends (put_back at inside end)
-    put_sees = subst (SeesNoLess ends) (put_seen sender ends at inside end opens) (in_put_sees sender ends end here step.sees)
-
-    pub put_beside : AreBeside fits now (put_back at inside end)
-    put_beside = subst (AreBeside fits now) (put_seen sender ends at inside end opens) beside_now
+    pub put_sees : SeesNoLess ends (with_in sender end ends)
+    put_sees = in_put_sees sender ends end here step.sees
 
     -- each other end is as it was, and so are those on which the actor sends
-    pub others_put : (other : ℕ) → other ≢ sender → in_at other (put_back at inside end) ≡ in_at other ends
-    others_put other away = subst (λ now. in_at other now ≡ in_at other ends) (put_seen sender ends at inside end opens) (get_or-set_other ends.ins sender other end no_in away)
-
-    pub end_put : in_at sender (put_back at inside end) ≡ end
-    end_put = subst (λ ends. in_at sender ends ≡ end) (put_seen sender ends at inside end opens) end_now
+    pub others_put : (other : ℕ) → other ≢ sender → in_at other (with_in sender end ends) ≡ in_at other ends
+    others_put other away = get_or-set_other ends.ins sender other end no_in away
 
   -- the outcome that was owed is given
-  module _ (from : ℕ) (owed : Option (JobId × OutcomeNote T)) (recorded : RecordedView J T) (ends : EndsView J T) (at : ℕ) (inside : EndsView J T) (opens : Opens from ends at inside) (owing : AreOwing fits from owed recorded ends) (known : from ≤ recorded.core.cores) where
+  module _ {from : ℕ} {owed : Option (JobId × OutcomeNote T)} {recorded : RecordedView J T} {ends : EndsView J T} (owing : AreOwing fits from owed recorded ends) (known : from ≤ recorded.core.cores) {before : Receiving J T} (is : before ≡ in_at from ends) where
     here_owing : from < length ends.ins
     here_owing = omega (arith, owing.ins_are, known)
 
-    pub owing_here : (end : Receiving J T) → lent at inside end → end ≡ in_at from ends
-    owing_here end is = lent_at from ends end here_owing (lent_seen from ends at inside end opens is)
+    pub owing_end : IsInOwing from owed recorded before.inward
+    owing_end = subst (λ end. IsInOwing from owed recorded end.inward) (sym is) owing.owed
 
-    pub owing_end : (end : Receiving J T) → lent at inside end → IsInOwing from owed recorded end.inward
-    owing_end end is = subst (λ end. IsInOwing from owed recorded end.inward) (sym (owing_here end is)) owing.owed
-
-    module _ (end : Receiving J T) (gave : IsInOf from recorded end.inward) (link : end.link ≡ (in_at from ends).link) where
-      ins_given : (other : ℕ) → other ≤ recorded.core.cores → IsInOf other recorded (in_at other (put_back from ends end)).inward
+    module _ (end : Receiving J T) (gave : IsInOf from recorded end.inward) (link : end.link ≡ before.link) where
+      ins_given : (other : ℕ) → other ≤ recorded.core.cores → IsInOf other recorded (in_at other (with_in from end ends)).inward
       ins_given other there =
           ⊎_elim
           (λ (is : other ≡ from).
-          subst (λ one. IsInOf one recorded (in_at one (put_back from ends end)).inward) (sym is)
+          subst (λ one. IsInOf one recorded (in_at one (with_in from end ends)).inward) (sym is)
           (subst (λ lent. IsInOf from recorded lent.inward) (sym (get_or-set_same ends.ins from end no_in here_owing)) gave))
           (λ (away : other ≢ from).
           subst (λ lent. IsInOf other recorded lent.inward) (sym (get_or-set_other ends.ins from other end no_in away)) (owing.ins other there away))
           (cases_eq other from)
 
-      pub given_beside : AreBeside fits recorded (put_back at inside end)
-      given_beside =
-          subst (AreBeside fits recorded) (put_seen from ends at inside end opens)
-          (record {
-            number = owing.number;
-            ins_are = length-set ends.ins from end ∙ owing.ins_are;
-            outs = owing.outs;
-            ins = ins_given;
-          })
+      pub given_beside : AreBeside fits recorded (with_in from end ends)
+      given_beside = record {
+        number = owing.number;
+        ins_are = length-set ends.ins from end ∙ owing.ins_are;
+        outs = owing.outs;
+        ins = ins_given;
+      }
 
-      pub given_ends : SameEnds ends (put_back at inside end)
-      given_ends = subst (SameEnds ends) (put_seen from ends at inside end opens) (in_used ends from end here_owing link)
+      pub given_ends : SameEnds ends (with_in from end ends)
+      given_ends = in_used ends from end here_owing (link ∙ ap (λ end. end.link) is)
 
-      pub given_sees : end.inward.seen ≡ (in_at from ends).inward.seen → SeesNoLess ends (put_back at inside end)
+      pub given_sees : end.inward.seen ≡ before.inward.seen → SeesNoLess ends (with_in from end ends)
       given_sees same =
-          let count : length end.inward.seen ≡ length (in_at from ends).inward.seen = ap length same in
-          subst (SeesNoLess ends) (put_seen from ends at inside end opens) (in_put_sees from ends end here_owing (omega (arith, count)))
+          let count : length end.inward.seen ≡ length (in_at from ends).inward.seen = ap length (same ∙ ap (λ end. end.inward.seen) is) in
+          in_put_sees from ends end here_owing (omega (arith, count))

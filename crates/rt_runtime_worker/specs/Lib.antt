@@ -1,5 +1,6 @@
 pub mod Queues
 pub mod Linked
+pub mod Seats
 pub mod Steps
 pub mod Bursts
 pub mod Rooms

@@ -9,7 +9,6 @@ ghost use Rattle.rt_runtime_worker.specs.Rooms.{ActsAsItMay, ActsByCommand, HasS
 ghost use Rattle.rt_runtime_worker.specs.Rounds.{TellsNotes};
 ghost use Rattle.rt_runtime_worker.specs.Shown.{TellsAlone};
 
-use crate::lent::look_at;
 use crate::linked::Linked;
 use rt_ids::{ActorNo, Mode};
 use rt_jobs::Task;
@@ -30,7 +29,7 @@ impl<J: Task<Out = u64>> Linked<J> {
             self.shut_one(sender);
         }
         // The end tells how many orders may be without an outcome.
-        look_at(&self.ends, sender);
+        self.seat.look_at(sender);
         !shut
     }
 
@@ -58,7 +57,7 @@ impl<J: Task<Out = u64>> Linked<J> {
         ensures leaves { LeavesReturning self.old self.new }
         ensures alone { TellsAlone result self.new.recorded.journal.notes }
     {
-        self.recorded.close(Mode::Return)
+        self.seat.close(Mode::Return)
     }
 
     /// Closes the core in mode `Return` and shuts each gate, where the journal is short. Whether it closed by itself.

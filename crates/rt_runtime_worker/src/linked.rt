@@ -7,7 +7,7 @@ ghost use Rattle.rt_runtime_worker.specs.Passing.{HandsOn, IsLow};
 ghost use Rattle.rt_runtime_worker.specs.Rooms.{IsShort, least_free};
 ghost use Rattle.rt_runtime_worker.specs.Steps.{ShutsGate, DeliversFrom, CollectsOf, HasNoTurn};
 
-use crate::lent::{collect_on, deliver_on, shut_on};
+use crate::seat::Seat;
 use rt_core::{Ahead, PickError};
 use rt_ids::{ActorNo, CoreNo};
 use rt_jobs::{CoreState, Task};
@@ -20,8 +20,7 @@ use std::marker::Model;
 #[derive(Drop)]
 pub struct Linked<J: Task<Out = u64>> {
     pub(crate) cores: u8,
-    pub(crate) recorded: Recorded<J>,
-    pub(crate) ends: Ends<J>,
+    pub(crate) seat: Seat<J>,
 }
 
 impl<J: Task<Out = u64>> Model for Linked<J> {
@@ -33,9 +32,9 @@ impl<J: Task<Out = u64>> Model for Linked<J> {
     ghost use Rattle.std.specs.Prelude.{◌≡◌};
     ghost use Rattle.rt_runtime_worker.specs.Linked.{IsBetweenTurns, IsLinked};
 
-    ghost view = { λ l. record { recorded = l.recorded; ends = l.ends } };
+    ghost view = { λ l. l.seat };
 
-    ghost invariant = { λ l. IsLinked J.meaning (record { recorded = l.recorded; ends = l.ends }) × (l.cores ≡ l.recorded.core.cores) × IsBetweenTurns l.recorded };
+    ghost invariant = { λ l. IsLinked J.meaning l.seat × (l.cores ≡ l.seat.recorded.core.cores) × IsBetweenTurns l.seat.recorded };
 }
 
 impl<J: Task<Out = u64>> Linked<J> {
@@ -46,11 +45,8 @@ impl<J: Task<Out = u64>> Linked<J> {
         requires cores { cores ≡ recorded.core.cores }
         ensures { result ≡ record { recorded = recorded; ends = ends } }
     {
-        Linked {
-            cores,
-            recorded,
-            ends,
-        }
+        let seat = Seat::of(recorded, ends);
+        Linked { cores, seat }
     }
 
     /// The core beside its journal, and the ends.
@@ -60,27 +56,34 @@ impl<J: Task<Out = u64>> Linked<J> {
         ensures linked { IsLinked J.meaning self }
         ensures between { IsBetweenTurns self.recorded }
     {
-        let Linked { recorded, ends, .. } = self;
-        (recorded, ends)
+        let Linked { seat, .. } = self;
+        seat.into_parts()
+    }
+
+    /// The core beside its journal.
+    pub(crate) fn recorded(&self) -> &Recorded<J>
+        ensures { result.now ≡ self.now.recorded }
+    {
+        self.seat.recorded()
     }
 
     /// Writes to the memory of all notes that there may be. Nothing is noted.
     pub(crate) fn prefault(&mut self)
         ensures { self.new ≡ self.old }
     {
-        self.recorded.prefault();
+        self.seat.prefault();
     }
 
     /// Makes what is still to be made of what the jobs of the core share.
     pub(crate) fn begin(&self, local: &mut J::Local) {
-        local.begin(CoreNo(self.ends.number.0));
+        local.begin(CoreNo(self.seat.actor().0));
     }
 
     /// Whether the core is closed, in either mode.
     pub fn is_closed(&self) -> bool
         ensures { result ≡ is_some (core_mode self.now.recorded.journal.notes) }
     {
-        self.recorded.is_closed()
+        self.recorded().is_closed()
     }
 
     /// Whether the gate of this sender is shut.
@@ -88,20 +91,19 @@ impl<J: Task<Out = u64>> Linked<J> {
         requires { sender ≤ self.now.recorded.core.cores }
         ensures { result ≡ is_some (final_count sender self.now.recorded.journal.notes) }
     {
-        self.recorded.gate(sender).is_some()
+        self.recorded().gate(sender).is_some()
     }
 
     /// Whether every gate is shut, all behind it was delivered, no queue has work, and no job is parked.
     pub fn is_drained(&self) -> bool
         ensures { IsTrue result ↔ IsDrained self.now.recorded.core.cores self.now.recorded.journal.notes }
     {
-        self.recorded.is_drained()
+        self.recorded().is_drained()
     }
 
     /// Whether a link shows an order or an outcome that wasn't seen yet: one load for each link. No clause says that the answer is right.
     pub(crate) fn shows(&self) -> bool {
-        self.ends.ins.as_slice().iter().any(|end| end.shows())
-            || self.ends.outs.as_slice().iter().any(|end| end.shows())
+        self.seat.shows()
     }
 
     /// Whether a turn would poll a job or hand one back. Nothing changes.
@@ -109,7 +111,7 @@ impl<J: Task<Out = u64>> Linked<J> {
         ensures none { result ≡ false → HasNoTurn self.now.recorded.journal.notes }
         ensures rightly { result ≡ true → HasNoTurn self.now.recorded.journal.notes → ⊥ }
     {
-        match self.recorded.ahead() {
+        match self.seat.ahead() {
             Ok(Ahead::Job(_)) => true,
             Ok(Ahead::Back) => true,
             Ok(Ahead::Idle) => false,
@@ -123,8 +125,8 @@ impl<J: Task<Out = u64>> Linked<J> {
         ensures value { result ≡ least_free self.now.recorded.core.cores self.now.recorded.cap self.now.recorded.core.bursts.burst }
         ensures low { result < 2 ^ 32 }
     {
-        let places = (self.cores as usize + 1) * (self.recorded.cap() as usize + 1);
-        let further = (self.recorded.burst() as usize).saturating_sub(1);
+        let places = (self.cores as usize + 1) * (self.recorded().cap() as usize + 1);
+        let further = (self.recorded().burst() as usize).saturating_sub(1);
         8 * places + 2 * further
     }
 
@@ -132,22 +134,22 @@ impl<J: Task<Out = u64>> Linked<J> {
     pub fn is_short(&self) -> bool
         ensures { IsTrue result ↔ IsShort self.now.recorded }
     {
-        (self.recorded.journal().free() as usize) < self.least()
+        (self.recorded().journal().free() as usize) < self.least()
     }
 
     /// Whether fewer notes are free than two rounds may write, or half the places are used.
     pub fn is_low(&self) -> bool
         ensures { IsTrue result ↔ IsLow self.now.recorded }
     {
-        let free = self.recorded.journal().free() as usize;
-        free < 2 * self.least() || free <= self.recorded.journal().kept_count()
+        let free = self.recorded().journal().free() as usize;
+        free < 2 * self.least() || free <= self.recorded().journal().kept_count()
     }
 
     /// Whether a note is kept that wasn't passed on.
     pub fn has_kept(&self) -> bool
         ensures { IsTrue result ↔ (length self.now.recorded.journal.passed < length self.now.recorded.journal.notes) }
     {
-        self.recorded.journal().kept_count() > 0
+        self.recorded().journal().kept_count() > 0
     }
 
     /// Hands all notes that are kept to the sink. One that refuses leaves them here.
@@ -158,7 +160,7 @@ impl<J: Task<Out = u64>> Linked<J> {
         ensures linked { IsLinked J.meaning self.new }
         ensures between { IsBetweenTurns self.new.recorded }
     {
-        self.recorded.pass_on(sink)
+        self.seat.pass_on(sink)
     }
 
     /// Shuts the gate of this sender in a closed core.
@@ -169,7 +171,7 @@ impl<J: Task<Out = u64>> Linked<J> {
         requires room { length self.old.recorded.journal.notes < self.old.recorded.journal.room }
         ensures { ShutsGate sender self.old self.new }
     {
-        shut_on(&mut self.recorded, &mut self.ends, sender);
+        self.seat.shut(sender);
     }
 
     /// Delivers the next order of this sender, if one shows. Whether there was one.
@@ -180,7 +182,7 @@ impl<J: Task<Out = u64>> Linked<J> {
         ensures linked { IsLinked J.meaning self.new }
         ensures between { IsBetweenTurns self.new.recorded }
     {
-        deliver_on(&mut self.recorded, &mut self.ends, sender)
+        self.seat.deliver(sender)
     }
 
     /// Collects all outcomes that the link to this core shows. How many there were.
@@ -191,6 +193,6 @@ impl<J: Task<Out = u64>> Linked<J> {
         ensures linked { IsLinked J.meaning self.new }
         ensures between { IsBetweenTurns self.new.recorded }
     {
-        collect_on(&mut self.recorded, &mut self.ends, core)
+        self.seat.collect_from(core)
     }
 }

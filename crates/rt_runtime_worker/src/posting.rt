@@ -16,6 +16,7 @@ ghost use Rattle.rt_runtime_worker.specs.Linked.{AreBeside, AreOwing, IsLinked, 
 ghost use Rattle.rt_runtime_worker.specs.Steps.{PollsFirst, PollsFurther};
 
 use crate::leave::Leave;
+use crate::seat::Seat;
 use rt_core::{Next, Settled};
 use rt_ids::JobId;
 use rt_jobs::{Job, Task};
@@ -99,53 +100,65 @@ fn done_on<J: Job + Task<Out = u64>>(
     ensures ends { SameEnds ends.old ends.new }
     ensures sees { SeesNoLess ends.old ends.new }
 {
-    recorded.give_done(&mut ends.ins[name.from.0 as usize], name, settled);
+    recorded.give_done(ends.in_mut(name.from), name, settled);
 }
 
-/// Makes the first poll of the turn of the job that was told ahead, for which the gate was asked, and gives its outcome.
-pub(crate) fn turn_on<J: Job + Task<Out = u64>, M: Meter>(
-    recorded: &mut Recorded<J>,
-    ends: &mut Ends<J>,
-    local: &mut J::Local,
-    next: &Next,
-    leave: Leave,
-    meter: &mut M,
-)
-    requires core { leave.core ≡ recorded.old.core.core }
-    requires name { leave.name ≡ next.now.name }
-    requires ahead { IsAhead recorded.old.core next.now.queue next.now.vr next.now.name next.now.started next.now.woken }
-    requires known { next.now.name.from ≤ recorded.old.core.cores }
-    requires beside { AreBeside (Fits J.meaning) recorded.old ends.old }
-    requires owed { PollsAsOwed J.meaning recorded.old ends.old }
-    requires room { length recorded.old.journal.notes + recorded.old.core.cores * (3 * recorded.old.cap) + 3 ≤ recorded.old.journal.room }
-    ensures polls { PollsFirst J.meaning (λ time. M.Tells meter.old time meter.new) next.now.name (record { recorded = recorded.old; ends = ends.old }) (record { recorded = recorded.new; ends = ends.new }) }
-    ensures linked { IsLinked J.meaning (record { recorded = recorded.new; ends = ends.new }) }
-    ensures stays { StaysLinked (record { recorded = recorded.old; ends = ends.old }) (record { recorded = recorded.new; ends = ends.new }) }
-{
-    let settled = post_turn(recorded, ends, local, next, leave, meter);
-    done_on(recorded, ends, next.name, &settled);
-}
+impl<J: Job + Task<Out = u64>> Seat<J> {
+    /// Makes the first poll of the turn of the job that was told ahead, for which the gate was asked, and gives its outcome.
+    pub(crate) fn first_poll<M: Meter>(
+        &mut self,
+        local: &mut J::Local,
+        next: &Next,
+        leave: Leave,
+        meter: &mut M,
+    )
+        requires core { leave.core ≡ self.old.recorded.core.core }
+        requires name { leave.name ≡ next.now.name }
+        requires ahead { IsAhead self.old.recorded.core next.now.queue next.now.vr next.now.name next.now.started next.now.woken }
+        requires known { next.now.name.from ≤ self.old.recorded.core.cores }
+        requires linked { IsLinked J.meaning self.old }
+        requires room { length self.old.recorded.journal.notes + self.old.recorded.core.cores * (3 * self.old.recorded.cap) + 3 ≤ self.old.recorded.journal.room }
+        ensures polls { PollsFirst J.meaning (λ time. M.Tells meter.old time meter.new) next.now.name self.old self.new }
+        ensures linked { IsLinked J.meaning self.new }
+        ensures stays { StaysLinked self.old self.new }
+    {
+        let settled = post_turn(
+            &mut self.recorded,
+            &mut self.ends,
+            local,
+            next,
+            leave,
+            meter,
+        );
+        done_on(&self.recorded, &mut self.ends, next.name, &settled);
+    }
 
-/// Makes a further poll of the open turn, of the job that was told ahead, for which the gate was asked, and gives its outcome.
-pub(crate) fn further_on<J: Job + Task<Out = u64>, M: Meter>(
-    recorded: &mut Recorded<J>,
-    ends: &mut Ends<J>,
-    local: &mut J::Local,
-    next: &Next,
-    leave: Leave,
-    meter: &mut M,
-)
-    requires core { leave.core ≡ recorded.old.core.core }
-    requires name { leave.name ≡ next.now.name }
-    requires ahead { IsAheadInTurn recorded.old.core next.now.queue next.now.vr next.now.name next.now.started next.now.woken }
-    requires known { next.now.name.from ≤ recorded.old.core.cores }
-    requires beside { AreBeside (Fits J.meaning) recorded.old ends.old }
-    requires owed { PollsAsOwed J.meaning recorded.old ends.old }
-    requires room { length recorded.old.journal.notes + sum_by left_of recorded.old.lanes + 2 ≤ recorded.old.journal.room }
-    ensures polls { PollsFurther J.meaning (λ time. M.Tells meter.old time meter.new) next.now.name (record { recorded = recorded.old; ends = ends.old }) (record { recorded = recorded.new; ends = ends.new }) }
-    ensures linked { IsLinked J.meaning (record { recorded = recorded.new; ends = ends.new }) }
-    ensures stays { StaysLinked (record { recorded = recorded.old; ends = ends.old }) (record { recorded = recorded.new; ends = ends.new }) }
-{
-    let settled = post_further(recorded, ends, local, next, leave, meter);
-    done_on(recorded, ends, next.name, &settled);
+    /// Makes a further poll of the open turn, of the job that was told ahead, for which the gate was asked, and gives its outcome.
+    pub(crate) fn further_poll<M: Meter>(
+        &mut self,
+        local: &mut J::Local,
+        next: &Next,
+        leave: Leave,
+        meter: &mut M,
+    )
+        requires core { leave.core ≡ self.old.recorded.core.core }
+        requires name { leave.name ≡ next.now.name }
+        requires ahead { IsAheadInTurn self.old.recorded.core next.now.queue next.now.vr next.now.name next.now.started next.now.woken }
+        requires known { next.now.name.from ≤ self.old.recorded.core.cores }
+        requires linked { IsLinked J.meaning self.old }
+        requires room { length self.old.recorded.journal.notes + sum_by left_of self.old.recorded.lanes + 2 ≤ self.old.recorded.journal.room }
+        ensures polls { PollsFurther J.meaning (λ time. M.Tells meter.old time meter.new) next.now.name self.old self.new }
+        ensures linked { IsLinked J.meaning self.new }
+        ensures stays { StaysLinked self.old self.new }
+    {
+        let settled = post_further(
+            &mut self.recorded,
+            &mut self.ends,
+            local,
+            next,
+            leave,
+            meter,
+        );
+        done_on(&self.recorded, &mut self.ends, next.name, &settled);
+    }
 }

@@ -65,7 +65,7 @@ impl<J: Task<Out = u64>> Served<J> {
         requires acts { ActsByCommand linked.recorded.journal.notes }
         ensures { result ≡ record { linked = linked; ending = false } }
     {
-        let _recorded = &linked.recorded;
+        let _seat = &linked.seat;
         Served {
             linked,
             ending: false,
@@ -174,7 +174,7 @@ impl<J: Task<Out = u64>> Served<J> {
         ensures hears { HearsSome sender self.old self.new }
         ensures polls { NotesNoPoll self.old.linked.recorded.journal.notes self.new.linked.recorded.journal.notes }
     {
-        let cap = self.linked.recorded.cap();
+        let cap = self.linked.recorded().cap();
         for count in 0..cap {
             if !self.deliver_one(sender) {
                 return count > 0;
@@ -248,7 +248,7 @@ impl<J: Task<Out = u64>> Served<J> {
         ensures recorded { result.now ≡ self.now.linked.recorded }
         ensures sound { IsRecorded J.meaning self.now.linked.recorded }
     {
-        &self.linked.recorded
+        self.linked.recorded()
     }
 
     /// The notes of this worker.
@@ -256,7 +256,7 @@ impl<J: Task<Out = u64>> Served<J> {
         ensures journal { result.now ≡ self.now.linked.recorded.journal }
         ensures sound { IsServed J.meaning self.now }
     {
-        self.linked.recorded.journal()
+        self.linked.recorded().journal()
     }
 
     /// Shuts the open gates of a core that was closed. Whether there was one.

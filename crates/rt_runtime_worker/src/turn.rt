@@ -6,7 +6,6 @@ ghost use Rattle.rt_runtime_worker.specs.Linked.{IsBetweenTurns, IsLinked, Stays
 ghost use Rattle.rt_runtime_worker.specs.Rooms.{HasTurnRoom};
 
 use crate::bursts::poll_through;
-use crate::handing::hand_back;
 use crate::linked::Linked;
 use rt_core::{Ahead, PickError};
 use rt_jobs::{Job, Task};
@@ -44,20 +43,13 @@ impl<J: Job + Task<Out = u64>> Linked<J> {
         ensures linked { IsLinked J.meaning self.new }
         ensures between { IsBetweenTurns self.new.recorded }
     {
-        match self.recorded.ahead() {
+        match self.seat.ahead() {
             Ok(Ahead::Job(next)) => {
-                poll_through(
-                    &mut self.recorded,
-                    &mut self.ends,
-                    local,
-                    &next,
-                    meter,
-                    gate,
-                );
+                poll_through(&mut self.seat, local, &next, meter, gate);
                 Made::Polled
             }
             Ok(Ahead::Back) => {
-                hand_back(&mut self.recorded, &mut self.ends);
+                drop(self.seat.pick());
                 Made::Returned
             }
             Ok(Ahead::Idle) => Made::Idle,

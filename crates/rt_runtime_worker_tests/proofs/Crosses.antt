@@ -20,6 +20,7 @@ use Rattle.rt_journal_desk.specs.contracts.desk.RecordedDesk.{the_row as desk}
 use Rattle.rt_journal.specs.contracts.recorded.Recorded.{the_row as recorded}
 use Rattle.rt_runtime_worker.proofs.bell.Bell.TheSendSync as bell
 use Rattle.rt_watch.proofs.publisher.Publisher.TheSendSync as publisher
+use Rattle.rt_runtime_worker.specs.contracts.seat.Seat.{the_row as seat}
 use Rattle.rt_runtime_worker.specs.contracts.linked.Linked.{the_row as linked}
 use Rattle.rt_runtime_worker.specs.contracts.ended.Ended.{the_row as ended}
 use Rattle.rt_runtime_worker.specs.contracts.worker.Worker.{the_row as worker}
@@ -37,8 +38,11 @@ module _ (J L : RattleType) (t : Ghosts J.Denot ℕ L.Denot) (b : Begins L.Denot
   recorded_send : IsSend (recorded J global L t its_alloc (copied global))
   recorded_send = search (core_send, desk_send, crosses, sendable) depth 60 fits 20000
 
+  seat_send : IsSend (seat J L t b)
+  seat_send = search (recorded_send, ends.the_send, crosses, sendable) depth 60 fits 20000
+
   linked_send : IsSend (linked J L t b)
-  linked_send = search (recorded_send, ends.the_send, crosses, sendable) depth 60 fits 20000
+  linked_send = search (seat_send, crosses, sendable) depth 60 fits 20000
 
   module _ (S : RattleType) (sink : Passes S.Denot) (s : IsSend S) where
     pub ended_send : IsSend (ended J S L t b sink)

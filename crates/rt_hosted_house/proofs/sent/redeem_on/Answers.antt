@@ -1,21 +1,27 @@
-use Rattle.std.proofs.Common.{ap, refl, ◌∙◌}
+use Rattle.std.proofs.Common.{◌≡◌, ap, refl, subst, sym, ◌∙◌, arith}
 use Rattle.std.specs.Prelude.{Err}
 use Rattle.rt_ids.specs.declared.names.TicketError.TheVariants.{Unknown}
 use Rattle.rt_desk.specs.Lanes.{FitsSent}
 use Rattle.rt_link.specs.Fits.{Fits}
+use Rattle.rt_ring_mesh.specs.Ends.{SameEnds, out_at}
+use Rattle.rt_ring_mesh.specs.Lending.{with_out}
 use Rattle.rt_hosted.specs.Jobs.{host_meaning}
-use Rattle.rt_hosted.proofs.LentOut.{LendsAs, out_beside, out_ends, out_fits, out_lane, outs_put}
-use Rattle.rt_hosted.proofs.Submitted.{redeems_add}
+use Rattle.rt_runtime_worker.proofs.LentOut.{LendsOut, out_beside, out_ends, out_fits, out_lane, outs_now}
+use Rattle.rt_runtime_worker.proofs.Adding.{redeems_add}
+use Rattle.rt_hosted_house.specs.Outside.{SendsFrom}
 use Rattle.rt_hosted_house.proofs.Opened.{stays_same}
 use Rattle.rt_hosted_house.proofs.sent.redeem_on.Goals as goal
-use Rattle.rt_hosted_house.proofs.sent.redeem_on.Goals.{After-index_mut}
+use Rattle.rt_hosted_house.proofs.sent.redeem_on.Goals.{After-out_mut}
 
--- the end to the core, as it is borrowed
-lends : (c : goal.After-index_mut) → LendsAs c.ends.view_is c.args.ticket.to c.to.inside.0 c.args.desk.now c.index_mut.result.now
+-- the ticket is of the core to which the end is
+its_core : (c : goal.After-out_mut) → c.name-to.result.to ≡ c.args.ticket.to
+its_core c = ap (λ name. name.to) c.name-to.ensures
+
+-- the end to that core, as it is lent
+lends : (c : goal.After-out_mut) → LendsOut host_meaning c.args.ticket.to c.args.desk.now c.args.ends.now c.out_mut.result.now
 lends c = record {
   known = (c.knows.ensures.knows.0 c.if-not-knows.false).1;
-  opens = record { number = c.to.view_is ∙ ap (λ name. name.to) c.name-to.ensures; seen = c.ends.view_is };
-  is = c.index_mut.ensures.value;
+  is = c.out_mut.ensures.value ∙ ap (λ core. out_at core c.args.ends.now) (its_core c);
   outs = c.requires.sends;
 }
 
@@ -25,26 +31,33 @@ returns-then-not-knows-clause-does c = record { answer = Err Unknown; redeems = 
 pub returns-then-not-knows-clause-stays : goal.returns-then-not-knows-clause-stays
 returns-then-not-knows-clause-stays c = stays_same (record { desk = c.args.desk.now; ends = c.args.ends.now })
 
+pub out_mut-requires : goal.out_mut-requires
+out_mut-requires c = omega (arith, c.requires.sends.count, (c.knows.ensures.knows.0 c.if-not-knows.false).1, ap (λ name. name.to) c.name-to.ensures)
+
 pub redeem-requires-clause-beside : goal.redeem-requires-clause-beside
-redeem-requires-clause-beside c = out_beside (lends (goal.at.redeem-requires-clause-beside c).After-index_mut)
+redeem-requires-clause-beside c = out_beside (lends (goal.at.redeem-requires-clause-beside c).After-out_mut)
 
 pub redeem-requires-clause-lane : goal.redeem-requires-clause-lane
-redeem-requires-clause-lane c = out_lane (lends (goal.at.redeem-requires-clause-lane c).After-index_mut)
+redeem-requires-clause-lane c = out_lane (lends (goal.at.redeem-requires-clause-lane c).After-out_mut)
 
 pub returns-clause-sends : goal.returns-clause-sends
-returns-clause-sends c = outs_put (lends (goal.at.returns-clause-sends c).After-index_mut) c.redeem.new.end c.redeem.ensures.stays
+returns-clause-sends c =
+    let here = (goal.at.returns-clause-sends c).After-out_mut in
+    subst (λ core. SendsFrom (record { desk = c.redeem.new.self; ends = with_out core c.redeem.new.end c.args.ends.now })) (sym (its_core here)) (outs_now (lends here) c.redeem.new.end c.redeem.ensures.stays)
 
 pub returns-clause-stays : goal.returns-clause-stays
-returns-clause-stays c = record {
-  seat = c.redeem.ensures.stays.rest;
-  ends = out_ends (lends (goal.at.returns-clause-stays c).After-index_mut) c.redeem.new.end c.redeem.ensures.untouched;
-  grows = (redeems_add _ _ _ _ c.redeem.ensures.redeems).grows;
-}
+returns-clause-stays c =
+    let here = (goal.at.returns-clause-stays c).After-out_mut in
+    record {
+      seat = c.redeem.ensures.stays.rest;
+      ends = subst (λ core. SameEnds c.args.ends.now (with_out core c.redeem.new.end c.args.ends.now)) (sym (its_core here)) (out_ends (lends here) c.redeem.new.end c.redeem.ensures.untouched);
+      grows = (redeems_add _ _ _ _ c.redeem.ensures.redeems).grows;
+    }
 
 pub returns-clause-does : goal.returns-clause-does
 returns-clause-does c = record {
   answer = c.redeem.result;
   redeems = c.redeem.ensures.redeems;
-  fits = out_fits (lends (goal.at.returns-clause-does c).After-index_mut) c.redeem.result (λ out. FitsSent (Fits host_meaning) out c.args.ticket.number) c.redeem.ensures.fits;
+  fits = out_fits (lends (goal.at.returns-clause-does c).After-out_mut) c.redeem.result (λ out. FitsSent (Fits host_meaning) out c.args.ticket.number) c.redeem.ensures.fits;
   told_is = c.told_redeemed.ensures;
 }

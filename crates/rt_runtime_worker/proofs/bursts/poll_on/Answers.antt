@@ -17,7 +17,7 @@ pub loop-next-preserved : goal.loop-next-preserved
 loop-next-preserved g c =
     let was = c.loop-next.invariant in
     record {
-      polls = (c.in-Some.next.name ∷ was.polls.0, (turn_view (record { recorded = c.loop-next.recorded; ends = c.loop-next.ends }) c.loop-next.meter c.loop-next.gate, was.polls.1, c.poll_further.ensures.further));
+      polls = (c.in-Some.next.name ∷ was.polls.0, (turn_view c.loop-next.seat c.loop-next.meter c.loop-next.gate, was.polls.1, c.poll_further.ensures.further));
       linked = c.poll_further.ensures.linked;
       is_open = open_behind_further _ _ c.poll_further.ensures.further.polls;
       room = room_behind_further _ _ c.poll_further.ensures.further.polls was.room;

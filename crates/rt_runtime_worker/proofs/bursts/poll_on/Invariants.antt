@@ -10,13 +10,13 @@ use Rattle.rt_runtime_worker.proofs.bursts.poll_on.Given as goal
 
 abbrev pub invariant-loop-next : goal.invariant-loop-next
 invariant-loop-next g l = record {
-  polls : (polls : List JobId) × PollsOn g.J.Task.meaning g.M.Meter.Tells g.G.Gate.Asked polls (turn_view (record { recorded = l.fn.recorded; ends = l.fn.ends }) l.fn.meter l.fn.gate)
-      (turn_view (record { recorded = l.recorded; ends = l.ends }) l.meter l.gate);
-  linked : IsLinked g.J.Task.meaning (record { recorded = l.recorded; ends = l.ends });
-  is_open : IsSome (queue_in_turn l.recorded.core.bursts.burst l.recorded.journal.notes);
-  room : HasRestRoom l.recorded;
-  stays : StaysLinked (record { recorded = l.fn.recorded; ends = l.fn.ends }) (record { recorded = l.recorded; ends = l.ends });
+  polls : (polls : List JobId) × PollsOn g.J.Task.meaning g.M.Meter.Tells g.G.Gate.Asked polls (turn_view l.fn.seat l.fn.meter l.fn.gate)
+      (turn_view l.seat l.meter l.gate);
+  linked : IsLinked g.J.Task.meaning l.seat;
+  is_open : IsSome (queue_in_turn l.seat.recorded.core.bursts.burst l.seat.recorded.journal.notes);
+  room : HasRestRoom l.seat.recorded;
+  stays : StaysLinked l.fn.seat l.seat;
 }
 
 abbrev pub decreases-loop-next : goal.decreases-loop-next
-decreases-loop-next g l = l.recorded.core.bursts.burst - polls_in_turn l.recorded.journal.notes
+decreases-loop-next g l = l.seat.recorded.core.bursts.burst - polls_in_turn l.seat.recorded.journal.notes

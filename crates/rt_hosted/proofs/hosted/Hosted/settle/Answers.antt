@@ -1,6 +1,10 @@
 use Rattle.std.proofs.Common.{sym}
 use Rattle.rt_hosted.proofs.Kept.{run_known}
+use Rattle.rt_hosted.proofs.TakenOut.{settled_holds, settled_hosted}
 use Rattle.rt_hosted.proofs.hosted.Hosted.settle.Goals as goal
 
-pub settle_on-requires-clause-known : goal.settle_on-requires-clause-known
-settle_on-requires-clause-known c = run_known c.self.inside.recorded c.self.inside.run c.in-Some.run' c.self.invariant.0.recorded c.self.invariant.1 (sym c.in-Some.ensures.value)
+pub settle-requires-clause-known : goal.settle-requires-clause-known
+settle-requires-clause-known c = run_known c.self.inside.seat.recorded c.self.inside.run c.in-Some.run' c.self.invariant.0.recorded c.self.invariant.1 (sym c.in-Some.ensures.value)
+
+pub returns-clause-hosted : goal.returns-clause-hosted
+returns-clause-hosted c = settled_hosted c.settle.ensures.settles c.settle.ensures.stays c.settle.ensures.seated c.self.invariant.0

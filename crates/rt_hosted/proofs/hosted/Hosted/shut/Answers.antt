@@ -1,32 +1,31 @@
 use Rattle.std.proofs.Common.{◌≡◌, ◌+◌, ap, length, sym, subst, ◌∙◌, arith}
 use Rattle.rt_runtime_worker.specs.Linked.{StaysLinked}
-use Rattle.rt_hosted.specs.Hosted.{HasRoom, HostedView}
 use Rattle.rt_runtime_worker.specs.Steps.{ShutsGate}
+use Rattle.rt_hosted.specs.Hosted.{HasRoom, HostedView}
 use Rattle.rt_hosted.proofs.Kept.{Leaves, holds_after, hosted_after, same_run}
 use Rattle.rt_hosted.proofs.hosted.Hosted.shut.Goals as goal
-use Rattle.rt_hosted.proofs.hosted.Hosted.shut.Goals.{After-shut_on}
+use Rattle.rt_hosted.proofs.hosted.Hosted.shut.Goals.{After-shut}
 
--- what the call on the end left
-left : (c : goal.After-shut_on) → Leaves 1 c.self.inside.recorded c.shut_on.new.recorded c.shut_on.new.ends
+-- what the call at the seat left
+left : (c : goal.After-shut) → Leaves 1 c.self.inside.seat c.shut.new.self
 left c = record {
-  sound = c.shut_on.ensures.sound;
-  beside = c.shut_on.ensures.beside;
+  seated = c.shut.ensures.seated;
   room = subst (λ (view : HostedView). HasRoom 1 view.recorded) (sym c.self.view_is) (c.has_room.ensures.0 c.if-not-has_room.false);
   few =
-      let longer : length c.shut_on.new.recorded.journal.notes ≡ length c.self.inside.recorded.journal.notes + 1 = ap (λ journal. length journal.notes) c.shut_on.ensures.does.tells.journal ∙ omega arith in
+      let longer : length c.shut.new.self.recorded.journal.notes ≡ length c.self.inside.seat.recorded.journal.notes + 1 = ap (λ journal. length journal.notes) c.shut.ensures.does.tells.journal ∙ omega arith in
       omega (arith, longer);
-  keeps = same_run c.self.inside.recorded.core.out c.shut_on.new.recorded.core.out c.shut_on.ensures.does.tells.out;
-  seat = c.shut_on.ensures.does.stays.seat;
+  keeps = same_run c.self.inside.seat.recorded.core.out c.shut.new.self.recorded.core.out c.shut.ensures.does.tells.out;
+  stays = c.shut.ensures.does.stays;
 }
 
 pub invariant_of-self : goal.invariant_of-self
-invariant_of-self c = holds_after (left (goal.at.invariant_of-self c).After-shut_on) c.self.inside.run c.self.invariant.1 c.self.invariant.2 c.self.invariant.3
+invariant_of-self c = holds_after (left (goal.at.invariant_of-self c).After-shut) c.self.inside.run c.self.invariant.1 c.self.invariant.2 c.self.invariant.3
 
 pub returns-clause-hosted : goal.returns-clause-hosted
-returns-clause-hosted c = hosted_after (left (goal.at.returns-clause-hosted c).After-shut_on)
+returns-clause-hosted c = hosted_after (left (goal.at.returns-clause-hosted c).After-shut)
 
 pub returns-clause-stays : goal.returns-clause-stays
-returns-clause-stays c = subst (λ (old : HostedView). StaysLinked old (record { recorded = c.shut_on.new.recorded; ends = c.shut_on.new.ends })) c.self.view_is c.shut_on.ensures.does.stays
+returns-clause-stays c = subst (λ (old : HostedView). StaysLinked old c.shut.new.self) c.self.view_is c.shut.ensures.does.stays
 
 pub returns-clause-shuts : goal.returns-clause-shuts
-returns-clause-shuts c = subst (λ (old : HostedView). ShutsGate c.args.sender old (record { recorded = c.shut_on.new.recorded; ends = c.shut_on.new.ends })) c.self.view_is c.shut_on.ensures.does
+returns-clause-shuts c = subst (λ (old : HostedView). ShutsGate c.args.sender old c.shut.new.self) c.self.view_is c.shut.ensures.does

@@ -8,7 +8,7 @@ use Rattle.rt_runtime.proofs.finishing.Runtime+J+C+G.finish_with_locals.Goals as
 
 pub returns-in-Some-clause-finishes : goal.returns-in-Some-clause-finishes
 returns-in-Some-clause-finishes g c = (
-  first_open_of _ c.args.self c.in-Some.core c.self.view_is c.self.invariant.0
+  first_open_of _ c.args.self c.in-Some.core c.self.view_is c.self.invariant.2.runtime
       (subst (λ closing. IsFirstOpenOf closing (Some c.in-Some.core)) c.deref.ensures.value c.in-Some.ensures),
   refl,
 )

@@ -1,17 +1,18 @@
-use Rattle.std.proofs.Common.{◌≡◌, ◌≤◌, [], ◌∷◌, ◌++◌, false, rules, refl, ◌∙◌, ap, sym, subst, arith, length, map, replicate}
+use Rattle.std.proofs.Common.{◌≡◌, ℕ, ◌<◌, [], ◌∷◌, ◌++◌, false, rules, refl, ◌∙◌, ap, sym, subst, arith, length, map, replicate}
 use denote.Param.{param}
 use denote.Param.Send.{IsSend, arg_send, param_send}
 use denote.Exit.{no}
 use Rattle.rt_runtime.proofs.Crosses.{worker_send, ended_send}
 use Rattle.rt_link.specs.Fits.{Fits}
-use Rattle.rt_runtime_config.specs.Configs.{least_room}
+use Rattle.rt_journal_desk.specs.Submissions.{opened_desk}
+use Rattle.rt_ring_mesh.specs.Ends.{AreFresh, out_at}
 use Rattle.rt_runtime.specs.Starting.{HaveQueues, IsHouse}
 use Rattle.std.proofs.lemmas.List.{length-map}
 use Rattle.rt_runtime_team.proofs.Lists.{together_length}
 use Rattle.rt_runtime.specs.Watching.{IsUnseen, IsWatcherOf}
 use Rattle.rt_runtime.proofs.AllPassed.{together_all}
 use Rattle.rt_runtime.proofs.Dealt.{made_with_last, same_maps}
-use Rattle.rt_runtime.proofs.Started.{holds_next, none_submitted, started}
+use Rattle.rt_runtime.proofs.Started.{holds_next, none_submitted, seated, started}
 use Rattle.rt_runtime.proofs.runtime.Runtime.begin_given.Goals as goal
 
 pub start-requires-send-W : goal.start-requires-send-W
@@ -30,55 +31,57 @@ start-requires-send-W-Ended g c κs within =
     let n : IsSend (param 4 g.row.J-Local) = search rules parts 8 in
     param_send 1 _ (arg_send _ no _ (ended_send g.row.J g.row.J-Local 4 g.J.Task g.J.Local.CoreState j n g.row.S g.S.Sink m))
 
+pub of-outside-requires : goal.of-outside-requires
+of-outside-requires g c =
+    let first = c.requires.good.each 0 (omega (arith, c.requires.good.numbers.some_core)) in
+    seated c.args.config.now.cores c.args.config.now.cap c.args.config.now.burst c.args.config.now.room c.args.config.now.queues.items (map (λ worker. worker.linked) c.in-Ok.workers.items) c.in-Ok.ends c.in-Ok-open_outside.desk
+    c.in-Ok.ensures.house c.in-Ok-open_outside.ensures.desk c.in-Ok-open_outside.ensures.written (omega (arith, first.room_least)) (Fits g.J.Task.meaning)
+
 pub invariant_of-result : goal.invariant_of-result
 invariant_of-result g c =
-    let desk = c.in-Ok-open_outside.ensures.desk in
-    let first = c.requires.good.each 0 (omega (arith, c.requires.good.numbers.some_core)) in
-    let enough : least_room c.args.config.now.cores c.args.config.now.cap c.args.config.now.burst ≤ c.args.config.now.room = omega (arith, first.room_least) in
+    let desk : c.of-outside.result.desk ≡ opened_desk c.args.config.now.cores c.args.config.now.cores c.args.config.now.cap c.args.config.now.room c.args.config.now.burst =
+    ap (λ outside. outside.desk) c.of-outside.ensures.is ∙ c.in-Ok-open_outside.ensures.desk in
+    let workers = ap (λ workers. map (λ worker. worker.linked) workers) c.in-Ok-start.ensures.ok in
+    let house = subst (λ ends. IsHouse c.args.config.now.cores c.args.config.now.cap c.args.config.now.burst c.args.config.now.room c.args.config.now.queues.items (map (λ worker. worker.linked) c.in-Ok.workers.items) ends)
+    (sym (ap (λ outside. outside.ends) c.of-outside.ensures.is)) c.in-Ok.ensures.house in
     let empty : g.row.S.Denot → Type 0 = λ sink. g.S.Sink.has sink ≡ [] in
     let none = holds_next empty c.args.sinks.items c.pop.new.self.items (c.in-Some.sink ∷ []) [] c.in-Some.sink c.requires.empty c.in-Some.ensures.items refl in
     let numbers = c.requires.good.numbers in (
-      started c.args.config.now.cores c.args.config.now.cap c.args.config.now.burst c.args.config.now.room c.args.config.now.queues.items (map (λ worker. worker.linked) c.in-Ok-start.team) c.in-Ok.ends c.in-Ok-open_outside.desk c.in-Ok-open_outside.closing.items
-          (subst (λ workers. IsHouse c.args.config.now.cores c.args.config.now.cap c.args.config.now.burst c.args.config.now.room c.args.config.now.queues.items (map (λ worker. worker.linked) workers) c.in-Ok.ends) (sym c.in-Ok-start.ensures.ok) c.in-Ok.ensures.house) desk
-          c.in-Ok-open_outside.ensures.written c.in-Ok-open_outside.ensures.closing c.of-bells.result (map (λ worker. worker.bells) c.in-Ok-start.team) (ap (λ rung. rung.times) c.of-bells.ensures ∙ c.in-Ok.ensures.bells) false _ c.in-Ok.watchers.items _ _ enough
-          (record {
-            some_core = omega (arith, numbers.some_core);
-            few_cores = numbers.cores_most;
-            some_place = omega (arith, numbers.some_place);
-            few_places = numbers.places_most;
-            some_poll = omega (arith, numbers.some_poll);
-            few_polls = numbers.polls_most;
-          })
-          (Fits g.J.Task.meaning),
-      (record {
-        cores_are = sym (ap (λ desk. desk.cores) desk);
-        cap_is = sym (ap (λ desk. desk.cap) desk);
-        room_ends = c.in-Ok-open_spares.ensures.ends.1;
-        room_actors = c.in-Ok-open_spares.ensures.actors.1;
-        room_journals = c.in-Ok-open_spares.ensures.journals.1;
-      }),
-      (record { has_passed = none ∙ ap (λ desk. desk.journal.passed) (sym desk); refusal = λ yes. absurd cc }),
-      c.in-Ok-open_spares.ensures.ends.0,
-      c.in-Ok-open_spares.ensures.actors.0,
-      c.in-Ok-open_spares.ensures.journals.0,
+      (c.in-Ok-open_spares.ensures.ends, c.in-Ok-open_spares.ensures.actors, c.in-Ok-open_spares.ensures.journals, c.in-Ok-open_spares.ensures.locals),
       same_maps (λ worker. worker.shown.board) (λ watcher. watcher.board) IsWatcherOf (λ worker watcher is. is.board) c.in-Ok.workers.items c.in-Ok.watchers.items c.in-Ok.ensures.watchers
           ∙ ap (λ workers. map (λ worker. worker.shown.board) workers) (sym c.in-Ok-start.ensures.ok),
-      c.in-Ok-open_spares.ensures.locals.0,
-      c.in-Ok-open_spares.ensures.locals.1,
+      (record {
+        runtime = started c.args.config.now.cores c.args.config.now.cap c.args.config.now.burst c.args.config.now.room c.args.config.now.queues.items (map (λ worker. worker.linked) c.in-Ok-start.team) c.of-outside.result c.of-outside.ensures.seated
+            (subst (λ workers. IsHouse c.args.config.now.cores c.args.config.now.cap c.args.config.now.burst c.args.config.now.room c.args.config.now.queues.items workers c.of-outside.result.ends) (sym workers) house) desk
+            (record {
+              some_core = omega (arith, numbers.some_core);
+              few_cores = numbers.cores_most;
+              some_place = omega (arith, numbers.some_place);
+              few_places = numbers.places_most;
+              some_poll = omega (arith, numbers.some_poll);
+              few_polls = numbers.polls_most;
+            })
+            c.in-Ok-open_outside.closing.items c.in-Ok-open_outside.ensures.closing c.of-bells.result (ap (λ rung. rung.times) c.of-bells.ensures ∙ c.in-Ok.ensures.bells) _ false _ _ _ _;
+        cores_are = sym (ap (λ desk. desk.cores) desk);
+        cap_is = sym (ap (λ desk. desk.cap) desk);
+        has_passed = none ∙ ap (λ desk. desk.journal.passed) (sym desk);
+        refusal = λ yes. absurd cc;
+      }),
     )
 
 pub returns-in-Ok-start-clause-begins : goal.returns-in-Ok-start-clause-begins
 returns-in-Ok-start-clause-begins g c = record {
-  desk = c.in-Ok-open_outside.ensures.desk;
+  desk = ap (λ outside. outside.desk) c.of-outside.ensures.is ∙ c.in-Ok-open_outside.ensures.desk;
   closing = c.in-Ok-open_outside.ensures.closing;
   rung = ap (λ rung. rung.times) c.of-bells.ensures ∙ c.in-Ok.ensures.bells;
   bells = ap (λ workers. map (λ worker. worker.bells) workers) c.in-Ok-start.ensures.ok ∙ (c.in-Ok.ensures.shared ∙ ap (λ rung. replicate c.args.config.now.cores rung.names) (sym c.of-bells.ensures));
   tries = ap (λ workers. map (λ worker. worker.tries) workers) c.in-Ok-start.ensures.ok ∙ c.in-Ok.ensures.tries;
   room_is = refl;
   count = ap (λ workers. length (map (λ worker. worker.linked) workers)) c.in-Ok-start.ensures.ok ∙ c.in-Ok.ensures.house.count;
-  ends = c.in-Ok.ensures.house.outs;
-  fresh = c.in-Ok.ensures.house.fresh;
-  none = none_submitted c.args.config.now.cores c.args.config.now.cap c.args.config.now.burst c.args.config.now.room c.args.config.now.queues.items (map (λ worker. worker.linked) c.in-Ok.workers.items) c.in-Ok.ends c.in-Ok.ensures.house;
+  ends = ap (λ outside. length outside.ends.outs) c.of-outside.ensures.is ∙ c.in-Ok.ensures.house.outs;
+  fresh = subst (λ ends. AreFresh c.args.config.now.cap c.args.config.now.cores ends) (sym (ap (λ outside. outside.ends) c.of-outside.ensures.is)) c.in-Ok.ensures.house.fresh;
+  none = subst (λ ends. (core : ℕ) → core < c.args.config.now.cores → (out_at core ends).out.sent ≡ []) (sym (ap (λ outside. outside.ends) c.of-outside.ensures.is))
+      (none_submitted c.args.config.now.cores c.args.config.now.cap c.args.config.now.burst c.args.config.now.room c.args.config.now.queues.items (map (λ worker. worker.linked) c.in-Ok.workers.items) c.in-Ok.ends c.in-Ok.ensures.house);
   refused = refl;
   watched =
       sym (together_length IsWatcherOf c.in-Ok.workers.items c.in-Ok.watchers.items c.in-Ok.ensures.watchers)

@@ -7,7 +7,7 @@ use Rattle.rt_runtime.proofs.runtime.Runtime.finish_with_sinks.Goals as goal
 
 pub returns-in-Some : goal.returns-in-Some
 returns-in-Some g c = (
-  first_open_of _ c.args.self c.in-Some.core c.self.view_is c.self.invariant.0
+  first_open_of _ c.args.self c.in-Some.core c.self.view_is c.self.invariant.2.runtime
       (subst (λ closing. IsFirstOpenOf closing (Some c.in-Some.core)) c.deref.ensures.value c.in-Some.ensures),
   refl,
 )

@@ -1,4 +1,5 @@
-use Rattle.std.proofs.Common.{sym, ◌∙◌}
+use Rattle.std.proofs.Common.{sym, ◌∙◌, subst}
+use Rattle.rt_runtime_worker.specs.Steps.{ShutsGate}
 use Rattle.rt_runtime_worker.proofs.Asking.{shut_notes_none}
 use Rattle.rt_runtime_worker.proofs.Between.{between_behind}
 use Rattle.rt_runtime_worker.proofs.Gated.{shut_now}
@@ -6,7 +7,10 @@ use Rattle.rt_runtime_worker.proofs.linked.Linked.shut_one.Goals as goal
 
 pub invariant_of-self : goal.invariant_of-self
 invariant_of-self g c = (
-  c.shut_on.ensures.linked,
-  c.self.invariant.1 ∙ sym c.shut_on.ensures.does.stays.seat.cores,
-  between_behind _ _ c.shut_on.ensures.does.stays (shut_notes_none c.args.sender _ _ (shut_now c.args.sender _ _ c.shut_on.ensures.does).0) c.self.invariant.2,
+  c.shut.ensures.linked c.self.invariant.0,
+  c.self.invariant.1 ∙ sym c.shut.ensures.does.stays.seat.cores,
+  between_behind _ _ c.shut.ensures.does.stays (shut_notes_none c.args.sender _ _ (shut_now c.args.sender _ _ c.shut.ensures.does).0) c.self.invariant.2,
 )
+
+pub returns : goal.returns
+returns g c = subst (λ old. ShutsGate c.args.sender old c.shut.new.self) c.self.view_is c.shut.ensures.does
