@@ -126,10 +126,10 @@ public:
     bool is_left(uint32_t core) const { return bells[core].runs->load() == 1; }
     void set_asleep(uint32_t actor, bool sleeps) { bells[actor].sleeps.store(sleeps); }
     // No clause says that a link shows at once what the other end did, so a sleeper looks again after 10 ms.
-    void wait(uint32_t actor) {
+    void wait(uint32_t actor, std::chrono::nanoseconds longest) {
         bell &it = bells[actor];
         std::unique_lock<std::mutex> guard(it.lock);
-        it.rings.wait_for(guard, std::chrono::milliseconds(10), [&] { return it.rung; });
+        it.rings.wait_for(guard, std::min<std::chrono::nanoseconds>(longest, std::chrono::milliseconds(10)), [&] { return it.rung; });
         it.rung = false;
     }
 };
@@ -375,8 +375,9 @@ public:
         return fx_seat_shows(&seat) == FX_IDLE;
     }
     void is_awake() { shared->set_asleep(own, false); }
-    void sleep() {
-        if (may_sleep()) shared->wait(own);
+    // It sleeps for so long at most, and never for more than 10 ms.
+    void sleep(std::chrono::nanoseconds longest = std::chrono::nanoseconds::max()) {
+        if (may_sleep()) shared->wait(own, longest);
         is_awake();
     }
 };

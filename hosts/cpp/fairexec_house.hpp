@@ -184,7 +184,14 @@ public:
 
     // Waits for the outcome of a submission. It throws `error` if there will be none. With FX_PENDING the outcome hasn't come, and the thread that
     // called `run` of the core last has ended.
-    outcome<Job> wait_for(const ticket &of) {
+    outcome<Job> wait_for(const ticket &of) { return wait_until(of, std::chrono::steady_clock::time_point::max()); }
+    // Waits for so long at most. It throws FX_PENDING, too, if the time is over, and the ticket is good for further calls.
+    outcome<Job> wait_for(const ticket &of, std::chrono::nanoseconds longest) {
+        auto now = std::chrono::steady_clock::now(), never = std::chrono::steady_clock::time_point::max();
+        return wait_until(of, longest < never - now ? now + longest : never);
+    }
+    // As wait_for, until this time.
+    outcome<Job> wait_until(const ticket &of, std::chrono::steady_clock::time_point end) {
         for (bool is_last = false;;) {
             uint64_t count = 0;
             fx_code code = this->collect(count);
@@ -193,8 +200,9 @@ public:
             if (told == FX_OK) return std::move(*is);
             if (told != FX_PENDING || is_last) throw error(told);
             // What the core did before is collected once more.
-            is_last = this->shared->is_left(of.name.to);
-            if (!is_last) this->sleep();
+            auto left = end - std::chrono::steady_clock::now();
+            is_last = left.count() <= 0 || this->shared->is_left(of.name.to);
+            if (!is_last) this->sleep(left);
         }
     }
     // Orders each core to close, and waits for none. Each order takes a place of its link: `error` with FX_FULL if none is free.

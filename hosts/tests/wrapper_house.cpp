@@ -335,6 +335,24 @@ static void no_note_is_lost() {
     is("all notes went out once, in their order", of.whole(200), 200);
 }
 
+// Who waits for a while is told that the time is over, and may wait again.
+static void waits_for_a_while() {
+    linked::house<counted> house({1, 4, 1, 1 << 12});
+    auto &core = house.cores[0];
+    auto &outside = house.outside;
+    auto ticket = *outside.submit(0, 0, counted(21)).ticket;
+    for (auto longest : {std::chrono::microseconds(0), std::chrono::microseconds(300), std::chrono::microseconds(25000), std::chrono::microseconds(-7)}) {
+        auto begin = std::chrono::steady_clock::now();
+        is("the time is over", refused([&] { (void)outside.wait_for(ticket, longest); }), FX_PENDING);
+        is("and it was waited for", std::chrono::steady_clock::now() - begin >= longest, 1);
+    }
+    std::thread thread([&] { is("the core ends", core.run(twice), FX_OK); });
+    is("the outcome comes", outside.wait_for(ticket, std::chrono::nanoseconds::max()).answer, 42);
+    is("it is gone then", refused([&] { (void)outside.wait_for(ticket, std::chrono::hours(1)); }), FX_GONE);
+    outside.close_all(mode::finish);
+    thread.join();
+}
+
 // Who waits is told that the thread of a core has ended, and not that it left its `run` and goes on.
 static void waits_for_a_thread_that_ended() {
     linked::house<counted> house({1, 4, 1, 8});
@@ -394,6 +412,7 @@ static void detaches_later() {
 }
 
 int main() {
+    waits_for_a_while();
     waits_for_a_thread_that_ended();
     detaches_later();
     one_core();

@@ -26,11 +26,13 @@ mod core;
 mod house;
 mod lanes;
 mod names;
+mod outside;
 mod seat;
 mod tasks;
 
-pub use actor::{Outside, Ticket};
+pub use actor::Ticket;
 pub use core::{Core, Cx, Job, Turn};
 pub use house::{Config, Ended, House, Journals, Opened, Verdict};
 pub use names::{Answer, Name, Outcome, Reason, Step};
+pub use outside::Outside;
 pub use tasks::{spawn, yield_now, Cancelled, Join, Task};

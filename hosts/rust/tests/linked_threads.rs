@@ -8,6 +8,7 @@ use std::sync::atomic::{AtomicUsize, Ordering};
 use std::sync::{Arc, Mutex};
 use std::task::{Poll, Waker};
 use std::thread::JoinHandle;
+use std::time::{Duration, Instant};
 
 fn config(cores: u32, places: u32) -> Config {
     Config { cores, places, notes: 1 << 16, ..Config::default() }
@@ -44,7 +45,7 @@ fn halve(job: &mut Halving, cx: &mut Cx<'_, Halving>) -> Step {
         Ok(_) => Step::Done(0),
         Err(_) => {
             // Each run takes notes of the journal, and the other thread may be set aside.
-            std::thread::sleep(std::time::Duration::from_micros(50));
+            std::thread::sleep(Duration::from_micros(50));
             Step::Yield
         }
     }
@@ -82,7 +83,7 @@ fn closures_wake_each_other() -> Result<(), Error> {
             Some(Err(_)) => {}
             Some(Ok(_)) | None => asked = cx.wake(name).ok(),
         }
-        std::thread::sleep(std::time::Duration::from_micros(50));
+        std::thread::sleep(Duration::from_micros(50));
         Step::Yield
     });
     let wakes = sent(outside.submit(1, 0, wakes))?;
@@ -109,6 +110,24 @@ fn who_waits_is_told_that_a_core_was_dropped() -> Result<(), Error> {
         assert_eq!(outside.wait_for(&tickets[3]), Err(Error::Pending));
         assert_eq!(thread.join().map(|told| told.err()).ok(), if panics == 0 { Some(Some(Error::JournalFull)) } else { None });
     }
+    Ok(())
+}
+
+#[test]
+fn who_waits_for_a_while_may_wait_again() -> Result<(), Error> {
+    let (house, mut cores, mut outside) = House::open(&config(1, 4))?;
+    let ticket = sent(outside.submit(0, 0, 21u64))?;
+    for longest in [Duration::ZERO, Duration::from_micros(300), Duration::from_millis(25)] {
+        let begin = Instant::now();
+        assert_eq!(outside.wait_timeout(&ticket, longest), Err(Error::Pending));
+        assert!(begin.elapsed() >= longest);
+    }
+    let mut core = cores.remove(0);
+    let thread = std::thread::spawn(move || core.run(|job, _| Step::Done(2 * *job)).map(|()| core));
+    assert_eq!(outside.wait_timeout(&ticket, Duration::MAX)?, Outcome::Done(42));
+    assert_eq!(outside.wait_timeout(&ticket, Duration::MAX), Err(Error::Gone));
+    outside.close_all(Mode::Finish)?;
+    assert!(end(house, vec![thread], outside)?);
     Ok(())
 }
 

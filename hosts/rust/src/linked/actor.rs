@@ -3,11 +3,11 @@
 use super::lanes::Lanes;
 use super::names::{Answer, Name, Outcome, Reason};
 use super::seat::{Seat, Told};
-use crate::core::Mode;
 use crate::error::Error;
 use std::collections::VecDeque;
 use std::ops::{Deref, DerefMut};
 use std::sync::Arc;
+use std::time::Duration;
 
 /// The right to ask for the outcome of one submission. Only the actor that made it has an answer.
 ///
@@ -234,9 +234,10 @@ impl<J> Actor<J> {
         to != self.number || self.sent[to as usize].loose.len() + 1 < self.lanes.places() as usize
     }
 
-    pub(super) fn sleep(&mut self) {
+    /// Sleeps until its bell is rung, for so long at most.
+    pub(super) fn sleep(&mut self, longest: Duration) {
         let Actor { seat, number, lanes, .. } = self;
-        lanes.sleep(*number, || seat.shows());
+        lanes.sleep(*number, longest, || seat.shows());
     }
 }
 
@@ -276,7 +277,7 @@ macro_rules! submissions {
         /// # Errors
         ///
         /// As `submit`.
-        pub fn close_queue(&mut self, to: u32, queue: u32, mode: Mode) -> Result<Ticket, Error> {
+        pub fn close_queue(&mut self, to: u32, queue: u32, mode: $crate::Mode) -> Result<Ticket, Error> {
             self.$($entered)+.order(to, |seat| seat.close_queue(to, queue, mode))
         }
 
@@ -285,7 +286,7 @@ macro_rules! submissions {
         /// # Errors
         ///
         /// As `submit`.
-        pub fn close_core(&mut self, to: u32, mode: Mode) -> Result<Ticket, Error> {
+        pub fn close_core(&mut self, to: u32, mode: $crate::Mode) -> Result<Ticket, Error> {
             self.$($entered)+.order(to, |seat| seat.close_core(to, mode))
         }
 
@@ -346,52 +347,3 @@ macro_rules! submissions {
     };
 }
 pub(super) use submissions;
-
-/// The outside actor: the part of the host that belongs to no core. It submits, and receives nothing.
-pub struct Outside<J> {
-    pub(super) actor: Actor<J>,
-}
-
-impl<J> Outside<J> {
-    submissions!(actor.enter());
-
-    /// Waits for the outcome of a submission.
-    ///
-    /// # Errors
-    ///
-    /// `JournalFull`, `Unknown`, `Gone`. `Pending` if the core was dropped before the outcome came.
-    pub fn wait_for(&mut self, ticket: &Ticket) -> Result<Outcome<J>, Error> {
-        let mut actor = self.actor.enter();
-        let mut is_last = false;
-        loop {
-            actor.collect()?;
-            match actor.redeem(ticket) {
-                Err(Error::Pending) if !is_last => {
-                    // What the core did before is collected once more.
-                    is_last = actor.lanes.has_left(ticket.name.to);
-                    if !is_last {
-                        actor.sleep();
-                    }
-                }
-                told => return told,
-            }
-        }
-    }
-
-    /// Orders each core to close, and waits for none. Each order takes a place of its link.
-    ///
-    /// # Errors
-    ///
-    /// As `submit`.
-    pub fn close_all(&mut self, mode: Mode) -> Result<(), Error> {
-        for core in 0..self.actor.lanes.cores() {
-            match self.close_core(core, mode) {
-                Ok(ticket) => self.detach(ticket)?,
-                // Its gate is shut already.
-                Err(Error::Closed) => {}
-                Err(error) => return Err(error),
-            }
-        }
-        Ok(())
-    }
-}

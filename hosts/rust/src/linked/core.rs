@@ -1,7 +1,7 @@
 //! A core of a house, and what its jobs may do.
 
 use super::actor::{submissions, Actor, Ticket};
-use super::lanes::Bell;
+use super::lanes::{Bell, LONGEST_SLEEP};
 use super::names::{Name, Outcome, Step};
 use super::seat::{Next, Settled};
 use crate::clock::{now, Clock};
@@ -332,7 +332,7 @@ impl<J> Core<J> {
 
     /// Sleeps until another actor submits to this core or gives it an outcome, for 10 ms at most.
     pub fn sleep(&mut self) {
-        self.actor.enter().sleep();
+        self.actor.enter().sleep(LONGEST_SLEEP);
     }
 
     /// Closes the core by itself.

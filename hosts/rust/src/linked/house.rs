@@ -1,8 +1,9 @@
 //! How a house opens, and how it ends.
 
-use super::actor::{Actor, Outside};
+use super::actor::Actor;
 use super::core::Core;
 use super::lanes::Lanes;
+use super::outside::Outside;
 use super::seat::Seat;
 use crate::error::{refused, Error};
 use crate::raw;

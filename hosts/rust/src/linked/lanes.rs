@@ -8,6 +8,9 @@ use std::sync::atomic::{AtomicBool, AtomicU32, AtomicU64, Ordering};
 use std::sync::{Arc, Condvar, Mutex, MutexGuard, PoisonError};
 use std::time::Duration;
 
+/// A sleeper looks again after this. No clause says that a link shows at once what the other end did.
+pub(super) const LONGEST_SLEEP: Duration = Duration::from_millis(10);
+
 fn lock<T>(of: &Mutex<T>) -> MutexGuard<'_, T> {
     of.lock().unwrap_or_else(PoisonError::into_inner)
 }
@@ -198,15 +201,13 @@ impl<J> Lanes<J> {
         self.bells[core as usize].has_left.load(Ordering::SeqCst)
     }
 
-    /// Sleeps until the bell of this actor is rung, unless a waker was called or its seat shows something.
-    pub(super) fn sleep(&self, actor: u32, shows: impl FnOnce() -> bool) {
-        // No clause says that a link shows at once what the other end did, so a sleeper looks again after this.
-        const LONGEST: Duration = Duration::from_millis(10);
+    /// Sleeps until the bell of this actor is rung, for so long at most, unless a waker was called or its seat shows something.
+    pub(super) fn sleep(&self, actor: u32, longest: Duration, shows: impl FnOnce() -> bool) {
         let bell = &self.bells[actor as usize];
         bell.sleeps.store(true, Ordering::SeqCst);
         if lock(&bell.woken).is_empty() && !shows() {
             let rung = lock(&bell.rung);
-            let (mut rung, _) = bell.rings.wait_timeout_while(rung, LONGEST, |rung| !*rung).unwrap_or_else(PoisonError::into_inner);
+            let (mut rung, _) = bell.rings.wait_timeout_while(rung, longest.min(LONGEST_SLEEP), |rung| !*rung).unwrap_or_else(PoisonError::into_inner);
             *rung = false;
         }
         bell.sleeps.store(false, Ordering::SeqCst);

@@ -1,9 +1,10 @@
 //! Futures on the cores of a house.
 
-use super::actor::{Outside, Ticket};
+use super::actor::Ticket;
 use super::core::Core;
 use super::lanes::Bell;
 use super::names::{Name, Step};
+use super::outside::Outside;
 use crate::error::Error;
 use std::cell::RefCell;
 use std::collections::VecDeque;

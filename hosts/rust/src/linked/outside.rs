@@ -1,0 +1,72 @@
+//! The outside actor.
+
+use super::actor::{submissions, Actor, Ticket};
+use super::lanes::LONGEST_SLEEP;
+use super::names::{Name, Outcome};
+use crate::core::Mode;
+use crate::error::Error;
+use std::time::{Duration, Instant};
+
+/// The outside actor: the part of the host that belongs to no core. It submits, and receives nothing.
+pub struct Outside<J> {
+    pub(super) actor: Actor<J>,
+}
+
+impl<J> Outside<J> {
+    submissions!(actor.enter());
+
+    /// Waits for the outcome of a submission.
+    ///
+    /// # Errors
+    ///
+    /// `JournalFull`, `Unknown`, `Gone`. `Pending` if the core was dropped before the outcome came.
+    pub fn wait_for(&mut self, ticket: &Ticket) -> Result<Outcome<J>, Error> {
+        self.wait_until(ticket, None)
+    }
+
+    /// Waits for the outcome of a submission, for so long at most. The ticket is good for further calls.
+    ///
+    /// # Errors
+    ///
+    /// As `wait_for`, and `Pending` if the time is over before the outcome comes.
+    pub fn wait_timeout(&mut self, ticket: &Ticket, longest: Duration) -> Result<Outcome<J>, Error> {
+        // A time that no clock comes to is none.
+        self.wait_until(ticket, Instant::now().checked_add(longest))
+    }
+
+    fn wait_until(&mut self, ticket: &Ticket, end: Option<Instant>) -> Result<Outcome<J>, Error> {
+        let mut actor = self.actor.enter();
+        let mut is_last = false;
+        loop {
+            actor.collect()?;
+            match actor.redeem(ticket) {
+                Err(Error::Pending) if !is_last => {
+                    // What the core did before is collected once more.
+                    let left = end.map_or(LONGEST_SLEEP, |end| end.saturating_duration_since(Instant::now()));
+                    is_last = left.is_zero() || actor.lanes.has_left(ticket.name().to);
+                    if !is_last {
+                        actor.sleep(left);
+                    }
+                }
+                told => return told,
+            }
+        }
+    }
+
+    /// Orders each core to close, and waits for none. Each order takes a place of its link.
+    ///
+    /// # Errors
+    ///
+    /// As `submit`.
+    pub fn close_all(&mut self, mode: Mode) -> Result<(), Error> {
+        for core in 0..self.actor.lanes.cores() {
+            match self.close_core(core, mode) {
+                Ok(ticket) => self.detach(ticket)?,
+                // Its gate is shut already.
+                Err(Error::Closed) => {}
+                Err(error) => return Err(error),
+            }
+        }
+        Ok(())
+    }
+}
