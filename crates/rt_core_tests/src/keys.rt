@@ -159,7 +159,7 @@ fn keys_come_in_order_and_slips_come_back(rt: HostRuntime) -> Result<(), Fail> {
 fn a_front_changes_no_row(rt: HostRuntime) -> Result<(), Fail> {
     let ample = LocalHeap::new(rt.alloc(), 1 << 14)?;
     let bytes = front_bytes(&ample)?;
-    assert!(rt; bytes <= 4096 && ample.used() == 0);
+    assert!(rt; bytes >= 2048 && bytes <= 4096 && ample.used() == 0);
     let heap = LocalHeap::new(rt.alloc(), 256 * SLIP + bytes)?;
     assert!(rt; rows_hold(&heap, true)?);
     Ok(())
