@@ -65,17 +65,6 @@ impl<T, A: Allocator> SealedVec<T, A> {
     }
 }
 
-impl<T, A: Allocator + Copy> SealedVec<T, A> {
-    /// One more, with no value and no room. It takes no memory and lends no allocator.
-    pub fn emptied(&self) -> Self
-        ensures { result ≡ record { items = []; cap = 0 } }
-    {
-        SealedVec {
-            values: Vec::new(*self.values.allocator()),
-        }
-    }
-}
-
 impl<T: Copy, A: Allocator> SealedVec<T, A> {
     /// Takes all values away. Their room stays.
     pub fn clear(&mut self)

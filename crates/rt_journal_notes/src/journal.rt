@@ -60,17 +60,6 @@ impl<T: Copy> Journal<T> {
         }
     }
 
-    /// One more journal, of no note, which has room for none. It takes no memory.
-    pub fn emptied(&self) -> Self
-        ensures { result ≡ record { notes = []; passed = []; room = 0 } }
-    {
-        Journal {
-            notes: self.notes.emptied(),
-            room: 0,
-            reserved: 0,
-        }
-    }
-
     /// Writes to the memory of all notes that there may be, so that none of them is the first to touch its page. No note is added.
     pub fn prefault(&mut self)
         ensures { self.new ≡ self.old }

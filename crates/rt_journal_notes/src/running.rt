@@ -43,16 +43,6 @@ impl<T: Copy> RunningJournal<T> {
         })
     }
 
-    /// One more journal, of no note, which has room for none. It takes no memory.
-    pub fn emptied(&self) -> Self
-        ensures { result ≡ record { notes = []; passed = []; room = 0 } }
-    {
-        RunningJournal {
-            passed: History::new(),
-            kept: self.kept.emptied(),
-        }
-    }
-
     /// Writes to the memory of all notes that may be kept, so that none of them is the first to touch its page. No note is added.
     pub fn prefault(&mut self)
         ensures { self.new ≡ self.old }

@@ -47,7 +47,8 @@ chosen_ok true found missed a is = inl (refl, is)
 chosen_ok false found missed a is = inr (refl, is)
 
 -- a draft after a note
-pub note_taken : (draft new : Drafted) (read : Option (Note ℕ)) → with_note draft read ≡ Ok new → (note : Note ℕ) × (read ≡ Some note) × (length draft.notes < most_notes) × (new ≡ record { part = draft.part; cores = draft.cores; cap = draft.cap; burst = draft.burst; earlier = draft.earlier; notes = note ∷ draft.notes })
+pub note_taken : (draft new : Drafted) (read : Option (Note ℕ)) → with_note draft read ≡ Ok new →
+    (note : Note ℕ) × (read ≡ Some note) × (length draft.notes < most_notes) × (new ≡ record { part = draft.part; cores = draft.cores; cap = draft.cap; burst = draft.burst; earlier = draft.earlier; notes = note ∷ draft.notes })
 note_taken draft new None is = cc
 note_taken draft new (Some note) is =
     either (chosen_ok (ltb (length draft.notes) most_notes) _ _ new is)

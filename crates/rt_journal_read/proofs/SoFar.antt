@@ -19,7 +19,8 @@ abbrev pub SpelledFrom : ℕ → ℕ → ℕ → ℕ → List (Journal ℕ) → 
 SpelledFrom actor cores cap burst [] = Unit {0}
 SpelledFrom actor cores cap burst (journal ∷ others) = AreSpelledNotes (record { actor = actor; cores = cores; cap = cap; burst = burst }) journal × SpelledFrom (actor + 1) cores cap burst others
 
-pub spelled_push : (actor cores cap burst : ℕ) (journals : List (Journal ℕ)) (journal : Journal ℕ) → SpelledFrom actor cores cap burst journals → AreSpelledNotes (record { actor = actor + length journals; cores = cores; cap = cap; burst = burst }) journal → SpelledFrom actor cores cap burst (journals ++ journal ∷ [])
+pub spelled_push : (actor cores cap burst : ℕ) (journals : List (Journal ℕ)) (journal : Journal ℕ) →
+    SpelledFrom actor cores cap burst journals → AreSpelledNotes (record { actor = actor + length journals; cores = cores; cap = cap; burst = burst }) journal → SpelledFrom actor cores cap burst (journals ++ journal ∷ [])
 spelled_push actor cores cap burst [] journal before last =
     let here : actor + 0 ≡ actor = omega arith in
     (subst (λ n. AreSpelledNotes (record { actor = n; cores = cores; cap = cap; burst = burst }) journal) here last, tt)

@@ -1,45 +1,50 @@
 -- What is true of the two ends of a ring at any time.
-use Rattle.std.specs.Prelude.{◌≡◌, ℕ, ◌+◌, ◌^◌, ◌<◌, ◌≤◌, Bool, List, ◌∷◌, length}
-use Rattle.atomic_table.specs.Seated.{TableId}
+use Rattle.std.specs.Prelude.{◌≡◌, ℕ, Bool, true, false, List, [], ◌∷◌, length}
+use Rattle.std.specs.Global.{Global}
+use Rattle.atomic_blocks.specs.Lent.{RowsId}
 use Rattle.rt_link.specs.Ends.{SoundOut, SoundIn}
-use Rattle.rt_ring.specs.Carried.{Place, IsSender, IsReceiver}
-use Rattle.rt_ring.specs.Slots.{place_of}
+use Rattle.rt_ring_board.specs.Cells.{place_of}
+use Rattle.rt_ring_board.specs.Seats.{IsSender, IsReceiver}
+use Rattle.rt_ring_board.specs.Told.{Seated}
 
--- a table by numbers; no two tables have the same
-abbrev pub name_of : TableId → List ℕ
-name_of table = table.words ∷ table.slots ∷ table.views_name ∷ table.atom ∷ table.block ∷ table.offset ∷ table.slot_names
+-- rows by numbers; no two have the same
+abbrev pub name_of : RowsId → List ℕ
+name_of rows = rows.0 ∷ rows.1 ∷ []
+
+-- a seat is at a board's cells, of which there are so many for orders
+pub record IsAt (seat_rows rows : RowsId) (seat_heap heap : Global) (cells capacity : ℕ) : Type 0 where
+  pub rows_are : seat_rows ≡ rows
+  pub heap_is : seat_heap ≡ heap
+  pub cells_are : cells ≡ capacity
 
 module _ {J T : Type 0} where
-  -- a sender's end has the sender's seat at its table, and its numbers are those that the seat knows
-  pub record IsOut (seat_table table : TableId) (me : Place J T) (base capacity count collected seen credited next_order next_outcome : ℕ) : Type 0 where
-    pub at_table : seat_table ≡ table
-    pub words : table.words ≡ 32
+  -- a sender's end has the sender's seat at its board, and its numbers are those that the seat knows
+  pub record IsOut (seat_rows rows : RowsId) (seat_heap heap : Global) (cells : ℕ) (me : Seated J T) (base capacity count collected credited : ℕ) (closed : Bool) (next_order next_outcome : ℕ) : Type 0 where
+    pub at : IsAt seat_rows rows seat_heap heap cells capacity
     pub seat : IsSender me
-    pub small : capacity < 2 ^ 16
-    pub base_is : me.0.out.base ≡ base
-    pub capacity_is : me.0.out.capacity ≡ capacity
-    pub count_is : length me.0.out.sent ≡ count
-    pub collected_is : me.0.out.got ≡ collected
-    pub seen_is : seen ≡ base + length me.0.out.seen
-    pub few : length me.0.out.seen ≤ length me.0.out.sent
+    pub base_is : me.view.out.base ≡ base
+    pub capacity_is : me.view.out.capacity ≡ capacity
+    pub count_is : length me.view.out.sent ≡ count
+    pub collected_is : me.view.out.got ≡ collected
+    pub closed_is : me.view.out.closed ≡ closed
     pub next_order_is : next_order ≡ place_of capacity count
     pub next_outcome_is : next_outcome ≡ place_of capacity collected
-    pub sound : SoundOut me.0.out credited
+    pub sound : SoundOut me.view.out credited
 
-  -- a receiver's end has the receiver's seat at its table, and its numbers are those that the seat knows
-  pub record IsInward (seat_table table : TableId) (me : Place J T) (from to base capacity taken given : ℕ) (shut : Bool) (seen next_order next_outcome : ℕ) : Type 0 where
-    pub at_table : seat_table ≡ table
-    pub words : table.words ≡ 32
+  -- a receiver's end has the receiver's seat at its board, and its numbers are those that the seat knows; it has seen all orders if it shut the gate,
+  -- and otherwise those that it took
+  pub record IsInward (seat_rows rows : RowsId) (seat_heap heap : Global) (cells : ℕ) (me : Seated J T) (from to base capacity taken given : ℕ) (shut : Bool) (total next_order next_outcome : ℕ) : Type 0 where
+    pub at : IsAt seat_rows rows seat_heap heap cells capacity
     pub seat : IsReceiver me
-    pub small : capacity < 2 ^ 16
-    pub from_is : me.0.inward.from ≡ from
-    pub to_is : me.0.inward.to ≡ to
-    pub base_is : me.0.inward.base ≡ base
-    pub capacity_is : me.0.inward.capacity ≡ capacity
-    pub taken_is : me.0.inward.taken ≡ taken
-    pub given_is : length me.0.inward.given ≡ given
-    pub shut_is : shut ≡ me.0.inward.shut
-    pub seen_is : seen ≡ base + length me.0.inward.seen
+    pub from_is : me.view.inward.from ≡ from
+    pub to_is : me.view.inward.to ≡ to
+    pub base_is : me.view.inward.base ≡ base
+    pub capacity_is : me.view.inward.capacity ≡ capacity
+    pub taken_is : me.view.inward.taken ≡ taken
+    pub given_is : length me.view.inward.given ≡ given
+    pub shut_is : me.view.inward.shut ≡ shut
+    pub open_seen : shut ≡ false → length me.view.inward.seen ≡ taken
+    pub shut_seen : shut ≡ true → length me.view.inward.seen ≡ total
     pub next_order_is : next_order ≡ place_of capacity taken
     pub next_outcome_is : next_outcome ≡ place_of capacity given
-    pub sound : SoundIn me.0.inward
+    pub sound : SoundIn me.view.inward

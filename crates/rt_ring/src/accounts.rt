@@ -5,12 +5,11 @@ ghost use Rattle.rt_link.specs.Calls.{final_of};
 ghost use Rattle.rt_link.specs.Ends.{AreOf, Joined, SoundIn, SoundOut};
 ghost use Rattle.rt_link.specs.Fits.{Fits};
 
-use crate::board::ACCEPT;
-use crate::plays::{Compare, Halves, Handover};
 use crate::ring_in::RingIn;
 use crate::ring_out::RingOut;
 use rt_jobs::Task;
 use rt_link::{InEnd, OutEnd};
+use rt_ring_board::join;
 
 /// The counts of a link that has ended. What `open_after` began with isn't counted, except in the final count.
 #[derive(Clone, Copy, PartialEq, Eq, Debug)]
@@ -27,7 +26,7 @@ pub struct Accounts {
     pub shut: Option<u64>,
 }
 
-/// Ends a link. The orders and outcomes that are still in its slots are dropped.
+/// Ends a link. The orders and outcomes that are still in its cells are dropped.
 pub fn reunite<J: Task>(out: RingOut<J>, inward: RingIn<J>) -> Accounts
     requires { inward.link ≡ out.link }
     ensures sound_out { SoundOut out.out out.credited }
@@ -42,41 +41,36 @@ pub fn reunite<J: Task>(out: RingOut<J>, inward: RingIn<J>) -> Accounts
 {
     let RingOut {
         board,
-        mut seat,
+        seat,
         base: _,
         capacity: _,
         count,
         collected,
-        seen: _,
         credited: _,
+        closed: _,
         next_order: _,
         next_outcome: _,
     } = out;
     let RingIn {
         board: _,
-        seat: mut second,
+        seat: other,
         from: _,
         to: _,
-        base: _,
+        base,
         capacity: _,
         taken,
         given,
         shut,
-        seen: last,
+        total,
         next_order: _,
         next_outcome: _,
     } = inward;
-    let shared = &board.shared;
-    // A seat that is joined may hold no slot, so the receiver's view moves to a new one first.
-    let token = shared.split_seat::<Handover>(&mut second);
-    shared.join_seat::<Halves>(&mut seat, token);
-    // step: the last load, by the seat that now knows both ends. No other thread has an end any more.
-    let _word = shared.load::<Compare>(&mut seat, ACCEPT);
+    join(&board, seat, other);
     Accounts {
         accepted: count,
         taken,
         given,
         collected,
-        shut: if shut { Some(last) } else { None },
+        shut: if shut { Some(base + total) } else { None },
     }
 }

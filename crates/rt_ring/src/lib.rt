@@ -2,14 +2,9 @@
 #![tactic(auto)]
 
 pub mod accounts;
-pub mod board;
 pub mod link;
-mod plays;
-mod receiver;
 pub mod ring_in;
 pub mod ring_out;
-mod sender;
-mod slots;
 mod turns;
 
 pub use accounts::{Accounts, reunite};

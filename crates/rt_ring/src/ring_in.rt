@@ -4,12 +4,11 @@ ghost use Rattle.std.specs.Prelude.{◌≡◌, ◌+◌, ◌-◌, ◌%◌, ◌^�
 ghost use Rattle.rt_link.specs.Calls.{MayGive};
 ghost use Rattle.rt_link.specs.Fits.{Fits};
 
-use crate::board::{ACCEPT, Board, Place};
-use crate::receiver::{close, give, lift_order, seen_orders};
 use crate::turns::following;
 use rt_ids::{ActorNo, CoreNo, Envelope, JobId, Outcome};
 use rt_jobs::Task;
 use rt_link::{InEnd, Inward};
+use rt_ring_board::{Board, Place, close, give, next_order, shows_order};
 use std::alloc::Global;
 use std::collections::LinkedList;
 use std::marker::Model;
@@ -39,8 +38,8 @@ pub struct RingIn<J: Task> {
     pub(crate) given: u64,
     /// Whether the gate is shut.
     pub(crate) shut: bool,
-    /// The number of the last order that this end saw; at first the number before the first.
-    pub(crate) seen: u64,
+    /// How many orders were accepted, if the gate is shut. Until then this end has seen as many as it took.
+    pub(crate) total: u64,
     /// The place of the next order.
     pub(crate) next_order: u64,
     /// The place of the next outcome.
@@ -55,9 +54,9 @@ impl<J: Task> Model for RingIn<J> {
 
     ghost use Rattle.rt_ring.specs.Ends.{IsInward, name_of};
 
-    ghost view = { λ s. record { link = name_of s.seat.table_id; inward = s.seat.me.0.inward } };
+    ghost view = { λ s. record { link = name_of s.seat.rows; inward = s.seat.me.view.inward } };
 
-    ghost invariant = { λ s. IsInward s.seat.table_id (arc_value s.board).shared.table_id s.seat.me s.from s.to s.base s.capacity s.taken s.given s.shut s.seen s.next_order s.next_outcome };
+    ghost invariant = { λ s. IsInward s.seat.rows (arc_value s.board).lines.id s.seat.heap (arc_value s.board).lines.heap (arc_value s.board).lines.key.capacity s.seat.me s.from s.to s.base s.capacity s.taken s.given s.shut s.total s.next_order s.next_outcome };
 }
 
 impl<J: Task> RingIn<J> {
@@ -69,12 +68,11 @@ impl<J: Task> RingIn<J> {
         ensures shut { self.now.inward.shut ≡ true → result ≡ true → self.now.inward.taken < length self.now.inward.seen }
         ensures room { result ≡ true → self.now.inward.taken < length self.now.inward.given + self.now.inward.capacity }
     {
-        let taken = self.base + self.taken;
-        if self.seen != taken || self.shut {
-            return self.seen != taken;
+        if self.shut {
+            return self.taken != self.total;
         }
-        // step: peek. Neither end knows more by it.
-        self.taken - self.given < self.capacity && self.board.shared.peek(ACCEPT) != taken
+        self.taken - self.given < self.capacity
+            && shows_order(&self.board, self.next_order as usize)
     }
 }
 
@@ -85,16 +83,11 @@ impl<J: Task> InEnd<J> for RingIn<J> {
 
     #[inline(always)]
     fn take(&mut self) -> Option<Envelope<J>> {
-        let before = self.seen;
-        let taken = self.base + self.taken;
-        let seen = seen_orders(&self.board, &mut self.seat, before, taken, self.shut);
-        self.seen = seen;
-        if seen == taken {
+        if self.taken - self.given == self.capacity || (self.shut && self.taken == self.total) {
             return None;
         }
-        let slot = self.next_order as usize;
-        let lone = before == taken && seen - taken == 1;
-        let order = lift_order(&self.board, &mut self.seat, slot, lone);
+        let place = self.next_order as usize;
+        let order = next_order(&self.board, &mut self.seat, place)?;
         self.taken += 1;
         self.next_order = following(self.next_order, self.capacity);
         Some(Envelope {
@@ -113,24 +106,40 @@ impl<J: Task> InEnd<J> for RingIn<J> {
         ensures link { self.new.link ≡ self.old.link }
         ensures gives { self.new.inward ≡ record self.old.inward { given = self.old.inward.given ++ (number, outcome) ∷ [] } }
     {
-        let slot = self.next_outcome as usize;
-        let given = self.base + self.given + 1;
-        give(&self.board, &mut self.seat, slot, given, number, outcome);
+        let place = self.next_outcome as usize;
+        give(
+            &self.board,
+            &mut self.seat,
+            place,
+            self.shut,
+            number,
+            outcome,
+        );
         self.given += 1;
         self.next_outcome = following(self.next_outcome, self.capacity);
     }
 
     fn shut(&mut self) -> u64 {
         if self.shut {
-            return self.seen;
+            return self.base + self.total;
         }
-        let last = close(&self.board, &mut self.seat);
+        let total = close(
+            &self.board,
+            &mut self.seat,
+            self.taken,
+            self.given,
+            self.capacity,
+        );
         self.shut = true;
-        self.seen = last;
-        last
+        self.total = total;
+        self.base + total
     }
 
     fn final_count(&self) -> Option<u64> {
-        if self.shut { Some(self.seen) } else { None }
+        if self.shut {
+            Some(self.base + self.total)
+        } else {
+            None
+        }
     }
 }

@@ -4,12 +4,11 @@ ghost use Rattle.std.specs.Prelude.{◌≡◌, ◌+◌, ◌-◌, ◌%◌, ◌^�
 ghost use Rattle.rt_jobs.specs.Ready.{HasReadyJob};
 ghost use Rattle.rt_link.specs.Calls.{Sends};
 
-use crate::board::{Board, Place, RETURN};
-use crate::sender::{is_open, lift_outcome, offer, seen_outcomes};
 use crate::turns::following;
 use rt_ids::{Order, Outcome, SendError};
 use rt_jobs::Task;
 use rt_link::{LAST_NUMBER, OutEnd, Outward};
+use rt_ring_board::{Board, Place, is_open, next_outcome, offer, see_none, shows_outcome};
 use std::alloc::Global;
 use std::collections::LinkedList;
 use std::marker::Model;
@@ -37,9 +36,9 @@ pub struct RingOut<J: Task> {
     pub(crate) count: u64,
     /// How many outcomes were collected.
     pub(crate) collected: u64,
-    /// The return word as this end saw it last; at first the number before the first order.
-    pub(crate) seen: u64,
     pub(crate) credited: u64,
+    /// Whether this end has seen the gate shut.
+    pub(crate) closed: bool,
     /// The place of the next order.
     pub(crate) next_order: u64,
     /// The place of the next outcome.
@@ -54,9 +53,9 @@ impl<J: Task> Model for RingOut<J> {
 
     ghost use Rattle.rt_ring.specs.Ends.{IsOut, name_of};
 
-    ghost view = { λ s. record { link = name_of s.seat.table_id; out = s.seat.me.0.out; credited = s.credited } };
+    ghost view = { λ s. record { link = name_of s.seat.rows; out = s.seat.me.view.out; credited = s.credited } };
 
-    ghost invariant = { λ s. IsOut s.seat.table_id (arc_value s.board).shared.table_id s.seat.me s.base s.capacity s.count s.collected s.seen s.credited s.next_order s.next_outcome };
+    ghost invariant = { λ s. IsOut s.seat.rows (arc_value s.board).lines.id s.seat.heap (arc_value s.board).lines.heap (arc_value s.board).lines.key.capacity s.seat.me s.base s.capacity s.count s.collected s.credited s.closed s.next_order s.next_outcome };
 }
 
 impl<J: Task> RingOut<J> {
@@ -67,12 +66,7 @@ impl<J: Task> RingOut<J> {
         ensures seen { self.now.out.got < length self.now.out.seen → result ≡ true }
         ensures sent { result ≡ true → self.now.out.got < length self.now.out.sent }
     {
-        let got = self.base + self.collected;
-        if self.seen != got {
-            return true;
-        }
-        // step: peek. Neither end knows more by it.
-        self.collected < self.count && self.board.shared.peek(RETURN) != got
+        self.collected < self.count && shows_outcome(&self.board, self.next_outcome as usize)
     }
 }
 
@@ -91,9 +85,13 @@ impl<J: Task> OutEnd<J> for RingOut<J> {
         ensures sends { Sends self.old.out self.old.credited order self.new.out result }
     {
         let last = self.base + self.count;
+        if self.closed {
+            return Err(SendError::Closed(order, last));
+        }
         let full = self.count - self.credited == self.capacity;
         if full || last == LAST_NUMBER {
-            if !is_open(&self.board, &mut self.seat, last) {
+            if !is_open(&self.board, &mut self.seat) {
+                self.closed = true;
                 return Err(SendError::Closed(order, last));
             }
             if full {
@@ -101,29 +99,28 @@ impl<J: Task> OutEnd<J> for RingOut<J> {
             }
             return Err(SendError::Spent(order));
         }
-        let slot = self.next_order as usize;
-        match offer(&self.board, &mut self.seat, slot, last, order) {
+        let place = self.next_order as usize;
+        match offer(&self.board, &mut self.seat, place, order) {
             Ok(()) => {
                 self.count += 1;
                 self.next_order = following(self.next_order, self.capacity);
                 Ok(last + 1)
             }
-            Err(back) => Err(SendError::Closed(back, last)),
+            Err(back) => {
+                self.closed = true;
+                Err(SendError::Closed(back, last))
+            }
         }
     }
 
     #[inline(always)]
     fn collect(&mut self) -> Option<(u64, Outcome<J, J::Out>)> {
-        let before = self.seen;
-        let got = self.base + self.collected;
-        let seen = seen_outcomes(&self.board, &mut self.seat, before, got);
-        self.seen = seen;
-        if seen == got {
+        if self.collected == self.count {
+            see_none(&self.board, &mut self.seat);
             return None;
         }
-        let slot = self.next_outcome as usize;
-        let lone = before == got && seen - got == 1;
-        let found = lift_outcome(&self.board, &mut self.seat, slot, lone);
+        let place = self.next_outcome as usize;
+        let found = next_outcome(&self.board, &mut self.seat, place)?;
         self.collected += 1;
         self.next_outcome = following(self.next_outcome, self.capacity);
         Some(found)

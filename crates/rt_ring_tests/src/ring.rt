@@ -9,8 +9,8 @@ use crate::life::{
 use crate::numbers::{FROM, Number, TO, Told};
 use rt_ids::{Order, QueueNo};
 use rt_link::{InEnd, LAST_NUMBER, OutEnd};
-use rt_ring::board::Slot;
 use rt_ring::{Accounts, OpenError, RingLink, reunite};
+use rt_ring_board::Held;
 use std::alloc::{AllocError, Global};
 use std::sync::Arc;
 use std::test::Fail;
@@ -106,7 +106,7 @@ fn send_held(ring: &mut Ring, held: &Arc<u64, Global>) -> Result<bool, AllocErro
     Ok(ring.out.send(order).is_ok())
 }
 
-/// Whether three jobs are held in the slots, then two, of which one was handed back.
+/// Whether three jobs are held in the cells, then two, of which one was handed back.
 fn holds(ring: &mut Ring, held: &Arc<u64, Global>) -> bool {
     Arc::strong_count(held) == 4
         && ring.step(Step::Serve) == Told::Taken(1)
@@ -134,16 +134,16 @@ fn ring_holds_three(alloc: Global, held: &Arc<u64, Global>) -> bool {
 }
 
 #[test]
-fn what_is_left_in_the_slots_is_dropped(rt: HostRuntime) -> Result<(), Fail> {
+fn what_is_left_in_the_cells_is_dropped(rt: HostRuntime) -> Result<(), Fail> {
     let held = Arc::new(rt.alloc(), 0u64)?;
     assert!(rt; ring_holds_three(rt.alloc(), &held) && Arc::strong_count(&held) == 1);
     Ok(())
 }
 
-/// A slot is a job, and 40 bytes for all else.
+/// What a cell holds is a job, and 8 bytes for all else.
 #[test]
-fn a_slot_is_a_label_and_a_job(rt: HostRuntime) {
-    assert!(rt; size_of::<Slot<u64, u64>>() == 48 && size_of::<Slot<[u64; 66], u64>>() == 568);
+fn a_cell_holds_a_job_and_a_word(rt: HostRuntime) {
+    assert!(rt; size_of::<Held<u64, u64>>() == 16 && size_of::<Held<[u64; 66], u64>>() == 536);
 }
 
 #[test]

@@ -32,7 +32,7 @@ pub record IsFront {A : Type 0} (vrs : List ℕ) (nodes : List (Option (Box (Nod
   pub free_before : (k : ℕ) → k < begin → get_or nodes k None ≡ None
   pub free_behind : (k : ℕ) → end ≤ k → get_or nodes k None ≡ None
 
--- of the 64 places those from `begin` to `end`, this one too, are taken but for the gap, and all others free
+-- of the 64 places those from `begin` to `end`, this one too, are taken, except the gap, and all others are free
 pub record HasGap {A : Type 0} (vrs : List ℕ) (nodes : List (Option (Box (Node A) A))) (begin gap end : ℕ) : Type 0 where
   pub vrs_long : length vrs ≡ 64
   pub nodes_long : length nodes ≡ 64

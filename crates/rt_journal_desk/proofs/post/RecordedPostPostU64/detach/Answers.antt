@@ -33,7 +33,8 @@ returns-clause-does g c =
     let there = found c.self.inside.ends.now.items c.index_mut.inside.0.1.0.0 c.index_mut-end.result.now (omega (arith, known.1, c.self.invariant.outs.count, to_is)) c.index_mut-end.ensures.value in
     record {
       does =
-          subst (λ (post : LentView _ _ _). Does (Fits g.J.Task.meaning) g.O.OutEnd.out g.O.OutEnd.credited g.O.OutEnd.untouched post.lent (Detach c.args.ticket c.detach.result) (record { desk = c.detach.new.self; ends = set c.self.inside.ends.now.items c.index_mut.inside.0.1.0.0 c.detach.new.end })) c.self.view_is
+          subst (λ (post : LentView _ _ _). Does (Fits g.J.Task.meaning) g.O.OutEnd.out g.O.OutEnd.credited g.O.OutEnd.untouched post.lent (Detach c.args.ticket c.detach.result)
+          (record { desk = c.detach.new.self; ends = set c.self.inside.ends.now.items c.index_mut.inside.0.1.0.0 c.detach.new.end })) c.self.view_is
           (inr (detached_on (Fits g.J.Task.meaning) g.O.OutEnd.out g.O.OutEnd.credited g.O.OutEnd.untouched c.self.inside.said.now c.detach.new.self c.self.inside.ends.now.items
           c.index_mut.inside.0.1.0.0 c.args.ticket to_is c.index_mut-end.result.now c.detach.new.end there c.detach.ensures.stays c.detach.ensures.untouched c.detach.ensures.out known
           c.detach.result c.detach.ensures.detaches c.detach.ensures.spends));

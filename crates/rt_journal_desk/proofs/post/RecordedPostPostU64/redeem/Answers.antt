@@ -33,7 +33,8 @@ returns-clause-does g c =
     let there = found c.self.inside.ends.now.items c.index_mut.inside.0.1.0.0 c.index_mut-end.result.now (omega (arith, known.1, c.self.invariant.outs.count, to_is)) c.index_mut-end.ensures.value in
     record {
       does =
-          subst (λ (post : LentView _ _ _). Does (Fits g.J.Task.meaning) g.O.OutEnd.out g.O.OutEnd.credited g.O.OutEnd.untouched post.lent (Redeem c.args.ticket c.redeem.result) (record { desk = c.redeem.new.self; ends = set c.self.inside.ends.now.items c.index_mut.inside.0.1.0.0 c.redeem.new.end })) c.self.view_is
+          subst (λ (post : LentView _ _ _). Does (Fits g.J.Task.meaning) g.O.OutEnd.out g.O.OutEnd.credited g.O.OutEnd.untouched post.lent (Redeem c.args.ticket c.redeem.result)
+          (record { desk = c.redeem.new.self; ends = set c.self.inside.ends.now.items c.index_mut.inside.0.1.0.0 c.redeem.new.end })) c.self.view_is
           (inr (redeemed_on (Fits g.J.Task.meaning) g.O.OutEnd.out g.O.OutEnd.credited g.O.OutEnd.untouched c.self.inside.said.now c.redeem.new.self c.self.inside.ends.now.items
           c.index_mut.inside.0.1.0.0 c.args.ticket to_is c.index_mut-end.result.now c.redeem.new.end there c.redeem.ensures.stays c.redeem.ensures.untouched c.redeem.ensures.out known
           c.redeem.result c.redeem.ensures.redeems c.redeem.ensures.given c.redeem.ensures.fits c.redeem.ensures.spends));

@@ -36,7 +36,8 @@ returns-clause-does g c =
     let there = found c.self.inside.ends.now.items c.to.inside.0 c.index_mut-end.result.now (omega (arith, c.if-to-len.false, c.len.ensures)) c.index_mut-end.ensures.value in
     record {
       does =
-          subst (λ (post : LentView _ _ _). Does (Fits g.J.Task.meaning) g.O.OutEnd.out g.O.OutEnd.credited g.O.OutEnd.untouched post.lent (Submit c.args.to c.args.order c.submit.result) (record { desk = c.submit.new.self; ends = set c.self.inside.ends.now.items c.to.inside.0 c.submit.new.end })) c.self.view_is
+          subst (λ (post : LentView _ _ _). Does (Fits g.J.Task.meaning) g.O.OutEnd.out g.O.OutEnd.credited g.O.OutEnd.untouched post.lent (Submit c.args.to c.args.order c.submit.result)
+          (record { desk = c.submit.new.self; ends = set c.self.inside.ends.now.items c.to.inside.0 c.submit.new.end })) c.self.view_is
           (inr (submitted_on (Fits g.J.Task.meaning) g.O.OutEnd.out g.O.OutEnd.credited g.O.OutEnd.untouched c.self.inside.said.now c.submit.new.self c.self.inside.ends.now.items
           c.to.inside.0 c.args.to c.to.view_is c.index_mut-end.result.now c.submit.new.end there c.submit.ensures.stays c.submit.ensures.untouched c.args.order
           c.submit.result c.submit.ensures.submits c.submit.ensures.sends c.submit.ensures.credited c.submit.ensures.spends));

@@ -27,7 +27,8 @@ returns-in_ok-raise_to-in-Some-clause-ok g c =
     let number : number_in (length draft.earlier) draft.cores (first (words line)) ≡ Some c.in-Some.actor = cc (place, cores, c.number_in.ensures.value, c.in-Some.is, c.next_word.ensures.word, c.of-fields.ensures, c.from.ensures) in
     let passed = c.in_ok-raise_to-in-Some.ensures.ok in
     let kept = raised_is (c.in-Some.actor - length draft.earlier) draft in
-    let read : c.note_of.result ≡ note_of c.in-Some.actor draft.cores draft.burst (others (words line)) = cc (c.note_of.ensures, c.next_word.ensures.others, c.of-fields.ensures, ap (λ (d : Drafted). d.cores) c.self-in-Some.view_is, ap (λ (d : Drafted). d.cores) passed, kept.cores, ap (λ (d : Drafted). d.burst) c.self-in-Some.view_is, ap (λ (d : Drafted). d.burst) passed, kept.burst) in
+    let read : c.note_of.result ≡ note_of c.in-Some.actor draft.cores draft.burst (others (words line)) =
+    cc (c.note_of.ensures, c.next_word.ensures.others, c.of-fields.ensures, ap (λ (d : Drafted). d.cores) c.self-in-Some.view_is, ap (λ (d : Drafted). d.cores) passed, kept.cores, ap (λ (d : Drafted). d.burst) c.self-in-Some.view_is, ap (λ (d : Drafted). d.burst) passed, kept.burst) in
     on_ok_weaker c.take_note.result (λ taken. line_read draft c.raise_to.new.self line c.in-Some.actor c.note_of.result other number passed read ∙ taken) c.take_note.ensures.ok
 
 pub returns-in_ok-raise_to-in-Some-clause-faulty : goal.returns-in_ok-raise_to-in-Some-clause-faulty
@@ -40,7 +41,8 @@ returns-in_ok-raise_to-in-Some-clause-faulty g c =
     let number : number_in (length draft.earlier) draft.cores (first (words line)) ≡ Some c.in-Some.actor = cc (place, cores, c.number_in.ensures.value, c.in-Some.is, c.next_word.ensures.word, c.of-fields.ensures, c.from.ensures) in
     let passed = c.in_ok-raise_to-in-Some.ensures.ok in
     let kept = raised_is (c.in-Some.actor - length draft.earlier) draft in
-    let read : c.note_of.result ≡ note_of c.in-Some.actor draft.cores draft.burst (others (words line)) = cc (c.note_of.ensures, c.next_word.ensures.others, c.of-fields.ensures, ap (λ (d : Drafted). d.cores) c.self-in-Some.view_is, ap (λ (d : Drafted). d.cores) passed, kept.cores, ap (λ (d : Drafted). d.burst) c.self-in-Some.view_is, ap (λ (d : Drafted). d.burst) passed, kept.burst) in
+    let read : c.note_of.result ≡ note_of c.in-Some.actor draft.cores draft.burst (others (words line)) =
+    cc (c.note_of.ensures, c.next_word.ensures.others, c.of-fields.ensures, ap (λ (d : Drafted). d.cores) c.self-in-Some.view_is, ap (λ (d : Drafted). d.cores) passed, kept.cores, ap (λ (d : Drafted). d.burst) c.self-in-Some.view_is, ap (λ (d : Drafted). d.burst) passed, kept.burst) in
     IfErr_cause c.take_note.result
     (λ (cause : JournalCause). with_note c.raise_to.new.self c.note_of.result ≡ Err cause)
     (λ (cause : JournalCause). with_note_line draft line ≡ Err cause)

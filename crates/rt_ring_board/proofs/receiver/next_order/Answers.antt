@@ -1,0 +1,33 @@
+use Rattle.std.proofs.Common.{rules, arith, refl, ap, ◌+◌}
+use Rattle.rt_jobs.specs.Ready.{HasReadyJob}
+use Rattle.rt_link.specs.Fits.{Fits}
+use Rattle.rt_ring_board.specs.After.{with_taken}
+use Rattle.rt_ring_board.specs.declared.held.Held.TheVariants as held
+use Rattle.rt_ring_board.proofs.Filled.{homes_receiver}
+use Rattle.rt_ring_board.proofs.Lent.{place-small, filled_is}
+use Rattle.rt_ring_board.proofs.ReceiverSteps.{lifts_order}
+use Rattle.rt_ring_board.proofs.receiver.next_order.Goals as goal
+
+pub load-requires : goal.load-requires
+load-requires g c = let is = c.requires.receiver in let inward = c.args.seat.now.me.view.inward in (
+  search rules,
+  search rules,
+  c.args.board.now.placed.1,
+  place-small inward.capacity inward.taken c.args.place (omega (arith, is.behind, c.requires.room)) is.small c.requires.place,
+  lifts_order (Fits g.J.Task.meaning) (HasReadyJob g.J.Task.meaning) _ _ _ is.takes is.alone _ c.args.place c.args.board.now.keyed.1 is.rests.away c.requires.room c.requires.place,
+)
+
+pub load-word-requires : goal.load-word-requires
+load-word-requires g c =
+    let is = c.requires.receiver in let old = c.args.seat.now.me in let inward = old.view.inward in let lent = c.load.ensures.3.more c.if-load-ne0.false in
+    let now = filled_is (with_taken old.view lent.seen (inward.taken + 1)) old.spare c.args.board.now.cells.ptr c.args.place c.load.new.seat.me c.exchange.new.seat.me _ _ held.Empty lent.lifted c.exchange.ensures.slot.1 refl in (
+      search rules,
+      search rules,
+      c.args.board.now.placed.1,
+      place-small inward.capacity inward.taken c.args.place (omega (arith, is.behind, c.requires.room)) is.small c.requires.place,
+      homes_receiver (Fits g.J.Task.meaning) (HasReadyJob g.J.Task.meaning) _ _ (with_taken old.view lent.seen (inward.taken + 1)) old.spare c.exchange.new.seat.me _ _ c.args.board.now.keyed.1 inward.taken now is.takes is.alone
+          is.behind (omega arith) c.requires.place,
+    )
+
+pub exchange-requires : goal.exchange-requires
+exchange-requires g c = let lent = c.load.ensures.3.more c.if-load-ne0.false in (search rules, c.args.board.now.placed.1, (_, ap (λ m. m.hand) lent.lifted))

@@ -1,0 +1,14 @@
+use Rattle.std.proofs.Common.{rules, arith}
+use Rattle.rt_jobs.specs.Ready.{HasReadyJob}
+use Rattle.rt_link.specs.Fits.{Fits}
+use Rattle.rt_ring_board.proofs.SenderSteps.{probes}
+use Rattle.rt_ring_board.proofs.sender.is_open.Goals as goal
+
+pub load-requires : goal.load-requires
+load-requires g c = let is = c.requires.sender in (
+  search rules,
+  search rules,
+  c.args.board.now.placed.0,
+  omega arith,
+  probes (Fits g.J.Task.meaning) (HasReadyJob g.J.Task.meaning) _ _ _ is.sends is.alone _ c.args.board.now.keyed.0,
+)

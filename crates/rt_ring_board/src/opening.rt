@@ -1,0 +1,97 @@
+//! How a board is made, and how its two seats are joined at the end.
+
+ghost use Rattle.std.specs.Prelude.{◌≡◌, ◌+◌, ◌^◌, ◌<◌, ◌≤◌, true, length, take, IfOk};
+ghost use denote.RawPtr.{InBlock};
+ghost use Rattle.rt_link.specs.Ends.{AreOf, Joined};
+ghost use Rattle.rt_link.specs.Fits.{Fits};
+ghost use Rattle.rt_link.specs.Whole.{fresh, inward_of, out_of};
+ghost use Rattle.rt_ring_board.specs.Places.{AreFresh};
+ghost use Rattle.rt_ring_board.specs.Seats.{IsReceiver, IsSender};
+
+use crate::board::{Board, GATE_ROW, Lines, Place, Terms};
+use crate::held::Held;
+use crate::plays::{Compare, Halves};
+use atomic_blocks::rows::{Link, Loose, Rows};
+use rt_ids::{ActorNo, CoreNo};
+use rt_jobs::Task;
+use std::alloc::{AllocError, Global};
+
+/// A row of cells that hold nothing, each with this word.
+fn row_of<J, T>(
+    alloc: &Global,
+    len: u64,
+    word: u64,
+) -> Result<(Link<Held<J, T>>, Loose<Held<J, T>, Global>), AllocError>
+    ensures place { IfOk result (λ row. (row.1.heap ≡ alloc.now) × (row.1.at ≡ row.0.ptr) × InBlock row.0.ptr × (row.1.left ≡ 0)) }
+    ensures cells { IfOk result (λ row. AreFresh row.1.cells len word) }
+{
+    let (link, mut row) = Loose::reserve(alloc, len as usize)?;
+    'cells: for index in 0..len {
+        row.push(link, index as usize, word, link, Held::Empty);
+    }
+    Ok((link, row))
+}
+
+/// A board and its two seats, the sender's and the receiver's.
+pub fn lay<J: Task>(
+    alloc: Global,
+    from: ActorNo,
+    to: CoreNo,
+    base: u64,
+    capacity: u16,
+) -> Result<(Board<J>, Place<J>, Place<J>), AllocError>
+    requires { base < 2 ^ 63 }
+    ensures sender_at { IfOk result (λ laid. (laid.1.rows ≡ laid.0.lines.id) × (laid.1.heap ≡ laid.0.lines.heap)) }
+    ensures receiver_at { IfOk result (λ laid. (laid.2.rows ≡ laid.0.lines.id) × (laid.2.heap ≡ laid.0.lines.heap)) }
+    ensures capacity { IfOk result (λ laid. laid.0.lines.key.capacity ≡ capacity) }
+    ensures sender { IfOk result (λ laid. IsSender laid.1.me) }
+    ensures receiver { IfOk result (λ laid. IsReceiver laid.2.me) }
+    ensures out { IfOk result (λ laid. laid.1.me.view.out ≡ out_of (fresh from to capacity base)) }
+    ensures inward { IfOk result (λ laid. laid.2.me.view.inward ≡ inward_of (fresh from to capacity base)) }
+{
+    let capacity = capacity as u64;
+    let len = capacity.max(1);
+    let (gate, gate_row) = row_of::<J, J::Out>(&alloc, 1, 0)?;
+    let Ok((cells, cell_row)) = row_of::<J, J::Out>(&alloc, len, 1) else {
+        gate_row.free(&alloc, gate, 1);
+        return Err(AllocError);
+    };
+    let terms = Terms {
+        from,
+        to,
+        base,
+        capacity,
+        len,
+        gate,
+        cells,
+    };
+    let (lines, mut seat): (Lines<J>, Place<J>) = Rows::open(&terms, gate_row, cell_row);
+    let other = lines.split_seat::<Halves>(&mut seat, GATE_ROW, gate);
+    let board = Board {
+        lines,
+        gate,
+        cells,
+        len,
+        alloc,
+    };
+    Ok((board, seat, other))
+}
+
+/// Makes one seat of the two, by which both ends are those of one link.
+pub fn join<J: Task>(board: &Board<J>, mut seat: Place<J>, other: Place<J>)
+    requires at { (seat.rows ≡ board.now.lines.id) × (seat.heap ≡ board.now.lines.heap) }
+    requires other_at { (other.rows ≡ board.now.lines.id) × (other.heap ≡ board.now.lines.heap) }
+    requires sender { IsSender seat.me }
+    requires receiver { IsReceiver other.me }
+    ensures joined { Joined seat.me.view.out other.me.view.inward }
+    ensures outcomes { AreOf (Fits J.meaning) seat.me.view.out.base (take other.me.view.inward.taken seat.me.view.out.sent) other.me.view.inward.given }
+{
+    board
+        .lines
+        .join_seat::<Halves>(&mut seat, other, GATE_ROW, board.gate);
+    // step: the last load, by the seat that now knows both ends. No other thread has an end any more.
+    let _word = board
+        .lines
+        .load::<Compare>(&mut seat, GATE_ROW, board.gate, 0);
+    seat.leave();
+}
