@@ -26,7 +26,7 @@ pub use Rattle.rt_link.specs.Whole.{inward_of, kept_by_receiver, kept_by_sender,
 pub use Rattle.rt_link.specs.declared.ends.Inward.{Inward}
 pub use Rattle.rt_link.specs.declared.plain.Whole.{Whole}
 pub use Rattle.rt_world_links.specs.Links.{ChangesLink, GivesOnOne, IsFreshRow, link_at, no_link, row_of}
-pub use Rattle.rt_world_links.specs.OneTurn.{IsBesideAll, IsKeptBeside, none_owed, owed_settled}
+pub use Rattle.rt_world_links.specs.OneTurn.{IsBesideAll, IsKeptBeside, none_owed}
 pub use Rattle.std.proofs.Common.{Bool, List, [], ap, arith, cond, false, get_or, get_or-set_other, get_or-set_same, inl, inr, length, refl, set, subst, sym}
 pub use Rattle.std.proofs.Common.{true, vec_capacity, ℕ, ⊎_elim, ◌++◌, ◌+◌, ◌-◌, ◌<◌, ◌∙◌, ◌∷◌, ◌≡◌, ◌≢◌, ◌≤◌, ◌⊎◌}
 pub use Rattle.std.proofs.lemmas.Bool.{cases_eq, cases_lt, eq-eqb, true≢false}

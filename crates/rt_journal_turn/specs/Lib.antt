@@ -1,0 +1,6 @@
+pub mod Around
+pub mod Lending
+pub mod Beside
+pub mod Polls
+pub mod Rooms
+pub mod Turns
