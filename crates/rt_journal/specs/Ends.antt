@@ -1,5 +1,5 @@
 -- What an end that a core receives from is to the core and its journal.
-use Rattle.std.specs.Prelude.{◌≡◌, ℕ, ◌+◌, ◌≤◌, Option, Some, None, List, [], ◌∷◌, ◌++◌, length, slice_get}
+use Rattle.std.specs.Prelude.{◌≡◌, ℕ, ◌+◌, ◌≤◌, Option, Some, None, List, length, slice_get}
 use Rattle.rt_ids.specs.declared.names.JobId.{JobId}
 use Rattle.rt_ids.specs.declared.order.Order.{Order}
 use Rattle.rt_ids.specs.declared.order.Outcome.{Outcome}
@@ -9,6 +9,7 @@ use Rattle.rt_ids.specs.Filters.{delivered_names, given_outcomes}
 use Rattle.rt_ids.specs.Closing.{final_count}
 use Rattle.rt_link.specs.declared.ends.Inward.{Inward}
 use Rattle.rt_link.specs.Calls.{final_of}
+pub use Rattle.rt_link.specs.Calls.{Gives}
 pub use Rattle.rt_journal.specs.Lists.{KeepsLists, GivesMore, told_under}
 use Rattle.rt_journal_desk.specs.Ends.{name_of, named_outcomes}
 use Rattle.rt_journal.specs.Recorded.{RecordedView, order_taken}
@@ -18,11 +19,6 @@ module _ {J T : Type 0} where
   abbrev pub IsUngiven : Option (JobId × OutcomeNote T) → List (ℕ × Outcome J T) → Type 0
   IsUngiven None given = Unit {0}
   IsUngiven (Some owed) given = (place : ℕ) (outcome : ℕ × Outcome J T) → slice_get given place ≡ Some outcome → outcome.0 ≡ owed.0.number → ⊥
-
-  -- an outcome is given on this end, if there is one
-  abbrev pub Gives : Inward J T → ℕ → Option (Outcome J T) → Inward J T → Type 0
-  Gives old number None new = new ≡ old
-  Gives old number (Some outcome) new = new ≡ record old { given = old.given ++ (number, outcome) ∷ [] }
 
   -- the receiver's end beside its core and journal: what was taken was delivered, in the order sent; what is told as given was given, except this outcome, if there is one;
   -- the gate is shut where a note says so, at the number of the last order

@@ -1,11 +1,11 @@
 -- A desk and its ends, lent to a job for one poll, and what was posted there.
-use Rattle.std.specs.Prelude.{◌≡◌, ℕ, ◌+◌, ◌<◌, ◌≤◌, true, List, [], ◌∷◌, ◌++◌, length, sum_by, Some, slice_get}
+use Rattle.std.specs.Prelude.{◌≡◌, ℕ, ◌+◌, ◌<◌, ◌≤◌, List, [], ◌∷◌, ◌++◌, length, sum_by, Some, slice_get}
 use Rattle.rt_ids.specs.declared.note.Note.{Note}
 use Rattle.rt_ids.specs.declared.note.Note.TheVariants.{Sent, Redeemed, Detached}
 use Rattle.rt_ids.specs.declared.order.Order.{Order}
 use Rattle.rt_ids.specs.declared.order.Outcome.{Outcome}
 use Rattle.rt_link.specs.declared.ends.Outward.{Outward}
-use Rattle.rt_ids.specs.Assembly.{IsPrefix}
+pub use Rattle.rt_link.specs.Calls.{SendsMore}
 use Rattle.rt_journal_desk.specs.Submissions.{DeskView}
 use Rattle.rt_journal_desk.specs.Ends.{IsOutOf}
 use Rattle.rt_journal_desk.specs.Tickets.{HasLane}
@@ -27,10 +27,6 @@ ArePosts (Sent name order ∷ notes) = ArePosts notes
 ArePosts (Redeemed name outcome ∷ notes) = ArePosts notes
 ArePosts (Detached name ∷ notes) = ArePosts notes
 ArePosts (_ ∷ notes) = ⊥
-
--- an end has sent more, or has seen its gate shut, and has got nothing; where it saw the gate shut before, it sent nothing
-abbrev pub SendsMore : {J T : Type 0} → Outward J T → Outward J T → Type 0
-SendsMore old new = (new ≡ record old { sent = new.sent; closed = new.closed }) × IsPrefix old.sent new.sent × (old.closed ≡ true → new ≡ old)
 
 module _ {J T E : Type 0} (fits : Order J → Outcome J T → Type 0) (out : E → Outward J T) (credited : E → ℕ) where
   -- there is an end for each core, beside the desk and its lane

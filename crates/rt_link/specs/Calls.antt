@@ -32,6 +32,10 @@ module _ {J T : Type 0} where
       (new ≡ record old { seen = new.seen; got = old.got + 1 }) × IsPrefix old.seen new.seen
       × (slice_get new.seen old.got ≡ Some outcome)
 
+  -- an end has sent more, or has seen its gate shut, and has got nothing; where it saw the gate shut before, it sent nothing
+  abbrev pub SendsMore : Outward J T → Outward J T → Type 0
+  SendsMore old new = (new ≡ record old { sent = new.sent; closed = new.closed }) × IsPrefix old.sent new.sent × (old.closed ≡ true → new ≡ old)
+
   -- the receiver sees as much as before or more, and no more once the gate is shut
   abbrev pub SeesMore : Inward J T → Inward J T → Type 0
   SeesMore old new = IsPrefix old.seen new.seen × (old.shut ≡ true → new.seen ≡ old.seen)
@@ -60,3 +64,8 @@ module _ {J T : Type 0} where
   abbrev pub final_of : Inward J T → Bool → Option ℕ
   final_of inward true = Some (inward.base + length inward.seen)
   final_of inward false = None
+
+  -- an outcome is given on this end, if there is one
+  abbrev pub Gives : Inward J T → ℕ → Option (Outcome J T) → Inward J T → Type 0
+  Gives old number None new = new ≡ old
+  Gives old number (Some outcome) new = new ≡ record old { given = old.given ++ (number, outcome) ∷ [] }
