@@ -23,6 +23,6 @@ pub use Rattle.rt_journal.specs.Owed.{outcome_settled}
 pub use Rattle.rt_journal.specs.OwedPolls.{HasOwedPolls, seen_by}
 pub use Rattle.rt_journal.specs.Whole.{Begins, LeavesTurn, TurnsNoted, post_of}
 pub use Rattle.rt_link.specs.Fits.{Fits}
-pub use Rattle.rt_journal_turn.specs.Around.{Gave, HaveSent, IsAround, Reach, SeeGiven, Sides}
+pub use Rattle.rt_link_ends.specs.Around.{Gave, HaveSent, IsAround, Reach, SeeGiven, Sides}
 pub use Rattle.rt_journal_turn.specs.Beside.{AreAround, IsAtRest, PollsAsOwed, none_owed, owed_under}
 pub use Rattle.rt_journal_turn.specs.Polls.{GivesOn, PollsOne, PostsOne}

@@ -11,7 +11,7 @@ use Rattle.rt_journal.specs.Recorded.{RecordedView, IsRecorded, desk_of}
 use Rattle.rt_journal.specs.Ends.{IsInOwing, told_under}
 use Rattle.rt_journal.specs.OwedPolls.{HasOwedPolls, seen_by}
 use Rattle.rt_link.specs.Fits.{Fits}
-use Rattle.rt_journal_turn.specs.Around.{Reach}
+use Rattle.rt_link_ends.specs.Around.{Reach}
 
 -- no outcome is owed to any sender
 abbrev pub none_owed : {T : Type 0} → ℕ → Option (JobId × OutcomeNote T)

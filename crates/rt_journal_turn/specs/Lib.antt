@@ -1,5 +1,3 @@
-pub mod Around
-pub mod Lending
 pub mod Beside
 pub mod Polls
 pub mod Rooms

@@ -7,7 +7,7 @@ use Rattle.rt_core.specs.declared.turn.Settled.{Settled}
 use Rattle.rt_journal.specs.Owed.{outcome_settled}
 use Rattle.rt_journal.specs.Recorded.{RecordedView}
 use Rattle.rt_journal.specs.Whole.{Begins, TurnsNoted}
-use Rattle.rt_journal_turn.specs.Around.{Reach, Gave}
+use Rattle.rt_link_ends.specs.Around.{Reach, Gave}
 use Rattle.rt_journal_turn.specs.Beside.{AreAround, none_owed, owed_under}
 
 module _ {J T A O I : Type 0} (reach : Reach J T A O I) (own : ℕ) where

@@ -12,7 +12,7 @@ use Rattle.rt_journal.specs.Ends.{KeepsIn}
 use Rattle.rt_journal.specs.Recorded.{RecordedView}
 use Rattle.rt_journal.specs.Turns.{EndsTurn, IsFurther, IsHandBack, IsPick}
 use Rattle.rt_journal.specs.Whole.{Begins, StaysPut}
-use Rattle.rt_journal_turn.specs.Around.{Reach}
+use Rattle.rt_link_ends.specs.Around.{Reach}
 use Rattle.rt_journal_turn.specs.Beside.{IsAtRest}
 use Rattle.rt_journal_turn.specs.Polls.{GivesOn, PollsOne}
 use Rattle.rt_journal_turn.specs.declared.whole.Turned.{Turned}

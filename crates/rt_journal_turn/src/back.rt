@@ -12,7 +12,7 @@ ghost use Rattle.rt_journal_turn.specs.Polls.{GivesOn};
 ghost use Rattle.rt_journal_turn.specs.Rooms.{open_queue};
 ghost use Rattle.rt_journal_turn.specs.Turns.{HandsBack};
 
-use crate::around::Around;
+use rt_link_ends::Around;
 use rt_core::{PickError, Turn};
 use rt_ids::{CoreNo, JobId, Order, Reason};
 use rt_jobs::Task;

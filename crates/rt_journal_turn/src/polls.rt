@@ -13,7 +13,7 @@ ghost use Rattle.rt_journal_turn.specs.Polls.{GivesOn, PostsOne};
 ghost use Rattle.rt_journal_turn.specs.Rooms.{HasPollRoom, HasRestRoom};
 ghost use Rattle.rt_journal_turn.specs.Turns.{BeginsTurn, GoesFurther, turn_view};
 
-use crate::around::Around;
+use rt_link_ends::Around;
 use rt_core::{Next, Settled};
 use rt_ids::{CoreNo, JobId};
 use rt_jobs::{Job, Task};

@@ -5,7 +5,7 @@ ghost use Rattle.rt_journal_turn.specs.Beside.{IsAtRest, PollsAsOwed};
 ghost use Rattle.rt_journal_turn.specs.Rooms.{HasTurnRoom, open_queue};
 ghost use Rattle.rt_journal_turn.specs.Turns.{MakesTurn, turn_view};
 
-use crate::around::Around;
+use rt_link_ends::Around;
 use crate::back::hand_back;
 use crate::through::poll_through;
 use rt_core::{Ahead, PickError};

@@ -1,6 +1,6 @@
 -- An actor's ends, as the core of that actor is lent them for a turn.
 use Rattle.std.specs.Prelude.{ℕ, ◌<◌, length}
-use Rattle.rt_journal_turn.specs.Around.{Reach}
+use Rattle.rt_link_ends.specs.Around.{Reach}
 use Rattle.rt_ring.specs.declared.ring_in.Receiving.{Receiving}
 use Rattle.rt_ring.specs.declared.ring_out.Sending.{Sending}
 use Rattle.rt_ring_mesh.specs.Ends.{EndsView, in_at}

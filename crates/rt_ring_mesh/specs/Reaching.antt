@@ -3,7 +3,7 @@ use Rattle.std.proofs.Common.{◌≡◌, ℕ, List, [], refl, sym, ◌∙◌, su
 use Rattle.std.proofs.lemmas.List.{append-nil}
 use Rattle.std.proofs.lemmas.Option.{same_Some}
 use Rattle.rt_ids.specs.Assembly.{IsPrefix}
-use Rattle.rt_journal_turn.specs.Around.{IsAround, SeeGiven, SeesOrders}
+use Rattle.rt_link_ends.specs.Around.{IsAround, SeeGiven, SeesOrders}
 use Rattle.rt_ring.specs.declared.ring_in.Receiving.{Receiving}
 use Rattle.rt_ring.specs.declared.ring_out.Sending.{Sending}
 use Rattle.rt_ring_mesh.specs.Ends.{no_in}

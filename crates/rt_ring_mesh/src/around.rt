@@ -4,7 +4,7 @@ use crate::ends::Ends;
 use rt_fixed::SealedVec;
 use rt_ids::{ActorNo, CoreNo};
 use rt_jobs::Task;
-use rt_journal_turn::Around;
+use rt_link_ends::Around;
 use rt_ring::{RingIn, RingOut};
 use std::alloc::Global;
 

@@ -1,6 +1,6 @@
 -- The links of a whole house, as the core of a number is lent them for a turn.
 use Rattle.std.specs.Prelude.{ℕ, ◌<◌, List, length, slice_set}
-use Rattle.rt_journal_turn.specs.Around.{Reach}
+use Rattle.rt_link_ends.specs.Around.{Reach}
 use Rattle.rt_link.specs.declared.plain.Whole.{Whole}
 use Rattle.rt_link.specs.Whole.{inward_of, kept_by_receiver, kept_by_sender, out_of}
 use Rattle.rt_world_links.specs.Links.{link_at, row_of, with_link}

@@ -5,7 +5,7 @@ use Rattle.std.proofs.lemmas.Option.{get_or_from_slice_get, slice_get-get_or}
 use Rattle.std.specs.Prelude.{Option}
 use Rattle.rt_ids.specs.declared.order.Outcome.{Outcome}
 use Rattle.rt_ids.specs.Assembly.{IsPrefix}
-use Rattle.rt_journal_turn.specs.Around.{Gave, HaveSent, IsAround, SeeGiven, SeesOrders}
+use Rattle.rt_link_ends.specs.Around.{Gave, HaveSent, IsAround, SeeGiven, SeesOrders}
 use Rattle.rt_link.specs.declared.plain.Whole.{Whole}
 use Rattle.rt_link.specs.Whole.{out_of}
 use Rattle.rt_world_links.specs.Links.{ChangesLink, link_at, no_link, row_of, with_link}

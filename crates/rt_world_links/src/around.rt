@@ -4,7 +4,7 @@ use crate::links::Links;
 use rt_fixed::SealedVec;
 use rt_ids::{ActorNo, CoreNo};
 use rt_jobs::Task;
-use rt_journal_turn::Around;
+use rt_link_ends::Around;
 use rt_link::PlainLink;
 use std::alloc::Global;
 

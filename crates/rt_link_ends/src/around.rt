@@ -14,8 +14,8 @@ use std::alloc::Global;
 /// The number of the core is told at each call, since the links of a whole house may be lent. A link from the core to itself may be one
 /// value, which stands in the list and is the end of a sender, too.
 pub trait Around<J: Task<Out = u64>> {
-    ghost use Rattle.rt_journal_turn.specs.Around.{Reach, IsAround};
-    ghost use Rattle.rt_journal_turn.specs.Lending.{LendsOuts, LendsIn};
+    ghost use Rattle.rt_link_ends.specs.Around.{Reach, IsAround};
+    ghost use Rattle.rt_link_ends.specs.Lending.{LendsOuts, LendsIn};
 
     /// An end on which the core sends.
     type Out: OutEnd<J> + Drop;

@@ -6,7 +6,7 @@ use Rattle.std.specs.contracts.alloc.Global as global
 use Rattle.std.specs.contracts.impls.GlobalAllocator.TheImpl.{ghosts}
 use Rattle.rt_fixed.specs.Views.{SealedView}
 use Rattle.rt_fixed.specs.contracts.sealed_vec.SealedVec as sealed
-use Rattle.rt_journal_turn.specs.Around.{Reach}
+use Rattle.rt_link_ends.specs.Around.{Reach}
 
 module _ {J T : Type 0} (A O I : RattleType) (reach : Reach J T A.Denot O.Denot I.Denot) where
   -- all is as it was, except the ends on which the core sends: what was left of them stands in their place
