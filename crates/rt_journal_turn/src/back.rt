@@ -12,11 +12,11 @@ ghost use Rattle.rt_journal_turn.specs.Polls.{GivesOn};
 ghost use Rattle.rt_journal_turn.specs.Rooms.{open_queue};
 ghost use Rattle.rt_journal_turn.specs.Turns.{HandsBack};
 
-use rt_link_ends::Around;
 use rt_core::{PickError, Turn};
 use rt_ids::{CoreNo, JobId, Order, Reason};
 use rt_jobs::Task;
 use rt_journal::Recorded;
+use rt_link_ends::Around;
 use std::alloc::Allocator;
 
 // The job that the pick handed back, why, and its order.

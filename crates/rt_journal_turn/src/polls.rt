@@ -13,11 +13,11 @@ ghost use Rattle.rt_journal_turn.specs.Polls.{GivesOn, PostsOne};
 ghost use Rattle.rt_journal_turn.specs.Rooms.{HasPollRoom, HasRestRoom};
 ghost use Rattle.rt_journal_turn.specs.Turns.{BeginsTurn, GoesFurther, turn_view};
 
-use rt_link_ends::Around;
 use rt_core::{Next, Settled};
 use rt_ids::{CoreNo, JobId};
 use rt_jobs::{Job, Task};
 use rt_journal::Recorded;
+use rt_link_ends::Around;
 use rt_runtime_config::Gate;
 use rt_taskqueue::Meter;
 use std::alloc::Allocator;

@@ -9,12 +9,12 @@ ghost use Rattle.rt_journal_turn.specs.Beside.{IsAtRest, PollsAsOwed};
 ghost use Rattle.rt_journal_turn.specs.Rooms.{HasPollRoom, HasRestRoom, open_queue};
 ghost use Rattle.rt_journal_turn.specs.Turns.{BeginsTurn, EndsAmong, GoesThrough, PollsOn, TurnView, turn_view};
 
-use rt_link_ends::Around;
 use crate::polls::{poll_first, poll_further};
 use rt_core::Next;
 use rt_ids::CoreNo;
 use rt_jobs::{Job, Task};
 use rt_journal::Recorded;
+use rt_link_ends::Around;
 use rt_runtime_config::Gate;
 use rt_taskqueue::Meter;
 use std::alloc::Allocator;

@@ -5,13 +5,13 @@ ghost use Rattle.rt_journal_turn.specs.Beside.{IsAtRest, PollsAsOwed};
 ghost use Rattle.rt_journal_turn.specs.Rooms.{HasTurnRoom, open_queue};
 ghost use Rattle.rt_journal_turn.specs.Turns.{MakesTurn, turn_view};
 
-use rt_link_ends::Around;
 use crate::back::hand_back;
 use crate::through::poll_through;
 use rt_core::{Ahead, PickError};
 use rt_ids::CoreNo;
 use rt_jobs::{Job, Task};
 use rt_journal::Recorded;
+use rt_link_ends::Around;
 use rt_runtime_config::Gate;
 use rt_taskqueue::Meter;
 use std::alloc::Allocator;

@@ -4,8 +4,8 @@ use crate::links::Links;
 use rt_fixed::SealedVec;
 use rt_ids::{ActorNo, CoreNo};
 use rt_jobs::Task;
-use rt_link_ends::Around;
 use rt_link::PlainLink;
+use rt_link_ends::Around;
 use std::alloc::Global;
 
 /// A core sends on the links of its row, and receives on one link of each row.
