@@ -143,6 +143,13 @@ module _ {J T : Type 0} (meaning : Meaning J T) where
       grows = poll_grows _ _ _ (writes_further _ _ _ (one_poll did));
     }
 
+module _ {J T M G : Type 0} (meaning : Meaning J T) (tells : M → ℕ → M → Type 0) (asked : G → ℕ → JobId → G → Type 0) where
+  -- what a turn of a linked core is to its worker
+  pub record TurnsLinked (old : LinkedView J T) (meter : M) (gate : G) (what : Turned) (new : LinkedView J T) (later : M) (after : G) : Type 0 where
+    pub makes : MakesTurn meaning tells asked (turn_view old meter gate) what (turn_view new later after)
+    pub stays : StaysLinked old new
+    pub linked : IsLinked meaning new
+
 module _ {J T M G : Type 0} (meaning : Meaning J T) (tells : M → ℕ → M → Type 0) (asked : G → ℕ → JobId → G → Type 0) (own : ℕ) where
   abbrev View : Type 0
   View = made.TurnView J T (EndsView J T) M G
@@ -218,14 +225,10 @@ module _ {J T M G : Type 0} (meaning : Meaning J T) (tells : M → ℕ → M →
   comes old new is rest came.Idle did = subst (Comes old came.Idle) (sym did.1) (record { makes = (did.0, refl, (refl, refl)); stays = stays_same (linked_of old) })
   comes old new is rest came.Spent did = subst (Comes old came.Spent) (sym did.2) (record { makes = (did.0, did.1, refl, (refl, refl)); stays = stays_same (linked_of old) })
 
-  -- what a turn among the ends of a linked core is to its worker
-  pub record TurnsLinked (old : LinkedView J T) (meter : M) (gate : G) (what : Turned) (new : LinkedView J T) (later : M) (after : G) : Type 0 where
-    pub makes : MakesTurn meaning tells asked (turn_view old meter gate) what (turn_view new later after)
-    pub stays : StaysLinked old new
-    pub linked : IsLinked meaning new
-
+  -- so a turn among the ends of a linked core leaves it linked
   pub turns_linked : (old new : View) (what : Turned) → own ≡ old.core.core.core → IsLinked meaning (linked_of old) → made.MakesTurn meaning ends_reach own tells asked old what new →
-      turns.IsAtRest meaning ends_reach own new.core new.around → PollsAsOwed meaning new.core new.around → TurnsLinked (linked_of old) old.meter old.gate what (linked_of new) new.meter new.gate
+      turns.IsAtRest meaning ends_reach own new.core new.around → PollsAsOwed meaning new.core new.around →
+      TurnsLinked meaning tells asked (linked_of old) old.meter old.gate what (linked_of new) new.meter new.gate
   turns_linked old new what is was did rest owed =
       let comes_to = comes old new is (among meaning old.core old.around own was) what did in
       record { makes = comes_to.makes; stays = comes_to.stays; linked = linked_again meaning (linked_of old) (linked_of new) own was comes_to.stays rest owed }

@@ -1,5 +1,23 @@
-use Rattle.std.proofs.Common.{◌≡◌, sym, ◌∙◌, subst}
+use Rattle.std.proofs.Common.{sym, ◌∙◌, subst}
 use Rattle.rt_journal_turn.specs.Rooms.{HasTurnRoom}
 use Rattle.rt_runtime_worker.specs.Bursts.{MakesTurn, turn_view}
 use Rattle.rt_runtime_worker.specs.Linked.{LinkedView, StaysLinked}
 use Rattle.rt_runtime_worker.proofs.linked.Linked.turn.Goals as goal
+
+pub turn-requires : goal.turn-requires
+turn-requires g c = record {
+  linked = c.self.invariant.0;
+  between = c.self.invariant.2;
+  room = subst (λ (view : LinkedView _ _). HasTurnRoom view.recorded) (sym c.self.view_is) c.requires.room;
+}
+
+pub invariant_of-self : goal.invariant_of-self
+invariant_of-self g c = (c.turn.ensures.linked, c.self.invariant.1 ∙ sym c.turn.ensures.stays.seat.cores, c.turn.ensures.between)
+
+pub returns-clause-makes : goal.returns-clause-makes
+returns-clause-makes g c =
+    subst (λ (old : LinkedView _ _). MakesTurn g.J.Task.meaning g.M.Meter.Tells g.G.Gate.Asked (turn_view old c.args.meter.now c.args.gate.now) c.turn.result (turn_view c.turn.new.self c.turn.new.meter c.turn.new.gate))
+    c.self.view_is c.turn.ensures.makes
+
+pub returns-clause-stays : goal.returns-clause-stays
+returns-clause-stays g c = subst (λ (old : LinkedView _ _). StaysLinked old c.turn.new.self) c.self.view_is c.turn.ensures.stays
