@@ -1,15 +1,7 @@
 use Rattle.std.proofs.Common.{sym, ◌∙◌, subst}
-use Rattle.rt_journal_turn.specs.Rooms.{HasTurnRoom}
 use Rattle.rt_runtime_worker.specs.Bursts.{MakesTurn, turn_view}
 use Rattle.rt_runtime_worker.specs.Linked.{LinkedView, StaysLinked}
 use Rattle.rt_runtime_worker.proofs.linked.Linked.turn.Goals as goal
-
-pub turn-requires : goal.turn-requires
-turn-requires g c = record {
-  linked = c.self.invariant.0;
-  between = c.self.invariant.2;
-  room = subst (λ (view : LinkedView _ _). HasTurnRoom view.recorded) (sym c.self.view_is) c.requires.room;
-}
 
 pub invariant_of-self : goal.invariant_of-self
 invariant_of-self g c = (c.turn.ensures.linked, c.self.invariant.1 ∙ sym c.turn.ensures.stays.seat.cores, c.turn.ensures.between)
