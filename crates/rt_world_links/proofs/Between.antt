@@ -1,23 +1,15 @@
 -- The open turn of a core, by its journal and by itself.
-use Rattle.rt_world_links.proofs.Words.{◌≡◌, ℕ, ◌-◌, refl, sym, ◌∙◌, ap, subst}
-use Rattle.rt_world_links.proofs.Words.{CreatesQueue, Err, Ok, Option, Result, Some, None, RecordedView, Meaning, IsSameSeat, none-some}
+use Rattle.rt_world_links.proofs.Words.{◌≡◌, ℕ, ◌∙◌, ap, subst}
+use Rattle.rt_world_links.proofs.Words.{CreatesQueue, Err, Ok, Result, None, RecordedView, Meaning, IsSameSeat}
 use Rattle.rt_ids.specs.Bursts.{queue_in_turn}
 use Rattle.rt_taskqueue.specs.declared.queues.CreateError.{CreateError}
 use Rattle.rt_taskqueue.specs.declared.queues.CreateError.TheVariants.{TooMany, Memory}
-use Rattle.rt_core.specs.declared.bursts.OpenTurn.{OpenTurn}
 use Rattle.rt_journal.specs.Agreement.{IsOpenTurn}
 use Rattle.rt_journal.specs.Recorded.{IsRecorded}
 use Rattle.rt_world_links.specs.Between.{open_queue}
+pub use Rattle.rt_journal_turn.proofs.Rooms.{not_open}
 
--- where the journal has no open turn, its core has none
-pub not_open : {J T : Type 0} {meaning : Meaning J T} (view : RecordedView J T) → IsRecorded meaning view → open_queue view ≡ None → view.core.bursts.open ≡ None
-not_open view recorded none = by_open view.core.bursts.open refl
-  where
-    by_open : (turn : Option OpenTurn) → view.core.bursts.open ≡ turn → view.core.bursts.open ≡ None
-    by_open None is = is
-    by_open (Some turn) is = absurd (none-some turn.queue (sym none ∙ (subst (λ turn. IsOpenTurn view.core.bursts.burst turn view.journal.notes) is recorded.kept.agrees.turn).0))
-
--- and where the core has none, the journal has none
+-- where the core has no open turn, the journal has none
 pub none_open : {J T : Type 0} {meaning : Meaning J T} (view : RecordedView J T) → IsRecorded meaning view → view.core.bursts.open ≡ None → open_queue view ≡ None
 none_open view recorded none = subst (λ turn. IsOpenTurn view.core.bursts.burst turn view.journal.notes) none recorded.kept.agrees.turn
 

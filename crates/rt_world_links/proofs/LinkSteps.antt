@@ -8,7 +8,6 @@ use Rattle.rt_journal_desk.proofs.LaneEnds.{sees_more_lane}
 use Rattle.rt_journal.proofs.EndsKept.{sees_more_in}
 use Rattle.rt_journal_desk.proofs.OutEnds.{sees_more_out}
 use Rattle.rt_world_links.proofs.Places.{by_place}
-pub use Rattle.rt_world_links.specs.BothEnds.{one_gate}
 
 module _ {J T : Type 0} where
   -- the receiver alone did something on the link: what the sender has seen is as much or more

@@ -3,8 +3,7 @@ use Rattle.std.proofs.Common.{◌≡◌, ℕ, Bool, true, false, List, [], ◌�
 use Rattle.std.proofs.lemmas.List.{append-nil}
 use Rattle.std.specs.Prelude.{Option, Some, None}
 use Rattle.rt_ids.specs.declared.order.Outcome.{Outcome}
-use Rattle.rt_journal.specs.Ends.{Gives}
-use Rattle.rt_journal_desk.specs.Posts.{SendsMore}
+use Rattle.rt_link.specs.Calls.{Gives, SendsMore}
 use Rattle.rt_link_ends.specs.Around.{SeesOrders}
 use Rattle.rt_link.specs.declared.plain.Whole.{Whole}
 use Rattle.rt_link.specs.Whole.{gate_number, inward_of, kept_by_receiver, kept_by_sender, out_of}

@@ -24,7 +24,7 @@ pub turn-requires-clause-rest : goal.turn-requires-clause-rest
 turn-requires-clause-rest g c = rest g (goal.at.turn-requires-clause-rest g c).After-each-meter
 
 pub turn-requires-clause-room : goal.turn-requires-clause-room
-turn-requires-clause-room g c = record { back = omega (arith, c.requires.room); poll = λ _. omega (arith, c.requires.room) }
+turn-requires-clause-room g c = record { back = omega (arith, c.requires.room); poll = λ _. c.requires.room }
 
 pub returns-in-Polled-clause-turns : goal.returns-in-Polled-clause-turns
 returns-in-Polled-clause-turns g c =
