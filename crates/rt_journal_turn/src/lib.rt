@@ -2,6 +2,7 @@
 #![tactic(auto)]
 
 mod back;
+mod leave;
 mod polls;
 mod through;
 pub mod whole;

@@ -13,6 +13,7 @@ ghost use Rattle.rt_journal_turn.specs.Polls.{GivesOn, PostsOne};
 ghost use Rattle.rt_journal_turn.specs.Rooms.{HasPollRoom, HasRestRoom};
 ghost use Rattle.rt_journal_turn.specs.Turns.{BeginsTurn, GoesFurther, turn_view};
 
+use crate::leave::{Leave, ask};
 use rt_core::{Next, Settled};
 use rt_ids::{CoreNo, JobId};
 use rt_jobs::{Job, Task};
@@ -22,21 +23,25 @@ use rt_runtime_config::Gate;
 use rt_taskqueue::Meter;
 use std::alloc::Allocator;
 
-// Makes the first poll of the turn of the job that was told ahead. What the poll owes to the job's sender isn't given yet.
+// Makes the first poll of the turn of the job that was told ahead, by the leave of its core and name. What the poll owes to the job's sender isn't given yet.
 fn post_first<J: Job + Task<Out = u64>, A: Allocator + Clone, E: Around<J>, M: Meter>(
     core: &mut Recorded<J, A>,
     around: &mut E,
     local: &mut J::Local,
     own: CoreNo,
+    leave: Leave,
     next: &Next,
     meter: &mut M,
 ) -> Settled<u64>
+    requires leave_core { leave.core ≡ own }
+    requires leave_name { leave.name ≡ next.now.name }
     requires ahead { IsAhead core.old.core next.now.queue next.now.vr next.now.name next.now.started next.now.woken }
     requires rest { IsAtRest J.meaning E.reach own core.old around.old }
     requires room { length core.old.journal.notes + core.old.core.cores * (3 * core.old.cap) + 3 ≤ core.old.journal.room }
     ensures posts { PostsOne J.meaning E.reach own IsPick (λ time. M.Tells meter.old time meter.new) 3 1 next.now.name next.now.queue next.now.started result core.old core.new around.old around.new }
     ensures owed { PollsAsOwed J.meaning E.reach own core.old around.old → PollsAsOwed J.meaning E.reach own core.new around.new }
 {
+    let _leave = leave;
     core.turn_posting(around.lend_outs(own), local, next, meter)
 }
 
@@ -46,9 +51,12 @@ fn post_further<J: Job + Task<Out = u64>, A: Allocator + Clone, E: Around<J>, M:
     around: &mut E,
     local: &mut J::Local,
     own: CoreNo,
+    leave: Leave,
     next: &Next,
     meter: &mut M,
 ) -> Settled<u64>
+    requires leave_core { leave.core ≡ own }
+    requires leave_name { leave.name ≡ next.now.name }
     requires ahead { IsAheadInTurn core.old.core next.now.queue next.now.vr next.now.name next.now.started next.now.woken }
     requires rest { IsAtRest J.meaning E.reach own core.old around.old }
     requires room { length core.old.journal.notes + sum_by left_of core.old.lanes + 2 ≤ core.old.journal.room }
@@ -56,6 +64,7 @@ fn post_further<J: Job + Task<Out = u64>, A: Allocator + Clone, E: Around<J>, M:
         core.old core.new around.old around.new }
     ensures owed { PollsAsOwed J.meaning E.reach own core.old around.old → PollsAsOwed J.meaning E.reach own core.new around.new }
 {
+    let _leave = leave;
     core.further_posting(around.lend_outs(own), local, next, meter)
 }
 
@@ -100,8 +109,8 @@ pub(crate) fn poll_first<
     ensures rest { IsAtRest J.meaning E.reach own core.new around.new }
     ensures owed { PollsAsOwed J.meaning E.reach own core.old around.old → PollsAsOwed J.meaning E.reach own core.new around.new }
 {
-    gate.before_poll(own, next.name);
-    let settled = post_first(core, around, local, own, next, meter);
+    let leave = ask(gate, own, &next.name);
+    let settled = post_first(core, around, local, own, leave, next, meter);
     give_done_on(core, around, own, next.name, &settled);
 }
 
@@ -128,7 +137,7 @@ pub(crate) fn poll_further<
     ensures rest { IsAtRest J.meaning E.reach own core.new around.new }
     ensures owed { PollsAsOwed J.meaning E.reach own core.old around.old → PollsAsOwed J.meaning E.reach own core.new around.new }
 {
-    gate.before_poll(own, next.name);
-    let settled = post_further(core, around, local, own, next, meter);
+    let leave = ask(gate, own, &next.name);
+    let settled = post_further(core, around, local, own, leave, next, meter);
     give_done_on(core, around, own, next.name, &settled);
 }

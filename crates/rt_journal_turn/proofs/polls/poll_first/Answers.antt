@@ -20,7 +20,7 @@ returns-clause-begins g c = record {
     gives = c.give_done_on.ensures.gives;
     around = c.give_done_on.ensures.around;
   };
-  gate = c.before_poll.ensures;
+  gate = c.ask-leave.ensures.asked;
 }
 
 pub returns-clause-rest : goal.returns-clause-rest
