@@ -2,3 +2,5 @@ pub mod Ends
 pub mod Grid
 pub mod Laws
 pub mod Lending
+pub mod Reached
+pub mod Reaching

@@ -1,6 +1,7 @@
 //! All links of one house between threads: how they are opened and dealt, and how their ends are brought together again.
 #![tactic(auto)]
 
+pub mod around;
 pub mod ends;
 pub mod laws;
 pub mod opening;

@@ -89,7 +89,7 @@ module _ {J : Type 0} {meaning : Meaning J ℕ} {old : Parts J ℕ} {sender to :
       let was = rest sender by.core in
       rest_after old sender now (with_link old.links sender to after) rest (record {
         nobody_out = ap (λ view. view.core.out) core_did.rest ∙ was.nobody_out;
-        no_turn = none_open now core_did.sound (ap (λ view. view.core.bursts.open) core_did.rest ∙ not_open (core_at sender old) (world.recorded sender by.core) was.no_turn);
+        no_turn = none_open now core_did.sound (ap (λ view. view.core.bursts.open) core_did.rest ∙ not_open (world.recorded sender by.core) was.no_turn);
       })
 
   pub core_rests : IsWorld meaning core_sent

@@ -9,4 +9,4 @@ pub mod TakenLinks
 pub mod LentLinks
 pub mod OneTurn
 pub mod Between
-pub mod Posted
+pub mod TurnOfLinks

@@ -1,21 +1,13 @@
 -- What one end of a plain link does, as the other end sees it.
 use Rattle.rt_world_links.proofs.Words.{◌≡◌, ℕ, Bool, true, List, [], ◌++◌, refl, sym, ◌∙◌, ap, subst, get_or, append-nil, Order, Whole, out_of, inward_of}
 use Rattle.rt_world_links.proofs.Words.{slice_get, RecordedView, IsOutOf, IsInOf, link_at, Outcome, IsPrefix, kept_by_sender, DeskView, HasLane}
-use Rattle.rt_world_links.proofs.Words.{ChangesLink, arith, false}
+use Rattle.rt_world_links.proofs.Words.{ChangesLink}
 use Rattle.rt_desk.specs.Lanes.{IsLaneOf}
 use Rattle.rt_link.specs.Ends.{Joined}
-use Rattle.rt_link.specs.Whole.{gate_number}
 use Rattle.rt_journal_desk.proofs.LaneEnds.{sees_more_lane}
 use Rattle.rt_journal.proofs.EndsKept.{sees_more_in}
 use Rattle.rt_journal_desk.proofs.OutEnds.{sees_more_out}
 use Rattle.rt_world_links.proofs.Places.{by_place}
-
--- two gates of one number are one
-pub one_gate : (gate other : Bool) → gate_number gate ≡ gate_number other → gate ≡ other
-one_gate true true same = refl
-one_gate true false same = absurd (omega (arith, same))
-one_gate false true same = absurd (omega (arith, same))
-one_gate false false same = refl
 
 module _ {J T : Type 0} where
   -- the receiver alone did something on the link: what the sender has seen is as much or more

@@ -1,7 +1,7 @@
 -- What a poll of a core among its links is, and what a hand-back is.
 use Rattle.rt_world_links.proofs.Words.{ℕ, same_Some, set, Err, CreatesQueue, ◌≡◌, ◌+◌, ◌≤◌, Bool, true, false, List, [], ◌∷◌, refl, sym, ◌∙◌, ap, subst, Result}
-use Rattle.rt_world_links.proofs.Words.{Ok, Option, Some, None, JobId, Order, Whole, inward_of, Journal, Meaning, RecordedView, IsRecorded, link_at}
-use Rattle.rt_world_links.proofs.Words.{OutcomeNote, Job, Reason, polls_made, poll_note, order_taken, IsInOwing, told_under, owed_back, GivesOnOne}
+use Rattle.rt_world_links.proofs.Words.{Ok, Option, Some, None, JobId, Whole, Journal, Meaning, RecordedView, IsRecorded}
+use Rattle.rt_world_links.proofs.Words.{OutcomeNote, Job, polls_made, poll_note, order_taken}
 use Rattle.rt_world_links.proofs.Words.{none_owed, IsBesideAll, IsKeptBeside}
 use Rattle.std.proofs.Common.{add-zero}
 use Rattle.rt_ids.specs.declared.note.Note.{Note}
@@ -11,19 +11,13 @@ use Rattle.rt_ids.specs.Journal.{is_told}
 use Rattle.rt_ids.specs.Lines.{line}
 use Rattle.rt_ids.specs.Parks.{is_wake_kept}
 use Rattle.rt_ids.specs.declared.note.Note.TheVariants as writes
-use Rattle.rt_ids.specs.declared.note.OutcomeNote.TheVariants as outcomes
-use Rattle.rt_core.specs.declared.turn.Turn.{Turn}
-use Rattle.rt_core.specs.declared.turn.Turn.TheVariants.{Back}
-use Rattle.rt_core.specs.declared.turn.PickError.{PickError}
-use Rattle.rt_core.specs.declared.turn.Settled.{Settled}
 use Rattle.rt_taskqueue.specs.declared.queues.CreateError.{CreateError}
 use Rattle.rt_taskqueue.specs.declared.queues.CreateError.TheVariants.{TooMany, Memory}
 use Rattle.rt_journal.specs.Steps.{with_notes}
-use Rattle.rt_journal.specs.Turns.{IsFurther, IsHandBack, IsPick, Picks}
+use Rattle.rt_journal.specs.Turns.{IsFurther, IsPick}
 use Rattle.rt_journal.specs.Whole.{Begins}
-use Rattle.rt_journal.specs.Owed.{IsSentUnder}
 use Rattle.rt_journal.proofs.SentNotes.{all_posted}
-use Rattle.rt_world_links.specs.OneTurn.{StaysBeside, HandsOneBack, PollsOwing, PollsOne}
+use Rattle.rt_world_links.specs.OneTurn.{StaysBeside, PollsOne}
 use Rattle.rt_world_links.proofs.LentLinks.{no_gift}
 
 -- so each end is beside the core, except for what is owed
@@ -59,15 +53,6 @@ kept_stays number links beside kept free = record {
   lanes = kept.lanes;
   links = no_gift number links;
   ins = beside_then kept number links beside;
-}
-
--- what is owed, said otherwise
-pub owed_as : {J T : Type 0} (owed other : ℕ → Option (JobId × OutcomeNote T)) → ((sender : ℕ) → owed sender ≡ other sender) →
-    (number : ℕ) (view : RecordedView J T) (links : List (List (Whole J T))) → IsBesideAll number owed view links → IsBesideAll number other view links
-owed_as owed other same number view links is = record {
-  rows = is.rows;
-  cores = is.cores;
-  ins = λ sender there. subst (λ what. IsInOwing sender what view (inward_of (link_at sender number links))) (same sender) (is.ins sender there);
 }
 
 -- the notes with which a poll begins settle none
@@ -115,64 +100,6 @@ module _ {J T : Type 0} {old new : RecordedView J T} {name : JobId} {queue : ℕ
     out = goes.out;
     took = goes.took;
     unpolled = ap (λ journal. polls_made name journal.notes) goes.journal ∙ polls_made-begun name name was_started old.journal.notes;
-  }
-
-module _ {J : Type 0} {meaning : Meaning J ℕ} (old : RecordedView J ℕ) (number : ℕ) (links : List (List (Whole J ℕ))) (before : IsBesideAll number none_owed old links) where
-  -- where no turn is made, nothing changes
-  pub no_turn : IsRecorded meaning old → old.core.out ≡ None → StaysBeside meaning number old old links links
-  no_turn recorded free = kept_stays number links before (kept_itself old recorded) free
-
-  -- where a job is handed back, its outcome is owed to its sender, who is there
-  module _ (picked : Result (Turn J) PickError) (middle : RecordedView J ℕ) (picks : Picks meaning old picked middle) (kept : IsKeptBeside meaning (owed_back picked) old middle)
-      (name : JobId) (reason : Reason) (order : Order J) (is_back : picked ≡ Ok (Back name reason order)) where
-    back : IsHandBack meaning old name reason order middle
-    back = subst (λ answer. Picks meaning old answer middle) is_back picks
-
-    task_now : order_taken middle.took name ≡ Some (Job back.queue back.sent)
-    task_now = ap (λ took. order_taken took name) back.took ∙ back.task
-
-    pub back_known : name.from ≤ middle.core.cores
-    back_known = (kept.sound.taken name _ task_now).sender
-
-    pub back_sent : IsSentUnder meaning middle.took name order
-    back_sent = record { queue = back.queue; sent = back.sent; task = task_now; job = back.job; back = back.back; same_task = back.same_task }
-
-    pub back_owed : IsBesideAll number (told_under name (Some (outcomes.Returned reason))) middle links
-    back_owed = owed_as (owed_back picked) (told_under name (Some (outcomes.Returned reason))) (λ sender. ap (λ answer. owed_back {T = ℕ} answer sender) is_back) number middle links (beside_then kept number links before)
-
-    pub back_turns : (links_now : List (List (Whole J ℕ))) → GivesOnOne number links links_now → IsBesideAll number none_owed middle links_now →
-        HandsOneBack meaning old middle × StaysBeside meaning number old middle links links_now
-    back_turns links_now gives then = (
-      record { name = name; reason = reason; order = order; did = back },
-      record { recorded = kept.sound; at_rest = back.out; seat = kept.seat; outs = kept.outs; lanes = kept.lanes; links = gives; ins = then },
-    )
-
--- a poll keeps the seat of its core, and the sender of its job is there
-module _ {J : Type 0} {meaning : Meaning J ℕ} {begins : Begins J ℕ} {number spent : ℕ} {name : JobId} {queue : ℕ} {started : Bool} {settled : Settled ℕ} {old new : RecordedView J ℕ}
-    {before after : List (List (Whole J ℕ))} (did : PollsOwing meaning begins number spent name queue started settled old new before after) where
-  pub poll_cores : new.core.cores ≡ old.core.cores
-  poll_cores =
-      let turn = did.turn in
-      turn.stays_settled.seat.cores ∙ (ap (λ view. view.core.cores) turn.rest ∙ turn.stays.seat.cores)
-
-  pub poll_known : {begun : List (Note ℕ)} → GoesBehind begun old name queue started did.turn.ran.before did.turn.picked → name.from ≤ new.core.cores
-  poll_known goes =
-      let turn = did.turn in
-      let task = turn.sound.out _ goes.out in
-      subst (λ cores. name.from ≤ cores) (sym (turn.stays_settled.seat.cores ∙ ap (λ view. view.core.cores) turn.rest)) (turn.sound.taken name _ task.task).sender
-
-  -- with its outcome given it is a poll whose outcome is given
-  pub poll_given : (later : List (List (Whole J ℕ))) → GivesOnOne number after later → IsBesideAll number none_owed new later →
-      PollsOne meaning begins number spent name old new before later
-  poll_given later gives beside = record {
-    queue = queue;
-    started = started;
-    settled = settled;
-    row = did.row;
-    turn = did.turn;
-    recorded = did.recorded;
-    links = subst (λ between. GivesOnOne number between later) did.links gives;
-    ins = beside;
   }
 
 -- a creation leaves the core at rest

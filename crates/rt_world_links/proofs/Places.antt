@@ -1,11 +1,8 @@
 -- A list of which one place was set, read at any place.
-use Rattle.rt_world_links.proofs.Words.{◌≡◌, ◌≢◌, ℕ, ◌<◌, List, [], length, arith, get_or_past, sym, ◌∙◌, ap, subst, ◌⊎◌, inl, inr, ⊎_elim, get_or, set}
+use Rattle.rt_world_links.proofs.Words.{◌≡◌, ℕ, ◌<◌, List, [], length, arith, get_or_past, sym, ◌∙◌, ap, subst, ◌⊎◌, inl, inr, ⊎_elim, get_or, set}
 use Rattle.rt_world_links.proofs.Words.{get_or-set_same, get_or-set_other, cases_eq, cases_lt}
 use Rattle.std.proofs.lemmas.List.{set_past}
-
--- what is so of one place, and of each other, is so of each
-pub by_place : (Holds : ℕ → Type 0) (at : ℕ) → Holds at → ((place : ℕ) → place ≢ at → Holds place) → (place : ℕ) → Holds place
-by_place Holds at here away place = ⊎_elim (λ one. subst Holds (sym one) here) (away place) (cases_eq place at)
+pub use Rattle.rt_world_links.specs.Placed.{by_place}
 
 -- where each list of some has no item, there is none at any place
 pub none_anywhere : {A : Type 0} (rows : List (List A)) → ((place : ℕ) → place < length rows → get_or rows place [] ≡ []) → (place : ℕ) → get_or rows place [] ≡ []

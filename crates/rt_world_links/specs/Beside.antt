@@ -1,29 +1,18 @@
 -- What a core and the links around it are to each other, at a turn.
 use Rattle.std.specs.Prelude.{◌≡◌, ℕ, ◌<◌, ◌≤◌, Option, None, List, length}
-use Rattle.std.specs.Option.{option_map}
 use Rattle.rt_ids.specs.declared.names.JobId.{JobId}
 use Rattle.rt_ids.specs.declared.note.OutcomeNote.{OutcomeNote}
 use Rattle.rt_ids.specs.declared.order.Order.{Order}
 use Rattle.rt_ids.specs.declared.order.Outcome.{Outcome}
-use Rattle.rt_ids.specs.Outcomes.{outcome_note}
 use Rattle.rt_jobs.specs.Meanings.{Meaning}
-use Rattle.rt_core.specs.declared.turn.Settled.{Settled}
 use Rattle.rt_journal_desk.specs.Posts.{AreOutsOf}
 use Rattle.rt_journal.specs.Recorded.{RecordedView, IsRecorded, desk_of}
-use Rattle.rt_journal.specs.Ends.{IsInOwing, LeavesOwed, IsSameSeat, told_under}
+use Rattle.rt_journal.specs.Ends.{IsInOwing, LeavesOwed, IsSameSeat}
 use Rattle.rt_journal_desk.specs.Ends.{KeepsOuts}
-use Rattle.rt_journal.specs.Owed.{outcome_settled}
 use Rattle.rt_link.specs.declared.plain.Whole.{Whole}
 use Rattle.rt_link.specs.Whole.{out_of, inward_of}
+pub use Rattle.rt_journal_turn.specs.Beside.{none_owed}
 use Rattle.rt_world_links.specs.Links.{row_of, link_at, GivesOnOne}
-
--- no outcome is owed to any sender
-abbrev pub none_owed : {T : Type 0} → ℕ → Option (JobId × OutcomeNote T)
-none_owed sender = None
-
--- the outcome of a settled poll is owed to the job's sender, if the job is done
-abbrev pub owed_settled : {T : Type 0} → Type 0 → JobId → Settled T → ℕ → Option (JobId × OutcomeNote T)
-owed_settled J name settled = told_under name (option_map outcome_note (outcome_settled {J = J} settled))
 
 module _ {J T : Type 0} where
   -- there is a link from each sender to this core, and each end is beside the core, where these outcomes are owed

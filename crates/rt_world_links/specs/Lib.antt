@@ -1,5 +1,9 @@
 pub mod Cores
 pub mod Links
+pub mod Reached
+pub mod Placed
+pub mod BothEnds
+pub mod Reaching
 pub mod Lending
 pub mod Beside
 pub mod Between

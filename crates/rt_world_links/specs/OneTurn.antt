@@ -18,7 +18,7 @@ use Rattle.rt_link.specs.Whole.{out_of, kept_by_sender}
 use Rattle.rt_world_links.specs.declared.turn.Turned.{Turned}
 use Rattle.rt_world_links.specs.declared.turn.Turned.TheVariants.{Made, Idle, Spent}
 use Rattle.rt_world_links.specs.Links.{row_of, GivesOnOne}
-pub use Rattle.rt_world_links.specs.Beside.{none_owed, owed_settled, IsBesideAll, HasOuts, IsKeptBeside, StaysBeside}
+pub use Rattle.rt_world_links.specs.Beside.{none_owed, IsBesideAll, HasOuts, IsKeptBeside, StaysBeside}
 
 module _ {J T : Type 0} where
   -- a note of its own ends the open turn, with its time
@@ -43,14 +43,6 @@ module _ {J : Type 0} (meaning : Meaning J ℕ) where
   -- one poll with the job in its place, whose post has the links on which the core sends: the job goes out so, is polled once, and that poll is settled
   abbrev pub PollsOn : Begins J ℕ → ℕ → RecordedView J ℕ → List (Whole J ℕ) → JobId → ℕ → Bool → Settled ℕ → RecordedView J ℕ → List (Whole J ℕ) → Type 0
   PollsOn begins spent = IsPostingTurn meaning begins (Does (Fits meaning) out_of (λ link. link.credited) kept_by_sender) out_of kept_by_sender (λ time. time ≡ spent)
-
-  -- such a poll, whose outcome is owed, if the job is done
-  pub record PollsOwing (begins : Begins J ℕ) (number spent : ℕ) (name : JobId) (queue : ℕ) (started : Bool) (settled : Settled ℕ) (old new : RecordedView J ℕ) (before after : List (List (Whole J ℕ))) : Type 0 where
-    pub row : List (Whole J ℕ)
-    pub turn : PollsOn begins spent old (row_of number before) name queue started settled new row
-    pub recorded : IsRecorded meaning new
-    pub links : after ≡ slice_set before number row
-    pub owing : IsBesideAll number (owed_settled J name settled) new after
 
   -- such a poll of this job, whose outcome is given, if the job is done
   pub record PollsOne (begins : Begins J ℕ) (number spent : ℕ) (name : JobId) (old new : RecordedView J ℕ) (before after : List (List (Whole J ℕ))) : Type 0 where

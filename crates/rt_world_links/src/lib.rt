@@ -1,7 +1,9 @@
 //! A recorded core among plain links: the cores and the links between all actors as they open, and a turn of one core on its links.
 #![tactic(auto)]
 
+pub mod around;
 pub mod cores;
+mod known;
 pub mod links;
 pub mod turn;
 

@@ -1,40 +1,45 @@
-use Rattle.rt_world_links.proofs.Words.{inl, refl, ⊎_elim}
-use Rattle.rt_journal.proofs.Ahead.{idle, all_used}
-use Rattle.rt_world_links.proofs.OneTurn.{no_turn}
-use Rattle.rt_world_links.proofs.Between.{not_open}
+use Rattle.rt_world_links.proofs.Words.{◌≡◌, ℕ, ◌∙◌, arith, inl, refl, JobId}
+use Rattle.rt_runtime_config.specs.declared.gate.NoGate.{NoGate}
+use Rattle.rt_journal_turn.specs.Beside.{IsAtRest}
+use Rattle.rt_journal_turn.specs.Turns.{turn_view}
+use Rattle.rt_world_links.specs.declared.known.Known.{Known}
+use Rattle.rt_world_links.specs.Reached.{links_reach}
+use Rattle.rt_world_links.proofs.TurnOfLinks.{among, idle_turns, polls_all, returned_turns, spent_turns}
+use Rattle.rt_world_links.proofs.turn.turn_of.Given.{Over}
 use Rattle.rt_world_links.proofs.turn.turn_of.Goals as goal
+use Rattle.rt_world_links.proofs.turn.turn_of.Goals.{After-each-meter}
 
-pub returns-in-Ok-Job : goal.returns-in-Ok-Job
-returns-in-Ok-Job g c = record {
-  turns = inl (record {
-    name = c.in-Ok-Job.next.name;
-    mid = c.poll_first.new.core;
-    between = c.poll_first.new.links;
-    first = c.poll_first.ensures.polls;
-    later = c.go_on.ensures.further.0;
-    further = c.go_on.ensures.further.1;
-  });
-  no_turn = c.go_on.ensures.no_turn;
-}
+-- what the meter tells, and what the gate is asked
+abbrev tells : Known → ℕ → Known → Type 0
+tells known time after = (time ≡ known.time) × (after ≡ known)
 
-pub returns-in-Ok-Idle : goal.returns-in-Ok-Idle
-returns-in-Ok-Idle g c =
-    let told = (rw c.in-Ok-Idle.field-0-is at c.in-Ok-Idle.ensures) in
-    record {
-      turns = (idle c.args.core.now c.requires.sound told.0 told.2, refl, no_turn c.args.core.now c.args.number c.args.links.now c.requires.beside c.requires.sound c.requires.free);
-      no_turn = c.requires.no_turn;
-    }
+abbrev asked : NoGate → ℕ → JobId → NoGate → Type 0
+asked gate core job after = Unit {0}
 
-pub returns-in-Err-Spent : goal.returns-in-Err-Spent
-returns-in-Err-Spent g c =
-    let told = (rw c.in-Err-Spent.field-0-is at c.in-Err-Spent.ensures) in
-    let used = all_used c.args.core.now c.requires.sound told in
-    record {
-      turns = (used.0, used.1, refl, no_turn c.args.core.now c.args.number c.args.links.now c.requires.beside c.requires.sound c.requires.free);
-      no_turn = c.requires.no_turn;
-    }
+-- the core is at rest among its links
+rest : (g : Over) (c : After-each-meter g) → IsAtRest g.J.Task.meaning links_reach c.args.number c.args.core.now c.args.links.now
+rest g c = among g.J.Task.meaning c.args.number c.requires.number c.requires.sound c.requires.free c.requires.outs c.requires.beside
 
-pub unreachable-requires : goal.unreachable-requires
-unreachable-requires g c =
-    let told = (rw c.in-Err-Busy.field-0-is at c.in-Err-Busy.ensures) in
-    ⊎_elim (λ out. out c.requires.free) (λ turn. turn (not_open c.args.core.now c.requires.sound c.requires.no_turn)) told
+pub turn-requires-clause-rest : goal.turn-requires-clause-rest
+turn-requires-clause-rest g c = rest g (goal.at.turn-requires-clause-rest g c).After-each-meter
+
+pub turn-requires-clause-room : goal.turn-requires-clause-room
+turn-requires-clause-room g c = record { back = omega (arith, c.requires.room); poll = λ _. c.requires.room }
+
+pub returns-in-Polled-clause-turns : goal.returns-in-Polled-clause-turns
+returns-in-Polled-clause-turns g c =
+    inl (polls_all g.J.Task.meaning c.args.number c.args.spent tells asked c.each-meter.result (λ time after told. (told.0 ∙ c.each-meter.ensures, told.1))
+    (turn_view c.args.core.now c.args.links.now c.each-meter.result _) (turn_view c.turn.new.core c.turn.new.around c.turn.new.meter c.turn.new.gate) refl c.in-Polled.ensures.makes)
+
+pub returns-in-Returned-clause-turns : goal.returns-in-Returned-clause-turns
+returns-in-Returned-clause-turns g c = returned_turns g.J.Task.meaning c.args.number c.args.spent (rest g (goal.at.returns-in-Returned-clause-turns g c).After-each-meter) c.in-Returned.ensures.makes.0
+
+pub returns-in-Idle-clause-turns : goal.returns-in-Idle-clause-turns
+returns-in-Idle-clause-turns g c =
+    let did = c.in-Idle.ensures.makes in
+    idle_turns g.J.Task.meaning c.args.number c.args.spent (rest g (goal.at.returns-in-Idle-clause-turns g c).After-each-meter) did.1 did.0
+
+pub returns-in-Spent-clause-turns : goal.returns-in-Spent-clause-turns
+returns-in-Spent-clause-turns g c =
+    let did = c.in-Spent.ensures.makes in
+    spent_turns g.J.Task.meaning c.args.number c.args.spent (rest g (goal.at.returns-in-Spent-clause-turns g c).After-each-meter) did.2 did.0 did.1

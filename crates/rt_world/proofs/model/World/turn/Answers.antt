@@ -1,4 +1,4 @@
-use Rattle.std.specs.Prelude.{max}
+use Rattle.std.specs.Prelude.{◌-◌}
 use Rattle.rt_world.proofs.Words.{◌≡◌, ℕ, ◌<◌, ◌≤◌, ◌+◌, ◌*◌, ◌∙◌, ap, arith, Bool, true, false}
 use Rattle.std.proofs.Math.Nat.{mul_comm, mul_assoc}
 use Rattle.rt_ids.specs.Bursts.{has_bursts}
@@ -17,9 +17,9 @@ calls_fit cores cap its_cores its_cap one two = rw (one, two) (ap (λ count. cou
 turn_fits : (burst : ℕ) → 1 ≤ burst → turn_notes burst ≤ 2 * burst + 2
 turn_fits burst some = by_form (has_bursts burst)
   where
-    by_form : (form : Bool) → 1 + 2 * max burst 1 + number_if form ≤ 2 * burst + 2
-    by_form true = omega arith
-    by_form false = omega arith
+    by_form : (form : Bool) → 3 + 2 * (burst - 1) + number_if form ≤ 2 * burst + 2
+    by_form true = omega (arith, some)
+    by_form false = omega (arith, some)
 
 pub turn_of-requires : goal.turn_of-requires
 turn_of-requires g c =

@@ -1,0 +1,5 @@
+pub mod Words
+pub mod Given
+pub mod Posted
+pub mod Kept
+pub mod Rooms

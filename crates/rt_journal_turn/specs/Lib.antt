@@ -1,0 +1,4 @@
+pub mod Beside
+pub mod Polls
+pub mod Rooms
+pub mod Turns
