@@ -1,4 +1,4 @@
--- A step that notes no poll opens no turn, and the end of a turn leaves none open.
+-- A step that notes no poll opens no turn.
 use Rattle.std.proofs.Common.{◌≡◌, ℕ, suc, ◌+◌, ◌≤◌, List, [], ◌∷◌, ◌++◌, length, refl, sym, ◌∙◌, ap, subst, arith}
 use Rattle.std.specs.Prelude.{Bool, true, false, Option, Some, None, if◌then◌else◌}
 use Rattle.rt_ids.specs.declared.names.JobId.{JobId}
@@ -8,8 +8,6 @@ use Rattle.rt_ids.specs.Bursts.{has_bursts, queue_begun_last, queue_in_turn}
 use Rattle.rt_ids.specs.Commands.{IsOpening}
 use Rattle.rt_ids.specs.Journal.{Journal}
 use Rattle.rt_journal.specs.Recorded.{RecordedView}
-use Rattle.rt_journal.specs.Turns.{EndsTurn}
-use Rattle.rt_journal_notes.specs.Journals.{JournalView}
 use Rattle.rt_runtime_worker.specs.Asks.{NotesNoPoll, name_polled, polls_of, with_poll}
 use Rattle.rt_runtime_worker.specs.Linked.{Grows, IsBetweenTurns, LinkedView, StaysLinked}
 
@@ -54,14 +52,6 @@ module _ {T : Type 0} where
       subst (λ notes. queue_in_turn burst notes ≡ None) (sym grows.1)
       (in_form (has_bursts burst) (queue_begun_last old) (queue_begun_last (grows.0 ++ old)) (still_none grows.0 old (subst (NotesNoPoll old) grows.1 none)) was)
 
-  -- no turn is open behind the end of one
-  pub none_behind_end : (burst queue time : ℕ) (before : Journal T) → queue_in_turn burst (writes.Turned queue time ∷ before) ≡ None
-  none_behind_end burst queue time before = by_form (has_bursts burst)
-    where
-      by_form : (form : Bool) → ◌≡◌ {A = Option ℕ} (if form then None else None) None
-      by_form true = refl
-      by_form false = refl
-
   -- creations open no turn
   none_created : (notes : Journal T) → IsOpening notes → queue_begun_last notes ≡ None
   none_created [] opening = refl
@@ -91,7 +81,3 @@ module _ {J T : Type 0} where
   -- and none with the same notes
   pub between_notes : (old new : RecordedView J T) → new.core.bursts.burst ≡ old.core.bursts.burst → new.journal.notes ≡ old.journal.notes → IsBetweenTurns old → IsBetweenTurns new
   between_notes old new burst notes between = ap (λ burst. queue_in_turn burst new.journal.notes) burst ∙ (ap (queue_in_turn old.core.bursts.burst) notes ∙ between)
-
--- the end of a turn leaves no turn open
-pub ended_between : {J T : Type 0} (old new : RecordedView J T) (time : ℕ) → EndsTurn old time new → IsBetweenTurns new
-ended_between {T = T} old new time did = subst (λ (journal : JournalView T). queue_in_turn new.core.bursts.burst journal.notes ≡ None) (sym did.journal) (none_behind_end new.core.bursts.burst did.queue time old.journal.notes)

@@ -1,6 +1,6 @@
 -- A core and its ends after a job was handed back: its outcome is owed to its sender.
 use Rattle.std.proofs.Common.{◌≡◌, ℕ, ◌+◌, ◌≤◌, cond, refl, sym, ◌∙◌, ap, subst, arith}
-use Rattle.std.specs.Prelude.{Some, None, Result, Ok, Err}
+use Rattle.std.specs.Prelude.{Some, None, Result, Ok}
 use Rattle.std.proofs.lemmas.Bool.{eq-eqb, ne_eqb}
 use Rattle.rt_ids.specs.declared.names.JobId.{JobId}
 use Rattle.rt_ids.specs.declared.order.Order.{Order}
@@ -9,21 +9,15 @@ use Rattle.rt_ids.specs.declared.order.Reason.{Reason}
 use Rattle.rt_ids.specs.declared.note.OutcomeNote.TheVariants.{Returned}
 use Rattle.rt_ids.specs.Filters.{if_from}
 use Rattle.rt_core.specs.declared.turn.Turn.{Turn}
-use Rattle.rt_core.specs.declared.turn.Turn.TheVariants.{Start, Resume, Back, Idle}
+use Rattle.rt_core.specs.declared.turn.Turn.TheVariants.{Back}
 use Rattle.rt_core.specs.declared.turn.PickError.{PickError}
-use Rattle.rt_core.specs.declared.turn.Ahead.TheVariants as tells
-use Rattle.rt_core.specs.Whole.{TellsAhead}
 use Rattle.rt_ring_mesh.specs.Ends.{EndsView, in_at}
 use Rattle.rt_journal.specs.Recorded.{RecordedView, desk_of, order_taken}
 use Rattle.rt_journal_desk.specs.Ends.{KeepsOuts}
 use Rattle.rt_journal.specs.Ends.{IsSameSeat, LeavesOwed, IsInOwing}
 use Rattle.rt_journal.specs.Owed.{owed_back, IsSentUnder}
-use Rattle.rt_journal.specs.Turns.{IsBack, Picks, IsHandBack}
-use Rattle.rt_runtime_worker.specs.Asks.{NotesNoPoll, polls_of}
-use Rattle.rt_runtime_worker.specs.declared.seat.Taken.{Taken}
+use Rattle.rt_journal.specs.Turns.{Picks, IsHandBack}
 use Rattle.rt_runtime_worker.specs.Linked.{AreBeside, AreOwing}
-use Rattle.rt_runtime_worker.specs.Seats.{PicksTaken}
-use Rattle.rt_runtime_worker.specs.Steps.{HandsBack}
 use Rattle.rt_runtime_worker.proofs.Stepping.{sends_kept}
 use Rattle.rt_jobs.specs.Meanings.{Meaning}
 
@@ -58,23 +52,3 @@ module _ {J T : Type 0} (old new : RecordedView J T) (picked : Result (Turn J) P
     back = did.back;
     same_task = did.same_task;
   }
-
-module _ {J T : Type 0} {meaning : Meaning J T} {old new : RecordedView J T} {told : Result (Taken J) PickError} (picks : PicksTaken meaning old told new) (ahead : TellsAhead old.core (Ok tells.Back)) where
-  by_turned : (turned : Result (Turn J) PickError) → IsBack turned → Picks meaning old turned new → HandsBack meaning old new
-  by_turned (Ok (Back name reason order)) is did = record { name = name; reason = reason; order = order; did = did }
-  by_turned (Ok (Start name queue job)) is did = absurd is
-  by_turned (Ok (Resume name queue job)) is did = absurd is
-  by_turned (Ok Idle) is did = absurd is
-  by_turned (Err error) is did = absurd is
-
-  -- a pick that was told ahead to hand a job back does so
-  pub back_hands : HandsBack meaning old new
-  back_hands = by_turned picks.turned (picks.back ahead) picks.picks
-
-  -- no job is out behind it
-  pub back_rests : new.core.out ≡ None
-  back_rests = back_hands.did.out
-
-  -- it notes no poll
-  pub back_notes_none : NotesNoPoll old.journal.notes new.journal.notes
-  back_notes_none = ap (λ journal. polls_of journal.notes) back_hands.did.journal

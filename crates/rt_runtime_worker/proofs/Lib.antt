@@ -28,7 +28,6 @@ pub mod LentOut
 pub mod Kept
 pub mod Picked
 pub mod Posted
-pub mod InPlace
 pub mod HandedBack
 pub mod Noted
 pub mod Acting
@@ -38,6 +37,7 @@ pub mod PollNotes
 pub mod TurnNotes
 pub mod TurnAsks
 pub mod TurnRoom
+pub mod TurnOfEnds
 pub mod Between
 pub mod Gated
 pub mod Serving

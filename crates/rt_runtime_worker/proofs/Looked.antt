@@ -18,8 +18,8 @@ use Rattle.rt_journal.specs.Turns.{IsFurther, IsPick}
 use Rattle.rt_journal.specs.Whole.{Begins}
 use Rattle.rt_runtime_worker.specs.Turns.{TakesTurn, TurnsWith}
 use Rattle.rt_runtime_worker.specs.declared.stopwatch.Stopwatch.{Stopwatch}
-use Rattle.rt_runtime_worker.specs.declared.turn.Made.{Made}
-use Rattle.rt_runtime_worker.specs.declared.turn.Made.TheVariants as came
+use Rattle.rt_journal_turn.specs.declared.whole.Turned.{Turned}
+use Rattle.rt_journal_turn.specs.declared.whole.Turned.TheVariants as came
 
 -- a stopwatch, as a worker's view has it
 abbrev pub watch_of : {C : Type 0} → Stopwatch C → WatchView C
@@ -74,7 +74,7 @@ module _ {J T M N G : Type 0} (meaning : Meaning J T) (tells : M → ℕ → M �
   through_seen false old new did = ap turn_seen did
   through_seen true old new did = (did.0, turn_seen did.1, on_seen did.0 old did.1 did.2, record { time = did.3.time; ends = did.3.ends; rest = ap turn_seen did.3.rest })
 
-  makes_seen : (old new : TurnView J T M G) (made : Made) → MakesTurn meaning tells asked old made new → MakesTurn meaning told asked (turn_seen old) made (turn_seen new)
+  makes_seen : (old new : TurnView J T M G) (made : Turned) → MakesTurn meaning tells asked old made new → MakesTurn meaning told asked (turn_seen old) made (turn_seen new)
   makes_seen old new came.Polled did =
       (did.0, turn_seen did.1, record { polls = poll_seen IsPick 3 1 did.0 old did.1 did.2.polls; gate = did.2.gate }, through_seen _ did.1 new did.3)
   makes_seen old new came.Returned did = (did.0, (did.1.0, ap seen did.1.1))

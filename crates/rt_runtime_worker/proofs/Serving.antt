@@ -24,8 +24,8 @@ use Rattle.rt_runtime_worker.specs.Gates.{ShutsFirst}
 use Rattle.rt_runtime_worker.specs.Ended.{IsServed}
 use Rattle.rt_runtime_worker.specs.Few.{most_of_turn}
 use Rattle.rt_runtime_worker.specs.Rooms.{last_through, MayAct, ActsAsItMay, HasSpare, IsEnding, IsProvided, IsReady}
-use Rattle.rt_runtime_worker.specs.declared.turn.Made.{Made}
-use Rattle.rt_runtime_worker.specs.declared.turn.Made.TheVariants as came
+use Rattle.rt_journal_turn.specs.declared.whole.Turned.{Turned}
+use Rattle.rt_journal_turn.specs.declared.whole.Turned.TheVariants as came
 use Rattle.rt_runtime_worker.proofs.Acting.{acts_here, collects_act}
 use Rattle.rt_runtime_worker.proofs.Between.{between_same}
 use Rattle.rt_runtime_worker.proofs.Noted.{more_from, delivery_short, delivery_acts, delivery_gives}
@@ -205,7 +205,7 @@ module _ {J T : Type 0} where
           }
 
         -- whatever a turn came to
-        pub turned_served : (came_to : Made) (ending : Bool) → MakesTurn meaning tells asked (turn_view old meter gate) came_to (turn_view new later after) → IsReady ending old.recorded →
+        pub turned_served : (came_to : Turned) (ending : Bool) → MakesTurn meaning tells asked (turn_view old meter gate) came_to (turn_view new later after) → IsReady ending old.recorded →
             ActsAsItMay ending old.recorded → IsServed meaning (record { linked = new; ending = ending })
         turned_served came.Polled ending did ready acts = polled_served did ending ready acts
         turned_served came.Returned ending did ready acts = returned_served did.0 ending ready acts

@@ -17,7 +17,8 @@ use Rattle.rt_journal.specs.Recorded.{sum_upto, given_count, delivered_count}
 use Rattle.rt_journal.specs.Ends.{IsInOf}
 use Rattle.rt_ring_mesh.specs.Ends.{in_at}
 use Rattle.rt_runtime_worker.specs.Linked.{LinkedView, IsLinked}
-use Rattle.rt_runtime_worker.specs.Rooms.{last_through, HasTurnRoom, IsEnding, IsReady}
+use Rattle.rt_journal_turn.specs.Rooms.{HasTurnRoom}
+use Rattle.rt_runtime_worker.specs.Rooms.{last_through, IsEnding, IsReady}
 
 -- each of them at most so much above the other, and so are the sums
 pub sums_within : (f g : ℕ → ℕ) (more last : ℕ) → ((s : ℕ) → s ≤ last → f s ≤ g s + more) → sum_upto f last ≤ sum_upto g last + (last + 1) * more

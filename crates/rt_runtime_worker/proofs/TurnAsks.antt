@@ -5,8 +5,8 @@ use Rattle.rt_ids.specs.declared.names.JobId.{JobId}
 use Rattle.rt_jobs.specs.Meanings.{Meaning}
 use Rattle.rt_runtime_worker.specs.Asks.{AsksFor, AsksSince, polls_of}
 use Rattle.rt_runtime_worker.specs.Bursts.{GoesThrough, MakesTurn, PollsOn, TurnView}
-use Rattle.rt_runtime_worker.specs.declared.turn.Made.{Made}
-use Rattle.rt_runtime_worker.specs.declared.turn.Made.TheVariants as came
+use Rattle.rt_journal_turn.specs.declared.whole.Turned.{Turned}
+use Rattle.rt_journal_turn.specs.declared.whole.Turned.TheVariants as came
 use Rattle.rt_runtime_worker.proofs.Asking.{asks_along, asks_none}
 use Rattle.rt_runtime_worker.proofs.PollNotes.{poll_told, writes_first, writes_further}
 use Rattle.rt_runtime_worker.proofs.TurnNotes.{ended_notes, notes_at}
@@ -47,7 +47,7 @@ module _ {J T M G : Type 0} (meaning : Meaning J T) (tells : M → ℕ → M →
         (subst (λ core. AsksSince asked core (notes_at did.1) (notes_at new) did.1.gate new.gate) did.2.polls.seat.number (through_asks _ did.1 new did.3))
 
     -- a turn asks the gate for each poll that it notes
-    pub turn_asks : (made : Made) → MakesTurn meaning tells asked old made new → AsksSince asked (core_at old) (notes_at old) (notes_at new) old.gate new.gate
+    pub turn_asks : (made : Turned) → MakesTurn meaning tells asked old made new → AsksSince asked (core_at old) (notes_at old) (notes_at new) old.gate new.gate
     turn_asks came.Polled did = polled_asks did
     turn_asks came.Returned did = record { polls = []; told = ap (λ journal. polls_of journal.notes) did.0.did.journal; asks = did.1.0 }
     turn_asks came.Idle did = record { polls = []; told = ap (λ view. polls_of view.journal.notes) did.1; asks = did.2.0 }

@@ -10,8 +10,8 @@ use Rattle.rt_runtime_worker.specs.Linked.{Grows}
 use Rattle.rt_runtime_worker.specs.Rooms.{MayAct}
 use Rattle.rt_runtime_worker.specs.Rounds.{TellsNotes, is_turn}
 use Rattle.rt_runtime_worker.specs.Steps.{HandsBack}
-use Rattle.rt_runtime_worker.specs.declared.turn.Made.{Made}
-use Rattle.rt_runtime_worker.specs.declared.turn.Made.TheVariants as came
+use Rattle.rt_journal_turn.specs.declared.whole.Turned.{Turned}
+use Rattle.rt_journal_turn.specs.declared.whole.Turned.TheVariants as came
 use Rattle.rt_runtime_worker.proofs.Along.{grows_along, grows_same}
 use Rattle.rt_runtime_worker.proofs.Growing.{no_shorter}
 use Rattle.rt_runtime_worker.proofs.PollNotes.{WritesPoll, poll_acts, poll_grows, poll_tells, writes_first, writes_further}
@@ -66,7 +66,7 @@ module _ {J T M G : Type 0} (meaning : Meaning J T) (tells : M → ℕ → M →
   returned_tells did = let now : length (notes_at new) ≡ suc (suc (length (notes_at old))) = ap (λ journal. length journal.notes) did.did.journal in omega (arith, now)
 
   -- whatever a turn came to, it tells whether it wrote notes
-  pub turned_tells : (made : Made) → MakesTurn meaning tells asked old made new → TellsNotes (is_turn made) (notes_at old) (notes_at new)
+  pub turned_tells : (made : Turned) → MakesTurn meaning tells asked old made new → TellsNotes (is_turn made) (notes_at old) (notes_at new)
   turned_tells came.Polled did = polled_tells did
   turned_tells came.Returned did = returned_tells did.0
   turned_tells came.Idle did = ap (λ view. view.journal.notes) did.1

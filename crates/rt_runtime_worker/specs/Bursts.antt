@@ -8,8 +8,8 @@ use Rattle.rt_jobs.specs.Meanings.{Meaning}
 use Rattle.rt_journal.specs.Turns.{EndsTurn}
 use Rattle.rt_runtime_worker.specs.Linked.{LinkedView}
 use Rattle.rt_runtime_worker.specs.Steps.{HandsBack, PollsFirst, PollsFurther}
-use Rattle.rt_runtime_worker.specs.declared.turn.Made.{Made}
-use Rattle.rt_runtime_worker.specs.declared.turn.Made.TheVariants.{Polled, Returned, Idle, Spent}
+use Rattle.rt_journal_turn.specs.declared.whole.Turned.{Turned}
+use Rattle.rt_journal_turn.specs.declared.whole.Turned.TheVariants.{Polled, Returned, Idle, Spent}
 
 -- a core beside its ends, with the meter and the gate that serve it
 pub record TurnView (J T M G : Type 0) : Type 0 where
@@ -55,7 +55,7 @@ module _ {J T M G : Type 0} (meaning : Meaning J T) (tells : M → ℕ → M →
   GoesThrough true old new = (polls : List JobId) × (over : TurnView J T M G) × PollsOn polls old over × EndsOpenTurn over new
 
   -- what a turn came to: polls, a job that is handed back, no work, or no turn that is left
-  abbrev pub MakesTurn : TurnView J T M G → Made → TurnView J T M G → Type 0
+  abbrev pub MakesTurn : TurnView J T M G → Turned → TurnView J T M G → Type 0
   MakesTurn old Polled new = (name : JobId) × (first : TurnView J T M G) × BeginsTurn name old first × GoesThrough (has_bursts old.linked.recorded.core.bursts.burst) first new
   MakesTurn old Returned new = HandsBack meaning old.linked.recorded new.linked.recorded × AsksNobody old new
   MakesTurn old Idle new = ((queue : ℕ) → has_work queue old.linked.recorded.journal.notes ≡ false) × (new.linked.recorded ≡ old.linked.recorded) × AsksNobody old new

@@ -1,8 +1,9 @@
 -- A step of a worker writes few notes.
 use Rattle.std.specs.Prelude.{◌≡◌, ℕ, ◌+◌, ◌*◌, ◌≤◌, false, length}
 use Rattle.rt_journal_notes.specs.Journals.{free_notes}
+use Rattle.rt_journal_turn.specs.Rooms.{turn_notes}
 use Rattle.rt_runtime_worker.specs.Ended.{ServedView}
-use Rattle.rt_runtime_worker.specs.Rooms.{least_free, turn_notes}
+use Rattle.rt_runtime_worker.specs.Rooms.{least_free}
 
 -- how many notes a turn writes at most: three for each place of each link, which its polls may post together, and those of the turn
 abbrev pub most_of_turn : ℕ → ℕ → ℕ → ℕ

@@ -1,25 +1,18 @@
 -- How many notes a worker keeps free, and what it does where few are free.
-use Rattle.std.specs.Prelude.{◌≡◌, ◌≢◌, ◌⊎◌, ℕ, ◌+◌, ◌-◌, ◌*◌, ◌<◌, ◌≤◌, Bool, true, false, Some, [], length, sum_by, unwrap_or, IsSome}
+use Rattle.std.specs.Prelude.{◌≡◌, ◌≢◌, ◌⊎◌, ℕ, ◌+◌, ◌-◌, ◌*◌, ◌<◌, ◌≤◌, Bool, true, false, Some, [], length, unwrap_or, IsSome}
 use Rattle.rt_ids.specs.declared.note.Note.{Note}
 use Rattle.rt_ids.specs.declared.note.Note.TheVariants.{CoreClosed, Sent, Redeemed, Detached}
 use Rattle.rt_ids.specs.declared.order.Mode.TheVariants.{Return}
-use Rattle.rt_ids.specs.Bursts.{has_bursts, polls_in_turn}
 use Rattle.rt_ids.specs.Journal.{Journal, EachNote}
 use Rattle.rt_ids.specs.Closing.{core_mode, final_count}
 use Rattle.rt_ids.specs.Commands.{effect_awaited}
 use Rattle.rt_ids.specs.Lines.{jobs_out}
-use Rattle.rt_ids.specs.Work.{number_if}
 use Rattle.rt_journal_notes.specs.Journals.{free_notes}
-use Rattle.rt_journal_desk.specs.Spending.{left_of}
 use Rattle.rt_journal.specs.Recorded.{RecordedView, given_count, sum_upto}
 
 -- a journal with fewer notes free than this is short, where a turn may have this many polls
 abbrev pub least_free : ℕ → ℕ → ℕ → ℕ
 least_free cores cap burst = 8 * ((cores + 1) * (cap + 1)) + 2 * (burst - 1)
-
--- the notes of a turn that aren't posted: three for its pick and its first poll, two for each further poll, and one for its end, if a note of its own ends it
-abbrev pub turn_notes : ℕ → ℕ
-turn_notes burst = 3 + 2 * (burst - 1) + number_if (has_bursts burst)
 
 module _ {T : Type 0} where
   -- the number of the last order that comes through the gate of a sender, once it is shut
@@ -56,19 +49,6 @@ module _ {J T : Type 0} where
   -- there is room for a step, and behind it for all notes of the end
   abbrev pub HasSpare : RecordedView J T → Type 0
   HasSpare view = length view.journal.notes + 4 * ((view.core.cores + 1) * (view.cap + 1)) ≤ view.journal.room
-
-  -- there is room for a turn with polls: three notes for each place of each link, which its polls may post together, and those of the turn
-  abbrev pub HasPollRoom : RecordedView J T → Type 0
-  HasPollRoom view = length view.journal.notes + view.core.cores * (3 * view.cap) + turn_notes view.core.bursts.burst ≤ view.journal.room
-
-  -- within a turn there is room for what is left of it: each note that may be posted before the next outcome is collected, two for each further poll, and one for its end
-  abbrev pub HasRestRoom : RecordedView J T → Type 0
-  HasRestRoom view = length view.journal.notes + sum_by left_of view.lanes + 2 * (view.core.bursts.burst - polls_in_turn view.journal.notes) + 1 ≤ view.journal.room
-
-  -- there is room for a turn: a core that hands back takes two notes and polls nothing
-  pub record HasTurnRoom (view : RecordedView J T) : Type 0 where
-    pub back : length view.journal.notes + 2 ≤ view.journal.room
-    pub poll : core_mode view.journal.notes ≢ Some Return → HasPollRoom view
 
   -- The core hands back what is inside, and each gate is shut. There is room for three notes, and for two more for each order that has no outcome yet.
   pub record IsEnding (view : RecordedView J T) : Type 0 where

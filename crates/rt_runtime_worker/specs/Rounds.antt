@@ -6,8 +6,8 @@ use Rattle.rt_ring_mesh.specs.Ends.{in_at, out_at}
 use Rattle.rt_runtime_worker.specs.Linked.{LinkedView, StaysLinked}
 use Rattle.rt_runtime_worker.specs.Ended.{ServedView}
 use Rattle.rt_runtime_worker.specs.Rooms.{IsShort}
-use Rattle.rt_runtime_worker.specs.declared.turn.Made.{Made}
-use Rattle.rt_runtime_worker.specs.declared.turn.Made.TheVariants.{Polled, Returned, Idle, Spent}
+use Rattle.rt_journal_turn.specs.declared.whole.Turned.{Turned}
+use Rattle.rt_journal_turn.specs.declared.whole.Turned.TheVariants.{Polled, Returned, Idle, Spent}
 
 -- a step that did something wrote notes, and one that did nothing wrote none
 abbrev pub TellsNotes : {T : Type 0} → Bool → Journal T → Journal T → Type 0
@@ -15,7 +15,7 @@ TellsNotes true old new = length old < length new
 TellsNotes false old new = new ≡ old
 
 -- whether a turn took a job out of its queue
-abbrev pub is_turn : Made → Bool
+abbrev pub is_turn : Turned → Bool
 is_turn Polled = true
 is_turn Returned = true
 is_turn Idle = false

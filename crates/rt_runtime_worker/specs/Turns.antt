@@ -9,7 +9,7 @@ use Rattle.rt_runtime_worker.specs.Ended.{ServedView}
 use Rattle.rt_runtime_worker.specs.Readings.{TimesNext, WatchView}
 use Rattle.rt_runtime_worker.specs.Rooms.{IsReady}
 use Rattle.rt_runtime_worker.specs.Rounds.{LooksAtRoom, is_turn}
-use Rattle.rt_runtime_worker.specs.declared.turn.Made.{Made}
+use Rattle.rt_journal_turn.specs.declared.whole.Turned.{Turned}
 
 module _ {J T M G : Type 0} (meaning : Meaning J T) (tells : M → ℕ → M → Type 0) (asked : G → ℕ → JobId → G → Type 0) where
   -- The room is looked at, and then one turn is made; it tells whether there was work. A worker that is at its end right before the turn was so before, or
@@ -22,7 +22,7 @@ module _ {J T M G : Type 0} (meaning : Meaning J T) (tells : M → ℕ → M →
     pub stays : StaysLinked old.linked before.linked
     pub ready : IsReady before.ending before.linked.recorded
     pub ended : new.ending ≡ before.ending
-    pub made : Made
+    pub made : Turned
     pub makes : MakesTurn meaning tells asked (turn_view before.linked meter gate) made (turn_view new.linked later after)
     pub answer : some ≡ is_turn made
 

@@ -3,30 +3,27 @@
 
 pub mod bell;
 pub mod bells;
-mod bursts;
 pub mod ended;
 mod gates;
 pub mod laws;
-mod leave;
 pub mod linked;
 mod lying;
 mod opening;
-mod posting;
 mod quiet;
 mod rounds;
 pub mod seat;
 pub mod served;
 mod showing;
 pub mod stopwatch;
-pub mod turn;
+mod turn;
 pub mod worker;
 
 pub use bell::{Bell, Key, MaySleep, Woken, sleep};
 pub use bells::Bells;
 pub use ended::Ended;
 pub use linked::Linked;
+pub use rt_journal_turn::Turned;
 pub use seat::{Seat, Taken};
 pub use served::Served;
 pub use stopwatch::Stopwatch;
-pub use turn::Made;
 pub use worker::Worker;

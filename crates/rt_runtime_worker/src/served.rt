@@ -16,22 +16,22 @@ ghost use Rattle.rt_runtime_worker.specs.Shown.{TellsAlone};
 ghost use Rattle.rt_runtime_worker.specs.Turns.{TakesTurn};
 
 use crate::linked::Linked;
-use crate::turn::Made;
 use rt_ids::{ActorNo, CoreNo};
 use rt_jobs::{Job, Task};
 use rt_journal::Recorded;
 use rt_journal_notes::{RunningJournal, Sink};
+use rt_journal_turn::Turned;
 use rt_runtime_config::Gate;
 use rt_taskqueue::Meter;
 use std::marker::Model;
 
 /// Whether there was work for a turn.
-fn is_work(made: Made) -> bool
+fn is_work(made: Turned) -> bool
     ensures { result ≡ is_turn made }
 {
     match made {
-        Made::Polled | Made::Returned => true,
-        Made::Idle | Made::Spent => false,
+        Turned::Polled | Turned::Returned => true,
+        Turned::Idle | Turned::Spent => false,
     }
 }
 

@@ -1,28 +1,37 @@
-//! One turn of a core: polls of its next jobs, or a job that is handed back.
+//! One turn of a core at its ends.
 
-ghost use Rattle.std.specs.Prelude.{◌≡◌};
+ghost use Rattle.rt_journal_turn.specs.Rooms.{HasTurnRoom};
 ghost use Rattle.rt_runtime_worker.specs.Bursts.{MakesTurn, turn_view};
 ghost use Rattle.rt_runtime_worker.specs.Linked.{IsBetweenTurns, IsLinked, StaysLinked};
-ghost use Rattle.rt_runtime_worker.specs.Rooms.{HasTurnRoom};
 
-use crate::bursts::poll_through;
 use crate::linked::Linked;
-use rt_core::{Ahead, PickError};
+use crate::seat::Seat;
+use rt_ids::CoreNo;
 use rt_jobs::{Job, Task};
+use rt_journal_turn::{Turned, turn};
 use rt_runtime_config::Gate;
 use rt_taskqueue::Meter;
 
-/// What a turn came to.
-#[derive(Clone, Copy)]
-pub enum Made {
-    /// Jobs of one queue were polled: one, or as many as a turn may have.
-    Polled,
-    /// A job was handed back.
-    Returned,
-    /// No queue has work.
-    Idle,
-    /// All turns are used, and a queue has work.
-    Spent,
+impl<J: Job + Task<Out = u64>> Seat<J> {
+    /// Makes one turn of the core, among its own ends.
+    #[inline(always)]
+    pub(crate) fn turn<M: Meter, G: Gate>(
+        &mut self,
+        local: &mut J::Local,
+        meter: &mut M,
+        gate: &mut G,
+    ) -> Turned
+        requires linked { IsLinked J.meaning self.old }
+        requires between { IsBetweenTurns self.old.recorded }
+        requires room { HasTurnRoom self.old.recorded }
+        ensures makes { MakesTurn J.meaning M.Tells G.Asked (turn_view self.old meter.old gate.old) result (turn_view self.new meter.new gate.new) }
+        ensures stays { StaysLinked self.old self.new }
+        ensures linked { IsLinked J.meaning self.new }
+        ensures between { IsBetweenTurns self.new.recorded }
+    {
+        let own = CoreNo(self.actor().0);
+        turn(&mut self.recorded, &mut self.ends, local, own, meter, gate)
+    }
 }
 
 impl<J: Job + Task<Out = u64>> Linked<J> {
@@ -36,25 +45,13 @@ impl<J: Job + Task<Out = u64>> Linked<J> {
         local: &mut J::Local,
         meter: &mut M,
         gate: &mut G,
-    ) -> Made
+    ) -> Turned
         requires room { HasTurnRoom self.old.recorded }
         ensures makes { MakesTurn J.meaning M.Tells G.Asked (turn_view self.old meter.old gate.old) result (turn_view self.new meter.new gate.new) }
         ensures stays { StaysLinked self.old self.new }
         ensures linked { IsLinked J.meaning self.new }
         ensures between { IsBetweenTurns self.new.recorded }
     {
-        match self.seat.ahead() {
-            Ok(Ahead::Job(next)) => {
-                poll_through(&mut self.seat, local, &next, meter, gate);
-                Made::Polled
-            }
-            Ok(Ahead::Back) => {
-                drop(self.seat.pick());
-                Made::Returned
-            }
-            Ok(Ahead::Idle) => Made::Idle,
-            Err(PickError::Spent) => Made::Spent,
-            Err(PickError::Busy) => unreachable!(),
-        }
+        self.seat.turn(local, meter, gate)
     }
 }
