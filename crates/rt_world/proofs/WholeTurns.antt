@@ -2,8 +2,8 @@
 use Rattle.rt_world.proofs.Words.{◌≡◌, ℕ, ◌<◌, List, [], ◌∷◌, sym, ◌∙◌, ap, subst, inl, inr, arith, set, get_or-set_same, set-set, None, JobId, Meaning, Whole}
 use Rattle.rt_world.proofs.Words.{RecordedView, Parts, core_at, world_of, IsWorld, IsAtRest, journal_at, WorldView, turns, has_work, opened_beside, Turns}
 use Rattle.rt_ids.specs.Bursts.{has_bursts}
-use Rattle.rt_world_links.specs.declared.turn.Turned.{Turned}
-use Rattle.rt_world_links.specs.declared.turn.Turned.TheVariants.{Made, Idle, Spent}
+use Rattle.rt_journal_turn.specs.declared.whole.Turned.{Turned}
+use Rattle.rt_journal_turn.specs.declared.whole.Turned.TheVariants.{Polled, Returned, Idle, Spent}
 use Rattle.rt_world_links.specs.Between.{open_queue}
 use Rattle.rt_world_links.specs.OneTurn as one
 use Rattle.rt_world.specs.Turns.{Ends, Further, turned_reply}
@@ -64,7 +64,7 @@ module _ {J : Type 0} {meaning : Meaning J ℕ} {old : Parts J ℕ} (world : IsW
     without_poll : (answer : Turned) → Turns meaning number spent (world_of old) (world_of behind) (turned_reply answer) → IsTurned answer
     without_poll answer turns = record { holds = quiet_rests world number there new after stays; free = stays.at_rest; does = turns }
 
-  with_polls : one.PollsAll meaning number spent its_view new old.links after → IsTurned Made
+  with_polls : one.PollsAll meaning number spent its_view new old.links after → IsTurned Polled
   with_polls polls =
       let first = first_polled world number there spent polls.mid polls.between polls.first in
       let mid : Parts J ℕ = turned world number there spent polls.mid polls.between in
@@ -83,8 +83,8 @@ module _ {J : Type 0} {meaning : Meaning J ℕ} {old : Parts J ℕ} (world : IsW
       }
 
   pub turns_now : (answer : Turned) → one.Turns meaning number spent its_view new old.links after answer → IsTurned answer
-  turns_now Made (inl polls) = with_polls polls
-  turns_now Made (inr back) = without_poll back.1 Made (inr (handed_back world number there new after back.1 back.0))
+  turns_now Polled polls = with_polls polls
+  turns_now Returned back = without_poll back.1 Returned (inr (handed_back world number there new after back.1 back.0))
   turns_now Idle did = without_poll did.2 Idle ((λ queue. ap (has_work queue) its_notes ∙ did.0 queue), unchanged world number there new after did.2 did.1)
   turns_now Spent did =
       without_poll did.3 Spent (ap turns its_notes ∙ did.0, (did.1.0, ap (has_work did.1.0) its_notes ∙ did.1.1), unchanged world number there new after did.3 did.2)

@@ -11,8 +11,8 @@ use Rattle.rt_ids.specs.Lines.{line}
 use Rattle.rt_ids.specs.Picks.{IsRightPick, turns}
 use Rattle.rt_ids.specs.Commands.{return_reason}
 use Rattle.rt_jobs.specs.Meanings.{Meaning}
-use Rattle.rt_world_links.specs.declared.turn.Turned.{Turned}
-use Rattle.rt_world_links.specs.declared.turn.Turned.TheVariants as turned
+use Rattle.rt_journal_turn.specs.declared.whole.Turned.{Turned}
+use Rattle.rt_journal_turn.specs.declared.whole.Turned.TheVariants as turned
 use Rattle.rt_world.specs.declared.event.Reply.{Reply}
 use Rattle.rt_world.specs.declared.event.Reply.TheVariants as reply
 pub use Rattle.rt_world.specs.Polls.{IsPoll, polls_made, poll_note, poll_notes, settle_note, settled_note}
@@ -20,7 +20,8 @@ use Rattle.rt_world.specs.State.{WorldView, journal_at, noted}
 
 -- what a core is told of its turn
 abbrev pub turned_reply : {J : Type 0} → Turned → Reply J
-turned_reply turned.Made = reply.Noted
+turned_reply turned.Polled = reply.Noted
+turned_reply turned.Returned = reply.Noted
 turned_reply turned.Idle = reply.Idle
 turned_reply turned.Spent = reply.Spent
 

@@ -1,5 +1,5 @@
 -- What a turn over any ends is, over the links of a house.
-use Rattle.rt_world_links.proofs.Words.{◌≡◌, ℕ, ◌<◌, Bool, true, false, List, [], ◌∷◌, refl, sym, ◌∙◌, ap, subst, inr, arith, Option, None, JobId, Meaning, Outcome, Whole, out_of, kept_by_sender, Fits}
+use Rattle.rt_world_links.proofs.Words.{◌≡◌, ℕ, ◌<◌, Bool, true, false, List, [], ◌∷◌, refl, sym, ◌∙◌, ap, subst, arith, Option, None, JobId, Meaning, Outcome, Whole, out_of, kept_by_sender, Fits}
 use Rattle.rt_world_links.proofs.Words.{RecordedView, IsRecorded, link_at, GivesOnOne, ChangesLink, IsBesideAll, none_owed}
 use Rattle.std.specs.Prelude.{◌-◌, ◌^◌}
 use Rattle.rt_ids.specs.Bursts.{has_bursts}
@@ -11,10 +11,10 @@ use Rattle.rt_journal.specs.Whole.{Begins, IsPostingTurn, StaysPut}
 use Rattle.rt_journal_turn.specs.Beside.{AreAround, IsAtRest}
 use Rattle.rt_journal_turn.specs.Polls as polls
 use Rattle.rt_journal_turn.specs.Turns.{EndsOpenTurn, GoesThrough, HandsBack, MakesTurn, PollsOn, TurnView}
+use Rattle.rt_journal_turn.specs.declared.whole.Turned.{Turned}
 use Rattle.rt_journal_turn.specs.declared.whole.Turned.TheVariants as came
 use Rattle.rt_world_links.specs.OneTurn.{Ends, EndsBeside, Further, HandsOneBack, HasOuts, PollsAll, PollsOne, StaysBeside, Turns}
 use Rattle.rt_world_links.specs.Reached.{HasLink, links_reach}
-use Rattle.rt_world_links.specs.declared.turn.Turned.TheVariants.{Made, Idle, Spent}
 use Rattle.rt_world_links.proofs.LentLinks.{gift, no_gift}
 use Rattle.rt_world_links.proofs.LinkRows.{ChangesLink-with_link}
 use Rattle.rt_world_links.proofs.OneTurn.{kept_itself, kept_stays}
@@ -113,16 +113,16 @@ module _ {J : Type 0} (meaning : Meaning J ℕ) (number : ℕ) where
     }
 
     -- a job that is handed back, and a turn in which nothing is done
-    pub returned_turns : {old new : RecordedView J ℕ} {before after : List (List (Whole J ℕ))} → IsAtRest meaning links_reach number old before → HandsBack meaning links_reach number old new before after →
-        Turns meaning number spent old new before after Made
-    returned_turns rest did = inr (back_one rest did)
+    returned_turns : {old new : RecordedView J ℕ} {before after : List (List (Whole J ℕ))} → IsAtRest meaning links_reach number old before → HandsBack meaning links_reach number old new before after →
+        Turns meaning number spent old new before after came.Returned
+    returned_turns rest did = back_one rest did
 
     module _ {M G : Type 0} {old new : TurnView J ℕ (List (List (Whole J ℕ))) M G} (rest : IsAtRest meaning links_reach number old.core old.around) (same : new ≡ old) where
-      pub idle_turns : ((queue : ℕ) → has_work queue old.core.journal.notes ≡ false) → Turns meaning number spent old.core new.core old.around new.around Idle
-      idle_turns none = subst (λ (new : TurnView J ℕ (List (List (Whole J ℕ))) M G). Turns meaning number spent old.core new.core old.around new.around Idle) (sym same) (none, refl, stays_same rest)
+      idle_turns : ((queue : ℕ) → has_work queue old.core.journal.notes ≡ false) → Turns meaning number spent old.core new.core old.around new.around came.Idle
+      idle_turns none = subst (λ (new : TurnView J ℕ (List (List (Whole J ℕ))) M G). Turns meaning number spent old.core new.core old.around new.around came.Idle) (sym same) (none, refl, stays_same rest)
 
-      pub spent_turns : turns_made old.core.journal.notes ≡ 2 ^ 64 - 1 → (queue : ℕ) × (has_work queue old.core.journal.notes ≡ true) → Turns meaning number spent old.core new.core old.around new.around Spent
-      spent_turns used work = subst (λ (new : TurnView J ℕ (List (List (Whole J ℕ))) M G). Turns meaning number spent old.core new.core old.around new.around Spent) (sym same) (used, work, refl, stays_same rest)
+      spent_turns : turns_made old.core.journal.notes ≡ 2 ^ 64 - 1 → (queue : ℕ) × (has_work queue old.core.journal.notes ≡ true) → Turns meaning number spent old.core new.core old.around new.around came.Spent
+      spent_turns used work = subst (λ (new : TurnView J ℕ (List (List (Whole J ℕ))) M G). Turns meaning number spent old.core new.core old.around new.around came.Spent) (sym same) (used, work, refl, stays_same rest)
 
     module _ {M G : Type 0} (tells : M → ℕ → M → Type 0) (asked : G → ℕ → JobId → G → Type 0) (meter : M) (knows : (time : ℕ) (after : M) → tells meter time after → (time ≡ spent) × (after ≡ meter)) where
       abbrev View : Type 0
@@ -172,9 +172,17 @@ module _ {J : Type 0} (meaning : Meaning J ℕ) (number : ℕ) where
           led.on [] new.core new.around (ends_beside did.1 new (ap has_bursts led.burst ∙ form) did.3)
 
       -- so a turn of polls over any ends is one over links
-      pub polls_all : (old new : View) → old.meter ≡ meter → MakesTurn meaning links_reach number tells asked old came.Polled new → PollsAll meaning number spent old.core new.core old.around new.around
+      polls_all : (old new : View) → old.meter ≡ meter → MakesTurn meaning links_reach number tells asked old came.Polled new → PollsAll meaning number spent old.core new.core old.around new.around
       polls_all old new is did =
           let one = did.2.polls in
           let told = told_by old.meter did.1.meter one.posts.noted.turns.spent is one.posts.noted.turns.told in
           let rest = rest_of _ did.1 new (ap has_bursts one.posts.noted.seat.burst) told.1 (record { recorded = one.posts.noted.sound; free = one.posts.noted.at_rest; beside = one.around }) did.3 in
           record { name = did.0; mid = did.1.core; between = did.1.around; first = one_poll one told.0; later = rest.0; further = rest.1 }
+
+      -- so whatever a turn came to
+      pub turns_all : (old new : View) → old.meter ≡ meter → IsAtRest meaning links_reach number old.core old.around → (answer : Turned) →
+          MakesTurn meaning links_reach number tells asked old answer new → Turns meaning number spent old.core new.core old.around new.around answer
+      turns_all old new is rest came.Polled did = polls_all old new is did
+      turns_all old new is rest came.Returned did = returned_turns rest did.0
+      turns_all old new is rest came.Idle did = idle_turns rest did.1 did.0
+      turns_all old new is rest came.Spent did = spent_turns rest did.2 did.0 did.1

@@ -1,5 +1,5 @@
 -- What a turn is to its core and the journal beside it: polls one after another and its end, or a job is handed back.
-use Rattle.std.specs.Prelude.{◌≡◌, ◌⊎◌, ℕ, ◌-◌, ◌^◌, Bool, true, false, List, [], ◌∷◌, slice_set}
+use Rattle.std.specs.Prelude.{◌≡◌, ℕ, ◌-◌, ◌^◌, Bool, true, false, List, [], ◌∷◌, slice_set}
 use Rattle.rt_ids.specs.declared.names.JobId.{JobId}
 use Rattle.rt_ids.specs.declared.order.Order.{Order}
 use Rattle.rt_ids.specs.declared.order.Reason.{Reason}
@@ -15,8 +15,8 @@ use Rattle.rt_journal.specs.Whole.{Begins, IsPostingTurn}
 use Rattle.rt_link.specs.declared.plain.Whole.{Whole}
 use Rattle.rt_link.specs.Fits.{Fits}
 use Rattle.rt_link.specs.Whole.{out_of, kept_by_sender}
-use Rattle.rt_world_links.specs.declared.turn.Turned.{Turned}
-use Rattle.rt_world_links.specs.declared.turn.Turned.TheVariants.{Made, Idle, Spent}
+use Rattle.rt_journal_turn.specs.declared.whole.Turned.{Turned}
+use Rattle.rt_journal_turn.specs.declared.whole.Turned.TheVariants.{Polled, Returned, Idle, Spent}
 use Rattle.rt_world_links.specs.Links.{row_of, GivesOnOne}
 pub use Rattle.rt_world_links.specs.Beside.{none_owed, IsBesideAll, HasOuts, IsKeptBeside, StaysBeside}
 
@@ -79,8 +79,8 @@ module _ {J : Type 0} (meaning : Meaning J ℕ) where
 
   -- a turn of polls, or a job is handed back; nothing where no queue has work, and nothing where all turns are used
   abbrev pub Turns : ℕ → ℕ → RecordedView J ℕ → RecordedView J ℕ → List (List (Whole J ℕ)) → List (List (Whole J ℕ)) → Turned → Type 0
-  Turns number spent old new before after Made =
-      PollsAll number spent old new before after ⊎ (HandsOneBack meaning old new × StaysBeside meaning number old new before after)
+  Turns number spent old new before after Polled = PollsAll number spent old new before after
+  Turns number spent old new before after Returned = HandsOneBack meaning old new × StaysBeside meaning number old new before after
   Turns number spent old new before after Idle =
       ((queue : ℕ) → has_work queue old.journal.notes ≡ false) × (new ≡ old) × StaysBeside meaning number old new before after
   Turns number spent old new before after Spent =

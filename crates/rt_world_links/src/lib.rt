@@ -9,4 +9,4 @@ pub mod turn;
 
 pub use cores::open_cores;
 pub use links::Links;
-pub use turn::{Turned, turn_of};
+pub use turn::turn_of;

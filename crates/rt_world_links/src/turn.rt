@@ -11,20 +11,9 @@ use crate::links::Links;
 use rt_ids::CoreNo;
 use rt_jobs::{Job, Task};
 use rt_journal::Recorded;
-use rt_journal_turn::{Turned as Came, turn};
+use rt_journal_turn::{Turned, turn};
 use rt_runtime_config::NoGate;
 use std::alloc::Allocator;
-
-/// What a turn came to.
-#[derive(Clone, Copy, PartialEq, Eq, Debug)]
-pub enum Turned {
-    /// Jobs of a queue were polled, or one was handed back.
-    Made,
-    /// No queue has work.
-    Idle,
-    /// All turns are used.
-    Spent,
-}
 
 /// One core picks a queue and polls its first job once, or hands it back. If a turn may have several polls, further jobs of that queue
 /// are polled, each once, as long as the turn may go on; then it ends, which charges the queue. A job's post has the links on which the
@@ -49,10 +38,5 @@ pub fn turn_of<J: Job + Task<Out = u64>, A: Allocator + Clone>(
 {
     let mut meter = Known::each(spent);
     let mut gate = NoGate;
-    match turn(core, links, local, number, &mut meter, &mut gate) {
-        Came::Polled => Turned::Made,
-        Came::Returned => Turned::Made,
-        Came::Idle => Turned::Idle,
-        Came::Spent => Turned::Spent,
-    }
+    turn(core, links, local, number, &mut meter, &mut gate)
 }

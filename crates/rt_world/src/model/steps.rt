@@ -13,7 +13,8 @@ use super::receipts::Receipt;
 use crate::event::Reply;
 use rt_ids::{ActorNo, CoreNo, Order};
 use rt_jobs::{Job, Task};
-use rt_world_links::{Turned, turn_of};
+use rt_journal_turn::Turned;
+use rt_world_links::turn_of;
 use std::alloc::Allocator;
 
 impl<J: Task<Out = u64>, A: Allocator + Clone> World<J, A> {
@@ -63,7 +64,7 @@ fn reply_for<J>(turned: Turned) -> Reply<J>
     ensures { result ≡ turned_reply turned }
 {
     match turned {
-        Turned::Made => Reply::Noted,
+        Turned::Polled | Turned::Returned => Reply::Noted,
         Turned::Idle => Reply::Idle,
         Turned::Spent => Reply::Spent,
     }

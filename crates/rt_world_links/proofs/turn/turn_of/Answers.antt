@@ -1,10 +1,10 @@
-use Rattle.rt_world_links.proofs.Words.{◌≡◌, ℕ, ◌∙◌, arith, inl, refl, JobId}
+use Rattle.rt_world_links.proofs.Words.{◌≡◌, ℕ, ◌∙◌, arith, refl, JobId}
 use Rattle.rt_runtime_config.specs.declared.gate.NoGate.{NoGate}
 use Rattle.rt_journal_turn.specs.Beside.{IsAtRest}
 use Rattle.rt_journal_turn.specs.Turns.{turn_view}
 use Rattle.rt_world_links.specs.declared.known.Known.{Known}
 use Rattle.rt_world_links.specs.Reached.{links_reach}
-use Rattle.rt_world_links.proofs.TurnOfLinks.{among, idle_turns, polls_all, returned_turns, spent_turns}
+use Rattle.rt_world_links.proofs.TurnOfLinks.{among, turns_all}
 use Rattle.rt_world_links.proofs.turn.turn_of.Given.{Over}
 use Rattle.rt_world_links.proofs.turn.turn_of.Goals as goal
 use Rattle.rt_world_links.proofs.turn.turn_of.Goals.{After-each-meter}
@@ -26,20 +26,8 @@ turn-requires-clause-rest g c = rest g (goal.at.turn-requires-clause-rest g c).A
 pub turn-requires-clause-room : goal.turn-requires-clause-room
 turn-requires-clause-room g c = record { back = omega (arith, c.requires.room); poll = λ _. c.requires.room }
 
-pub returns-in-Polled-clause-turns : goal.returns-in-Polled-clause-turns
-returns-in-Polled-clause-turns g c =
-    inl (polls_all g.J.Task.meaning c.args.number c.args.spent tells asked c.each-meter.result (λ time after told. (told.0 ∙ c.each-meter.ensures, told.1))
-    (turn_view c.args.core.now c.args.links.now c.each-meter.result _) (turn_view c.turn.new.core c.turn.new.around c.turn.new.meter c.turn.new.gate) refl c.in-Polled.ensures.makes)
-
-pub returns-in-Returned-clause-turns : goal.returns-in-Returned-clause-turns
-returns-in-Returned-clause-turns g c = returned_turns g.J.Task.meaning c.args.number c.args.spent (rest g (goal.at.returns-in-Returned-clause-turns g c).After-each-meter) c.in-Returned.ensures.makes.0
-
-pub returns-in-Idle-clause-turns : goal.returns-in-Idle-clause-turns
-returns-in-Idle-clause-turns g c =
-    let did = c.in-Idle.ensures.makes in
-    idle_turns g.J.Task.meaning c.args.number c.args.spent (rest g (goal.at.returns-in-Idle-clause-turns g c).After-each-meter) did.1 did.0
-
-pub returns-in-Spent-clause-turns : goal.returns-in-Spent-clause-turns
-returns-in-Spent-clause-turns g c =
-    let did = c.in-Spent.ensures.makes in
-    spent_turns g.J.Task.meaning c.args.number c.args.spent (rest g (goal.at.returns-in-Spent-clause-turns g c).After-each-meter) did.2 did.0 did.1
+pub returns-clause-turns : goal.returns-clause-turns
+returns-clause-turns g c =
+    turns_all g.J.Task.meaning c.args.number c.args.spent tells asked c.each-meter.result (λ time after told. (told.0 ∙ c.each-meter.ensures, told.1))
+    (turn_view c.args.core.now c.args.links.now c.each-meter.result _) (turn_view c.turn.new.core c.turn.new.around c.turn.new.meter c.turn.new.gate) refl
+    (rest g (goal.at.returns-clause-turns g c).After-each-meter) c.turn.result c.turn.ensures.makes
