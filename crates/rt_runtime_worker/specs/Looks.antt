@@ -1,6 +1,7 @@
 -- When a worker looks at its links, and what a round is.
-use Rattle.std.specs.Prelude.{◌≡◌, ◌⊎◌, ◌&&◌, ◌||◌, ℕ, ◌+◌, ◌<◌, ◌≤◌, Bool, true, false, not}
+use Rattle.std.specs.Prelude.{◌≡◌, ◌⊎◌, ◌&&◌, ◌||◌, ℕ, ◌+◌, ◌<◌, ◌≤◌, Bool, true, false, is_some, not}
 use Rattle.rt_ids.specs.declared.names.JobId.{JobId}
+use Rattle.rt_ids.specs.Closing.{core_mode}
 use Rattle.rt_jobs.specs.Meanings.{Meaning}
 use Rattle.rt_runtime_worker.specs.Asks.{NotesNoPoll}
 use Rattle.rt_runtime_worker.specs.Ended.{ServedView, IsServed}
@@ -19,14 +20,15 @@ PassesLinks taken turns false left = ((turns ≡ 0) ⊎ (2000 ≤ taken)) × (le
 abbrev pub most_turns : ℕ
 most_turns = 16
 
--- sixteen turns may be made without a look behind one that found the links quiet, and none behind another
+-- sixteen turns may be made without a look behind one that leaves turns, and none behind another
 abbrev pub turns_after : Bool → ℕ
 turns_after true = most_turns
 turns_after false = 0
 
--- a look found the links quiet: there was work, and nothing was delivered, shut or collected
-abbrev pub found_quiet : Bool → Bool → Bool
-found_quiet worked came = worked && not came
+-- A look leaves turns if there was work, and its core is open, or nothing was delivered, shut or collected. So behind a look by which its core was closed the
+-- next round looks again, and shuts the gates.
+abbrev pub leaves_turns : Bool → Bool → Bool → Bool
+leaves_turns worked came closed = worked && not (came && closed)
 
 -- a worker's core, and the watch and the gate that serve it
 pub record RoundView (J T C G : Type 0) : Type 0 where
@@ -61,7 +63,7 @@ module _ {J T C G : Type 0} (meaning : Meaning J T) (reads : C → ℕ → C →
     pub collects : CollectsFirst old.served.linked.recorded.core.cores new.served
     pub none_behind : NotesNoPoll turned.linked.recorded.journal.notes new.served.linked.recorded.journal.notes
     pub tells : some ≡ (worked || (came || back))
-    pub plans : turns ≡ turns_after (found_quiet worked (came || back))
+    pub plans : turns ≡ turns_after (leaves_turns worked (came || back) (is_some (core_mode new.served.linked.recorded.journal.notes)))
     pub forgets : new.watch ≡ record timed { taken = 0 }
 
   -- no turn without a look, if it is time to look, and all is as it was; or one such turn, which counts, and it tells whether there was work

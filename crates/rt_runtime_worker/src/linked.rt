@@ -20,6 +20,8 @@ use std::marker::Model;
 #[derive(Drop)]
 pub struct Linked<J: Task<Out = u64>> {
     pub(crate) cores: u8,
+    /// With fewer notes free than this the journal is short.
+    least: u32,
     pub(crate) seat: Seat<J>,
 }
 
@@ -31,10 +33,20 @@ impl<J: Task<Out = u64>> Model for Linked<J> {
 
     ghost use Rattle.std.specs.Prelude.{◌≡◌};
     ghost use Rattle.rt_runtime_worker.specs.Linked.{IsBetweenTurns, IsLinked};
+    ghost use Rattle.rt_runtime_worker.specs.Rooms.{least_free};
 
     ghost view = { λ l. l.seat };
 
-    ghost invariant = { λ l. IsLinked J.meaning l.seat × (l.cores ≡ l.seat.recorded.core.cores) × IsBetweenTurns l.seat.recorded };
+    ghost invariant = { λ l. IsLinked J.meaning l.seat × (l.cores ≡ l.seat.recorded.core.cores) × IsBetweenTurns l.seat.recorded × (l.least ≡ least_free l.seat.recorded.core.cores l.seat.recorded.cap l.seat.recorded.core.bursts.burst) };
+}
+
+/// With fewer notes free than this a journal is short: in a house of so many cores, where a link has so many places and a turn so many polls.
+fn least_of(cores: u8, cap: u16, burst: u8) -> u32
+    ensures { result ≡ least_free cores cap burst }
+{
+    let places = (cores as u32 + 1) * (cap as u32 + 1);
+    let further = (burst as u32).saturating_sub(1);
+    8 * places + 2 * further
 }
 
 impl<J: Task<Out = u64>> Linked<J> {
@@ -45,8 +57,9 @@ impl<J: Task<Out = u64>> Linked<J> {
         requires cores { cores ≡ recorded.core.cores }
         ensures { result ≡ record { recorded = recorded; ends = ends } }
     {
+        let least = least_of(cores, recorded.cap(), recorded.burst());
         let seat = Seat::of(recorded, ends);
-        Linked { cores, seat }
+        Linked { cores, least, seat }
     }
 
     /// The core beside its journal, and the ends.
@@ -125,9 +138,7 @@ impl<J: Task<Out = u64>> Linked<J> {
         ensures value { result ≡ least_free self.now.recorded.core.cores self.now.recorded.cap self.now.recorded.core.bursts.burst }
         ensures low { result < 2 ^ 32 }
     {
-        let places = (self.cores as usize + 1) * (self.recorded().cap() as usize + 1);
-        let further = (self.recorded().burst() as usize).saturating_sub(1);
-        8 * places + 2 * further
+        self.least as usize
     }
 
     /// Whether fewer notes are free than a worker keeps for its end.

@@ -7,7 +7,7 @@ ghost use Rattle.rt_runtime_worker.specs.Bells.{AreRung, once_more, rung_for};
 ghost use Rattle.rt_runtime_worker.specs.Asks.{AsksSince, NotesNoPoll};
 ghost use Rattle.rt_runtime_worker.specs.Ended.{IsServed};
 ghost use Rattle.rt_runtime_worker.specs.Few.{RoundsFew, TurnsFew, WritesFew};
-ghost use Rattle.rt_runtime_worker.specs.Looks.{LooksAtAll, MakesRound, PassesLinks, TurnsAlone, found_quiet, round_view, turns_after};
+ghost use Rattle.rt_runtime_worker.specs.Looks.{LooksAtAll, MakesRound, PassesLinks, TurnsAlone, leaves_turns, round_view, turns_after};
 ghost use Rattle.rt_runtime_worker.specs.Passing.{HandsOn, HasPlaces, IsDue, IsDueAtRest};
 ghost use Rattle.rt_runtime_worker.specs.Readings.{watch_view};
 ghost use Rattle.rt_runtime_worker.specs.Rounds.{CollectsFirst, HearsAll, ShutsClosed, StepsServed};
@@ -24,7 +24,7 @@ use rt_journal::Recorded;
 use rt_journal_notes::{RunningJournal, Sink};
 use rt_runtime_config::{Clock, Gate};
 
-/// How many turns a worker makes at most before it looks at its links again, if they had nothing.
+/// How many turns a worker makes at most before it looks at its links again.
 const MOST_TURNS: u32 = 16;
 
 /// It looks again at once after polls that took so many nanoseconds together.
@@ -37,11 +37,11 @@ fn either(one: bool, two: bool) -> bool
     one || two
 }
 
-/// Whether a look found the links quiet: there was work, and nothing came.
-fn is_quiet(worked: bool, came: bool) -> bool
-    ensures { result ≡ found_quiet worked came }
+/// Whether a look leaves turns that are made without another: there was work, and its core is open, or nothing came.
+fn leaves(worked: bool, came: bool, closed: bool) -> bool
+    ensures { result ≡ leaves_turns worked came closed }
 {
-    worked && !came
+    worked && !(came && closed)
 }
 
 /// Wakes the workers that have something from the notes behind the first `count` that are kept.
@@ -165,13 +165,13 @@ impl<J: Task<Out = u64>, C: Drop, G: Drop> Rounds<J, C, G> {
         self.served.hand_on(sink);
     }
 
-    /// Counts a look at the links, and plans the turns until the next one: some if the links had nothing while there was work, else none.
-    fn plan(&mut self, quiet: bool)
-        ensures { self.new ≡ record self.old { turns = turns_after quiet; watch = record self.old.watch { taken = 0 }; looks = once_more self.old.looks } }
+    /// Counts a look at the links, and plans the turns until the next one: some if it leaves turns, else none.
+    fn plan(&mut self, leaves: bool)
+        ensures { self.new ≡ record self.old { turns = turns_after leaves; watch = record self.old.watch { taken = 0 }; looks = once_more self.old.looks } }
     {
         self.looks = self.looks.saturating_add(1);
         self.watch.forget();
-        self.turns = if quiet { MOST_TURNS } else { 0 };
+        self.turns = if leaves { MOST_TURNS } else { 0 };
     }
 
     /// How many looks at the links were made.
@@ -286,11 +286,12 @@ impl<J: Job + Task<Out = u64>, C: Clock + Drop, G: Gate + Drop> Rounds<J, C, G> 
         let turned = self.take_turn(local);
         let collected = self.gather();
         let came = either(taken, collected);
-        self.plan(is_quiet(turned, came));
+        let closed = self.served.is_closed();
+        self.plan(leaves(turned, came, closed));
         either(turned, came)
     }
 
-    /// Makes a turn without a look at the links, if they had nothing a moment ago. Whether there was work.
+    /// Makes a turn without a look at the links, if one is left. Whether there was work.
     fn turn_alone(&mut self, local: &mut J::Local) -> bool
         requires rung { AreRung self.old.served self.old.bells }
         ensures steps { StepsServed self.old.served result self.new.served }
@@ -306,8 +307,8 @@ impl<J: Job + Task<Out = u64>, C: Clock + Drop, G: Gate + Drop> Rounds<J, C, G> 
         self.take_turn(local)
     }
 
-    /// One round: a turn alone if the links had nothing a moment ago and there is work, else a look at all links and a turn. Whether
-    /// anything was done. After a round in which nothing was done there is something to do only where a link shows it.
+    /// One round: a turn alone if one is left and there is work, else a look at all links and a turn. Whether anything was done. After a
+    /// round in which nothing was done there is something to do only where a link shows it.
     pub(crate) fn round(&mut self, was_idle: bool, local: &mut J::Local) -> bool
         requires rung { AreRung self.old.served self.old.bells }
         ensures steps { StepsServed self.old.served result self.new.served }

@@ -1,7 +1,7 @@
 //! A linked core that keeps room for its end: each of its steps is one of a worker's round.
 
-ghost use Rattle.std.specs.Prelude.{◌≡◌, ◌+◌, ◌*◌, ◌<◌, ◌≤◌, ◌↔◌, IsTrue, false, true};
-ghost use Rattle.rt_ids.specs.Closing.{IsDrained};
+ghost use Rattle.std.specs.Prelude.{◌≡◌, ◌+◌, ◌*◌, ◌<◌, ◌≤◌, ◌↔◌, IsTrue, false, is_some, true};
+ghost use Rattle.rt_ids.specs.Closing.{IsDrained, core_mode};
 ghost use Rattle.rt_journal.specs.Recorded.{IsRecorded};
 ghost use Rattle.rt_runtime_worker.specs.Asks.{AsksSince, NotesNoPoll};
 ghost use Rattle.rt_runtime_worker.specs.Ended.{IsServed};
@@ -71,6 +71,13 @@ impl<J: Task<Out = u64>> Served<J> {
             ending: false,
             alone: false,
         }
+    }
+
+    /// Whether the core is closed, in either mode.
+    pub(crate) fn is_closed(&self) -> bool
+        ensures { result ≡ is_some (core_mode self.now.linked.recorded.journal.notes) }
+    {
+        self.linked.is_closed()
     }
 
     /// Whether every gate is shut, all behind it was delivered, no queue has work, and no job is parked.

@@ -4,8 +4,8 @@ ghost use Rattle.std.specs.Prelude.{◌≤◌};
 ghost use Rattle.rt_runtime_config.specs.Configs.{least_room};
 
 use crate::setup::{
-    Counter, OUTSIDE, OWN, QUEUE, ROOM, ROOM_OF_BURSTS, Sends, Shared, Still, begins, count_polls,
-    ends, long_job, name, open, order, parking_job, says, send, yielding_job,
+    Counter, OUTSIDE, OWN, QUEUE, ROOM, ROOM_OF_BURSTS, ROOM_OF_TURNS, Sends, Shared, Still,
+    begins, count_polls, ends, long_job, name, open, order, parking_job, says, send, yielding_job,
 };
 use rt_ids::{Answer, Mode, Note, Order, OutcomeNote, Reason};
 use rt_jobs::ScriptJob;
@@ -113,25 +113,60 @@ impl Sends for Submitting {
     }
 }
 
-/// Whether the job submits another one, and lets it go at once.
+/// Whether these notes stand in a journal from a place on.
+fn stand(journal: &Journal<u64>, from: usize, notes: &[Note<u64>]) -> bool {
+    for place in 0..notes.len() {
+        let Some(note) = journal.get(from.saturating_add(place)) else {
+            return false;
+        };
+        if note != notes[place] {
+            return false;
+        }
+    }
+    true
+}
+
+/// Whether so many turns of the first job stand in a journal from a place on, the first one at this runtime.
+fn are_turns(journal: &Journal<u64>, from: usize, runtime: u128, count: u8) -> bool {
+    let job = name(OUTSIDE, 1);
+    for turn in 0..count as usize {
+        let notes = [
+            Note::Pick(QUEUE, runtime.saturating_add(10 * turn as u128)),
+            Note::Resume(job),
+            Note::Yield(job, 10),
+        ];
+        if !stand(journal, from.saturating_add(3 * turn), &notes) {
+            return false;
+        }
+    }
+    true
+}
+
+/// Whether the job submits another one, and lets it go at once. Behind a look that found work there are 16 turns before the next look.
 fn begins_submitting(journal: &Journal<u64>) -> bool {
-    let notes = [
+    let first = [
         Note::Took(name(OUTSIDE, 1), QUEUE),
         Note::Pick(QUEUE, 0),
         Note::Start(name(OUTSIDE, 1)),
         Note::Sent(name(OWN, 1), Order::Job(QUEUE, ())),
         Note::Detached(name(OWN, 1)),
         Note::Yield(name(OUTSIDE, 1), 10),
+    ];
+    let delivered = [
         Note::Took(name(OWN, 1), QUEUE),
-        Note::Pick(QUEUE, 10),
+        Note::Pick(QUEUE, 170),
         Note::Resume(name(OUTSIDE, 1)),
         Note::Yield(name(OUTSIDE, 1), 10),
-        Note::Pick(QUEUE, 20),
+        Note::Pick(QUEUE, 180),
         Note::Start(name(OWN, 1)),
         Note::Done(name(OWN, 1), 1, 0),
-        Note::Collected(name(OWN, 1), OutcomeNote::Finished(0)),
     ];
-    begins(journal, &notes)
+    let collected = [Note::Collected(name(OWN, 1), OutcomeNote::Finished(0))];
+    begins(journal, &first)
+        && are_turns(journal, 6, 10, 16)
+        && stand(journal, 54, &delivered)
+        && are_turns(journal, 61, 181, 16)
+        && stand(journal, 109, &collected)
 }
 
 /// Whether the core closed by itself, and gave back the first job.
@@ -152,7 +187,7 @@ fn are_counted(told: &Told) -> bool {
 
 /// Whether a job submits, and goes back when the journal is short.
 fn submits<R: Abort + Wait>(rt: &R, alloc: Global) -> bool {
-    match serve(rt, alloc, &Submitting, 1, ROOM) {
+    match serve(rt, alloc, &Submitting, 1, ROOM_OF_TURNS) {
         Some(told) => {
             told.sent
                 && begins_submitting(&told.journal)

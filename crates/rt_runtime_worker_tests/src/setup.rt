@@ -36,6 +36,9 @@ pub(crate) const ROOM: u32 = 160;
 /// The same where a turn may have two polls: it is short with fewer than 82 notes free.
 pub(crate) const ROOM_OF_BURSTS: u32 = 164;
 
+/// Room of single polls for two looks with 16 turns between, before the journal is short.
+pub(crate) const ROOM_OF_TURNS: u32 = 240;
+
 /// A clock that stands still and counts its readings. Script jobs tell their own times.
 #[derive(Drop)]
 pub(crate) struct Still {

@@ -1,6 +1,7 @@
 use Rattle.std.proofs.Common.{◌∙◌, sym, subst}
 use Rattle.rt_runtime_worker.specs.Gates.{LeavesReturning}
 use Rattle.rt_runtime_worker.proofs.Alone.{alone_now}
+use Rattle.rt_runtime_worker.proofs.Along.{least_along}
 use Rattle.rt_runtime_worker.proofs.Asking.{return_notes_none}
 use Rattle.rt_runtime_worker.proofs.Between.{between_behind}
 use Rattle.rt_runtime_worker.proofs.Gated.{returned_leaves}
@@ -18,6 +19,7 @@ invariant_of-self g c =
       c.close.ensures.linked c.self.invariant.0,
       c.self.invariant.1 ∙ sym c.close.ensures.stays.seat.cores,
       between_behind _ _ c.close.ensures.stays (return_notes_none c.self.inside.seat.recorded.journal c.close.new.self.recorded.journal wrote) c.self.invariant.2,
+      c.self.invariant.3 ∙ sym (least_along _ _ c.close.ensures.stays.seat),
     )
 
 pub returns-clause-leaves : goal.returns-clause-leaves

@@ -1,6 +1,7 @@
 use Rattle.std.proofs.Common.{sym, ◌∙◌, subst}
 use Rattle.rt_runtime_worker.specs.Steps.{CollectsOf}
 use Rattle.rt_runtime_worker.proofs.Asking.{collects_note_none}
+use Rattle.rt_runtime_worker.proofs.Along.{least_along}
 use Rattle.rt_runtime_worker.proofs.Between.{between_behind}
 use Rattle.rt_runtime_worker.proofs.linked.Linked.collect_from.Goals as goal
 
@@ -9,6 +10,7 @@ invariant_of-self g c = (
   c.collect_from.ensures.linked c.self.invariant.0,
   c.self.invariant.1 ∙ sym c.collect_from.ensures.does.stays.seat.cores,
   between_behind _ _ c.collect_from.ensures.does.stays (collects_note_none c.args.core c.collect_from.result _ _ c.collect_from.ensures.does) c.self.invariant.2,
+  c.self.invariant.3 ∙ sym (least_along _ _ c.collect_from.ensures.does.stays.seat),
 )
 
 pub returns-clause-collects : goal.returns-clause-collects

@@ -1,6 +1,7 @@
 use Rattle.std.proofs.Common.{sym, ◌∙◌, subst}
 use Rattle.rt_runtime_worker.specs.Steps.{DeliversFrom}
 use Rattle.rt_runtime_worker.proofs.Asking.{delivered_notes_none}
+use Rattle.rt_runtime_worker.proofs.Along.{least_along}
 use Rattle.rt_runtime_worker.proofs.Between.{between_behind}
 use Rattle.rt_runtime_worker.proofs.linked.Linked.deliver_from.Goals as goal
 
@@ -9,6 +10,7 @@ invariant_of-self g c = (
   c.deliver.ensures.linked c.self.invariant.0,
   c.self.invariant.1 ∙ sym c.deliver.ensures.does.stays.seat.cores,
   between_behind _ _ c.deliver.ensures.does.stays (delivered_notes_none c.args.sender c.deliver.result _ _ c.deliver.ensures.does) c.self.invariant.2,
+  c.self.invariant.3 ∙ sym (least_along _ _ c.deliver.ensures.does.stays.seat),
 )
 
 pub returns-clause-delivers : goal.returns-clause-delivers

@@ -1,6 +1,7 @@
 use Rattle.std.proofs.Common.{◌∙◌, ap, subst, sym}
 use Rattle.rt_runtime_worker.specs.Linked.{IsBetweenTurns}
 use Rattle.rt_runtime_worker.specs.Passing.{HandsOn}
+use Rattle.rt_runtime_worker.specs.Rooms.{least_free}
 use Rattle.rt_runtime_worker.proofs.Between.{between_notes}
 use Rattle.rt_runtime_worker.proofs.Passed.{same_notes}
 use Rattle.rt_runtime_worker.proofs.linked.Linked.hand_on.Given.{Over}
@@ -18,6 +19,7 @@ invariant_of-self g c = (
   c.pass_on.ensures.linked c.self.invariant.0,
   c.self.invariant.1 ∙ sym (ap (λ view. view.recorded.core.cores) c.pass_on.ensures.rest),
   between g (goal.at.invariant_of-self g c).After-pass_on,
+  c.self.invariant.3 ∙ sym (ap (λ view. least_free view.recorded.core.cores view.recorded.cap view.recorded.core.bursts.burst) c.pass_on.ensures.rest),
 )
 
 pub returns-clause-hands : goal.returns-clause-hands

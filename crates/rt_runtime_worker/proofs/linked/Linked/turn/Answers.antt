@@ -1,10 +1,16 @@
 use Rattle.std.proofs.Common.{sym, ◌∙◌, subst}
 use Rattle.rt_runtime_worker.specs.Bursts.{MakesTurn, turn_view}
 use Rattle.rt_runtime_worker.specs.Linked.{LinkedView, StaysLinked}
+use Rattle.rt_runtime_worker.proofs.Along.{least_along}
 use Rattle.rt_runtime_worker.proofs.linked.Linked.turn.Goals as goal
 
 pub invariant_of-self : goal.invariant_of-self
-invariant_of-self g c = (c.turn.ensures.linked, c.self.invariant.1 ∙ sym c.turn.ensures.stays.seat.cores, c.turn.ensures.between)
+invariant_of-self g c = (
+  c.turn.ensures.linked,
+  c.self.invariant.1 ∙ sym c.turn.ensures.stays.seat.cores,
+  c.turn.ensures.between,
+  c.self.invariant.3 ∙ sym (least_along _ _ c.turn.ensures.stays.seat),
+)
 
 pub returns-clause-makes : goal.returns-clause-makes
 returns-clause-makes g c =

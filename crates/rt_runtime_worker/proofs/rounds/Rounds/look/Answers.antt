@@ -1,11 +1,12 @@
 use Rattle.std.proofs.Common.{sym, ◌∙◌, subst, ap}
-use Rattle.std.specs.Prelude.{◌||◌}
+use Rattle.std.specs.Prelude.{◌||◌, is_some}
+use Rattle.rt_ids.specs.Closing.{core_mode}
 use Rattle.rt_runtime_worker.specs.Rounds.{CollectsFirst, StepsServed}
 use Rattle.rt_runtime_worker.specs.Bells.{AreRung, once_more}
 use Rattle.rt_runtime_worker.specs.Asks.{polls_of}
 use Rattle.rt_runtime_worker.specs.Few.{RoundsFew}
 use Rattle.rt_runtime_worker.specs.Readings.{watch_view}
-use Rattle.rt_runtime_worker.specs.Looks.{found_quiet, turns_after}
+use Rattle.rt_runtime_worker.specs.Looks.{leaves_turns, turns_after}
 use Rattle.rt_runtime_worker.proofs.Asking.{asks_between}
 use Rattle.rt_runtime_worker.proofs.Fewer.{look_few}
 use Rattle.rt_runtime_worker.proofs.Looked.{turns_same, watch_of}
@@ -44,7 +45,12 @@ returns-clause-looks g c = record {
       (subst (λ cores. CollectsFirst cores c.gather-collected.new.self.served) (steps_cores c.take_in-taken.ensures.steps c.take_turn-turned.ensures.steps) c.gather-collected.ensures.collects);
   none_behind = ap (λ rounds. polls_of rounds.served.linked.recorded.journal.notes) c.plan.ensures ∙ c.gather-collected.ensures.polls;
   tells = c.either.ensures ∙ ap (λ came. c.take_turn-turned.result || came) c.either-came.ensures;
-  plans = ap (λ rounds. rounds.turns) c.plan.ensures ∙ ap turns_after (c.is_quiet.ensures ∙ ap (found_quiet c.take_turn-turned.result) c.either-came.ensures);
+  plans =
+      ap (λ rounds. rounds.turns) c.plan.ensures
+      ∙ ap turns_after (c.leaves.ensures
+      ∙ (ap (λ came. leaves_turns c.take_turn-turned.result came c.is_closed-closed.result) c.either-came.ensures
+      ∙ ap (leaves_turns c.take_turn-turned.result (c.take_in-taken.result || c.gather-collected.result))
+      (c.is_closed-closed.ensures ∙ sym (ap (λ rounds. is_some (core_mode rounds.served.linked.recorded.journal.notes)) c.plan.ensures))));
   forgets = ap (λ rounds. watch_of rounds.watch) c.plan.ensures ∙ ap (λ rounds. watch_view rounds.watch.clock 0) c.gather-collected.ensures.rest;
 }
 
