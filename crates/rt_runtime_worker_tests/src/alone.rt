@@ -128,12 +128,11 @@ fn stand(journal: &Journal<u64>, from: usize, notes: &[Note<u64>]) -> bool {
 
 /// Whether so many turns of the first job stand in a journal from a place on, the first one at this runtime.
 fn are_turns(journal: &Journal<u64>, from: usize, runtime: u128, count: u8) -> bool {
-    let job = name(OUTSIDE, 1);
     for turn in 0..count as usize {
         let notes = [
             Note::Pick(QUEUE, runtime.saturating_add(10 * turn as u128)),
-            Note::Resume(job),
-            Note::Yield(job, 10),
+            Note::Resume(name(OUTSIDE, 1)),
+            Note::Yield(name(OUTSIDE, 1), 10),
         ];
         if !stand(journal, from.saturating_add(3 * turn), &notes) {
             return false;
