@@ -1,5 +1,5 @@
 -- Looks of a small worker that are refused: gates that stay open, orders that are left, turns that are made up, too many notes.
-use Rattle.std.proofs.Common.{◌≡◌, Bool, true, false, inl, inr, ℕ, [], ◌∷◌, replicate, refl, ap, arith}
+use Rattle.std.proofs.Common.{◌≡◌, ◌||◌, Bool, true, false, inl, inr, ℕ, [], ◌∷◌, replicate, refl, ap, subst, arith}
 use Rattle.rt_ids.specs.declared.names.JobId.{JobId}
 use Rattle.rt_ids.specs.declared.note.Note.TheVariants.{CoreClosed, Created, Shut}
 use Rattle.rt_ids.specs.declared.order.Mode.TheVariants.{Return}
@@ -7,7 +7,7 @@ use Rattle.rt_ids.specs.Journal.{Journal}
 use Rattle.rt_jobs.specs.Meanings.{Meaning}
 use Rattle.rt_runtime_worker.specs.Ended.{ServedView}
 use Rattle.rt_runtime_worker.specs.Few.{RoundsFew}
-use Rattle.rt_runtime_worker.specs.Looks.{LooksAtAll, RoundView, round_view, turns_after}
+use Rattle.rt_runtime_worker.specs.Looks.{LooksAtAll, RoundView, leaves_turns, round_view, turns_after}
 use Rattle.rt_runtime_worker.specs.Readings.{WatchView}
 use Rattle.rt_runtime_worker.specs.Rounds.{HasShutGates, IsHeard, ShutsClosed}
 use Rattle.rt_runtime_worker.proofs.LinksRefused.{hearing, noted}
@@ -32,15 +32,24 @@ hears_nobody (inr some) = omega (arith, some)
 writes_too_much : RoundsFew (record { linked = noted []; ending = false }) (record { linked = noted (replicate 33 (Created 1 900)); ending = false }) → ⊥
 writes_too_much few = let wrote = few.wrote refl in omega (arith, wrote)
 
--- sixteen turns are left behind a quiet look, and none behind another
-are_other_turns : (quiet : Bool) → 5 ≡ turns_after quiet → ⊥
+-- sixteen turns are left behind a look that leaves turns, and none behind another
+are_other_turns : (leaves : Bool) → 5 ≡ turns_after leaves → ⊥
 are_other_turns true five = omega (arith, five)
 are_other_turns false five = omega (arith, five)
+
+-- none is left in a closed core to which something came
+pub none_is_left : (worked back : Bool) → 16 ≡ turns_after (leaves_turns worked (true || back) true) → ⊥
+none_is_left true back some = omega (arith, some)
+none_is_left false back some = omega (arith, some)
 
 module _ (meaning : Meaning ℕ ℕ) (reads : ℕ → ℕ → ℕ → Type 0) (asked : ℕ → ℕ → JobId → ℕ → Type 0) where
   -- a look leaves five turns
   leaves_five_turns : (old new : RoundView ℕ ℕ ℕ ℕ) (some : Bool) → LooksAtAll meaning reads asked old some 5 new → ⊥
   leaves_five_turns old new some looks = are_other_turns _ looks.plans
+
+  -- a look to which something came leaves turns though its core is closed, so that its gates stay open
+  pub passes_its_gates : (old : RoundView ℕ ℕ ℕ ℕ) (some : Bool) (looks : LooksAtAll meaning reads asked old some 16 (round_view (record { linked = noted half_shut; ending = false }) 0 0 0)) → looks.came ≡ true → ⊥
+  passes_its_gates old some looks came = none_is_left looks.worked looks.back (subst (λ one. 16 ≡ turns_after (leaves_turns looks.worked (one || looks.back) true)) came looks.plans)
 
   -- the time of polls isn't counted anew behind a look
   keeps_the_time : (old : RoundView ℕ ℕ ℕ ℕ) (served : ServedView ℕ ℕ) (some : Bool) (turns : ℕ) → LooksAtAll meaning reads asked old some turns (round_view served 0 7 0) → ⊥

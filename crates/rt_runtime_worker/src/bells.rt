@@ -21,10 +21,10 @@ fn told(note: &Note<u64>) -> Option<u8>
 {
     match note {
         Note::Sent(name, _) => Some(name.to.0),
-        Note::Answered(name, _) => Some(name.from.0),
-        Note::Back(name, _) => Some(name.from.0),
-        Note::Returned(name, _) => Some(name.from.0),
-        Note::Done(name, _, _) => Some(name.from.0),
+        Note::Answered(name, _)
+        | Note::Back(name, _)
+        | Note::Returned(name, _)
+        | Note::Done(name, _, _) => Some(name.from.0),
         _ => None,
     }
 }

@@ -266,8 +266,24 @@ impl<J: Task<Out = u64>> Served<J> {
         self.linked.recorded().journal()
     }
 
-    /// Shuts the open gates of a core that was closed. Whether there was one.
+    /// Shuts the open gates of a core that was closed. Whether there was one. In an open core nothing is done.
     pub(crate) fn close_gates(&mut self) -> bool
+        ensures steps { StepsServed self.old result self.new }
+        ensures few { WritesFew (self.old.linked.recorded.core.cores + 1) self.old self.new }
+        ensures shuts { HasShutGates self.new.linked }
+        ensures taken { self.new.ending ≡ self.old.ending → KeepsTaken self.old.linked self.new.linked }
+        ensures polls { NotesNoPoll self.old.linked.recorded.journal.notes self.new.linked.recorded.journal.notes }
+    {
+        let closed = self.linked.is_closed();
+        if !closed {
+            return false;
+        }
+        self.shut_if_closed()
+    }
+
+    /// The same, once the room was looked at. It stands apart, so that a round of an open core stays short.
+    #[cold]
+    fn shut_if_closed(&mut self) -> bool
         ensures steps { StepsServed self.old result self.new }
         ensures few { WritesFew (self.old.linked.recorded.core.cores + 1) self.old self.new }
         ensures shuts { HasShutGates self.new.linked }
