@@ -38,7 +38,7 @@ are_other_turns true five = omega (arith, five)
 are_other_turns false five = omega (arith, five)
 
 -- none is left in a closed core to which something came
-pub none_is_left : (worked back : Bool) → 16 ≡ turns_after (leaves_turns worked (true || back) true) → ⊥
+none_is_left : (worked back : Bool) → 16 ≡ turns_after (leaves_turns worked (true || back) true) → ⊥
 none_is_left true back some = omega (arith, some)
 none_is_left false back some = omega (arith, some)
 
@@ -48,7 +48,7 @@ module _ (meaning : Meaning ℕ ℕ) (reads : ℕ → ℕ → ℕ → Type 0) (a
   leaves_five_turns old new some looks = are_other_turns _ looks.plans
 
   -- a look to which something came leaves turns though its core is closed, so that its gates stay open
-  pub passes_its_gates : (old : RoundView ℕ ℕ ℕ ℕ) (some : Bool) (looks : LooksAtAll meaning reads asked old some 16 (round_view (record { linked = noted half_shut; ending = false }) 0 0 0)) → looks.came ≡ true → ⊥
+  passes_its_gates : (old : RoundView ℕ ℕ ℕ ℕ) (some : Bool) (looks : LooksAtAll meaning reads asked old some 16 (round_view (record { linked = noted half_shut; ending = false }) 0 0 0)) → looks.came ≡ true → ⊥
   passes_its_gates old some looks came = none_is_left looks.worked looks.back (subst (λ one. 16 ≡ turns_after (leaves_turns looks.worked (one || looks.back) true)) came looks.plans)
 
   -- the time of polls isn't counted anew behind a look

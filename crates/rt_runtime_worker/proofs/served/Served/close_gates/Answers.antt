@@ -1,4 +1,3 @@
-use Rattle.rt_runtime_worker.proofs.LooksRefused.{none_is_left, passes_its_gates}
 use Rattle.rt_runtime_worker.proofs.Fewer.{few_none}
 use Rattle.rt_runtime_worker.proofs.Telling.{steps_none}
 use Rattle.rt_runtime_worker.proofs.served.Served.close_gates.Goals as goal
