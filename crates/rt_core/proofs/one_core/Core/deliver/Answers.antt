@@ -4,15 +4,7 @@ use Rattle.rt_core.specs.Deliveries.{Delivers}
 use Rattle.rt_core.proofs.one_core.Core.deliver.Goals as goal
 
 pub deliver_noted-requires : goal.deliver_noted-requires
-deliver_noted-requires g c = (
-  assumption,
-  record {
-    room = c.requires.room;
-    sender = c.requires.sender;
-    next = c.requires.next;
-    ready = subst (HasReadyJob g.J.Task.meaning) c.in-Job.is c.requires.ready;
-  },
-)
+deliver_noted-requires g c = (assumption, (c.requires.room, (c.requires.sender, (c.requires.next, subst (HasReadyJob g.J.Task.meaning) c.in-Job.is c.requires.ready))))
 
 pub deliver_create-requires : goal.deliver_create-requires
 deliver_create-requires g c = (assumption, c.requires.sender)
