@@ -4,13 +4,28 @@ ghost use Rattle.std.specs.Prelude.{◌≡◌, ◌+◌, ◌<◌, ◌≤◌, [], 
 ghost use Rattle.rt_jobs.specs.Ready.{HasReadyJob};
 ghost use Rattle.rt_core.specs.Deliveries.{note_told};
 ghost use Rattle.rt_core.specs.State.{delivered_of, inside_count};
-ghost use Rattle.rt_journal.specs.Carried.{MayNoteAll, NotesDelivery};
+ghost use Rattle.rt_journal.specs.Carried.{MayNoteAll, NotesDelivery, is_job};
 
 use rt_core::{Core, Delivered};
 use rt_ids::{Envelope, JobId, Note, Order, QueueNo};
 use rt_jobs::Task;
 use rt_journal_desk::RecordedDesk;
 use std::alloc::Allocator;
+
+/// Whether an order is a job.
+#[inline(always)]
+pub(crate) fn is_of_job<J>(order: &Order<J>) -> bool
+    ensures { result ≡ is_job order.now }
+{
+    match order {
+        Order::Job(_, _) => true,
+        Order::Create(_) => false,
+        Order::SetShares(_, _) => false,
+        Order::Close(_, _) => false,
+        Order::CloseCore(_) => false,
+        Order::Wake(_, _) => false,
+    }
+}
 
 /// The note of a delivered job. It is made where it is written: most deliveries are of jobs, and a list of notes would be copied.
 #[inline(always)]
