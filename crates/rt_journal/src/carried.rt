@@ -1,13 +1,12 @@
 //! Orders are carried out and noted.
 
-ghost use Rattle.std.specs.Prelude.{◌≡◌, ◌+◌, ◌<◌, ◌≤◌, [], ◌∷◌};
+ghost use Rattle.std.specs.Prelude.{◌≡◌, ◌+◌, ◌<◌, ◌≤◌};
 ghost use Rattle.rt_jobs.specs.Ready.{HasReadyJob};
-ghost use Rattle.rt_core.specs.Deliveries.{note_told};
 ghost use Rattle.rt_core.specs.State.{delivered_of, inside_count};
 ghost use Rattle.rt_journal.specs.Carried.{MayNoteAll, NotesDelivery, is_job};
 
 use rt_core::{Core, Delivered};
-use rt_ids::{Envelope, JobId, Note, Order, QueueNo};
+use rt_ids::{Envelope, Note, Order};
 use rt_jobs::Task;
 use rt_journal_desk::RecordedDesk;
 use std::alloc::Allocator;
@@ -24,22 +23,6 @@ pub(crate) fn is_of_job<J>(order: &Order<J>) -> bool
         Order::Close(_, _) => false,
         Order::CloseCore(_) => false,
         Order::Wake(_, _) => false,
-    }
-}
-
-/// The note of a delivered job. It is made where it is written: most deliveries are of jobs, and a list of notes would be copied.
-#[inline(always)]
-fn job_note<J: Task<Out = u64>>(
-    name: &JobId,
-    queue: QueueNo,
-    delivered: &Delivered<J>,
-) -> [Note<u64>; 1]
-    ensures { result ≡ note_told name.now queue delivered.now ∷ [] }
-{
-    match delivered {
-        Delivered::Took => [Note::Took(*name, queue)],
-        Delivered::Back(reason, _) => [Note::Back(*name, *reason)],
-        Delivered::Answered(answer) => [Note::Answered(*name, *answer)],
     }
 }
 
@@ -60,12 +43,18 @@ pub(crate) fn carry_out<J: Task<Out = u64>, A: Allocator + Clone>(
     let Envelope { name, order } = envelope;
     let named = name;
     match order {
-        Order::Job(queue, job) => {
-            let delivered = core.deliver_job(name, queue, job);
-            let note = job_note(&named, queue, &delivered);
-            said.write(&note);
-            delivered
-        }
+        // The note of a job is made where it is written: most orders are jobs, and a list of notes would be copied.
+        Order::Job(queue, job) => match core.deliver_job(name, queue, job) {
+            Delivered::Took => {
+                said.write(&[Note::Took(named, queue)]);
+                Delivered::Took
+            }
+            Delivered::Back(reason, back) => {
+                said.write(&[Note::Back(named, reason)]);
+                Delivered::Back(reason, back)
+            }
+            Delivered::Answered(_) => unreachable!(),
+        },
         command => {
             let (delivered, notes) = core.deliver(Envelope {
                 name,

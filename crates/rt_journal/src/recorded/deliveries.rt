@@ -37,19 +37,31 @@ impl<J: Task<Out = u64>, A: Allocator + Clone> Recorded<J, A> {
         let _said = &self.said;
         match end.take() {
             Some(envelope) => {
-                // Most orders are jobs. What a command needs stays out of their way.
-                if is_of_job(&envelope.order) {
-                    self.receive_on(end, envelope);
-                } else {
-                    self.receive_apart(end, envelope);
-                }
+                self.receive_one(end, envelope);
                 true
             }
             None => false,
         }
     }
 
-    /// Carries out an order that was just taken from this end, and gives its outcome on the end, if it has one yet.
+    /// Carries out an order that was just taken from this end, and gives its outcome on the end, if it has one yet. Most orders are jobs: what
+    /// a command needs stays out of their way.
+    #[inline(always)]
+    fn receive_one<I: InEnd<J>>(&mut self, end: &mut I, envelope: Envelope<J>)
+        requires taken { IsJustTaken self.old envelope (I.inward end.old) }
+        requires ready { HasReadyJob J.meaning envelope.order }
+        requires room { length self.old.journal.notes + 2 ≤ self.old.journal.room }
+        ensures receives { ReceivesOn J.meaning self.old envelope (I.inward end.old) self.new (I.inward end.new) }
+        ensures untouched { I.untouched end.new ≡ I.untouched end.old }
+    {
+        if is_of_job(&envelope.order) {
+            self.receive_on(end, envelope);
+        } else {
+            self.receive_apart(end, envelope);
+        }
+    }
+
+    /// Does so.
     #[inline(always)]
     fn receive_on<I: InEnd<J>>(&mut self, end: &mut I, envelope: Envelope<J>)
         requires taken { IsJustTaken self.old envelope (I.inward end.old) }

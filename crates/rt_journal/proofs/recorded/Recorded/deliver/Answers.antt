@@ -2,8 +2,8 @@ use Rattle.rt_journal.proofs.Names.{true, subst, ap, sym, ◌∙◌, IsRecorded,
 use Rattle.rt_journal.proofs.EndsKept.{sees_more_in}
 use Rattle.rt_journal.proofs.recorded.Recorded.deliver.Goals as goal
 
-pub receive_on-requires-clause-taken : goal.receive_on-requires-clause-taken
-receive_on-requires-clause-taken g c = record {
+pub receive_one-requires-clause-taken : goal.receive_one-requires-clause-taken
+receive_one-requires-clause-taken g c = record {
   before = g.I.InEnd.inward c.args.end.now;
   beside = c.requires.beside;
   takes = c.in-Some.ensures.takes;
