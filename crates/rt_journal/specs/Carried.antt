@@ -50,7 +50,7 @@ module _ {J T : Type 0} where
     pub named : AreNamed before.base before.taken before.given
 
   -- the order was received, and its outcome was given on the end, if it has one yet
-  pub record ReceivesOn (meaning : Meaning J T) (old : RecordedView J T) (envelope : Envelope J) (taken : Inward J T) (new : RecordedView J T) (after : Inward J T) : Type 1 where
+  pub record ReceivesOn (meaning : Meaning J T) (old : RecordedView J T) (envelope : Envelope J) (taken : Inward J T) (new : RecordedView J T) (after : Inward J T) : Type 0 where
     pub receives : Receives old envelope new
     pub outcome : Option (Outcome J T)
     pub gives : Gives taken envelope.name.number outcome after

@@ -1,4 +1,4 @@
-use Rattle.rt_journal.proofs.Names.{desk_of, keeps_outs, subst, ap, Fits, IsInOf}
+use Rattle.rt_journal.proofs.Names.{desk_of, keeps_outs, sym, ◌∙◌, ap, Fits}
 use Rattle.rt_journal.proofs.DeliveredEnds.{next_in, beside_owes, rest_keep}
 use Rattle.rt_journal.proofs.GivenEnds.{given}
 use Rattle.rt_journal.proofs.recorded.Recorded.receive_on.Goals as goal
