@@ -3,13 +3,13 @@ use Rattle.rt_core.specs.Deliveries.{note_told}
 use Rattle.rt_journal.proofs.carried.carry_out.Goals as goal
 
 -- what a core does with a job, it does with the order of that job
-module _ {J T : Type 0} (core new : CoreView J) (envelope : Envelope J) {queue : ℕ} {job : J} (is : envelope.order ≡ Job queue job) where
+module _ {J : Type 0} (core new : CoreView J) (envelope : Envelope J) {queue : ℕ} {job : J} (is : envelope.order ≡ Job queue job) where
   of_order : {delivered done : Delivered J} → delivered ≡ done →
-      CoreDelivers {T = T} core envelope.name (Job queue job) delivered new (note_told envelope.name queue delivered ∷ []) →
-      CoreDelivers {T = T} core envelope.name envelope.order done new (note_told envelope.name queue done ∷ [])
+      CoreDelivers {T = ℕ} core envelope.name (Job queue job) delivered new (note_told envelope.name queue delivered ∷ []) →
+      CoreDelivers {T = ℕ} core envelope.name envelope.order done new (note_told envelope.name queue done ∷ [])
   of_order {done = done} came does =
-      subst (λ order. CoreDelivers {T = T} core envelope.name order done new (note_told envelope.name queue done ∷ [])) (sym is)
-      (subst (λ told. CoreDelivers {T = T} core envelope.name (Job queue job) told new (note_told envelope.name queue told ∷ [])) came does)
+      subst (λ order. CoreDelivers {T = ℕ} core envelope.name order done new (note_told envelope.name queue done ∷ [])) (sym is)
+      (subst (λ told. CoreDelivers {T = ℕ} core envelope.name (Job queue job) told new (note_told envelope.name queue told ∷ [])) came does)
 
 pub write-requires : goal.write-requires
 write-requires g c =
