@@ -1,5 +1,3 @@
-use Rattle.rt_journal.proofs.Names.{true, subst, ap, sym, ◌∙◌, IsRecorded, IsInOf, Delivers}
-use Rattle.rt_journal.proofs.EndsKept.{sees_more_in}
 use Rattle.rt_journal.proofs.recorded.Recorded.deliver.Goals as goal
 
 pub receive_one-requires-clause-taken : goal.receive_one-requires-clause-taken

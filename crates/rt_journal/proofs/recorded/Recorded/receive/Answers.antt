@@ -1,5 +1,5 @@
-use Rattle.rt_journal.proofs.Names.{◌≤◌, refl, length, length-reverse, sym, ◌∙◌, ap, subst, reverse, arith, IsSpelledOrder}
-use Rattle.rt_journal.proofs.Names.{IsNextIn, desk_with}
+use Rattle.rt_journal.proofs.Names.{◌≤◌, refl, length, length-reverse, sym, ◌∙◌, ap, subst, arith, IsSpelledOrder}
+use Rattle.rt_journal.proofs.Names.{IsNextIn}
 use Rattle.rt_journal.proofs.Received.{done, room_in, received_now}
 use Rattle.rt_journal.proofs.CarriedOut.{fits_delivered}
 use Rattle.rt_journal.proofs.QuietSteps.{view_of, may_note, desk_is}
