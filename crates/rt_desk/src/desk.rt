@@ -38,6 +38,7 @@ impl<J: Task> Model for Desk<J> {
 
 impl<J: Task> Desk<J> {
     /// Whether a name is this actor's, and there is a core of its number.
+    #[inline(always)]
     fn is_for(&self, ticket: Ticket) -> bool
         ensures { IsTrue result ↔ IsFor self.now ticket }
     {
@@ -51,6 +52,7 @@ impl<J: Task> Desk<J> {
     ///
     /// `Unknown` where the name is another actor's, names no core or has a number that was never given here; `Gone` where it was
     /// redeemed or detached before; `Pending` where its outcome isn't collected yet.
+    #[inline(always)]
     pub fn redeem<O: OutEnd<J>>(
         &mut self,
         ends: &mut [O],
@@ -70,6 +72,7 @@ impl<J: Task> Desk<J> {
         self.redeem_at(ends, name.to.0 as usize, name.number)
     }
 
+    #[inline(always)]
     fn redeem_at<O: OutEnd<J>>(
         &mut self,
         ends: &mut [O],
@@ -133,6 +136,7 @@ impl<J: Task> Desk<J> {
     /// # Errors
     ///
     /// `NoCore` where there is no such core; otherwise as the link. The order comes back.
+    #[inline(always)]
     pub fn submit<O: OutEnd<J>>(
         &mut self,
         ends: &mut [O],
@@ -159,6 +163,7 @@ impl<J: Task> Desk<J> {
         }
     }
 
+    #[inline(always)]
     fn submit_at<O: OutEnd<J>>(
         &mut self,
         ends: &mut [O],
@@ -223,6 +228,7 @@ impl<J: Task> Desk<J> {
     }
 
     /// Collects all outcomes that the link of a core shows. How many there were.
+    #[inline(always)]
     pub fn collect_from<O: OutEnd<J>>(&mut self, ends: &mut [O], core: CoreNo) -> usize
         requires ends { AreEndsOf (Fits J.meaning) O.out O.credited self.old ends.old }
         requires core { core < length self.old.lanes }
@@ -233,6 +239,7 @@ impl<J: Task> Desk<J> {
         self.collect_at(ends, core.0 as usize)
     }
 
+    #[inline(always)]
     fn collect_at<O: OutEnd<J>>(&mut self, ends: &mut [O], core: usize) -> usize
         requires ends { AreEndsOf (Fits J.meaning) O.out O.credited self.old ends.old }
         requires core { core < length self.old.lanes }

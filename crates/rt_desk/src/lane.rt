@@ -99,6 +99,7 @@ impl<J: Task> Lane<J> {
     }
 
     /// Collects one outcome, if the link shows one. Whether it did.
+    #[inline(always)]
     pub(crate) fn collect_one<O: OutEnd<J>>(&mut self, end: &mut O) -> bool
         requires { IsLaneOf (Fits J.meaning) self.old (O.out end.old) (O.credited end.old) }
         ensures lane { IsLaneOf (Fits J.meaning) self.new (O.out end.new) (O.credited end.new) }
@@ -139,6 +140,7 @@ impl<J: Task> Lane<J> {
     }
 
     /// Collects all outcomes that the link shows. How many there were.
+    #[inline(always)]
     pub(crate) fn collect<O: OutEnd<J>>(&mut self, end: &mut O) -> usize
         requires { IsLaneOf (Fits J.meaning) self.old (O.out end.old) (O.credited end.old) }
         ensures lane { IsLaneOf (Fits J.meaning) self.new (O.out end.new) (O.credited end.new) }

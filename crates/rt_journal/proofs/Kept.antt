@@ -14,7 +14,7 @@ use Rattle.rt_journal.proofs.AgreementNames.{queue_entered, Created, Mode, Agree
 use Rattle.rt_journal.proofs.AgreementNames.{IsJobOut, IsKept, names_of, figures_in, figures_noted, no_figures, Bool}
 use Rattle.rt_journal.proofs.AgreementNames.{EachNote, IsEffectDue, JobId, Journal, List, MayFollow, MayStand, MayWrite}
 use Rattle.rt_journal.proofs.AgreementNames.{None, Note, Option, Some, Terms, [], ap, arith, effect_awaited, false, is_told}
-use Rattle.rt_journal.proofs.AgreementNames.{length, queue_just_picked, refl, subst, sym, takes_turn, ℕ, ◌++◌, ◌+◌, ◌<◌}
+use Rattle.rt_journal.proofs.AgreementNames.{length, queue_just_picked, refl, subst, sym, takes_turn, ℕ, ◌+◌, ◌<◌}
 use Rattle.rt_journal.proofs.AgreementNames.{◌||◌, ◌∙◌, ◌∷◌, ◌≡◌, ◌≤◌, QueuesView, mode_of, queue_count}
 use Rattle.rt_journal.proofs.AgreementNames.{parts_turns, shares_of, waiting_of}
 use Rattle.rt_core.specs.State as state

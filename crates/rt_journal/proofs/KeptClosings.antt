@@ -2,10 +2,10 @@
 use Rattle.rt_journal.proofs.AgreementNames.{Agrees, All-append, AreMarked, Bool, CoreView, EachNote, HasClosed, IsJobOut, JobId, JobOut}
 use Rattle.rt_journal.proofs.AgreementNames.{Journal, List, MayStand, Mode, None, Note, Option, Parks, Some, Terms, [], among, ap, append-nil}
 use Rattle.rt_journal.proofs.AgreementNames.{arith, awake, brings_work, cond, core_mode, entry_runtime, false, final_count}
-use Rattle.rt_journal.proofs.AgreementNames.{figures_in, figures_of, is_any, is_number, is_return, is_told, keeps_wakes, length, line, map}
-use Rattle.rt_journal.proofs.AgreementNames.{map-append, marks_told, mode_of, name_started, names_of, names_parked, nat_lt, or_else, parked, parked_of}
+use Rattle.rt_journal.proofs.AgreementNames.{figures_in, figures_of, is_any, is_number, is_return, keeps_wakes, length, line, map}
+use Rattle.rt_journal.proofs.AgreementNames.{map-append, marks_told, mode_of, names_of, names_parked, nat_lt, or_else, parked, parked_of}
 use Rattle.rt_journal.proofs.AgreementNames.{queue_count, queue_mode, refl, shares_of, runtime_of, started_of, subst, sym, tally_of, true, true≢false, virtual_runtime}
-use Rattle.rt_journal.proofs.AgreementNames.{waiting_of, with_all, with_all-append, ℕ, ◌&&◌, ◌++◌, ◌<◌, ◌==◌, ◌||◌, ◌∙◌, ◌∷◌, ◌≡◌}
+use Rattle.rt_journal.proofs.AgreementNames.{waiting_of, with_all, with_all-append, ℕ, ◌&&◌, ◌++◌, ◌==◌, ◌||◌, ◌∙◌, ◌∷◌, ◌≡◌}
 use Rattle.rt_shares.specs.Charge.{placed}
 use Rattle.rt_ids.specs.declared.note.Note.TheVariants as writes
 use Rattle.rt_ids.specs.declared.order.Mode.TheVariants.{Finish, Return}

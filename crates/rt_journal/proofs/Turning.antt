@@ -1,6 +1,6 @@
 -- The turn that is open, as a core and as its journal tell it: which notes leave it, and which begin it, add a poll or the time of one, or end it.
 use Rattle.rt_journal.proofs.AgreementNames.{Bool, Bursts, IsOpenTurn, JobId, Journal, None, Note, OpenTurn, Option, Reason, Some, add-zero, ap, arith}
-use Rattle.rt_journal.proofs.AgreementNames.{begun, cond, false, has_bursts, lasted, longer, name_polled, name_settled, none-some, none_either, or_else, parts_turns}
+use Rattle.rt_journal.proofs.AgreementNames.{begun, cond, false, has_bursts, lasted, name_polled, name_settled, none-some, none_either, or_else, parts_turns}
 use Rattle.rt_journal.proofs.AgreementNames.{poll_count, poll_note, poll_settled, polled_again, polls_in_turn, queue_begun, queue_begun_last}
 use Rattle.rt_journal.proofs.AgreementNames.{queue_in_turn, queue_just_picked, refl, subst, sym, time_in_turn, time_of_poll, time_summed, true, min, ℕ, ◌+◌, ◌-◌, ◌^◌, ◌∙◌, ◌∷◌, ◌≡◌}
 use Rattle.rt_ids.specs.declared.note.Note.TheVariants as writes

@@ -1,28 +1,25 @@
 //! A core beside its journal, over any ends of links.
 
-ghost use Rattle.std.specs.Prelude.{◌≡◌, ℕ, ◌+◌, ◌<◌, ◌≤◌, ◌≢◌, ◌↔◌, false, length, Ok, Some, None, is_some, IsSome, IsTrue, IfOk, IfSome};
+ghost use Rattle.std.specs.Prelude.{◌≡◌, ℕ, ◌+◌, ◌<◌, ◌≤◌, ◌≢◌, ◌↔◌, false, length, Ok, Some, None, is_some, IsSome, IsTrue, IfOk};
 ghost use Rattle.rt_ids.specs.Closing.{IsDrained, core_mode, final_count};
 ghost use Rattle.rt_ids.specs.Commands.{IsOpening};
-ghost use Rattle.rt_jobs.specs.Ready.{HasReadyJob};
 ghost use Rattle.rt_core.specs.declared.turn.Ahead.TheVariants as tells;
 ghost use Rattle.rt_core.specs.Answers.{IsReadyTurn};
 ghost use Rattle.rt_core.specs.Whole.{TellsAhead};
-ghost use Rattle.std.specs.Option.{option_map};
 ghost use Rattle.rt_ids.specs.declared.note.OutcomeNote.TheVariants.{Returned};
 ghost use Rattle.rt_ids.specs.declared.order.Outcome.TheVariants as outcome;
-ghost use Rattle.rt_ids.specs.Outcomes.{outcome_note};
 ghost use Rattle.rt_journal_notes.specs.Passing.{IsAsked, KeepsRefusals, PassesOn};
 ghost use Rattle.rt_link.specs.Calls.{Shuts};
 ghost use Rattle.rt_link.specs.Fits.{Fits};
-ghost use Rattle.rt_journal.specs.Recorded.{IsRecorded, desk_of, order_taken};
-ghost use Rattle.rt_journal.specs.Ends.{IsInOf, IsInOwing, Gives, GivesMore, told_under, LeavesOwed, KeepsIn, IsSameSeat};
+ghost use Rattle.rt_journal.specs.Recorded.{IsRecorded, desk_of};
+ghost use Rattle.rt_journal.specs.Ends.{IsInOf, IsInOwing, Gives, LeavesOwed, KeepsIn, IsSameSeat};
 ghost use Rattle.rt_journal_desk.specs.Ends.{KeepsOuts};
-ghost use Rattle.rt_journal.specs.Steps.{opened_beside, IsNextIn, Receives, Delivers, CreatesQueue, TellsShut, ClosesItself};
+ghost use Rattle.rt_journal.specs.Steps.{opened_beside, CreatesQueue, TellsShut, ClosesItself};
 ghost use Rattle.rt_journal.specs.Turns.{Picks, IsBack, IsOut, IsOutUnder, IsPolled, Settles};
 ghost use Rattle.rt_journal_desk.specs.Tickets.{KnowsLanes};
 ghost use Rattle.rt_journal.specs.Owed.{IsSentUnder, OwesSettled, outcome_settled, owed_back};
 
-use crate::given::{give_if, outcome_done, outcome_of};
+use crate::given::{give_if, outcome_done};
 use rt_core::{Core, PickError, Settled, Turn};
 use rt_history::History;
 use rt_ids::{ActorNo, CoreNo, Envelope, JobId, Mode, Order, Outcome, QueueNo, Reason};
@@ -35,6 +32,7 @@ use rt_taskqueue::CreateError;
 use std::alloc::{AllocError, Allocator, Global};
 use std::marker::Model;
 
+mod deliveries;
 mod further;
 mod tickets;
 mod whole;
@@ -173,54 +171,6 @@ impl<J: Task<Out = u64>, A: Allocator + Clone> Recorded<J, A> {
         let (created, notes) = self.core.create(shares);
         self.said.write(notes.as_slice());
         created
-    }
-
-    /// Takes the next order from this end, carries it out, and gives its outcome on the end, if it has one yet. Whether there was one.
-    #[inline(always)]
-    pub fn deliver<I: InEnd<J>>(&mut self, end: &mut I) -> bool
-        requires beside { IsInOf (I.inward end.old).from self.old (I.inward end.old) }
-        requires room { length self.old.journal.notes + 2 ≤ self.old.journal.room }
-        ensures delivers { Delivers self.old (I.inward end.old) self.new (I.inward end.new) result }
-        ensures beside { IsInOf (I.inward end.old).from self.new (I.inward end.new) }
-        ensures others { (sender : ℕ) → sender ≢ (I.inward end.old).from → KeepsIn sender self.old self.new }
-        ensures outs { KeepsOuts (desk_of self.old) (desk_of self.new) }
-        ensures seat { IsSameSeat self.old self.new }
-        ensures lanes { self.new.lanes ≡ self.old.lanes }
-        ensures sound { IsRecorded J.meaning self.new }
-        ensures untouched { I.untouched end.new ≡ I.untouched end.old }
-    {
-        let _said = &self.said;
-        match end.take() {
-            Some(envelope) => {
-                let number = envelope.name.number;
-                let outcome = self.receive(envelope);
-                give_if(end, number, outcome);
-                true
-            }
-            None => false,
-        }
-    }
-
-    /// Carries out the next order of its sender. Its outcome, if it has one yet.
-    #[inline(always)]
-    fn receive(&mut self, envelope: Envelope<J>) -> Option<Outcome<J, u64>>
-        requires next { IsNextIn self.old envelope.name }
-        requires ready { HasReadyJob J.meaning envelope.order }
-        requires room { length self.old.journal.notes + 2 ≤ self.old.journal.room }
-        ensures receives { Receives self.old envelope self.new }
-        ensures gives { GivesMore (told_under envelope.name (option_map outcome_note result)) self.old.journal.notes self.new.journal.notes }
-        ensures fits { IfSome result (λ outcome. Fits J.meaning envelope.order outcome) }
-        ensures stands { order_taken self.new.took envelope.name ≡ Some envelope.order }
-        ensures sound { IsRecorded J.meaning self.new }
-        ensures seat { IsSameSeat self.old self.new }
-        ensures lanes { self.new.lanes ≡ self.old.lanes }
-    {
-        // The queue and the shares of a command are within their ranges, which the law of its journal asks.
-        let _within_ranges = envelope.order.without_job();
-        self.took = self.took.with(&envelope);
-        let (delivered, notes) = self.core.deliver(envelope);
-        self.said.write(notes.as_slice());
-        outcome_of(delivered)
     }
 
     /// Shuts the gate of this sender, whose end is lent, in a core that is closed. The number is that of the last order that came through.

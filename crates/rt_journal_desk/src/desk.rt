@@ -177,6 +177,7 @@ impl<J: Task<Out = u64>> RecordedDesk<J> {
     }
 
     /// Collects all outcomes that the link of a core shows, and notes each. How many there were.
+    #[inline(always)]
     pub fn collect_from<O: OutEnd<J>>(&mut self, end: &mut O, core: CoreNo) -> usize
         requires beside { IsOutOf core self.old (O.out end.old) (O.credited end.old) }
         requires lane { HasLane (Fits J.meaning) core self.old (O.out end.old) (O.credited end.old) }

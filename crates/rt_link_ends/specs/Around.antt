@@ -4,9 +4,7 @@ use Rattle.rt_ids.specs.declared.order.Outcome.{Outcome}
 use Rattle.rt_ids.specs.Assembly.{IsPrefix}
 use Rattle.rt_link.specs.declared.ends.Outward.{Outward}
 use Rattle.rt_link.specs.declared.ends.Inward.{Inward}
-use Rattle.rt_link.specs.Calls.{SeesMore}
-use Rattle.rt_link.specs.Calls.{SendsMore}
-use Rattle.rt_link.specs.Calls.{Gives}
+use Rattle.rt_link.specs.Calls.{Gives, SeesMore, SendsMore}
 
 -- what the two kinds of end are to those who see them: of an end that sends what it knows, its credits, and what no call of it changes; and so of an end that receives
 pub record Sides (J T O I : Type 0) : Type 0 where

@@ -23,7 +23,7 @@ pub trait Around<J: Task<Out = u64>> {
     /// An end on which it receives.
     type In: InEnd<J>;
 
-    /// Where the ends stand, and what they are.
+    /// The places of the ends, and what they are.
     ghost reach: { Reach J ℕ Self Self.Out Self.In };
 
     /// The ends on which the core of this number sends, one to each core.

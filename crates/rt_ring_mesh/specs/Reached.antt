@@ -1,5 +1,5 @@
 -- An actor's ends, as the core of that actor is lent them for a turn.
-use Rattle.std.specs.Prelude.{ℕ, ◌<◌, length}
+use Rattle.std.specs.Prelude.{◌<◌, length}
 use Rattle.rt_link_ends.specs.Around.{Reach}
 use Rattle.rt_ring.specs.declared.ring_in.Receiving.{Receiving}
 use Rattle.rt_ring.specs.declared.ring_out.Sending.{Sending}

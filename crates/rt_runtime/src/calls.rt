@@ -25,6 +25,7 @@ fn closes<J>(order: &Order<J>) -> bool
 }
 
 /// Whether a send with this answer tells that the core is closed, or closes it.
+#[inline(always)]
 fn tells<J>(closing: bool, answer: &Result<Ticket, SendError<J>>) -> bool
     ensures { result ≡ tells_closing closing answer.now }
 {
@@ -36,6 +37,7 @@ fn tells<J>(closing: bool, answer: &Result<Ticket, SendError<J>>) -> bool
 }
 
 /// Keeps in mind that a core is closed, if it was told so.
+#[inline(always)]
 fn mark(closing: &mut Vec<bool>, core: usize, told: bool)
     requires { core < length closing.old.items }
     ensures { closing.new.items ≡ slice_set closing.old.items core (slice_index_or closing.old.items core false || told) }
@@ -46,6 +48,7 @@ fn mark(closing: &mut Vec<bool>, core: usize, told: bool)
 
 impl<J: Task<Out = u64>, C: Drop, G: Drop, S: Sink> Runtime<J, C, G, S> {
     /// How many submissions are outstanding on all links.
+    #[inline(always)]
     fn outstanding(&self) -> u128
         ensures value { result ≡ outstanding_upto self.now.desk.journal.notes self.now.desk.cores }
         ensures few { result < 2 ^ 72 }
@@ -59,6 +62,7 @@ impl<J: Task<Out = u64>, C: Drop, G: Drop, S: Sink> Runtime<J, C, G, S> {
 
     /// Whether the journal has too few notes free for a send: three for each submission that is outstanding, this one among them, and so
     /// many for each core.
+    #[inline(always)]
     pub(crate) fn is_full(&self, each: u8) -> bool
         ensures full { IsTrue result ↔ (free_notes self.now.desk.journal < room_left each self.now) }
         ensures room { result ≡ false → booked self.now.desk + 3 ≤ self.now.desk.journal.room }
@@ -69,6 +73,7 @@ impl<J: Task<Out = u64>, C: Drop, G: Drop, S: Sink> Runtime<J, C, G, S> {
     }
 
     /// Sends an order to a core.
+    #[inline(always)]
     fn send(&mut self, to: CoreNo, order: Order<J>) -> Result<Ticket, SendError<J>>
         requires ready { HasReadyJob J.meaning order }
         requires room { booked self.old.desk + 3 ≤ self.old.desk.journal.room }
@@ -92,6 +97,7 @@ impl<J: Task<Out = u64>, C: Drop, G: Drop, S: Sink> Runtime<J, C, G, S> {
     ///
     /// Tried in this order, and the order comes back: `JournalFull` where the outside journal has too few notes free, and its sink refuses;
     /// `Send` where there is no such core, and where its link refuses.
+    #[inline(always)]
     pub fn submit(&mut self, to: CoreNo, order: Order<J>) -> Result<Ticket, SubmitError<J>>
         requires ready { HasReadyJob J.meaning order }
         ensures { SubmitsTo 3 to order self.old result self.new }

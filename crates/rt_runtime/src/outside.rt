@@ -76,6 +76,7 @@ impl<J: Task<Out = u64>> Outside<J> {
     }
 
     /// How many submissions to this core are outstanding.
+    #[inline(always)]
     pub(crate) fn outstanding(&self, core: CoreNo) -> u64
         requires there { core < self.now.desk.cores }
         ensures { result ≡ outstanding_count core self.now.desk.journal.notes }
@@ -85,6 +86,7 @@ impl<J: Task<Out = u64>> Outside<J> {
     }
 
     /// Whether a ticket is this actor's, and there is a core of its number.
+    #[inline(always)]
     pub(crate) fn knows(&self, ticket: Ticket) -> bool
         ensures knows { IsTrue result ↔ ((ticket.from ≡ self.now.desk.actor) × (ticket.to < self.now.desk.cores)) }
         ensures unknown { result ≡ false → RefusesTicket ticket Unknown self.now.desk.journal.notes }
@@ -113,6 +115,7 @@ impl<J: Task<Out = u64>> Outside<J> {
     /// # Errors
     ///
     /// Those of the link. The order comes back, and nothing is noted.
+    #[inline(always)]
     pub(crate) fn submit(&mut self, to: CoreNo, order: Order<J>) -> Result<Ticket, SendError<J>>
         requires there { to < self.old.desk.cores }
         requires room { booked self.old.desk + 3 ≤ self.old.desk.journal.room }
@@ -125,6 +128,7 @@ impl<J: Task<Out = u64>> Outside<J> {
     }
 
     /// Collects all outcomes that the end to this core shows. How many there were.
+    #[inline(always)]
     pub(crate) fn collect_from(&mut self, core: CoreNo) -> usize
         requires there { core < self.old.desk.cores }
         ensures collects { CollectsFrom core self.old.desk result self.new.desk }
@@ -139,6 +143,7 @@ impl<J: Task<Out = u64>> Outside<J> {
     /// # Errors
     ///
     /// `Unknown`, `Gone` and `Pending`, as `RecordedDesk::redeem`. Nothing changes.
+    #[inline(always)]
     pub(crate) fn redeem(&mut self, ticket: Ticket) -> Result<Outcome<J, u64>, TicketError>
         requires there { ticket.to < self.old.desk.cores }
         ensures redeems { RedeemsTicket ticket self.old.desk result self.new.desk }

@@ -49,6 +49,7 @@ impl<J: Task<Out = u64>, C: Drop, G: Drop, S: Sink> Runtime<J, C, G, S> {
     /// # Errors
     ///
     /// `Refused` where there is too little room, and the sink refuses.
+    #[inline(always)]
     pub(crate) fn make_room(&mut self, each: u8) -> Result<(), Refused>
         ensures makes { OnOk result (MakesRoom each self.old self.new) }
         ensures room { OnOk result (booked self.new.desk + 3 ≤ self.new.desk.journal.room) }

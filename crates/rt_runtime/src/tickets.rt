@@ -10,6 +10,7 @@ use rt_journal_notes::Sink;
 
 impl<J: Task<Out = u64>, C: Drop, G: Drop, S: Sink> Runtime<J, C, G, S> {
     /// Collects all outcomes that the link to a core shows. How many there were: 0 where there is no such core.
+    #[inline(always)]
     pub fn collect(&mut self, core: CoreNo) -> usize
         ensures { Collects core self.old result self.new }
     {
@@ -25,6 +26,7 @@ impl<J: Task<Out = u64>, C: Drop, G: Drop, S: Sink> Runtime<J, C, G, S> {
     ///
     /// `Unknown` where this caller submitted nothing under the name; `Gone` where it was redeemed or detached before; `Pending` where its
     /// outcome isn't collected yet. Nothing changes.
+    #[inline(always)]
     pub fn redeem(&mut self, ticket: Ticket) -> Result<Outcome<J, u64>, TicketError>
         ensures { RedeemsHere (Fits J.meaning) ticket self.old result self.new }
     {

@@ -55,7 +55,9 @@ impl<R: time::Clock> Clock for SystemClock<R> {
         ensures { (self.old.last ≤ result) × (self.new.last ≡ result) }
     {
         if let Ok(time) = self.clock.monotonic() {
-            let nanos = u64::try_from(time.as_nanos()).unwrap_or(u64::MAX);
+            // In 64 bits, since this is read twice a poll. Past 584 years the sum wraps, and the clock tells its last reading.
+            let whole = time.as_secs().wrapping_mul(1_000_000_000);
+            let nanos = whole.wrapping_add(u64::from(time.subsec_nanos()));
             if nanos > self.last {
                 self.last = nanos;
             }
