@@ -197,7 +197,7 @@ impl<J: Task, A: Allocator + Clone> Core<J, A> {
     {
         let Envelope { name, order } = envelope;
         match order {
-            Order::Job(queue, job) => self.deliver_job(name, queue, job),
+            Order::Job(queue, job) => self.deliver_noted(name, queue, job),
             Order::Create(shares) => self.deliver_create(name, shares),
             Order::SetShares(queue, shares) => self.deliver_shares(name, queue, shares),
             Order::Close(queue, mode) => self.deliver_close(name, queue, mode),

@@ -16,7 +16,8 @@ use Rattle.rt_taskqueue.specs.Fronts.{IsPolled as IsPolledIn}
 use Rattle.rt_journal.specs.Whole.{Begins, LeavesTurn}
 use Rattle.rt_journal.proofs.Beginnings.{IsBeginning, StandsInTurn, leaves_turn}
 use Rattle.rt_journal.proofs.QuietSteps.{nobody, everyone, HasDone, view_of, quiet_invariant, quiet_now, given_settled}
-use Rattle.rt_journal.proofs.QuietSteps.{HasStepped, MayNote, quiet_noted}
+use Rattle.rt_journal.specs.Carried.{MayNote}
+use Rattle.rt_journal.proofs.QuietSteps.{HasStepped, quiet_noted}
 use Rattle.rt_journal.proofs.SentNotes.{HasSaid, SaysNoMore, all_posted, has_said}
 use Rattle.rt_journal.proofs.SettledPolls.{settled_did}
 use Rattle.rt_journal.proofs.SettledEnds.{owes_settled, its_answer}

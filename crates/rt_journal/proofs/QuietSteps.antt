@@ -7,6 +7,7 @@ use Rattle.rt_journal.proofs.Names.{KeepsSent, IsSameSeat, grows, OutcomeNote, I
 use Rattle.rt_journal.proofs.Names.{Settled, subst, Some, HaveTasks, Note, Meaning, CoreView, JobOut, inside_count, IsKept}
 use Rattle.rt_journal.proofs.Names.{IsWritten, terms_at, desk_of, IsRecorded, HasTask, KeepsOuts, with_notes, reverse}
 use Rattle.rt_journal.proofs.Names.{Envelope, DeskView, terms_of_desk, desk_with, keeps_outs}
+use Rattle.rt_journal.specs.Carried.{MayNote}
 use Rattle.rt_ids.specs.declared.note.Note.TheVariants as writes
 use Rattle.rt_core.specs.declared.turn.Settled.TheVariants as came
 use Rattle.rt_ids.specs.declared.note.OutcomeNote.TheVariants as outcomes
@@ -142,12 +143,6 @@ module _ {J T : Type 0} where
   -- the desk is the one of its core
   pub desk_is : (said : DeskView J T) (core : CoreView J) (took : List (Envelope J)) → said.actor ≡ core.core → said.cores ≡ core.cores → said.burst ≡ core.bursts.burst → said ≡ desk_of (view_of core took said)
   desk_is said core took actor cores burst = λ i. record { actor = actor i; cores = cores i; cap = said.cap; burst = burst i; journal = said.journal; lanes = said.lanes }
-
--- what a desk asks of the notes that it writes
-pub record MayNote {J T : Type 0} (said : DeskView J T) (slice : List (Note T)) : Type 0 where
-  pub room : length said.journal.notes + length slice ≤ said.journal.room
-  pub written : IsWritten (terms_of_desk said) (reverse slice ++ said.journal.notes)
-  pub sent : KeepsSent said.journal.notes (reverse slice ++ said.journal.notes)
 
 -- few notes that may stand behind the journal may be written by its desk
 pub may_note : {J T : Type 0} (core : CoreView J) (took : List (Envelope J)) (said : DeskView J T) → said ≡ desk_of (view_of core took said) → {notes slice : List (Note T)} → slice ≡ notes →

@@ -2,6 +2,7 @@ pub mod Agreement
 pub mod BadPolls
 pub mod BadRefusals
 pub mod BadTurns
+pub mod Carried
 pub mod Deliveries
 pub mod Ends
 pub mod Figures

@@ -1,6 +1,7 @@
 //! A core beside its journal, which tells each of its steps, over any ends of links.
 #![tactic(auto)]
 
+mod carried;
 mod given;
 pub mod laws;
 pub mod recorded;

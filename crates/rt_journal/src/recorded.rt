@@ -22,6 +22,7 @@ ghost use Rattle.rt_journal.specs.Turns.{Picks, IsBack, IsOut, IsOutUnder, IsPol
 ghost use Rattle.rt_journal_desk.specs.Tickets.{KnowsLanes};
 ghost use Rattle.rt_journal.specs.Owed.{IsSentUnder, OwesSettled, outcome_settled, owed_back};
 
+use crate::carried::carry_out;
 use crate::given::{give_if, outcome_done, outcome_of};
 use rt_core::{Core, PickError, Settled, Turn};
 use rt_history::History;
@@ -218,8 +219,7 @@ impl<J: Task<Out = u64>, A: Allocator + Clone> Recorded<J, A> {
         // The queue and the shares of a command are within their ranges, which the law of its journal asks.
         let _within_ranges = envelope.order.without_job();
         self.took = self.took.with(&envelope);
-        let (delivered, notes) = self.core.deliver(envelope);
-        self.said.write(notes.as_slice());
+        let delivered = carry_out(&mut self.core, &mut self.said, envelope);
         outcome_of(delivered)
     }
 

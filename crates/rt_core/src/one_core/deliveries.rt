@@ -1,13 +1,13 @@
 //! What a delivery does, by its order.
-ghost use Rattle.std.specs.Prelude.{◌≡◌, ◌↔◌, ℕ, ◌+◌, ◌<◌, ◌≤◌, true, false, None, IsTrue};
+ghost use Rattle.std.specs.Prelude.{◌≡◌, ◌↔◌, ℕ, ◌+◌, ◌<◌, ◌≤◌, [], ◌∷◌, true, false, None, IsTrue};
 ghost use Rattle.rt_core.specs.declared.delivery.Delivered.TheVariants as deliveries;
 ghost use Rattle.rt_ids.specs.declared.note.Note.TheVariants as notes;
 ghost use Rattle.rt_ids.specs.declared.order.Answer.TheVariants as answers;
 ghost use Rattle.rt_ids.specs.declared.order.Order.TheVariants as orders;
 ghost use Rattle.rt_jobs.specs.Ready.{IsReady};
 ghost use Rattle.rt_taskqueue.specs.Queues.{queue_count, mode_of};
-ghost use Rattle.rt_core.specs.State.{is_working, inside_count, IsBounded};
-ghost use Rattle.rt_core.specs.Deliveries.{Delivers, CountsAlone, Enters};
+ghost use Rattle.rt_core.specs.State.{delivered_of, is_working, inside_count, IsBounded};
+ghost use Rattle.rt_core.specs.Deliveries.{Delivers, CountsAlone, Enters, note_told};
 
 use super::Core;
 use crate::delivery::Delivered;
@@ -46,8 +46,31 @@ impl<J: Task, A: Allocator + Clone> Core<J, A> {
         !self.queues.is_empty(queue) || is_of_queue(&self.out, queue)
     }
 
+    /// Carries out the next submission of its sender, which is a job. The caller writes its one note.
     #[inline(always)]
-    pub(super) fn deliver_job(
+    pub fn deliver_job(&mut self, name: JobId, queue: QueueNo, job: J) -> Delivered<J>
+        requires room { inside_count self.old < self.old.queues.room }
+        requires sender { name.from ≤ self.old.cores }
+        requires next { name.number ≡ delivered_of name.from self.old + 1 }
+        requires ready { IsReady J.meaning job }
+        ensures delivers { Delivers {T = J.Out} self.old name (orders.Job queue job) result self.new (note_told name queue result ∷ []) }
+        ensures bounded { IsBounded self.new }
+    {
+        match self.refusal(queue) {
+            Some(reason) => {
+                self.count(&name);
+                Delivered::Back(reason, Order::Job(queue, job))
+            }
+            None => {
+                self.take_in(name, queue, job);
+                Delivered::Took
+            }
+        }
+    }
+
+    /// The same with its note.
+    #[inline(always)]
+    pub(super) fn deliver_noted(
         &mut self,
         name: JobId,
         queue: QueueNo,
@@ -57,24 +80,22 @@ impl<J: Task, A: Allocator + Clone> Core<J, A> {
         J::Out: Copy,
         requires room { inside_count self.old < self.old.queues.room }
         requires sender { name.from ≤ self.old.cores }
+        requires next { name.number ≡ delivered_of name.from self.old + 1 }
         requires ready { IsReady J.meaning job }
         ensures delivers { Delivers self.old name (orders.Job queue job) result.0 self.new result.1.items }
         ensures bounded { IsBounded self.new }
     {
-        match self.refusal(queue) {
-            Some(reason) => {
-                self.count(&name);
-                let back = Note::Back(name, reason);
-                (
-                    Delivered::Back(reason, Order::Job(queue, job)),
-                    one_note(back),
-                )
-            }
-            None => {
-                let took = Note::Took(name, queue);
-                self.take_in(name, queue, job);
+        let named = name;
+        match self.deliver_job(name, queue, job) {
+            Delivered::Took => {
+                let took = Note::Took(named, queue);
                 (Delivered::Took, one_note(took))
             }
+            Delivered::Back(reason, order) => {
+                let back = Note::Back(named, reason);
+                (Delivered::Back(reason, order), one_note(back))
+            }
+            Delivered::Answered(_) => unreachable!(),
         }
     }
 

@@ -3,8 +3,16 @@ use Rattle.rt_jobs.specs.Ready.{HasReadyJob}
 use Rattle.rt_core.specs.Deliveries.{Delivers}
 use Rattle.rt_core.proofs.one_core.Core.deliver.Goals as goal
 
-pub deliver_job-requires : goal.deliver_job-requires
-deliver_job-requires g c = (assumption, (c.requires.room, (c.requires.sender, subst (HasReadyJob g.J.Task.meaning) c.in-Job.is c.requires.ready)))
+pub deliver_noted-requires : goal.deliver_noted-requires
+deliver_noted-requires g c = (
+  assumption,
+  record {
+    room = c.requires.room;
+    sender = c.requires.sender;
+    next = c.requires.next;
+    ready = subst (HasReadyJob g.J.Task.meaning) c.in-Job.is c.requires.ready;
+  },
+)
 
 pub deliver_create-requires : goal.deliver_create-requires
 deliver_create-requires g c = (assumption, c.requires.sender)
@@ -20,11 +28,11 @@ deliver_close_core-requires g c = (assumption, c.requires.sender)
 
 pub returns-in-Job-clause-delivers : goal.returns-in-Job-clause-delivers
 returns-in-Job-clause-delivers g c =
-    let done = c.deliver_job in
+    let done = c.deliver_noted in
     subst (λ order. Delivers c.args.self.now c.args.envelope.name order done.result.0 done.new.self done.result.1.items) (sym c.in-Job.is) done.ensures.delivers
 
 pub returns-in-Job-clause-bounded : goal.returns-in-Job-clause-bounded
-returns-in-Job-clause-bounded g c = c.deliver_job.ensures.bounded
+returns-in-Job-clause-bounded g c = c.deliver_noted.ensures.bounded
 
 pub returns-in-Create-clause-delivers : goal.returns-in-Create-clause-delivers
 returns-in-Create-clause-delivers g c =

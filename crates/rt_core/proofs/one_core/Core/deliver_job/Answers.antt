@@ -6,7 +6,7 @@ pub count-requires : goal.count-requires
 count-requires g c = c.requires.sender
 
 pub returns-in-Some-clause-delivers : goal.returns-in-Some-clause-delivers
-returns-in-Some-clause-delivers g c = (sym c.refusal.ensures ∙ c.in-Some.is, refl, c.count.ensures.counts, c.one_note.ensures)
+returns-in-Some-clause-delivers g c = (sym c.refusal.ensures ∙ c.in-Some.is, refl, c.count.ensures.counts, refl)
 
 pub returns-in-Some-clause-bounded : goal.returns-in-Some-clause-bounded
 returns-in-Some-clause-bounded g c = c.count.ensures.bounded
@@ -23,13 +23,7 @@ take_in-requires g c =
     }
 
 pub returns-in-None-clause-delivers : goal.returns-in-None-clause-delivers
-returns-in-None-clause-delivers g c = (sym c.refusal.ensures ∙ c.in-None.is, c.take_in.ensures.enters, c.one_note-in-None.ensures)
+returns-in-None-clause-delivers g c = (sym c.refusal.ensures ∙ c.in-None.is, c.take_in.ensures.enters, refl)
 
 pub returns-in-None-clause-bounded : goal.returns-in-None-clause-bounded
 returns-in-None-clause-bounded g c = c.take_in.ensures.bounded
-
-pub one_note-requires : goal.one_note-requires
-one_note-requires g c = assumption
-
-pub one_note-requires-in-None : goal.one_note-requires-in-None
-one_note-requires-in-None g c = assumption
