@@ -3,3 +3,4 @@ pub mod Given
 pub mod Posted
 pub mod Kept
 pub mod Rooms
+mod TurnsRefused

@@ -13,5 +13,6 @@ pub mod Turning
 pub mod Gathered
 pub mod WorldSound
 pub mod Posting
+pub mod Polled
 pub mod Polling
 pub mod WholeTurns

@@ -41,7 +41,6 @@ pub use Rattle.rt_world.specs.Collections.{Collects, Detaches, Redeems, WasAccep
 pub use Rattle.rt_world.specs.Deliveries.{Delivers, IsDelivery, next_place}
 pub use Rattle.rt_world.specs.Inside.{IsAtRest, IsCoreAtRest, IsWorld, Parts, core_at, desk_at, desks, notes_at, seat_of, world_of}
 pub use Rattle.rt_world_links.specs.Links.{ChangesLink, link_at, no_link, row_of}
-pub use Rattle.rt_world_links.specs.OneTurn.{IsKeptBeside, none_owed}
 pub use Rattle.rt_world.specs.Opening.{HasAllLists, IsFresh}
 pub use Rattle.rt_world.specs.Receipts.{HasReceived}
 pub use Rattle.rt_world.specs.Runs.{Happens, IsRun}

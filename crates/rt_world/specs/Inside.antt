@@ -14,7 +14,7 @@ use Rattle.rt_journal.specs.Ends.{IsInOf}
 use Rattle.rt_journal_desk.specs.Ends.{IsOutOf}
 use Rattle.rt_journal_desk.specs.Tickets.{HasLane}
 use Rattle.rt_world.specs.State.{WorldView}
-use Rattle.rt_world_links.specs.Between.{open_queue}
+use Rattle.rt_journal_turn.specs.Rooms.{open_queue}
 use Rattle.rt_world_links.specs.Links.{row_of, link_at}
 
 -- the parts of a world: its cores, each beside its journal; the outside actor; and its links, by sender and then by core

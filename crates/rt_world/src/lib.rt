@@ -3,6 +3,7 @@
 
 mod closed;
 pub mod event;
+mod known;
 pub mod model;
 
 pub use event::{Event, Reply};

@@ -6,7 +6,7 @@ use Rattle.rt_taskqueue.specs.declared.queues.CreateError.{CreateError}
 use Rattle.rt_taskqueue.specs.declared.queues.CreateError.TheVariants.{TooMany, Memory}
 use Rattle.rt_journal.specs.Agreement.{IsOpenTurn}
 use Rattle.rt_journal.specs.Recorded.{IsRecorded}
-use Rattle.rt_world_links.specs.Between.{open_queue}
+use Rattle.rt_journal_turn.specs.Rooms.{open_queue}
 pub use Rattle.rt_journal_turn.proofs.Rooms.{not_open}
 
 -- where the core has no open turn, the journal has none

@@ -7,6 +7,4 @@ pub mod FreshLinks
 pub mod SentLinks
 pub mod TakenLinks
 pub mod LentLinks
-pub mod OneTurn
 pub mod Between
-pub mod TurnOfLinks

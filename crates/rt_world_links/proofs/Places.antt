@@ -2,7 +2,7 @@
 use Rattle.rt_world_links.proofs.Words.{◌≡◌, ℕ, ◌<◌, List, [], length, arith, get_or_past, sym, ◌∙◌, ap, subst, ◌⊎◌, inl, inr, ⊎_elim, get_or, set}
 use Rattle.rt_world_links.proofs.Words.{get_or-set_same, get_or-set_other, cases_eq, cases_lt}
 use Rattle.std.proofs.lemmas.List.{set_past}
-pub use Rattle.rt_world_links.specs.Placed.{by_place}
+pub use Rattle.rt_journal_turn.proofs.Given.{by_place}
 
 -- where each list of some has no item, there is none at any place
 pub none_anywhere : {A : Type 0} (rows : List (List A)) → ((place : ℕ) → place < length rows → get_or rows place [] ≡ []) → (place : ℕ) → get_or rows place [] ≡ []

@@ -5,6 +5,3 @@ pub mod Placed
 pub mod BothEnds
 pub mod Reaching
 pub mod Lending
-pub mod Beside
-pub mod Between
-pub mod OneTurn

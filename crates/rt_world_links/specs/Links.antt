@@ -1,6 +1,5 @@
 -- A link from each actor to each core, as rows by sender.
-use Rattle.std.specs.Prelude.{◌≡◌, ℕ, ◌+◌, ◌<◌, ◌≤◌, List, [], ◌++◌, length, slice_index_or, slice_set}
-use Rattle.rt_ids.specs.declared.order.Outcome.{Outcome}
+use Rattle.std.specs.Prelude.{◌≡◌, ℕ, ◌+◌, ◌<◌, ◌≤◌, List, [], length, slice_index_or, slice_set}
 use Rattle.rt_link.specs.declared.plain.Whole.{Whole}
 use Rattle.rt_link.specs.Whole.{fresh}
 
@@ -27,15 +26,6 @@ module _ {J T : Type 0} where
     pub others : (s d : ℕ) → (s ≡ sender → d ≡ core → ⊥) → link_at s d new ≡ link_at s d old
     pub same_rows : length new ≡ length old
     pub same_cores : (s : ℕ) → length (row_of s new) ≡ length (row_of s old)
-
-  -- on one link to this core outcomes were given, or none was, and nothing else changed
-  pub record GivesOnOne (core : ℕ) (old new : List (List (Whole J T))) : Type 0 where
-    pub sender : ℕ
-    pub link : Whole J T
-    pub given : List (ℕ × Outcome J T)
-    pub gives : link ≡ record (link_at sender core old) { given = (link_at sender core old).given ++ given }
-    pub links : new ≡ with_link old sender core link
-    pub changes : ChangesLink old new sender core link
 
   -- a link from this sender to each of the first cores, just opened
   pub record IsFreshRow (sender cores cap : ℕ) (row : List (Whole J T)) : Type 0 where

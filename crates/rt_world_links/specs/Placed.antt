@@ -1,12 +1,8 @@
 -- Links of which one was put in the place of another, read at any place.
-use Rattle.std.proofs.Common.{◌≡◌, ◌≢◌, ℕ, ◌<◌, List, [], length, get_or, set, refl, ap, ◌∙◌, sym, subst, ⊎_elim, get_or-set_same, get_or-set_other, length-set}
-use Rattle.std.proofs.lemmas.Bool.{cases_eq}
+use Rattle.std.proofs.Common.{◌≡◌, ◌≢◌, ℕ, ◌<◌, List, [], length, get_or, set, refl, ap, ◌∙◌, get_or-set_same, get_or-set_other, length-set}
+use Rattle.rt_journal_turn.proofs.Given.{by_place}
 use Rattle.rt_link.specs.declared.plain.Whole.{Whole}
 use Rattle.rt_world_links.specs.Links.{ChangesLink, link_at, no_link, row_of, with_link}
-
--- what is so of one place, and of each other, is so of each
-pub by_place : (Holds : ℕ → Type 0) (at : ℕ) → Holds at → ((place : ℕ) → place ≢ at → Holds place) → (place : ℕ) → Holds place
-by_place Holds at here away place = ⊎_elim (λ one. subst Holds (sym one) here) (away place) (cases_eq place at)
 
 module _ {J T : Type 0} (links : List (List (Whole J T))) (s d : ℕ) (link : Whole J T) where
   abbrev now : List (List (Whole J T))

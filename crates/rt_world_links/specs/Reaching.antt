@@ -5,12 +5,13 @@ use Rattle.std.proofs.lemmas.Option.{get_or_from_slice_get, slice_get-get_or}
 use Rattle.std.specs.Prelude.{Option}
 use Rattle.rt_ids.specs.declared.order.Outcome.{Outcome}
 use Rattle.rt_ids.specs.Assembly.{IsPrefix}
+use Rattle.rt_journal_turn.proofs.Given.{by_place}
 use Rattle.rt_link_ends.specs.Around.{Gave, HaveSent, IsAround, SeeGiven, SeesOrders}
 use Rattle.rt_link.specs.declared.plain.Whole.{Whole}
 use Rattle.rt_link.specs.Whole.{out_of}
 use Rattle.rt_world_links.specs.Links.{ChangesLink, link_at, no_link, row_of, with_link}
 use Rattle.rt_world_links.specs.BothEnds.{gift, orders_same, orders_seen}
-use Rattle.rt_world_links.specs.Placed.{ChangesLink-with_link, by_place}
+use Rattle.rt_world_links.specs.Placed.{ChangesLink-with_link}
 use Rattle.rt_world_links.specs.Reached.{HasLink, links_reach}
 
 module _ {J T : Type 0} (own : ℕ) (row : List (Whole J T)) (links : List (List (Whole J T))) (there : own < length links) where

@@ -11,10 +11,11 @@ use super::World;
 use super::acts::Act;
 use super::receipts::Receipt;
 use crate::event::Reply;
+use crate::known::Known;
 use rt_ids::{ActorNo, CoreNo, Order};
 use rt_jobs::{Job, Task};
-use rt_journal_turn::Turned;
-use rt_world_links::turn_of;
+use rt_journal_turn::{Turned, turn};
+use rt_runtime_config::NoGate;
 use std::alloc::Allocator;
 
 impl<J: Task<Out = u64>, A: Allocator + Clone> World<J, A> {
@@ -49,12 +50,15 @@ impl<J: Job + Task<Out = u64, Local = ()>, A: Allocator + Clone> World<J, A> {
         ensures { Turns J.meaning core spent self.old self.new result }
     {
         let mut local = ();
-        reply_for(turn_of(
+        let mut meter = Known::each(spent);
+        let mut gate = NoGate;
+        reply_for(turn(
             &mut self.inside[core.0 as usize],
             &mut self.links,
             &mut local,
             core,
-            spent,
+            &mut meter,
+            &mut gate,
         ))
     }
 }

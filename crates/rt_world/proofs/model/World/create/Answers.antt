@@ -1,8 +1,7 @@
-use Rattle.rt_world.proofs.Words.{◌<◌, ◌∙◌, ap, subst, arith, journal_at, IsOpening, sym, none_owed, IsKeptBeside}
+use Rattle.rt_world.proofs.Words.{◌<◌, ◌∙◌, ap, subst, arith, journal_at, IsOpening, sym}
 use Rattle.rt_world.proofs.CoreSteps.{viewed, free, journal_is}
-use Rattle.rt_world_links.proofs.OneTurn.{created_stays}
 use Rattle.rt_world_links.proofs.Between.{created_open}
-use Rattle.rt_world.proofs.Turning.{all_beside, quiet_rests, quiet_at_rest, creates_now}
+use Rattle.rt_world.proofs.Turning.{all_around, creates, quiet_rests, quiet_at_rest, creates_now}
 use Rattle.rt_world.proofs.model.World.create.Goals as goal
 
 pub create-requires : goal.create-requires
@@ -18,13 +17,13 @@ invariant_of-self g c =
     let there : c.args.core < c.self.inside.cores = omega (arith, c.requires.core, ap (λ world. world.cores) c.self.view_is) in
     let view = viewed c.self.invariant.1 c.args.core there _ c.core.view_is c.index_mut.ensures.value in
     let did = rw view at c.create.ensures in
-    let kept : IsKeptBeside g.J.Task.meaning none_owed _ c.create.new.self = record { sound = did.sound; seat = did.seat; ins = did.ins; outs = did.outs; lanes = did.lanes } in
-    let stays = created_stays (all_beside c.self.invariant.1 c.args.core there) (c.self.invariant.3 c.args.core there).nobody_out c.args.shares c.create.result did.creates kept in
+    let step = creates (all_around c.self.invariant.1 c.args.core there) (record { seat = did.seat; outs = did.outs; lanes = did.lanes }) did.sound did.ins (c.self.invariant.3 c.args.core there).nobody_out
+    c.args.shares c.create.result did.creates in
     rw c.core.view_is (
       c.self.invariant.0,
-      quiet_rests c.self.invariant.1 c.args.core there c.create.new.self _ stays,
+      quiet_rests c.self.invariant.1 c.args.core there c.create.new.self _ step,
       c.self.invariant.2,
-      quiet_at_rest c.self.invariant.1 c.args.core there c.create.new.self _ stays c.self.invariant.3
+      quiet_at_rest c.self.invariant.1 c.args.core there c.create.new.self _ step c.self.invariant.3
           (created_open _ c.create.new.self did.seat (c.self.invariant.3 c.args.core there).no_turn c.args.shares c.create.result did.creates),
     )
 
@@ -33,6 +32,6 @@ returns g c =
     let there : c.args.core < c.self.inside.cores = omega (arith, c.requires.core, ap (λ world. world.cores) c.self.view_is) in
     let view = viewed c.self.invariant.1 c.args.core there _ c.core.view_is c.index_mut.ensures.value in
     let did = rw view at c.create.ensures in
-    let kept : IsKeptBeside g.J.Task.meaning none_owed _ c.create.new.self = record { sound = did.sound; seat = did.seat; ins = did.ins; outs = did.outs; lanes = did.lanes } in
-    let stays = created_stays (all_beside c.self.invariant.1 c.args.core there) (c.self.invariant.3 c.args.core there).nobody_out c.args.shares c.create.result did.creates kept in
-    rw (← c.self.view_is, c.core.view_is) (creates_now c.self.invariant.1 c.args.core there c.create.new.self _ stays c.args.shares c.create.result did.creates)
+    let step = creates (all_around c.self.invariant.1 c.args.core there) (record { seat = did.seat; outs = did.outs; lanes = did.lanes }) did.sound did.ins (c.self.invariant.3 c.args.core there).nobody_out
+    c.args.shares c.create.result did.creates in
+    rw (← c.self.view_is, c.core.view_is) (creates_now c.self.invariant.1 c.args.core there c.create.new.self _ step c.args.shares c.create.result did.creates)

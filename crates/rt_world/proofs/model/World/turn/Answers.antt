@@ -3,11 +3,18 @@ use Rattle.rt_world.proofs.Words.{◌≡◌, ℕ, ◌<◌, ◌≤◌, ◌+◌, �
 use Rattle.std.proofs.Math.Nat.{mul_comm, mul_assoc}
 use Rattle.rt_ids.specs.Bursts.{has_bursts}
 use Rattle.rt_ids.specs.Work.{number_if}
-use Rattle.rt_world_links.specs.Between.{turn_notes}
+use Rattle.rt_ids.specs.declared.names.JobId.{JobId}
+use Rattle.rt_runtime_config.specs.declared.gate.NoGate.{NoGate}
+use Rattle.rt_journal_turn.specs.Rooms.{turn_notes}
+use Rattle.rt_journal_turn.specs.Turns.{turn_view}
 use Rattle.rt_world.proofs.CoreSteps.{viewed, free, burst_is, cores_are, core_cap}
-use Rattle.rt_world.proofs.Turning.{all_beside, all_outs}
+use Rattle.rt_world.proofs.Turning.{all_around}
 use Rattle.rt_world.proofs.WholeTurns.{turned_at_rest, turns_now}
 use Rattle.rt_world.proofs.model.World.turn.Goals as goal
+
+-- the gate is asked for nothing that a contract sees
+abbrev asked : NoGate → ℕ → JobId → NoGate → Type 0
+asked gate core job after = Unit {0}
 
 -- the notes that the calls of a poll may make, said otherwise
 calls_fit : (cores cap its_cores its_cap : ℕ) → its_cores ≡ cores → its_cap ≡ cap → 3 * cores * cap ≡ its_cores * (3 * its_cap)
@@ -21,8 +28,8 @@ turn_fits burst some = by_form (has_bursts burst)
     by_form true = omega (arith, some)
     by_form false = omega (arith, some)
 
-pub turn_of-requires : goal.turn_of-requires
-turn_of-requires g c =
+pub turn-requires : goal.turn-requires
+turn-requires g c =
     let there : c.args.core < c.self.inside.cores = omega (arith, c.requires.core, ap (λ world. world.cores) c.self.view_is) in
     let world = c.self.invariant.1 in
     let view = viewed world c.args.core there _ c.core.view_is c.index_mut.ensures.value in
@@ -33,26 +40,26 @@ turn_of-requires g c =
     let burst : c.index_mut.result.now.core.bursts.burst ≡ c.args.self.now.burst = ap (λ at. at.core.bursts.burst) view ∙ (burst_is world c.args.core there ∙ ap (λ world. world.burst) c.self.view_is) in
     let few : turn_notes c.index_mut.result.now.core.bursts.burst ≤ 2 * c.args.self.now.burst + 2 = rw burst (turn_fits c.args.self.now.burst (omega (arith, c.self.invariant.0.some_burst, ap (λ world. world.burst) c.self.view_is))) in
     rw view (record {
-      number = omega (arith, cores_are world c.args.core there, there);
-      free = (c.self.invariant.3 c.args.core there).nobody_out;
+      rest = record { recorded = world.recorded c.args.core there; free = (c.self.invariant.3 c.args.core there).nobody_out; beside = all_around world c.args.core there };
       no_turn = (c.self.invariant.3 c.args.core there).no_turn;
-      room = rw (← view) (omega (arith, places, fit, few));
-      sound = world.recorded c.args.core there;
-      outs = all_outs world c.args.core there;
-      beside = all_beside world c.args.core there;
+      room = rw (← view) (record { back = omega (arith, places, few); poll = λ _. omega (arith, places, fit, few) });
     })
 
 pub invariant_of-self : goal.invariant_of-self
 invariant_of-self g c =
     let there : c.args.core < c.self.inside.cores = omega (arith, c.requires.core, ap (λ world. world.cores) c.self.view_is) in
-    let view = viewed c.self.invariant.1 c.args.core there _ c.core.view_is c.index_mut.ensures.value in
-    let turned = turns_now c.self.invariant.1 c.args.core there c.args.spent c.turn_of.new.core _ c.turn_of.result (rw view at c.turn_of.ensures.turns) in
-    rw c.core.view_is
-    (c.self.invariant.0, turned.holds, c.self.invariant.2, turned_at_rest c.self.invariant.1 c.args.core there c.args.spent c.turn_of.new.core c.turn_of.new.links c.self.invariant.3 turned.free c.turn_of.ensures.no_turn)
+    let world = c.self.invariant.1 in
+    let view = viewed world c.args.core there _ c.core.view_is c.index_mut.ensures.value in
+    let rest = c.self.invariant.3 in
+    let behind = turn_view c.turn.new.core c.turn.new.around c.turn.new.meter c.turn.new.gate in
+    let turned = turns_now world c.args.core there asked c.args.spent c.each-meter.result _ (rest c.args.core there).nobody_out behind c.turn.result c.each-meter.ensures (rw view at c.turn.ensures.makes) in
+    rw c.core.view_is (c.self.invariant.0, turned.holds, c.self.invariant.2, turned_at_rest world c.args.core there asked c.args.spent behind rest turned.free c.turn.ensures.no_turn)
 
 pub returns : goal.returns
 returns g c =
     let there : c.args.core < c.self.inside.cores = omega (arith, c.requires.core, ap (λ world. world.cores) c.self.view_is) in
-    let view = viewed c.self.invariant.1 c.args.core there _ c.core.view_is c.index_mut.ensures.value in
+    let world = c.self.invariant.1 in
+    let view = viewed world c.args.core there _ c.core.view_is c.index_mut.ensures.value in
+    let behind = turn_view c.turn.new.core c.turn.new.around c.turn.new.meter c.turn.new.gate in
     rw (← c.self.view_is, c.core.view_is, c.reply_for.ensures)
-    (turns_now c.self.invariant.1 c.args.core there c.args.spent c.turn_of.new.core _ c.turn_of.result (rw view at c.turn_of.ensures.turns)).does
+    (turns_now world c.args.core there asked c.args.spent c.each-meter.result _ (c.self.invariant.3 c.args.core there).nobody_out behind c.turn.result c.each-meter.ensures (rw view at c.turn.ensures.makes)).does
