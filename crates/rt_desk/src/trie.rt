@@ -175,7 +175,6 @@ impl<V: Drop> Trie<V> {
     }
 
     /// Puts a value in the place of the one at a number, which comes back. If the number isn't held, nothing changes.
-    #[inline(always)]
     pub(crate) fn swap(&mut self, number: u64, value: V) -> Option<V>
         ensures none { IfNone result (at self.old number ≡ None) }
         ensures unchanged { IfNone result (self.new ≡ self.old) }
