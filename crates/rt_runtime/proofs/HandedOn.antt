@@ -35,6 +35,11 @@ module _ {J T : Type 0} {fits : Order J → Outcome J T → Type 0} (view : Outs
   few_upto zero low = omega arith
   few_upto (suc count) low = omega (arith, few_upto count (omega (arith, low)), few_at count (omega (arith, low)))
 
+  -- as many notes as all links may ask for are enough for a send
+  pub room_for_all : (each : ℕ) → 3 * (view.desk.cores * view.desk.cap + 1) + each * view.desk.cores ≤ free_notes view.desk.journal →
+      3 * (outstanding_upto view.desk.journal.notes view.desk.cores + 1) + each * view.desk.cores ≤ free_notes view.desk.journal
+  room_for_all each enough = omega (arith, enough, few_upto view.desk.cores (omega arith))
+
   -- the places are enough for what is due, and for a send
   pub places_enough : sum_by due_of view.desk.lanes + 3 ≤ places_of view.desk.journal
   places_enough = omega (arith, is.places, due_all view is, few_upto view.desk.cores (omega arith))

@@ -1,6 +1,6 @@
 //! The outside actor's calls.
 
-ghost use Rattle.std.specs.Prelude.{◌≡◌, ◌+◌, ◌<◌, ◌≤◌, ◌^◌, ◌↔◌, IsTrue, length, false, slice_index_or, slice_set, ◌||◌};
+ghost use Rattle.std.specs.Prelude.{◌≡◌, ◌+◌, ◌<◌, ◌≤◌, ◌^◌, ◌↔◌, IsTrue, length, true, false, slice_index_or, slice_set, ◌||◌};
 ghost use Rattle.rt_journal_notes.specs.Journals.{free_notes};
 ghost use Rattle.rt_jobs.specs.Ready.{HasReadyJob};
 ghost use Rattle.rt_ids.specs.declared.order.Order.TheVariants.{CloseCore};
@@ -64,6 +64,30 @@ impl<J: Task<Out = u64>, C: Drop, G: Drop, S: Sink> Runtime<J, C, G, S> {
     /// many for each core.
     #[inline(always)]
     pub(crate) fn is_full(&self, each: u8) -> bool
+        ensures full { IsTrue result ↔ (free_notes self.now.desk.journal < room_left each self.now) }
+        ensures room { result ≡ false → booked self.now.desk + 3 ≤ self.now.desk.journal.room }
+        ensures behind { booked (passed_on self.now).desk + 3 ≤ (passed_on self.now).desk.journal.room }
+    {
+        if self.has_plenty(each) {
+            return false;
+        }
+        self.is_full_now(each)
+    }
+
+    /// Whether as many notes are free as a send would ask for if each link held all that it may. Then no link is asked.
+    #[inline(always)]
+    fn has_plenty(&self, each: u8) -> bool
+        ensures plenty { result ≡ true → room_left each self.now ≤ free_notes self.now.desk.journal }
+        ensures room { result ≡ true → booked self.now.desk + 3 ≤ self.now.desk.journal.room }
+        ensures behind { booked (passed_on self.now).desk + 3 ≤ (passed_on self.now).desk.journal.room }
+    {
+        let most = self.cores as u64 * self.cap as u64;
+        3 * (most + 1) + each as u64 * self.cores as u64 <= self.outside.journal().free() as u64
+    }
+
+    /// The same as `is_full`, by what is outstanding.
+    #[inline(never)]
+    fn is_full_now(&self, each: u8) -> bool
         ensures full { IsTrue result ↔ (free_notes self.now.desk.journal < room_left each self.now) }
         ensures room { result ≡ false → booked self.now.desk + 3 ≤ self.now.desk.journal.room }
         ensures behind { booked (passed_on self.now).desk + 3 ≤ (passed_on self.now).desk.journal.room }

@@ -7,7 +7,7 @@ use Rattle.rt_runtime.specs.Passing.{passed_on}
 use Rattle.rt_runtime.proofs.Booked.{room_to_send}
 use Rattle.rt_runtime.proofs.HandedOn.{room_behind}
 use Rattle.rt_runtime.proofs.Seated.{seat_of}
-use Rattle.rt_runtime.proofs.runtime.Runtime.is_full.Goals as goal
+use Rattle.rt_runtime.proofs.runtime.Runtime.is_full_now.Goals as goal
 
 pub returns-clause-room : goal.returns-clause-room
 returns-clause-room g c enough =
