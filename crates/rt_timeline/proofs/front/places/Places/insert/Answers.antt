@@ -23,7 +23,8 @@ returns-clause-keys g c =
     let old = c.loop-queue.self in
     let room = c.make_room.new.self in
     let is = ap (key_of c.args.vr) c.deref.ensures in
-    rw (c.put.ensures.vrs, c.put.ensures.nodes) (moving-done (front_keys room.vrs.items room.nodes.items) _ _ old.vrs.items old.nodes.items old.begin c.loop-queue.at old.end c.args.vr c.args.node is c.make_room.ensures.keys c.loop-queue.invariant.0 c.requires.rising (c.goes_before.ensures.here c.loop-queue-test.false))
+    let here = c.goes_before.ensures.here c.loop-queue-test.false in
+    rw (c.put.ensures.vrs, c.put.ensures.nodes) (moving-done (front_keys room.vrs.items room.nodes.items) _ _ old.vrs.items old.nodes.items old.begin c.loop-queue.at old.end c.args.vr c.args.node is c.make_room.ensures.keys c.loop-queue.invariant.0 c.requires.rising here)
 
 pub returns-clause-front : goal.returns-clause-front
 returns-clause-front g c =
