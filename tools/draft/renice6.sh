@@ -8,9 +8,13 @@ while true; do
       /tmp/rattle-native-*|/tmp/rt-copy-*|/work/h/chain*)
         case " $(cat /work/h/tools/first.txt) " in *" $c "*) n=-10 ;; *) n=$(cat /work/h/tools/chain.nice 2>/dev/null || echo 2) ;; esac ;;
       /work/h/turnlow*|/work/h/turnw*) n=$(cat /work/h/tools/turn.nice 2>/dev/null || echo 0) ;;
-      /work/h/bench/*) n=3 ;;
+      /work/h/land*) n=-9 ;;
+      /work/h/worker*) n=-2 ;;
+      /work/h/house*) n=0 ;;
+      /work/h/perf*) n=-1 ;;
+      /work/h/bench/*) n=-12 ;;
       /tmp/tmp.*) n=-8 ;;
-      /tmp/tryedits/*) n=0 ;;
+      /tmp/tryedits/*) n=9 ;;
       /work/h/ringedits*) n=8 ;;
       /work/h/*) n=5 ;;
       *) continue ;;
