@@ -68,7 +68,7 @@ impl<J: Task, A: Allocator + Clone> Core<J, A> {
         }
     }
 
-    /// The same with its note.
+    /// Delivers a job, and makes its note.
     #[inline(always)]
     pub(super) fn deliver_noted(
         &mut self,

@@ -61,7 +61,7 @@ impl<J: Task<Out = u64>, A: Allocator + Clone> Recorded<J, A> {
         }
     }
 
-    /// Does so.
+    /// Carries out an order that was just taken, where it is called.
     #[inline(always)]
     fn receive_on<I: InEnd<J>>(&mut self, end: &mut I, envelope: Envelope<J>)
         requires taken { IsJustTaken self.old envelope (I.inward end.old) }
@@ -75,7 +75,7 @@ impl<J: Task<Out = u64>, A: Allocator + Clone> Recorded<J, A> {
         give_if(end, number, outcome);
     }
 
-    /// The same in a call of its own.
+    /// Carries out an order that was just taken, in a call of its own.
     #[inline(never)]
     fn receive_apart<I: InEnd<J>>(&mut self, end: &mut I, envelope: Envelope<J>)
         requires taken { IsJustTaken self.old envelope (I.inward end.old) }
