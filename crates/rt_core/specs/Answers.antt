@@ -1,7 +1,12 @@
--- Facts of the job that is out and of its answer.
-use Rattle.std.specs.Prelude.{Option, Some, None, Result, Ok, Err}
+-- Facts of the job that is out and of its answer, and the note of a delivery's answer.
+use Rattle.std.specs.Prelude.{ℕ, Option, Some, None, Result, Ok, Err}
+use Rattle.rt_ids.specs.declared.names.JobId.{JobId}
+use Rattle.rt_ids.specs.declared.note.Note.{Note}
+use Rattle.rt_ids.specs.declared.note.Note.TheVariants as notes
 use Rattle.rt_jobs.specs.Meanings.{Meaning}
 use Rattle.rt_jobs.specs.Ready.{IsReady, HasReadyJob}
+use Rattle.rt_core.specs.declared.delivery.Delivered.{Delivered}
+use Rattle.rt_core.specs.declared.delivery.Delivered.TheVariants as delivered
 use Rattle.rt_core.specs.declared.turn.Turn.{Turn}
 use Rattle.rt_core.specs.declared.turn.Turn.TheVariants.{Start, Resume, Back, Idle}
 use Rattle.rt_core.specs.declared.turn.PickError.{PickError}
@@ -30,3 +35,9 @@ module _ {J : Type 0} where
   AnswersOut meaning out Yielded = Unit {0}
   AnswersOut meaning out Parked = Unit {0}
   AnswersOut meaning out Stayed = Unit {0}
+
+  -- the note of what became of a submission: a job entered its queue or goes back, a command is answered
+  abbrev pub note_told : {T : Type 0} → JobId → ℕ → Delivered J → Note T
+  note_told name queue delivered.Took = notes.Took name queue
+  note_told name queue (delivered.Back reason order) = notes.Back name reason
+  note_told name queue (delivered.Answered answer) = notes.Answered name answer

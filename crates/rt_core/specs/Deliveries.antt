@@ -57,12 +57,6 @@ module _ {J T : Type 0} where
   CreatesQueue old weight (Err TooMany) new written = (queue_count old.queues ≡ most_queues) × (new ≡ old) × (written ≡ [])
   CreatesQueue old weight (Err Memory) new written = (queue_count old.queues < most_queues) × (new ≡ old) × (written ≡ [])
 
-  -- the note of what became of a submission: a job entered its queue or goes back, a command is answered
-  abbrev pub note_told : JobId → ℕ → Delivered J → Note T
-  note_told name queue Took = notes.Took name queue
-  note_told name queue (Back reason order) = notes.Back name reason
-  note_told name queue (Answered answer) = notes.Answered name answer
-
   -- what a delivery does to the core, by what it answers, with its notes in their order
   abbrev pub Delivers : CoreView J → JobId → Order J → Delivered J → CoreView J → List (Note T) → Type 0
   Delivers old name (Job queue job) Took new written =

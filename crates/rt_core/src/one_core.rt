@@ -265,6 +265,19 @@ impl<J: Task, A: Allocator + Clone> Core<J, A> {
         ensures count { array_vec_len result.1 ≡ queue_count self.now.queues }
         ensures queues { (queue : ℕ) → queue < queue_count self.now.queues → slice_get result.1.items queue ≡ Some (queue_stats queue self.now) }
     {
+        // That there are at most 256 queues is known once they are counted.
+        let _count = self.queue_count();
+        self.stats_within()
+    }
+
+    /// The same with places for so many queues alone. A few are handed on faster than 256.
+    pub fn stats_within<const N: usize>(&self) -> (CoreStats, ArrayVec<QueueStats, N>)
+        requires few { queue_count self.now.queues ≤ N }
+        ensures core { result.0 ≡ core_stats self.now result.0.drained }
+        ensures drained { IsTrue result.0.drained ↔ IsDrained self.now }
+        ensures count { array_vec_len result.1 ≡ queue_count self.now.queues }
+        ensures queues { (queue : ℕ) → queue < queue_count self.now.queues → slice_get result.1.items queue ≡ Some (queue_stats queue self.now) }
+    {
         (self.core_stats(), self.all_queue_stats())
     }
 }

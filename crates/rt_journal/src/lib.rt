@@ -10,4 +10,4 @@ pub mod stats;
 pub use recorded::Recorded;
 pub use rt_journal_desk::{RecordedDesk, RecordedPost, desk, post};
 pub use rt_journal_notes::{Assembly, Journal, Refused, RunningJournal, Sink};
-pub use stats::{are_exact, told_stats};
+pub use stats::{are_exact, told_stats, told_stats_within};

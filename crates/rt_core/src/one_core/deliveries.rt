@@ -7,7 +7,8 @@ ghost use Rattle.rt_ids.specs.declared.order.Order.TheVariants as orders;
 ghost use Rattle.rt_jobs.specs.Ready.{IsReady};
 ghost use Rattle.rt_taskqueue.specs.Queues.{queue_count, mode_of};
 ghost use Rattle.rt_core.specs.State.{delivered_of, is_working, inside_count, IsBounded};
-ghost use Rattle.rt_core.specs.Deliveries.{Delivers, CountsAlone, Enters, note_told};
+ghost use Rattle.rt_core.specs.Answers.{note_told};
+ghost use Rattle.rt_core.specs.Deliveries.{Delivers, CountsAlone, Enters};
 
 use super::Core;
 use crate::delivery::Delivered;

@@ -1,5 +1,5 @@
 //! What a core tells of itself in numbers.
-ghost use Rattle.std.specs.Prelude.{◌≡◌, ◌↔◌, ℕ, ◌+◌, ◌<◌, Some, IsTrue, length, slice_get};
+ghost use Rattle.std.specs.Prelude.{◌≡◌, ◌↔◌, ℕ, ◌+◌, ◌<◌, ◌≤◌, Some, IsTrue, length, slice_get};
 ghost use Rattle.arrayvec.specs.ArrayVec.{array_vec_len};
 ghost use Rattle.rt_taskqueue.specs.Queues.{queue_count, waiting_of, parked_of};
 ghost use Rattle.rt_core.specs.Closing.{IsDrained};
@@ -51,7 +51,17 @@ impl<J: Task, A: Allocator + Clone> Core<J, A> {
         }
     }
 
-    pub(super) fn all_queue_stats(&self) -> ArrayVec<QueueStats, 256>
+    /// How many queues there are. They are numbered from 0 on.
+    #[inline]
+    pub fn queue_count(&self) -> u16
+        ensures value { result ≡ queue_count self.now.queues }
+        ensures few { result ≤ 256 }
+    {
+        self.queues.queue_count()
+    }
+
+    pub(super) fn all_queue_stats<const N: usize>(&self) -> ArrayVec<QueueStats, N>
+        requires few { queue_count self.now.queues ≤ N }
         ensures count { array_vec_len result ≡ queue_count self.now.queues }
         ensures queues { (queue : ℕ) → queue < queue_count self.now.queues → slice_get result.items queue ≡ Some (queue_stats queue self.now) }
     {

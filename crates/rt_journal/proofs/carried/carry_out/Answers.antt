@@ -1,5 +1,5 @@
 use Rattle.rt_journal.proofs.Names.{◌≡◌, ℕ, [], ◌∷◌, sym, subst, CoreDelivers, CoreView, Delivered, Envelope, Job}
-use Rattle.rt_core.specs.Deliveries.{note_told}
+use Rattle.rt_core.specs.Answers.{note_told}
 use Rattle.rt_journal.proofs.carried.carry_out.Goals as goal
 
 -- what a core does with a job, it does with the order of that job

@@ -8,4 +8,4 @@ abbrev pub invariant-loop-number : goal.invariant-loop-number
 invariant-loop-number g l =
     (array_vec_len l.all ≡ l.number)
     × ((queue : ℕ) → queue < l.number → slice_get l.all.items queue ≡ Some (queue_stats queue l.self))
-    × (queue_count l.self.queues ≡ l.number-end) × (l.number-end ≤ 256)
+    × (queue_count l.self.queues ≡ l.number-end) × (l.number-end ≤ g.row.N)

@@ -1,27 +1,24 @@
 use Rattle.std.proofs.Common.{◌≡◌, ℕ, ◌+◌, true, inl, inr, refl, sym, ap, ◌∙◌, subst}
 use Rattle.std.proofs.lemmas.Bool.{false≢true}
-use Rattle.rt_journal.specs.Stats.{AreExact}
 use Rattle.rt_journal_notes.specs.Journals.{JournalView}
 use Rattle.rt_watch.specs.Closed.{closed_by_itself}
 use Rattle.rt_watch.specs.Tells as board
 use Rattle.rt_runtime_worker.specs.Shown.{shown_of}
 use Rattle.rt_runtime_worker.proofs.Published.{many_notes, queues_shown}
-use Rattle.rt_runtime_worker.proofs.showing.show_on.Goals as goal
+use Rattle.rt_runtime_worker.proofs.showing.show_told.Goals as goal
 
 pub returns-then-not-are_exact : goal.returns-then-not-are_exact
 returns-then-not-are_exact g c =
     inr (
-      inr (many_notes c.args.recorded.now.core.bursts.burst c.args.recorded.now.journal.notes c.told_stats-queues.result.1.items c.told_stats-queues.ensures.queues
-          (λ exact. false≢true (sym c.if-not-are_exact.true ∙ c.are_exact.ensures.1 (subst AreExact (sym c.as_slice.ensures.value) exact)))),
+      inr (many_notes c.args.recorded.now.core.bursts.burst c.args.recorded.now.journal.notes c.args.queues.now c.requires.few
+          (λ exact. false≢true (sym c.if-not-are_exact.true ∙ c.are_exact.ensures.1 exact))),
       refl,
     )
 
 pub publish_own_closing-requires-clause-queues : goal.publish_own_closing-requires-clause-queues
 publish_own_closing-requires-clause-queues g c =
-    let exact = subst AreExact c.as_slice.ensures.value (c.are_exact.ensures.0 c.if-not-are_exact.false) in
-    let told = queues_shown c.args.recorded.now (shown_of c.args.publisher.now) c.requires.shown c.told_stats-queues.result.1.items (c.told_stats-queues.ensures.exact exact) in
-    subst (λ queues. board.TellsQueues c.args.publisher.now.terms.burst c.journal-journal.result.now.notes queues) (sym c.as_slice-told.ensures.value)
-    (subst (λ journal. board.TellsQueues c.args.publisher.now.terms.burst journal.notes c.told_stats-queues.result.1.items) (sym c.journal-journal.ensures) told)
+    let told = queues_shown c.args.recorded.now (shown_of c.args.publisher.now) c.requires.shown c.args.queues.now (c.requires.exact (c.are_exact.ensures.0 c.if-not-are_exact.false)) in
+    subst (λ journal. board.TellsQueues c.args.publisher.now.terms.burst journal.notes c.args.queues.now) (sym c.journal-journal.ensures) told
 
 pub publish_own_closing-requires-clause-closed : goal.publish_own_closing-requires-clause-closed
 publish_own_closing-requires-clause-closed g c = subst (λ journal. closed_by_itself journal.notes ≡ true) (sym c.journal-journal.ensures) (c.requires.alone c.if-alone.true)
@@ -35,10 +32,8 @@ returns-then-alone g c =
 
 pub publish-requires-clause-queues : goal.publish-requires-clause-queues
 publish-requires-clause-queues g c =
-    let exact = subst AreExact c.as_slice.ensures.value (c.are_exact.ensures.0 c.if-not-are_exact.false) in
-    let told = queues_shown c.args.recorded.now (shown_of c.args.publisher.now) c.requires.shown c.told_stats-queues.result.1.items (c.told_stats-queues.ensures.exact exact) in
-    subst (λ queues. board.TellsQueues c.args.publisher.now.terms.burst c.journal-journal.result.now.notes queues) (sym c.as_slice-told.ensures.value)
-    (subst (λ journal. board.TellsQueues c.args.publisher.now.terms.burst journal.notes c.told_stats-queues.result.1.items) (sym c.journal-journal.ensures) told)
+    let told = queues_shown c.args.recorded.now (shown_of c.args.publisher.now) c.requires.shown c.args.queues.now (c.requires.exact (c.are_exact.ensures.0 c.if-not-are_exact.false)) in
+    subst (λ journal. board.TellsQueues c.args.publisher.now.terms.burst journal.notes c.args.queues.now) (sym c.journal-journal.ensures) told
 
 pub returns : goal.returns
 returns g c =
