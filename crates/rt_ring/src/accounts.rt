@@ -9,7 +9,6 @@ use crate::ring_in::RingIn;
 use crate::ring_out::RingOut;
 use rt_jobs::Task;
 use rt_link::{InEnd, OutEnd};
-use rt_ring_board::join;
 
 /// The counts of a link that has ended. What `open_after` began with isn't counted, except in the final count.
 #[derive(Clone, Copy, PartialEq, Eq, Debug)]
@@ -39,38 +38,13 @@ pub fn reunite<J: Task>(out: RingOut<J>, inward: RingIn<J>) -> Accounts
     ensures collected { result.collected ≡ (⟦<RingOut<J> as OutEnd<J>>⟧.out out).got }
     ensures shut { result.shut ≡ final_of (⟦<RingIn<J> as InEnd<J>>⟧.inward inward) (⟦<RingIn<J> as InEnd<J>>⟧.inward inward).shut }
 {
-    let RingOut {
-        board,
-        seat,
-        base: _,
-        capacity: _,
-        count,
-        collected,
-        credited: _,
-        closed: _,
-        next_order: _,
-        next_outcome: _,
-    } = out;
-    let RingIn {
-        board: _,
-        seat: other,
-        from: _,
-        to: _,
-        base,
-        capacity: _,
-        taken,
-        given,
-        shut,
-        total,
-        next_order: _,
-        next_outcome: _,
-    } = inward;
-    join(&board, seat, other);
+    let mut out = out;
+    let inward = inward.compare(&mut out);
     Accounts {
-        accepted: count,
-        taken,
-        given,
-        collected,
-        shut: if shut { Some(base + total) } else { None },
+        accepted: out.count,
+        taken: inward.taken,
+        given: inward.given,
+        collected: out.collected,
+        shut: inward.final_count(),
     }
 }

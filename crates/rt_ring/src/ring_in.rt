@@ -1,9 +1,11 @@
 //! The receiver's end of a ring.
 
-ghost use Rattle.std.specs.Prelude.{◌≡◌, ◌+◌, ◌-◌, ◌%◌, ◌^◌, ◌<◌, ◌≤◌, ℕ, true, length, [], ◌∷◌, ◌++◌};
+ghost use Rattle.std.specs.Prelude.{◌≡◌, ◌+◌, ◌-◌, ◌%◌, ◌^◌, ◌<◌, ◌≤◌, ℕ, true, length, take, [], ◌∷◌, ◌++◌};
 ghost use Rattle.rt_link.specs.Calls.{MayGive};
+ghost use Rattle.rt_link.specs.Ends.{AreOf, Joined};
 ghost use Rattle.rt_link.specs.Fits.{Fits};
 
+use crate::ring_out::RingOut;
 use crate::turns::following;
 use rt_ids::{ActorNo, CoreNo, Envelope, JobId, Outcome};
 use rt_jobs::Task;
@@ -23,8 +25,8 @@ pub struct Receiving<J, T> {
 
 /// The end that takes orders and gives their outcomes. It may go to any thread.
 ///
-/// No body of its calls asks for memory, takes a lock or waits; no clause says so.
-#[derive(Drop)]
+/// No body of its calls asks for memory, takes a lock or waits; no clause says so. When it is dropped, it shuts its gate, and drops the orders that
+/// were sent and not taken.
 pub struct RingIn<J: Task> {
     pub(crate) board: Arc<Board<J>, Global>,
     pub(crate) seat: Place<J>,
@@ -73,6 +75,75 @@ impl<J: Task> RingIn<J> {
         }
         self.taken - self.given < self.capacity
             && shows_order(&self.board, self.next_order as usize)
+    }
+
+    /// Compares both ends of the link, and comes back.
+    pub(crate) fn compare(self, out: &mut RingOut<J>) -> RingIn<J>
+        requires { self.link ≡ out.old.link }
+        ensures out { out.new.out ≡ out.old.out }
+        ensures inward { result.inward ≡ self.inward }
+        ensures joined { Joined out.old.out self.inward }
+        ensures outcomes { AreOf (Fits J.meaning) out.old.out.base (take self.inward.taken out.old.out.sent) self.inward.given }
+    {
+        let Self {
+            board,
+            seat,
+            from,
+            to,
+            base,
+            capacity,
+            taken,
+            given,
+            shut,
+            total,
+            next_order,
+            next_outcome,
+        } = self;
+        let seat = out.compare(seat);
+        Self {
+            board,
+            seat,
+            from,
+            to,
+            base,
+            capacity,
+            taken,
+            given,
+            shut,
+            total,
+            next_order,
+            next_outcome,
+        }
+    }
+
+    /// Drops the orders that lie in the cells. The gate is shut, so no other comes.
+    fn empty(&mut self)
+        requires { self.old.inward.shut ≡ true }
+    {
+        'orders: while let Some(envelope) = self.take() {
+            drop(envelope);
+        }
+    }
+}
+
+impl<J: Task> Drop for RingIn<J> {
+    fn drop(mut self) {
+        let _last = self.shut();
+        self.empty();
+        let Self {
+            board: _,
+            seat: _,
+            from: _,
+            to: _,
+            base: _,
+            capacity: _,
+            taken: _,
+            given: _,
+            shut: _,
+            total: _,
+            next_order: _,
+            next_outcome: _,
+        } = self;
     }
 }
 

@@ -1,14 +1,18 @@
 //! The sender's end of a ring.
 
-ghost use Rattle.std.specs.Prelude.{◌≡◌, ◌+◌, ◌-◌, ◌%◌, ◌^◌, ◌<◌, ◌≤◌, ℕ, true, length};
+ghost use Rattle.std.specs.Prelude.{◌≡◌, ◌+◌, ◌-◌, ◌%◌, ◌^◌, ◌<◌, ◌≤◌, ℕ, true, length, take};
 ghost use Rattle.rt_jobs.specs.Ready.{HasReadyJob};
 ghost use Rattle.rt_link.specs.Calls.{Sends};
+ghost use Rattle.rt_link.specs.Ends.{AreOf, Joined};
+ghost use Rattle.rt_link.specs.Fits.{Fits};
+ghost use Rattle.rt_ring.specs.Ends.{name_of};
+ghost use Rattle.rt_ring_board.specs.Seats.{IsReceiver};
 
 use crate::turns::following;
 use rt_ids::{Order, Outcome, SendError};
 use rt_jobs::Task;
 use rt_link::{LAST_NUMBER, OutEnd, Outward};
-use rt_ring_board::{Board, Place, is_open, next_outcome, offer, see_none, shows_outcome};
+use rt_ring_board::{Board, Place, compare, is_open, next_outcome, offer, see_none, shows_outcome};
 use std::alloc::Global;
 use std::collections::LinkedList;
 use std::marker::Model;
@@ -25,8 +29,7 @@ pub struct Sending<J, T> {
 
 /// The end that sends orders and collects their outcomes. It may go to any thread.
 ///
-/// No body of its calls asks for memory, takes a lock or waits; no clause says so.
-#[derive(Drop)]
+/// No body of its calls asks for memory, takes a lock or waits; no clause says so. When it is dropped, it collects what was given, and drops that.
 pub struct RingOut<J: Task> {
     pub(crate) board: Arc<Board<J>, Global>,
     pub(crate) seat: Place<J>,
@@ -67,6 +70,46 @@ impl<J: Task> RingOut<J> {
         ensures sent { result ≡ true → self.now.out.got < length self.now.out.sent }
     {
         self.collected < self.count && shows_outcome(&self.board, self.next_outcome as usize)
+    }
+
+    /// Compares both ends of the link. `other` is the seat of the receiver's, and comes back.
+    pub(crate) fn compare(&mut self, other: Place<J>) -> Place<J>
+        requires link { name_of other.rows ≡ self.old.link }
+        requires receiver { IsReceiver other.me }
+        ensures link { self.new.link ≡ self.old.link }
+        ensures out { self.new.out ≡ self.old.out }
+        ensures at { (result.rows ≡ other.rows) × (result.heap ≡ other.heap) }
+        ensures receiver { IsReceiver result.me }
+        ensures inward { result.me.view.inward ≡ other.me.view.inward }
+        ensures joined { Joined self.old.out other.me.view.inward }
+        ensures outcomes { AreOf (Fits J.meaning) self.old.out.base (take other.me.view.inward.taken self.old.out.sent) other.me.view.inward.given }
+    {
+        compare(&self.board, &mut self.seat, other)
+    }
+
+    /// Drops the outcomes that lie in the cells.
+    fn empty(&mut self) {
+        'outcomes: while let Some(found) = self.collect() {
+            drop(found);
+        }
+    }
+}
+
+impl<J: Task> Drop for RingOut<J> {
+    fn drop(mut self) {
+        self.empty();
+        let Self {
+            board: _,
+            seat: _,
+            base: _,
+            capacity: _,
+            count: _,
+            collected: _,
+            credited: _,
+            closed: _,
+            next_order: _,
+            next_outcome: _,
+        } = self;
     }
 }
 

@@ -8,15 +8,13 @@ use Rattle.rt_link.specs.Whole.{IsLink}
 use Rattle.rt_link.specs.declared.plain.Whole.{Whole}
 use Rattle.rt_link.proofs.Lists.{slice_get-starts}
 use Rattle.rt_ring_board.specs.Cells.{AreInPlace, held_outcome, order_at, outcome_at, place_of}
-use Rattle.rt_ring_board.specs.Held.{of_outcome}
-use Rattle.rt_ring_board.specs.declared.held.Held.{Held}
-use Rattle.rt_ring_board.specs.declared.held.Held.TheVariants as held
+use Rattle.rt_ring_board.specs.Held.{Content, of_outcome}
 use Rattle.rt_ring_board.proofs.Changes.{IsChanged}
 use Rattle.rt_ring_board.proofs.InPlace.{all, AreHome-stays, AreFree-stays, AreFree-lent, AreFree-back}
 use Rattle.rt_ring_board.proofs.Windows.{slice_get-last, apart, AreHome-changed}
 
 module _ {J T : Type 0} (fits : Order J → Outcome J T → Type 0) (ready : Order J → Type 0) (link : Whole J T) (law : IsLink fits ready link) (credits : link.credited ≡ link.got)
-    (cells later : List (Cell (Held J T))) (word : ℕ) (now : Option (Held J T)) (out_sender : Option ℕ) where
+    (cells later : List (Cell (Content J T))) (word : ℕ) (now : Option (Content J T)) (out_sender : Option ℕ) where
   abbrev n : ℕ
   n = link.capacity
 
@@ -40,7 +38,7 @@ module _ {J T : Type 0} (fits : Order J → Outcome J T → Type 0) (ready : Ord
           free = AreFree-stays cells later n link.got k word now is (omega arith) (omega arith) out_sender sent (link.got + n) (omega arith) (omega arith) (inl (omega arith)) p.free;
         }
 
-    pub AreInPlace-home : now ≡ Some held.Empty → AreInPlace link cells out_sender (Some (place_of n k)) → AreInPlace link later out_sender None
+    pub AreInPlace-home : now ≡ Some None → AreInPlace link cells out_sender (Some (place_of n k)) → AreInPlace link later out_sender None
     AreInPlace-home empty p =
         let one = law.got_given in let two = law.given_taken in let three = law.taken_sent in let most = full in record {
           orders = AreHome-stays cells later n link.got k word now is (omega arith) (omega arith) link.taken sent (order_at link.sent) (omega arith) most (inl high) p.orders;

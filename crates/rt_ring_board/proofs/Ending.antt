@@ -1,5 +1,5 @@
 -- The rows after the board is closed: each cell is at home.
-use Rattle.std.proofs.Common.{◌≡◌, ℕ, zero, suc, ◌<◌, List, [], ◌∷◌, length, set, refl, ◌∙◌, subst, arith}
+use Rattle.std.proofs.Common.{◌≡◌, ℕ, zero, suc, ◌<◌, List, [], ◌∷◌, length, set, refl, ap, ◌∙◌, subst, arith}
 use denote.RawPtr.{Ptr}
 use Rattle.atomic_blocks.specs.Cells.{Row, row, row_at, no_row, AllHome, RowsBack, Final}
 use Rattle.atomic_blocks.proofs.Homes.{cells_back, rows_back}
@@ -7,7 +7,7 @@ use Rattle.rt_ids.specs.declared.order.Order.{Order}
 use Rattle.rt_ids.specs.declared.order.Outcome.{Outcome}
 use Rattle.rt_ring_board.specs.Rule.{IsRing}
 use Rattle.rt_ring_board.specs.declared.board.Terms.{Terms}
-use Rattle.rt_ring_board.specs.declared.held.Held.{Held}
+use Rattle.rt_ring_board.specs.Held.{Content}
 use Rattle.rt_ring_board.proofs.Steps.{two_rows}
 
 -- a row at this place, of so many cells, all at home
@@ -16,7 +16,7 @@ pub record IsWhole {S : Type 0} (one : Row S) (at : Ptr) (len : ℕ) : Type 0 wh
   pub count : length one.cells ≡ len
   pub home : AllHome one.cells
 
-pub record IsEnding {J T : Type 0} (terms : Terms J T) (rows : List (Row (Held J T))) : Type 0 where
+pub record IsEnding {J T : Type 0} (terms : Terms J T) (rows : List (Row (Content J T))) : Type 0 where
   pub two : length rows ≡ 2
   pub gate : IsWhole (row rows 0) terms.gate.ptr 1
   pub cells : IsWhole (row rows 1) terms.cells.ptr terms.len
@@ -35,9 +35,9 @@ whole_row before rows k back at len at_is len_is = let t = rows_back before rows
   home = u.1;
 }
 
-pub ending : {J T : Type 0} (fits : Order J → Outcome J T → Type 0) (ready : Order J → Type 0) (terms : Terms J T) (rows : List (Row (Held J T))) → Final (IsRing fits ready terms) rows → IsEnding terms rows
+pub ending : {J T : Type 0} (fits : Order J → Outcome J T → Type 0) (ready : Order J → Type 0) (terms : Terms J T) (rows : List (Row (Content J T))) → Final (IsRing fits ready terms) rows → IsEnding terms rows
 ending {J} {T} fits ready terms rows final = let r = final.1 in
-    let back : RowsBack (two_rows fits ready terms r.gate r.cells) rows = subst (λ (z : List (Row (Held J T))). RowsBack z rows) r.laid.rows final.2 in record {
+    let back : RowsBack (two_rows fits ready terms r.gate r.cells) rows = subst (λ (z : List (Row (Content J T))). RowsBack z rows) r.laid.rows final.2 in record {
       two = two_back (row_at terms.gate.ptr (r.gate ∷ [])) (row_at terms.cells.ptr r.cells) rows back;
       gate = whole_row (two_rows fits ready terms r.gate r.cells) rows 0 back terms.gate.ptr 1 refl refl;
       cells = whole_row (two_rows fits ready terms r.gate r.cells) rows 1 back terms.cells.ptr terms.len refl r.laid.len;
@@ -49,10 +49,14 @@ pub gate_stays : {S : Type 0} (rows : List (Row S)) → length rows ≡ 2 → ro
 gate_stays [] e = absurd (omega arith)
 gate_stays (a ∷ rows) e = refl
 
-pub none_left : {S : Type 0} (rows : List (Row S)) → length rows ≡ 2 → (k : ℕ) → (row (set (set rows 1 no_row) 0 no_row) k).cells ≡ []
+none_left : {S : Type 0} (rows : List (Row S)) → length rows ≡ 2 → (k : ℕ) → (row (set (set rows 1 no_row) 0 no_row) k).cells ≡ []
 none_left [] e k = absurd (omega arith)
 none_left (a ∷ []) e k = absurd (omega arith)
 none_left (a ∷ b ∷ []) e zero = refl
 none_left (a ∷ b ∷ []) e (suc zero) = refl
 none_left (a ∷ b ∷ []) e (suc (suc k)) = refl
 none_left (a ∷ b ∷ c ∷ rows) e k = absurd (omega arith)
+
+-- no cell is left, once both rows were taken
+pub none_left_after : {S : Type 0} (rows one two : List (Row S)) → one ≡ set rows 1 no_row → two ≡ set one 0 no_row → length rows ≡ 2 → (k : ℕ) → (row two k).cells ≡ []
+none_left_after {S} rows one two one_is two_is e k = ap (λ (z : List (Row S)). (row z k).cells) (two_is ∙ ap (λ (z : List (Row S)). set z 0 no_row) one_is) ∙ none_left rows e k

@@ -1,5 +1,5 @@
 -- The steps of a seat that has a cell out, in the terms of the seat before.
-use Rattle.std.proofs.Common.{◌≡◌, ℕ, ◌+◌, ◌^◌, ◌<◌, ◌≤◌, true, false, length, eqb, refl, sym, subst, Some}
+use Rattle.std.proofs.Common.{◌≡◌, ℕ, ◌+◌, ◌^◌, ◌<◌, ◌≤◌, true, false, length, eqb, refl, sym, subst, Some, None}
 use Rattle.std.specs.Prelude.{Option}
 use prog.Atomic.{either}
 use denote.RawPtr.{Ptr}
@@ -9,21 +9,19 @@ use Rattle.rt_ids.specs.declared.order.Outcome.{Outcome}
 use Rattle.rt_link.specs.Calls.{MayGive}
 use Rattle.rt_ring_board.specs.After.{with_away}
 use Rattle.rt_ring_board.specs.Cells.{gate_bit, number_before, place_of}
-use Rattle.rt_ring_board.specs.Held.{of_order, of_outcome}
+use Rattle.rt_ring_board.specs.Held.{Content, of_order, of_outcome}
 use Rattle.rt_ring_board.specs.Told.{Seated, Accepts, Homes, Gives}
 use Rattle.rt_ring_board.specs.declared.board.Known.{Known}
 use Rattle.rt_ring_board.specs.declared.board.Terms.{Terms}
-use Rattle.rt_ring_board.specs.declared.held.Held.{Held}
-use Rattle.rt_ring_board.specs.declared.held.Held.TheVariants as held
 use Rattle.rt_ring_board.proofs.ReceiverSteps.{homes_answered, gives_back}
 use Rattle.rt_ring_board.proofs.SenderSteps.{accepts, homes_free}
 use Rattle.rt_ring_board.proofs.Steps.{Rule}
 
 -- the seat with this view, and the cell of this place out
-abbrev pub filled : {J T : Type 0} → Known J T → Option (Row (Held J T)) → Ptr → ℕ → Held J T → Seated J T
+abbrev pub filled : {J T : Type 0} → Known J T → Option (Row (Content J T)) → Ptr → ℕ → Content J T → Seated J T
 filled view spare at place content = me (with_away view (Some place)) (Some (at, place, content)) spare
 
-module _ {J T : Type 0} (fits : Order J → Outcome J T → Type 0) (ready : Order J → Type 0) (terms : Terms J T) (seat : ℕ) (view : Known J T) (spare : Option (Row (Held J T))) (now : Seated J T)
+module _ {J T : Type 0} (fits : Order J → Outcome J T → Type 0) (ready : Order J → Type 0) (terms : Terms J T) (seat : ℕ) (view : Known J T) (spare : Option (Row (Content J T))) (now : Seated J T)
     (at : Ptr) (place : ℕ) (same : terms.cells.ptr ≡ at) where
   pub accepts_filled : (order : Order J) (first : ℕ) → now ≡ filled view spare at place (of_order order) → view.sends ≡ true → view.takes ≡ false
       → length view.out.sent < view.out.got + view.out.capacity → place ≡ place_of view.out.capacity (length view.out.sent)
@@ -33,17 +31,17 @@ module _ {J T : Type 0} (fits : Order J → Outcome J T → Type 0) (ready : Ord
       subst (λ (m : Seated J T). Allows (Rule fits ready terms) seat m 1 at place (λ z. either (eqb z first) 0 z) (Accepts (step 1 at place first 0) m)) (sym is)
       (accepts fits ready terms seat (filled view spare at place (of_order order)) sends alone at place same order first refl refl room place_is first_is below is_ready)
 
-  pub homes_sender : (k : ℕ) → now ≡ filled view spare at place held.Empty → view.sends ≡ true → view.takes ≡ false → length view.out.sent ≤ k → k < view.out.got + view.out.capacity
+  pub homes_sender : (k : ℕ) → now ≡ filled view spare at place None → view.sends ≡ true → view.takes ≡ false → length view.out.sent ≤ k → k < view.out.got + view.out.capacity
       → place ≡ place_of view.out.capacity k → Allows (Rule fits ready terms) seat now 1 at place (λ z. z) (Homes (step 1 at place 0 0) now)
   homes_sender k is sends alone low high place_is =
       subst (λ (m : Seated J T). Allows (Rule fits ready terms) seat m 1 at place (λ z. z) (Homes (step 1 at place 0 0) m)) (sym is)
-      (homes_free fits ready terms seat (filled view spare at place held.Empty) sends alone at place same k refl refl low high place_is)
+      (homes_free fits ready terms seat (filled view spare at place None) sends alone at place same k refl refl low high place_is)
 
-  pub homes_receiver : (k : ℕ) → now ≡ filled view spare at place held.Empty → view.takes ≡ true → view.sends ≡ false → length view.inward.given ≤ k → k < view.inward.taken
+  pub homes_receiver : (k : ℕ) → now ≡ filled view spare at place None → view.takes ≡ true → view.sends ≡ false → length view.inward.given ≤ k → k < view.inward.taken
       → place ≡ place_of view.inward.capacity k → Allows (Rule fits ready terms) seat now 1 at place (λ z. z) (Homes (step 1 at place 0 0) now)
   homes_receiver k is takes alone low high place_is =
       subst (λ (m : Seated J T). Allows (Rule fits ready terms) seat m 1 at place (λ z. z) (Homes (step 1 at place 0 0) m)) (sym is)
-      (homes_answered fits ready terms seat (filled view spare at place held.Empty) takes alone at place same k refl refl low high place_is)
+      (homes_answered fits ready terms seat (filled view spare at place None) takes alone at place same k refl refl low high place_is)
 
   pub gives_filled : (number : ℕ) (outcome : Outcome J T) (word : ℕ) → now ≡ filled view spare at place (of_outcome outcome) → view.takes ≡ true → view.sends ≡ false
       → length view.inward.given < view.inward.taken → place ≡ place_of view.inward.capacity (length view.inward.given) → word ≡ number + gate_bit view.inward.shut

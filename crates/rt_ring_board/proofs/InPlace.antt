@@ -8,19 +8,17 @@ use Rattle.rt_link.specs.Whole.{IsLink}
 use Rattle.rt_link.specs.declared.plain.Whole.{Whole}
 use Rattle.rt_link.proofs.Lists.{slice_get-starts}
 use Rattle.rt_ring_board.specs.Cells.{AreHome, AreFree, AreInPlace, held_order, order_at, outcome_at, place_of, home_at}
-use Rattle.rt_ring_board.specs.Held.{of_order}
-use Rattle.rt_ring_board.specs.declared.held.Held.{Held}
-use Rattle.rt_ring_board.specs.declared.held.Held.TheVariants as held
+use Rattle.rt_ring_board.specs.Held.{Content, of_order}
 use Rattle.rt_ring_board.proofs.Changes.{IsChanged}
 use Rattle.rt_ring_board.proofs.Numbers.{place-again}
 use Rattle.rt_ring_board.proofs.Windows.{slice_get-last, apart, AreHome-changed, AreFree-changed}
 
-module _ {J T : Type 0} (cells later : List (Cell (Held J T))) (n lap k word : ℕ) (now : Option (Held J T)) (is : IsChanged cells later (place_of n k) word now) (after : lap ≤ k) (near : k < lap + n) where
+module _ {J T : Type 0} (cells later : List (Cell (Content J T))) (n lap k word : ℕ) (now : Option (Content J T)) (is : IsChanged cells later (place_of n k) word now) (after : lap ≤ k) (near : k < lap + n) where
   other_cell : (i : ℕ) → lap ≤ i → i < lap + n → i ≢ k → place_of n i ≢ place_of n k
   other_cell i a b = apart n lap i k a b after near
 
   -- a window of the lap without the cell that changed
-  pub AreHome-stays : (low high : ℕ) (content : ℕ → Held J T) → lap ≤ low → high ≤ lap + n → (k < low) ⊎ (high ≤ k) → AreHome cells n low high content → AreHome later n low high content
+  pub AreHome-stays : (low high : ℕ) (content : ℕ → Content J T) → lap ≤ low → high ≤ lap + n → (k < low) ⊎ (high ≤ k) → AreHome cells n low high content → AreHome later n low high content
   AreHome-stays low high content a b out = AreHome-changed cells later n k word now is low high low high content content
       (λ i c d differ. (c, d, other_cell i (omega arith) (omega arith) differ, refl))
       (λ c d. absurd (⊎_elim (λ (e : k < low). omega arith) (λ (e : high ≤ k). omega arith) out))
@@ -37,16 +35,16 @@ module _ {J T : Type 0} (cells later : List (Cell (Held J T))) (n lap k word : �
       (λ i c d differ. let w = within i c d differ in (w.0, w.1, other_cell i (omega arith) (omega arith) differ)) (λ i _ e. absurd cc) (λ _ _. inl refl)
 
   -- the cell that was out is home, with nothing in it or no more among these
-  pub AreFree-back : (low high low' : ℕ) → lap ≤ low → low ≤ low' → high ≤ lap + n → (now ≡ Some held.Empty) ⊎ (k < low')
+  pub AreFree-back : (low high low' : ℕ) → lap ≤ low → low ≤ low' → high ≤ lap + n → (now ≡ Some None) ⊎ (k < low')
       → AreFree cells (Some (place_of n k)) n low high → AreFree later None n low' high
   AreFree-back low high low' a b c empty = AreFree-changed cells later n k word now is (Some (place_of n k)) None low high low' high
       (λ i d e differ. (omega arith, e, other_cell i (omega arith) (omega arith) differ)) (λ i other same. let e : place_of n k ≡ place_of n i = cc in absurd (other (sym e)))
-      (λ d e. inr (⊎_elim (λ (x : now ≡ Some held.Empty). x) (λ (x : k < low'). absurd (omega arith)) empty))
+      (λ d e. inr (⊎_elim (λ (x : now ≡ Some None). x) (λ (x : k < low'). absurd (omega arith)) empty))
 
-module _ {J T : Type 0} (link : Whole J T) (cells later : List (Cell (Held J T))) (out_sender out_receiver : Option ℕ) (same : (place : ℕ) → home_at later place ≡ home_at cells place) where
+module _ {J T : Type 0} (link : Whole J T) (cells later : List (Cell (Content J T))) (out_sender out_receiver : Option ℕ) (same : (place : ℕ) → home_at later place ≡ home_at cells place) where
   free_stays : (away : Option ℕ) (low high : ℕ) → AreFree cells away link.capacity low high → AreFree later away link.capacity low high
   free_stays away low high free i a b = ⊎_elim (λ (x : away ≡ Some (place_of link.capacity i)). inl x)
-      (λ (x : home_at cells (place_of link.capacity i) ≡ Some held.Empty). inr (same (place_of link.capacity i) ∙ x)) (free i a b)
+      (λ (x : home_at cells (place_of link.capacity i) ≡ Some None). inr (same (place_of link.capacity i) ∙ x)) (free i a b)
 
   -- what the cells hold is the same
   pub AreInPlace-kept : AreInPlace link cells out_sender out_receiver → AreInPlace link later out_sender out_receiver
@@ -58,12 +56,12 @@ module _ {J T : Type 0} (link : Whole J T) (cells later : List (Cell (Held J T))
   }
 
 -- a shut moves no cell
-pub AreInPlace-shut : {J T : Type 0} (link : Whole J T) (cells : List (Cell (Held J T))) (out_sender out_receiver : Option ℕ)
+pub AreInPlace-shut : {J T : Type 0} (link : Whole J T) (cells : List (Cell (Content J T))) (out_sender out_receiver : Option ℕ)
     → AreInPlace link cells out_sender out_receiver → AreInPlace (record link { shut = true }) cells out_sender out_receiver
 AreInPlace-shut link cells out_sender out_receiver p = record { orders = p.orders; outcomes = p.outcomes; answered = p.answered; free = p.free }
 
 module _ {J T : Type 0} (fits : Order J → Outcome J T → Type 0) (ready : Order J → Type 0) (link : Whole J T) (law : IsLink fits ready link) (credits : link.credited ≡ link.got)
-    (cells later : List (Cell (Held J T))) (word : ℕ) (now : Option (Held J T)) where
+    (cells later : List (Cell (Content J T))) (word : ℕ) (now : Option (Content J T)) where
   abbrev n : ℕ
   n = link.capacity
 
@@ -87,7 +85,7 @@ module _ {J T : Type 0} (fits : Order J → Outcome J T → Type 0) (ready : Ord
           free = AreFree-lent cells later n link.got k word now is (omega arith) high sent (link.got + n) sent (link.got + n) (omega arith) (omega arith) (λ i a b _. (a, b)) p.free;
         }
 
-    pub AreInPlace-back : now ≡ Some held.Empty → AreInPlace link cells (Some (place_of n k)) out_receiver → AreInPlace link later None out_receiver
+    pub AreInPlace-back : now ≡ Some None → AreInPlace link cells (Some (place_of n k)) out_receiver → AreInPlace link later None out_receiver
     AreInPlace-back empty p =
         let one = law.got_given in let two = law.given_taken in let three = law.taken_sent in record {
           orders = AreHome-stays cells later n link.got k word now is (omega arith) high link.taken sent (order_at link.sent) (omega arith) all (inr low) p.orders;

@@ -1,35 +1,53 @@
 -- A seat with a cell out, after what the cell holds was exchanged.
-use Rattle.std.proofs.Common.{◌≡◌, ℕ, ◌%◌, ◌^◌, ◌<◌, ap, ◌∙◌, arith, Some, None, mod-lt}
+use Rattle.std.proofs.Common.{◌≡◌, ℕ, ◌+◌, ◌%◌, ◌^◌, ◌<◌, Bool, ap, ◌∙◌, arith, Some, None, mod-lt}
 use Rattle.std.specs.Prelude.{Option}
 use denote.RawPtr.{Ptr}
 use Rattle.atomic_blocks.specs.Cells.{Row, me, step}
+use Rattle.rt_ids.specs.declared.order.Order.{Order}
+use Rattle.rt_ids.specs.declared.order.Outcome.{Outcome}
 use Rattle.rt_ring_board.specs.After.{with_closed, with_away}
+use Rattle.rt_ring_board.specs.Cells.{gate_bit, place_of}
 use Rattle.rt_ring_board.specs.Told.{Seated, Homes, with_view}
 use Rattle.rt_ring_board.specs.declared.board.Known.{Known}
+use Rattle.rt_ring_board.specs.Held.{Content, of_order, of_outcome}
 use Rattle.rt_ring_board.specs.declared.held.Held.{Held}
-use Rattle.rt_ring_board.specs.declared.held.Held.TheVariants as held
 use Rattle.rt_ring_board.proofs.Filled.{filled}
-use Rattle.rt_ring_board.proofs.Injective.{same_hand}
+use Rattle.rt_ring_board.proofs.Injective.{order_there, outcome_there}
 
 -- a place is a small number
-pub place-small : (n i place : ℕ) → 0 < n → n < 2 ^ 16 → place ≡ i % n → place < 2 ^ 40
+pub place-small : (n i place : ℕ) → 0 < n → n < 2 ^ 16 → place ≡ place_of n i → place < 2 ^ 40
 place-small n i place some_cell small is = let h : i % n < n = mod-lt i some_cell in omega arith
 
-module _ {J T : Type 0} (view : Known J T) (spare : Option (Row (Held J T))) (at : Ptr) (place : ℕ) where
-  -- what was found in the cell
-  pub found_is : (lent : Seated J T) (was got : Held J T) → lent ≡ filled view spare at place was → lent.hand ≡ Some (at, place, got) → was ≡ got
-  found_is lent was got lent_is hand = same_hand lent.hand at at place place was got (ap (λ (m : Seated J T). m.hand) lent_is) hand
+-- the word of an outcome, by the gate as the seat knows it
+pub given-word : (word number : ℕ) (told shut : Bool) → word ≡ number + gate_bit told → told ≡ shut → word ≡ number + gate_bit shut
+given-word word number told shut is same = is ∙ ap (λ (b : Bool). number + gate_bit b) same
+
+module _ {J T : Type 0} (view : Known J T) (spare : Option (Row (Content J T))) (at : Ptr) (place : ℕ) where
+  -- what is out with the seat
+  pub hand_of : (lent : Seated J T) (content : Content J T) → lent ≡ filled view spare at place content → lent.hand ≡ Some (at, place, content)
+  hand_of lent content lent_is = ap (λ (m : Seated J T). m.hand) lent_is
+
+  -- an order or an outcome that is out with the seat is there
+  held_out : (lent : Seated J T) (content : Content J T) (it : Held J T) → lent ≡ filled view spare at place content → content ≡ Some it → lent.hand ≡ Some (at, place, Some it)
+  held_out lent content it lent_is there = hand_of lent content lent_is ∙ ap (λ (x : Content J T). Some (at, place, x)) there
+
+  pub order_out : (lent : Seated J T) (order : Order J) → lent ≡ filled view spare at place (of_order order) → (it : Held J T) × (lent.hand ≡ Some (at, place, Some it))
+  order_out lent order lent_is = let there : (it : Held J T) × (of_order order ≡ Some it) = order_there order in (there.0, held_out lent (of_order order) there.0 lent_is there.1)
+
+  pub outcome_out : (lent : Seated J T) (outcome : Outcome J T) → lent ≡ filled view spare at place (of_outcome outcome) → (it : Held J T) × (lent.hand ≡ Some (at, place, Some it))
+  outcome_out lent outcome lent_is =
+      let there : (it : Held J T) × (of_outcome outcome ≡ Some it) = outcome_there outcome in (there.0, held_out lent (of_outcome outcome) there.0 lent_is there.1)
 
   -- the cell with something else in it
-  pub filled_is : (lent now : Seated J T) (was new content : Held J T) → lent ≡ filled view spare at place was → now ≡ me lent.view (Some (at, place, new)) lent.spare → new ≡ content
+  pub filled_is : (lent now : Seated J T) (was new content : Content J T) → lent ≡ filled view spare at place was → now ≡ me lent.view (Some (at, place, new)) lent.spare → new ≡ content
       → now ≡ filled view spare at place content
   filled_is lent now was new content lent_is is same =
-      is ∙ (ap (λ (m : Seated J T). me m.view (Some (at, place, new)) m.spare) lent_is ∙ ap (λ (x : Held J T). filled view spare at place x) same)
+      is ∙ (ap (λ (m : Seated J T). me m.view (Some (at, place, new)) m.spare) lent_is ∙ ap (λ (x : Content J T). filled view spare at place x) same)
 
   -- the gate was found shut
-  pub missed_is : (lent lost : Seated J T) (was : Held J T) → lent ≡ filled view spare at place was → lost ≡ with_view lent (with_closed lent.view) → lost ≡ filled (with_closed view) spare at place was
+  pub missed_is : (lent lost : Seated J T) (was : Content J T) → lent ≡ filled view spare at place was → lost ≡ with_view lent (with_closed lent.view) → lost ≡ filled (with_closed view) spare at place was
   missed_is lent lost was lent_is is = is ∙ ap (λ (m : Seated J T). with_view m (with_closed m.view)) lent_is
 
   -- the cell is home
-  pub homed_is : (lent now : Seated J T) (found : ℕ) → lent ≡ filled view spare at place held.Empty → Homes (step 1 at place 0 0) lent found now → now ≡ me (with_away view None) None spare
+  pub homed_is : (lent now : Seated J T) (found : ℕ) → lent ≡ filled view spare at place None → Homes (step 1 at place 0 0) lent found now → now ≡ me (with_away view None) None spare
   homed_is lent now found lent_is is = is (ap (λ (m : Seated J T). m.hand) lent_is) ∙ ap (λ (m : Seated J T). me (with_away m.view None) None m.spare) lent_is

@@ -16,6 +16,7 @@ pub mod ReceiverSteps
 pub mod ReceiverShuts
 pub mod Starting
 pub mod Joining
+pub mod Parting
 pub mod Filled
 pub mod Lent
 pub mod Ending

@@ -8,7 +8,7 @@ use Rattle.rt_ids.specs.declared.order.Order.{Order}
 use Rattle.rt_ids.specs.declared.order.Outcome.{Outcome}
 use Rattle.rt_link.specs.declared.plain.Whole.{Whole}
 use Rattle.rt_ring_board.specs.Cells.{AreMarked, IsMarked, gate_bit, number_before, place_of, word_at}
-use Rattle.rt_ring_board.specs.declared.held.Held.{Held}
+use Rattle.rt_ring_board.specs.Held.{Content}
 use Rattle.rt_ring_board.proofs.Changes.{IsChanged}
 use Rattle.rt_ring_board.proofs.Numbers.{IsMarked-own, number-again, number-seen, place-again}
 use Rattle.rt_ring_board.proofs.Windows.{apart, slice_get-last}
@@ -18,7 +18,7 @@ IsMarked-shut : (shut : Bool) (number word : ℕ) → IsMarked shut number word 
 IsMarked-shut shut number word (inl e) = inl e
 IsMarked-shut shut number word (inr e) = inr (e.0, refl)
 
-module _ {J T : Type 0} (link : Whole J T) (cells later : List (Cell (Held J T))) (m : AreMarked link cells) where
+module _ {J T : Type 0} (link : Whole J T) (cells later : List (Cell (Content J T))) (m : AreMarked link cells) where
   abbrev n : ℕ
   n = link.capacity
 
@@ -46,7 +46,7 @@ module _ {J T : Type 0} (link : Whole J T) (cells later : List (Cell (Held J T))
         (⊎_elim (λ (shut : link.shut ≡ true). m.closed shut room) (λ (none : given + n ≤ sent). absurd (omega arith)) full);
   }
 
-  module _ (word : ℕ) (now : Option (Held J T)) where
+  module _ (word : ℕ) (now : Option (Content J T)) where
     -- the word of the next order becomes 0
     pub AreMarked-sent : (order : Order J) → IsChanged cells later (place_of n sent) word now → word ≡ 0 → given ≤ sent → sent < given + n → link.shut ≡ false
         → AreMarked (record link { sent = link.sent ++ order ∷ [] }) later

@@ -19,7 +19,7 @@ use Rattle.rt_ring_board.specs.Told.{Seated, SawOrder, Looks, Marks, Seals}
 use Rattle.rt_ring_board.specs.Views.{AreTold}
 use Rattle.rt_ring_board.specs.declared.board.Known.{Known}
 use Rattle.rt_ring_board.specs.declared.board.Terms.{Terms}
-use Rattle.rt_ring_board.specs.declared.held.Held.{Held}
+use Rattle.rt_ring_board.specs.Held.{Content}
 use Rattle.rt_ring_board.proofs.Changes.{worded, IsChanged, IsChanged-worded, homes_stay}
 use Rattle.rt_ring_board.proofs.InPlace.{AreInPlace-kept, AreInPlace-shut}
 use Rattle.rt_ring_board.proofs.Knowledge.{KnowsInward-seen, KnowsInward-shut, KnowsOut-shut}
@@ -30,7 +30,7 @@ use Rattle.rt_ring_board.proofs.Steps.{Rule, two_rows, gated, on_cell, on_gate, 
 use Rattle.rt_ring_board.proofs.Views.{AreTold-receiver}
 
 module _ {J T : Type 0} (fits : Order J → Outcome J T → Type 0) (ready : Order J → Type 0) (terms : Terms J T) (seat : ℕ) (old : Seated J T) (go : old.view.takes ≡ true) (alone : old.view.sends ≡ false) where
-  module _ (s : State (Held J T) (Known J T)) (r : Rule fits ready terms s) (there : get_elem? s.views seat ≡ some old.view) where
+  module _ (s : State (Content J T) (Known J T)) (r : Rule fits ready terms s) (there : get_elem? s.views seat ≡ some old.view) where
     abbrev inward : Inward J T
     inward = old.view.inward
 

@@ -19,13 +19,11 @@ use Rattle.rt_link.proofs.Lists.{slice_get-starts, slice_get-seen}
 use Rattle.rt_link.proofs.WholeLaws.{IsLink-take, IsLink-give}
 use Rattle.rt_ring_board.specs.After.{with_taken, with_given, with_away}
 use Rattle.rt_ring_board.specs.Cells.{AreInPlace, IsMarked, gate_bit, held_order, number_before, place_of, word_at, home_at}
-use Rattle.rt_ring_board.specs.Held.{of_order, of_outcome}
+use Rattle.rt_ring_board.specs.Held.{Content, of_order, of_outcome}
 use Rattle.rt_ring_board.specs.Told.{Seated, SeesOrders, LiftsOrder, Homes, LendsBack, Gives}
 use Rattle.rt_ring_board.specs.Views.{KnowsInward, AreTold}
 use Rattle.rt_ring_board.specs.declared.board.Known.{Known}
 use Rattle.rt_ring_board.specs.declared.board.Terms.{Terms}
-use Rattle.rt_ring_board.specs.declared.held.Held.{Held}
-use Rattle.rt_ring_board.specs.declared.held.Held.TheVariants as held
 use Rattle.rt_ring_board.proofs.Answered.{AreInPlace-lent_back, AreInPlace-home, AreInPlace-taken, AreInPlace-given}
 use Rattle.rt_ring_board.proofs.Changes.{worded, homed, IsChanged, IsChanged-worded, IsChanged-both, words_stay}
 use Rattle.rt_ring_board.proofs.Injective.{of_outcome-injective, same_hand}
@@ -66,7 +64,7 @@ MayGive-whole {J} {T} fits link inward number outcome k may =
     )
 
 module _ {J T : Type 0} (fits : Order J → Outcome J T → Type 0) (ready : Order J → Type 0) (terms : Terms J T) (seat : ℕ) (old : Seated J T) (go : old.view.takes ≡ true) (alone : old.view.sends ≡ false) where
-  module _ (s : State (Held J T) (Known J T)) (r : Rule fits ready terms s) (there : get_elem? s.views seat ≡ some old.view) where
+  module _ (s : State (Content J T) (Known J T)) (r : Rule fits ready terms s) (there : get_elem? s.views seat ≡ some old.view) where
     abbrev pub inward : Inward J T
     inward = old.view.inward
 
@@ -212,13 +210,13 @@ module _ {J T : Type 0} (fits : Order J → Outcome J T → Type 0) (ready : Ord
       place_there : place < length r.cells
       place_there = let f = numbers in in_range k (omega arith)
 
-      home : old.hand ≡ Some (terms.cells.ptr, place, held.Empty) → old.view.away ≡ Some place
+      home : old.hand ≡ Some (terms.cells.ptr, place, None) → old.view.away ≡ Some place
           → Goes (Rule fits ready terms) s (two_rows fits ready terms r.gate (worded r.cells place here)) seat old (Homes (step 1 terms.cells.ptr place 0 0) old here)
       home held_is out_is = let f = numbers in
           let word : IsChanged r.cells (worded r.cells place here) place here (home_at r.cells place) = IsChanged-worded r.cells place place_there here in
-          let both : IsChanged r.cells (homed (worded r.cells place here) place (Some held.Empty)) place here (Some held.Empty) = IsChanged-both r.cells place here (Some held.Empty) place_there in (
+          let both : IsChanged r.cells (homed (worded r.cells place here) place (Some None)) place here (Some None) = IsChanged-both r.cells place here (Some None) place_there in (
             with_away old.view None,
-            gives 1 place held.Empty,
+            gives 1 place None,
             (subst (λ (z : ℕ). place < z) (sym word.count) place_there, held_is),
             record {
               link = r.link;
@@ -227,15 +225,15 @@ module _ {J T : Type 0} (fits : Order J → Outcome J T → Type 0) (ready : Ord
               out_sender = r.out_sender;
               out_receiver = None;
               gate = r.gate;
-              cells = homed (worded r.cells place here) place (Some held.Empty);
+              cells = homed (worded r.cells place here) place (Some None);
               law = r.law;
               credits = r.credits;
               terms_are = r.terms_are;
               laid = record { rows = refl; len = both.count ∙ r.laid.len; enough = r.laid.enough; some = r.laid.some };
               gate_word = r.gate_word;
-              marked = AreMarked-kept r.link r.cells (homed (worded r.cells place here) place (Some held.Empty)) r.marked r.link.taken r.link.got r.link.credited
-                  (words_stay r.cells (homed (worded r.cells place here) place (Some held.Empty)) place (Some held.Empty) both);
-              in_place = AreInPlace-home fits ready r.link r.law r.credits r.cells (homed (worded r.cells place here) place (Some held.Empty)) here (Some held.Empty) r.out_sender k both (omega arith) (omega arith) refl
+              marked = AreMarked-kept r.link r.cells (homed (worded r.cells place here) place (Some None)) r.marked r.link.taken r.link.got r.link.credited
+                  (words_stay r.cells (homed (worded r.cells place here) place (Some None)) place (Some None) both);
+              in_place = AreInPlace-home fits ready r.link r.law r.credits r.cells (homed (worded r.cells place here) place (Some None)) here (Some None) r.out_sender k both (omega arith) (omega arith) refl
                   (subst (λ (z : Option ℕ). AreInPlace r.link r.cells r.out_sender z) (sym away ∙ out_is) r.in_place);
               views = AreTold-receiver r.link r.link r.sender r.receiver r.out_sender r.out_receiver seat s.views old.view (with_away old.view None) r.views there None go alone knows refl (λ _ x. x);
             },
@@ -247,10 +245,10 @@ module _ {J T : Type 0} (fits : Order J → Outcome J T → Type 0) (ready : Ord
           let none : r.out_receiver ≡ None = sym away ∙ rests in
           let word : IsChanged r.cells (worded r.cells place here) place here (home_at r.cells place) = IsChanged-worded r.cells place place_there here in
           let both : IsChanged r.cells (homed (worded r.cells place here) place None) place here None = IsChanged-both r.cells place here None place_there in
-          let empty : home_at r.cells place ≡ Some held.Empty = ⊎_elim (λ (e : r.out_receiver ≡ Some place). let never : ⊥ = cc in absurd never) (λ (e : home_at r.cells place ≡ Some held.Empty). e)
+          let empty : home_at r.cells place ≡ Some None = ⊎_elim (λ (e : r.out_receiver ≡ Some place). let never : ⊥ = cc in absurd never) (λ (e : home_at r.cells place ≡ Some None). e)
           (r.in_place.answered k (omega arith) (omega arith)) in (
             with_away old.view (Some place),
-            takes 1 place held.Empty,
+            takes 1 place None,
             (subst (λ (z : ℕ). place < z) (sym word.count) place_there, word.home_here ∙ empty),
             record {
               link = r.link;
@@ -323,13 +321,13 @@ module _ {J T : Type 0} (fits : Order J → Outcome J T → Type 0) (ready : Ord
         on_cell fits ready terms s r seat old at place (place_of r.link.capacity r.link.taken) (λ z. z) (λ p i. LiftsOrder ready (step 1 p i 0 0) old) same
         (sym (is ∙ (λ i. place_of (f.capacity i) (f.taken i)))) (there_is s r there rests room) (lift s r there rests room)
 
-    pub homes_answered : (k : ℕ) → old.hand ≡ Some (at, place, held.Empty) → old.view.away ≡ Some place → length old.view.inward.given ≤ k → k < old.view.inward.taken
+    pub homes_answered : (k : ℕ) → old.hand ≡ Some (at, place, None) → old.view.away ≡ Some place → length old.view.inward.given ≤ k → k < old.view.inward.taken
         → place ≡ place_of old.view.inward.capacity k → Allows (Rule fits ready terms) seat old 1 at place (λ z. z) (Homes (step 1 at place 0 0) old)
     homes_answered k held_is out_is low high is s r there = let f = numbers s r there in
         let spot_is : place ≡ place_of r.link.capacity k = is ∙ ap (λ (z : ℕ). place_of z k) f.capacity in
         on_cell fits ready terms s r seat old at place (place_of r.link.capacity k) (λ z. z) (λ p i. Homes (step 1 p i 0 0) old) same
         (sym spot_is) (place_there s r there k low high)
-        (home s r there k low high (held_is ∙ λ i. Some (sym same i, spot_is i, held.Empty)) (out_is ∙ ap (λ (z : ℕ). Some z) spot_is))
+        (home s r there k low high (held_is ∙ λ i. Some (sym same i, spot_is i, None)) (out_is ∙ ap (λ (z : ℕ). Some z) spot_is))
 
     pub lends_back : old.view.away ≡ None → length old.view.inward.given < old.view.inward.taken → place ≡ place_of old.view.inward.capacity (length old.view.inward.given)
         → Allows (Rule fits ready terms) seat old 1 at place (λ z. z) (LendsBack (step 1 at place 0 0) old)

@@ -18,12 +18,11 @@ use Rattle.rt_link.specs.Whole.{IsLink}
 use Rattle.rt_link.proofs.WholeLaws.{IsLink-collect, IsLink-credit}
 use Rattle.rt_ring_board.specs.After.{with_got, with_away}
 use Rattle.rt_ring_board.specs.Cells.{AreInPlace, IsMarked, held_outcome, place_of, word_at, home_at}
-use Rattle.rt_ring_board.specs.Held.{of_outcome}
+use Rattle.rt_ring_board.specs.Held.{Content, of_outcome}
 use Rattle.rt_ring_board.specs.Told.{Seated, SeesOutcomes, LiftsOutcome, LiftedOutcome, Gathers}
 use Rattle.rt_ring_board.specs.Views.{KnowsOut}
 use Rattle.rt_ring_board.specs.declared.board.Known.{Known}
 use Rattle.rt_ring_board.specs.declared.board.Terms.{Terms}
-use Rattle.rt_ring_board.specs.declared.held.Held.{Held}
 use Rattle.rt_ring_board.proofs.Changes.{worded, homed, IsChanged, IsChanged-worded, IsChanged-both, words_stay}
 use Rattle.rt_ring_board.proofs.InPlace.{AreInPlace-got}
 use Rattle.rt_ring_board.proofs.Knowledge.{KnowsOut-got, KnowsInward-got}
@@ -44,7 +43,7 @@ word_above shut number word low (inl e) zero = omega arith
 word_above shut number word low (inr e) zero = let is = e.0 in omega arith
 
 module _ {J T : Type 0} (fits : Order J → Outcome J T → Type 0) (ready : Order J → Type 0) (terms : Terms J T) (seat : ℕ) (old : Seated J T) (go : old.view.sends ≡ true) (alone : old.view.takes ≡ false) where
-  module _ (s : State (Held J T) (Known J T)) (r : Rule fits ready terms s) (there : get_elem? s.views seat ≡ some old.view) where
+  module _ (s : State (Content J T) (Known J T)) (r : Rule fits ready terms s) (there : get_elem? s.views seat ≡ some old.view) where
     abbrev out : Outward J T
     out = old.view.out
 

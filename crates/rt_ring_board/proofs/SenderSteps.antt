@@ -1,5 +1,5 @@
 -- The steps of the sender's seat: what each keeps, and what it tells.
-use Rattle.std.proofs.Common.{◌≡◌, ◌≢◌, ℕ, ◌+◌, ◌^◌, ◌<◌, ◌≤◌, ◌⊎◌, ⊎_elim, Bool, true, false, [], ◌∷◌, ◌++◌, length, set, eqb, refl, sym, ap, ◌∙◌, subst, arith, Some, None}
+use Rattle.std.proofs.Common.{◌≡◌, ◌≢◌, ℕ, ◌+◌, ◌^◌, ◌<◌, ◌≤◌, ⊎_elim, Bool, true, false, [], ◌∷◌, ◌++◌, length, set, eqb, refl, sym, ap, ◌∙◌, subst, arith, Some, None}
 use Rattle.std.specs.Prelude.{Option}
 use mathlib.Core.Option.{some}
 use mathlib.Core.Logic.{dite}
@@ -16,13 +16,11 @@ use Rattle.rt_link.specs.declared.plain.Whole.{Whole}
 use Rattle.rt_link.proofs.WholeLaws.{IsLink-send}
 use Rattle.rt_ring_board.specs.After.{with_sent, with_closed, with_away}
 use Rattle.rt_ring_board.specs.Cells.{AreInPlace, IsMarked, number_before, place_of, word_at, home_at}
-use Rattle.rt_ring_board.specs.Held.{of_order}
+use Rattle.rt_ring_board.specs.Held.{Content, of_order}
 use Rattle.rt_ring_board.specs.Told.{Seated, LendsOrder, Accepts, Probes, Homes}
 use Rattle.rt_ring_board.specs.Views.{KnowsOut, AreTold}
 use Rattle.rt_ring_board.specs.declared.board.Known.{Known}
 use Rattle.rt_ring_board.specs.declared.board.Terms.{Terms}
-use Rattle.rt_ring_board.specs.declared.held.Held.{Held}
-use Rattle.rt_ring_board.specs.declared.held.Held.TheVariants as held
 use Rattle.rt_ring_board.proofs.Changes.{worded, homed, IsChanged, IsChanged-worded, IsChanged-both, words_stay}
 use Rattle.rt_ring_board.proofs.InPlace.{AreInPlace-lent, AreInPlace-back, AreInPlace-sent}
 use Rattle.rt_ring_board.proofs.Injective.{of_order-injective, same_hand}
@@ -56,7 +54,7 @@ pub record OutNumbers {J T : Type 0} (link : Whole J T) (out : Outward J T) : Ty
   pub small : link.base + length link.sent < 2 ^ 63
 
 module _ {J T : Type 0} (fits : Order J → Outcome J T → Type 0) (ready : Order J → Type 0) (terms : Terms J T) (seat : ℕ) (old : Seated J T) (go : old.view.sends ≡ true) (alone : old.view.takes ≡ false) where
-  module _ (s : State (Held J T) (Known J T)) (r : Rule fits ready terms s) (there : get_elem? s.views seat ≡ some old.view) where
+  module _ (s : State (Content J T) (Known J T)) (r : Rule fits ready terms s) (there : get_elem? s.views seat ≡ some old.view) where
     abbrev pub out : Outward J T
     out = old.view.out
 
@@ -141,10 +139,10 @@ module _ {J T : Type 0} (fits : Order J → Outcome J T → Type 0) (ready : Ord
           let none : r.out_sender ≡ None = sym away ∙ rests in
           let word : IsChanged r.cells (worded r.cells spot found) spot found (home_at r.cells spot) = IsChanged-worded r.cells spot there_is found in
           let both : IsChanged r.cells (homed (worded r.cells spot found) spot None) spot found None = IsChanged-both r.cells spot found None there_is in
-          let empty : home_at r.cells spot ≡ Some held.Empty = ⊎_elim (λ (e : r.out_sender ≡ Some spot). let never : ⊥ = cc in absurd never) (λ (e : home_at r.cells spot ≡ Some held.Empty). e)
+          let empty : home_at r.cells spot ≡ Some None = ⊎_elim (λ (e : r.out_sender ≡ Some spot). let never : ⊥ = cc in absurd never) (λ (e : home_at r.cells spot ≡ Some None). e)
           (r.in_place.free sent (omega arith) (omega arith)) in (
             with_away old.view (Some spot),
-            takes 1 spot held.Empty,
+            takes 1 spot None,
             (subst (λ (z : ℕ). spot < z) (sym word.count) there_is, word.home_here ∙ empty),
             record {
               link = r.link;
@@ -243,13 +241,13 @@ module _ {J T : Type 0} (fits : Order J → Outcome J T → Type 0) (ready : Ord
       place_there : place < length r.cells
       place_there = let f = numbers in in_range k (omega arith)
 
-      home : old.hand ≡ Some (terms.cells.ptr, place, held.Empty) → old.view.away ≡ Some place
+      home : old.hand ≡ Some (terms.cells.ptr, place, None) → old.view.away ≡ Some place
           → Goes (Rule fits ready terms) s (two_rows fits ready terms r.gate (worded r.cells place (word_at r.cells place))) seat old (Homes (step 1 terms.cells.ptr place 0 0) old (word_at r.cells place))
       home held_is out_is = let f = numbers in let here : ℕ = word_at r.cells place in
           let word : IsChanged r.cells (worded r.cells place here) place here (home_at r.cells place) = IsChanged-worded r.cells place place_there here in
-          let both : IsChanged r.cells (homed (worded r.cells place here) place (Some held.Empty)) place here (Some held.Empty) = IsChanged-both r.cells place here (Some held.Empty) place_there in (
+          let both : IsChanged r.cells (homed (worded r.cells place here) place (Some None)) place here (Some None) = IsChanged-both r.cells place here (Some None) place_there in (
             with_away old.view None,
-            gives 1 place held.Empty,
+            gives 1 place None,
             (subst (λ (z : ℕ). place < z) (sym word.count) place_there, held_is),
             record {
               link = r.link;
@@ -258,15 +256,15 @@ module _ {J T : Type 0} (fits : Order J → Outcome J T → Type 0) (ready : Ord
               out_sender = None;
               out_receiver = r.out_receiver;
               gate = r.gate;
-              cells = homed (worded r.cells place here) place (Some held.Empty);
+              cells = homed (worded r.cells place here) place (Some None);
               law = r.law;
               credits = r.credits;
               terms_are = r.terms_are;
               laid = record { rows = refl; len = both.count ∙ r.laid.len; enough = r.laid.enough; some = r.laid.some };
               gate_word = r.gate_word;
-              marked = AreMarked-kept r.link r.cells (homed (worded r.cells place here) place (Some held.Empty)) r.marked r.link.taken r.link.got r.link.credited
-                  (words_stay r.cells (homed (worded r.cells place here) place (Some held.Empty)) place (Some held.Empty) both);
-              in_place = AreInPlace-back fits ready r.link r.law r.credits r.cells (homed (worded r.cells place here) place (Some held.Empty)) here (Some held.Empty) k r.out_receiver both (omega arith) (omega arith) refl
+              marked = AreMarked-kept r.link r.cells (homed (worded r.cells place here) place (Some None)) r.marked r.link.taken r.link.got r.link.credited
+                  (words_stay r.cells (homed (worded r.cells place here) place (Some None)) place (Some None) both);
+              in_place = AreInPlace-back fits ready r.link r.law r.credits r.cells (homed (worded r.cells place here) place (Some None)) here (Some None) k r.out_receiver both (omega arith) (omega arith) refl
                   (subst (λ (z : Option ℕ). AreInPlace r.link r.cells z r.out_receiver) (sym away ∙ out_is) r.in_place);
               views = AreTold-sender r.link r.link r.sender r.receiver r.out_sender r.out_receiver seat s.views old.view (with_away old.view None) r.views there None go alone knows refl (λ _ x. x);
             },
@@ -294,10 +292,10 @@ module _ {J T : Type 0} (fits : Order J → Outcome J T → Type 0) (ready : Ord
           (sym spot_is) (there_is s r there room)
           (accept s r there room order first (held_is ∙ λ i. Some (sym same i, spot_is i, of_order order)) (out_is ∙ ap (λ (z : ℕ). Some z) spot_is) first_is below is_ready)
 
-      pub homes_free : (k : ℕ) → old.hand ≡ Some (at, place, held.Empty) → old.view.away ≡ Some place → length old.view.out.sent ≤ k → k < old.view.out.got + old.view.out.capacity
+      pub homes_free : (k : ℕ) → old.hand ≡ Some (at, place, None) → old.view.away ≡ Some place → length old.view.out.sent ≤ k → k < old.view.out.got + old.view.out.capacity
           → place ≡ place_of old.view.out.capacity k → Allows (Rule fits ready terms) seat old 1 at place (λ z. z) (Homes (step 1 at place 0 0) old)
       homes_free k held_is out_is low high is s r there = let f = numbers s r there in
           let spot_is : place ≡ place_of r.link.capacity k = is ∙ ap (λ (z : ℕ). place_of z k) f.capacity in
           on_cell fits ready terms s r seat old at place (place_of r.link.capacity k) (λ z. z) (λ p i. Homes (step 1 p i 0 0) old) same
           (sym spot_is) (place_there s r there k low high)
-          (home s r there k low high (held_is ∙ λ i. Some (sym same i, spot_is i, held.Empty)) (out_is ∙ ap (λ (z : ℕ). Some z) spot_is))
+          (home s r there k low high (held_is ∙ λ i. Some (sym same i, spot_is i, None)) (out_is ∙ ap (λ (z : ℕ). Some z) spot_is))

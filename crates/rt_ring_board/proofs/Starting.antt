@@ -1,6 +1,5 @@
 -- The board at the start, a seat that only looks, and the seat that is parted.
-use Rattle.std.proofs.Common.{◌≡◌, ℕ, ◌^◌, ◌<◌, ◌≤◌, inl, inr, ⊎_elim, true, List, [], ◌∷◌, length, set, refl, sym, ◌∙◌, arith, subst, None}
-use mathlib.Core.Option.{some}
+use Rattle.std.proofs.Common.{◌≡◌, ℕ, ◌*◌, ◌^◌, ◌<◌, ◌≤◌, inl, inr, ⊎_elim, true, List, [], ◌∷◌, length, set, refl, sym, ◌∙◌, arith, subst, None}
 use denote.RawPtr.{Ptr}
 use Rattle.atomic_table.proofs.Lists.{at_set}
 use Rattle.atomic_blocks.specs.Cells.{State, Cell, Row, row_at, cell_in, Lies, Splits, Enters}
@@ -8,12 +7,12 @@ use Rattle.rt_ids.specs.declared.order.Order.{Order}
 use Rattle.rt_ids.specs.declared.order.Outcome.{Outcome}
 use Rattle.rt_ids.proofs.Prefixes.{IsPrefix-self}
 use Rattle.rt_link.proofs.WholeLaws.{IsLink-fresh}
-use Rattle.rt_ring_board.specs.Cells.{place_of}
+use Rattle.rt_ring_board.specs.Cells.{apart_by, place_of}
 use Rattle.rt_ring_board.specs.Places.{AreFresh}
 use Rattle.rt_ring_board.specs.Views.{IsTold, fresh_link, first_view, out_part, inward_part, spent_view}
 use Rattle.rt_ring_board.specs.declared.board.Known.{Known}
 use Rattle.rt_ring_board.specs.declared.board.Terms.{Terms}
-use Rattle.rt_ring_board.specs.declared.held.Held.{Held}
+use Rattle.rt_ring_board.specs.Held.{Content}
 use Rattle.rt_ring_board.proofs.Numbers.{number-low}
 use Rattle.rt_ring_board.proofs.Steps.{Rule}
 use Rattle.rt_ring_board.proofs.Views.{true-not_false, at_end, only_one, one_sender, one_receiver}
@@ -25,8 +24,8 @@ one_cell (c ∷ []) e = refl
 one_cell (c ∷ d ∷ cells) e = absurd (omega arith)
 
 module _ {J T : Type 0} (fits : Order J → Outcome J T → Type 0) (ready : Order J → Type 0) (terms : Terms J T) where
-  pub starts : (gate_at cells_at : Ptr) (gates cells : List (Cell (Held J T))) → gate_at ≡ terms.gate.ptr → cells_at ≡ terms.cells.ptr → AreFresh gates 1 0 → AreFresh cells terms.len 1
-      → terms.capacity ≤ terms.len → 0 < terms.len → terms.base < 2 ^ 63
+  pub starts : (gate_at cells_at : Ptr) (gates cells : List (Cell (Content J T))) → gate_at ≡ terms.gate.ptr → cells_at ≡ terms.cells.ptr → AreFresh gates 1 0 → AreFresh cells terms.len 1
+      → apart_by * terms.capacity ≤ terms.len → 0 < terms.len → terms.base < 2 ^ 63
       → Rule fits ready terms record { rows = row_at gate_at gates ∷ row_at cells_at cells ∷ []; views = first_view terms ∷ [] }
   starts gate_at cells_at gates cells gate_is cells_is one all enough some_cell small = record {
     link = fresh_link terms;
@@ -65,15 +64,15 @@ module _ {J T : Type 0} (fits : Order J → Outcome J T → Type 0) (ready : Ord
         });
   }
 
-  module _ (s : State (Held J T) (Known J T)) (r : Rule fits ready terms s) where
+  module _ (s : State (Content J T) (Known J T)) (r : Rule fits ready terms s) where
     pub gate_lies : (at : Ptr) → terms.gate.ptr ≡ at → Lies s.rows 0 at 0
-    gate_lies at same = subst (λ (rows : List (Row (Held J T))). Lies rows 0 at 0) (sym r.laid.rows) (same, omega arith)
+    gate_lies at same = subst (λ (rows : List (Row (Content J T))). Lies rows 0 at 0) (sym r.laid.rows) (same, omega arith)
 
-    pub cell_lies : (at : Ptr) (place : ℕ) → terms.cells.ptr ≡ at → place < terms.capacity → Lies s.rows 1 at place
-    cell_lies at place same near = subst (λ (rows : List (Row (Held J T))). Lies rows 1 at place) (sym r.laid.rows) (same, omega (arith, r.laid.len, r.laid.enough))
+    pub cell_lies : (at : Ptr) (place : ℕ) → terms.cells.ptr ≡ at → place < apart_by * terms.capacity → Lies s.rows 1 at place
+    cell_lies at place same near = subst (λ (rows : List (Row (Content J T))). Lies rows 1 at place) (sym r.laid.rows) (same, omega (arith, r.laid.len, r.laid.enough))
 
   -- a new seat that knows nothing may come at any time
-  pub enters : (at : Ptr) (place : ℕ) → terms.cells.ptr ≡ at → place < terms.capacity → Enters (Rule fits ready terms) 1 at place (λ _ view. view ≡ spent_view)
+  pub enters : (at : Ptr) (place : ℕ) → terms.cells.ptr ≡ at → place < apart_by * terms.capacity → Enters (Rule fits ready terms) 1 at place (λ _ view. view ≡ spent_view)
   enters at place same near s r = (
     cell_lies s r at place same near,
     λ _. (

@@ -10,26 +10,26 @@ use Rattle.rt_ring_board.specs.Told.{Seated}
 use Rattle.rt_ring_board.specs.Views.{AreTold}
 use Rattle.rt_ring_board.specs.declared.board.Known.{Known}
 use Rattle.rt_ring_board.specs.declared.board.Terms.{Terms}
-use Rattle.rt_ring_board.specs.declared.held.Held.{Held}
+use Rattle.rt_ring_board.specs.Held.{Content}
 use Rattle.rt_ring_board.proofs.Changes.{worded, IsChanged, IsChanged-worded, words_stay, homes_stay}
 use Rattle.rt_ring_board.proofs.InPlace.{AreInPlace-kept}
 use Rattle.rt_ring_board.proofs.Marks.{AreMarked-kept}
 
 module _ {J T : Type 0} (fits : Order J → Outcome J T → Type 0) (ready : Order J → Type 0) (terms : Terms J T) where
-  abbrev pub Rule : State (Held J T) (Known J T) → Type 0
+  abbrev pub Rule : State (Content J T) (Known J T) → Type 0
   Rule = IsRing fits ready terms
 
   -- the two rows
-  abbrev pub two_rows : Cell (Held J T) → List (Cell (Held J T)) → List (Row (Held J T))
+  abbrev pub two_rows : Cell (Content J T) → List (Cell (Content J T)) → List (Row (Content J T))
   two_rows gate cells = row_at terms.gate.ptr (gate ∷ []) ∷ row_at terms.cells.ptr cells ∷ []
 
-  abbrev pub with_views : Cell (Held J T) → List (Cell (Held J T)) → List (Known J T) → State (Held J T) (Known J T)
+  abbrev pub with_views : Cell (Content J T) → List (Cell (Content J T)) → List (Known J T) → State (Content J T) (Known J T)
   with_views gate cells views = record { rows = two_rows gate cells; views = views }
 
-  abbrev pub gated : Cell (Held J T) → ℕ → Cell (Held J T)
+  abbrev pub gated : Cell (Content J T) → ℕ → Cell (Content J T)
   gated gate word = cell word gate.link gate.home
 
-  module _ (s : State (Held J T) (Known J T)) (r : Rule s) (seat : ℕ) (old : Seated J T) (at : Ptr) where
+  module _ (s : State (Content J T) (Known J T)) (r : Rule s) (seat : ℕ) (old : Seated J T) (at : Ptr) where
     -- what a step owes at the place of a cell, it owes at the place where the code finds it
     pub on_cell : (place spot : ℕ) (f : ℕ → ℕ) (then : Ptr → ℕ → ℕ → Seated J T → Type 0) → terms.cells.ptr ≡ at → spot ≡ place → spot < length r.cells
         → Goes Rule s (two_rows r.gate (worded r.cells spot (f (word_at r.cells spot)))) seat old (then terms.cells.ptr spot (word_at r.cells spot))
@@ -37,17 +37,17 @@ module _ {J T : Type 0} (fits : Order J → Outcome J T → Type 0) (ready : Ord
     on_cell place spot f then same is there goes =
         subst (λ (z : Ptr × ℕ). Lies s.rows 1 z.0 z.1 × (word_of s.rows 1 z.1 < 18446744073709551616 → Goes Rule s (with_word s.rows 1 z.1 (f (word_of s.rows 1 z.1))) seat old (then z.0 z.1 (word_of s.rows 1 z.1))))
         (λ i. (same i, is i))
-        (subst (λ (rows : List (Row (Held J T))). Lies rows 1 terms.cells.ptr spot × (word_of rows 1 spot < 18446744073709551616
+        (subst (λ (rows : List (Row (Content J T))). Lies rows 1 terms.cells.ptr spot × (word_of rows 1 spot < 18446744073709551616
         → Goes Rule s (with_word rows 1 spot (f (word_of rows 1 spot))) seat old (then terms.cells.ptr spot (word_of rows 1 spot)))) (sym r.laid.rows) ((refl, there), λ _. goes))
 
     pub on_gate : (f : ℕ → ℕ) (then : ℕ → Seated J T → Type 0) → terms.gate.ptr ≡ at
         → Goes Rule s (two_rows (gated r.gate (f r.gate.word)) r.cells) seat old (then r.gate.word)
         → Lies s.rows 0 at 0 × (word_of s.rows 0 0 < 18446744073709551616 → Goes Rule s (with_word s.rows 0 0 (f (word_of s.rows 0 0))) seat old (then (word_of s.rows 0 0)))
     on_gate f then same goes =
-        subst (λ (rows : List (Row (Held J T))). Lies rows 0 at 0 × (word_of rows 0 0 < 18446744073709551616 → Goes Rule s (with_word rows 0 0 (f (word_of rows 0 0))) seat old (then (word_of rows 0 0))))
+        subst (λ (rows : List (Row (Content J T))). Lies rows 0 at 0 × (word_of rows 0 0 < 18446744073709551616 → Goes Rule s (with_word rows 0 0 (f (word_of rows 0 0))) seat old (then (word_of rows 0 0))))
         (sym r.laid.rows) ((same, omega arith), λ _. goes)
 
-  module _ (s : State (Held J T) (Known J T)) (r : Rule s) (views : List (Known J T)) (told : AreTold r.link r.sender r.receiver r.out_sender r.out_receiver views) where
+  module _ (s : State (Content J T) (Known J T)) (r : Rule s) (views : List (Known J T)) (told : AreTold r.link r.sender r.receiver r.out_sender r.out_receiver views) where
     -- no word changes, and no cell goes out or comes home
     pub cell_keeps : (place : ℕ) → place < length r.cells → Rule (with_views r.gate (worded r.cells place (word_at r.cells place)) views)
     cell_keeps place there =

@@ -1,5 +1,5 @@
 -- The receiver's seat while it shuts the gate.
-use Rattle.std.proofs.Common.{◌≡◌, ℕ, ◌+◌, ◌%◌, ◌^◌, ◌<◌, ◌≤◌, ◌⊎◌, true, false, length, eqb, sym, ap, ◌∙◌, subst, arith}
+use Rattle.std.proofs.Common.{◌≡◌, ℕ, ◌+◌, ◌^◌, ◌<◌, ◌≤◌, ◌⊎◌, true, false, length, eqb, sym, ap, ◌∙◌, subst, arith}
 use prog.Atomic.{either}
 use denote.RawPtr.{Ptr}
 use Rattle.atomic_blocks.specs.Cells.{step, Allows}
@@ -7,7 +7,7 @@ use Rattle.rt_ids.proofs.Prefixes.{IsPrefix-along, IsPrefix-length}
 use Rattle.rt_ids.specs.declared.order.Order.{Order}
 use Rattle.rt_ids.specs.declared.order.Outcome.{Outcome}
 use Rattle.rt_ring_board.specs.After.{with_taken, with_shut, with_watched}
-use Rattle.rt_ring_board.specs.Cells.{number_before}
+use Rattle.rt_ring_board.specs.Cells.{number_before, place_of}
 use Rattle.rt_ring_board.specs.Seats.{IsReceiver, Watches}
 use Rattle.rt_ring_board.specs.Told.{Seated, SeesOrders, SawOrder, Looks, Marks, Seals, with_view}
 use Rattle.rt_ring_board.specs.declared.board.Terms.{Terms}
@@ -95,7 +95,7 @@ module _ {J T : Type 0} (fits : Order J → Outcome J T → Type 0) (ready : Ord
       → Allows (Rule fits ready terms) seat now 0 at 0 (λ _. 1) (λ _. Seals ready now)
   seals_after same ends = seals fits ready terms seat now takes alone at same ends
 
-  module _ (place seen given capacity : ℕ) (same : terms.cells.ptr ≡ at) (clear : now.view.inward.shut ≡ false) (place_is : place ≡ seen % capacity) (seen_is : seen ≡ length now.view.inward.seen)
+  module _ (place seen given capacity : ℕ) (same : terms.cells.ptr ≡ at) (clear : now.view.inward.shut ≡ false) (place_is : place ≡ place_of capacity seen) (seen_is : seen ≡ length now.view.inward.seen)
       (given_is : given ≡ length old.view.inward.given) (capacity_is : capacity ≡ old.view.inward.capacity) (room : seen < given + capacity) where
     capacity_now : capacity ≡ now.view.inward.capacity
     capacity_now = capacity_is ∙ ap (λ (m : Seated J T). m.view.inward.capacity) (sym w.same)
@@ -103,8 +103,8 @@ module _ {J T : Type 0} (fits : Order J → Outcome J T → Type 0) (ready : Ord
     room_now : length now.view.inward.seen < length now.view.inward.given + now.view.inward.capacity
     room_now = let one : length now.view.inward.given ≡ length old.view.inward.given = ap (λ (m : Seated J T). length m.view.inward.given) w.same in let two = capacity_now in omega arith
 
-    spot : place ≡ length now.view.inward.seen % now.view.inward.capacity
-    spot = place_is ∙ λ i. seen_is i % capacity_now i
+    spot : place ≡ place_of now.view.inward.capacity (length now.view.inward.seen)
+    spot = place_is ∙ λ i. place_of (capacity_now i) (seen_is i)
 
     pub looks_after : Allows (Rule fits ready terms) seat now 1 at place (λ z. z) (Looks ready now)
     looks_after = looks fits ready terms seat now takes alone at place same clear room_now spot

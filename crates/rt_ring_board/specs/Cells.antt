@@ -1,16 +1,18 @@
 -- The cells of a board: what the word of each says, and what it holds.
-use Rattle.std.specs.Prelude.{◌≡◌, ℕ, ◌+◌, ◌-◌, ◌%◌, ◌^◌, ◌<◌, ◌≤◌, ◌⊎◌, Bool, true, false, List, length, Option, Some, None, slice_get, nat_lt, if◌then◌else◌}
+use Rattle.std.specs.Prelude.{◌≡◌, ℕ, ◌+◌, ◌-◌, ◌*◌, ◌%◌, ◌^◌, ◌<◌, ◌≤◌, ◌⊎◌, Bool, true, false, List, length, Option, Some, None, slice_get, nat_lt, if◌then◌else◌}
 use Rattle.atomic_blocks.specs.Cells.{Cell, cell_in}
 use Rattle.rt_ids.specs.declared.order.Order.{Order}
 use Rattle.rt_ids.specs.declared.order.Outcome.{Outcome}
 use Rattle.rt_link.specs.declared.plain.Whole.{Whole}
-use Rattle.rt_ring_board.specs.Held.{of_order, of_outcome}
-use Rattle.rt_ring_board.specs.declared.held.Held.{Held}
-use Rattle.rt_ring_board.specs.declared.held.Held.TheVariants as held
+use Rattle.rt_ring_board.specs.Held.{Content, of_order, of_outcome}
+
+-- how far the cells of two indexes that follow each other are apart: between them lies one that is never used, so that the two mostly share no line of a cache
+abbrev pub apart_by : ℕ
+apart_by = 2
 
 -- the cell of an index, for the order at that index of those sent and for the outcome at that index of those given; after the last cell comes the first again
 abbrev pub place_of : ℕ → ℕ → ℕ
-place_of capacity index = index % capacity
+place_of capacity index = apart_by * (index % capacity)
 
 -- the top bit of a word, for a gate that is shut
 abbrev pub gate_bit : Bool → ℕ
@@ -23,23 +25,23 @@ IsMarked shut number word = (word ≡ number) ⊎ ((word ≡ number + 2 ^ 63) ×
 
 module _ {J T : Type 0} where
   -- a cell with this order, or with this outcome, if there is one
-  abbrev pub held_order : Option (Order J) → Held J T
+  abbrev pub held_order : Option (Order J) → Content J T
   held_order (Some order) = of_order order
-  held_order None = held.Empty
+  held_order None = None
 
-  abbrev pub held_outcome : Option (ℕ × Outcome J T) → Held J T
+  abbrev pub held_outcome : Option (ℕ × Outcome J T) → Content J T
   held_outcome (Some outcome) = of_outcome outcome.1
-  held_outcome None = held.Empty
+  held_outcome None = None
 
   -- what the cell of each index holds: its order, its outcome, or nothing
-  abbrev pub order_at : List (Order J) → ℕ → Held J T
+  abbrev pub order_at : List (Order J) → ℕ → Content J T
   order_at orders index = held_order (slice_get orders index)
 
-  abbrev pub outcome_at : List (ℕ × Outcome J T) → ℕ → Held J T
+  abbrev pub outcome_at : List (ℕ × Outcome J T) → ℕ → Content J T
   outcome_at outcomes index = held_outcome (slice_get outcomes index)
 
-  abbrev pub nothing_at : ℕ → Held J T
-  nothing_at index = held.Empty
+  abbrev pub nothing_at : ℕ → Content J T
+  nothing_at index = None
 
   -- the number of an outcome's order; of no outcome it is 1
   abbrev pub number_of : Option (ℕ × Outcome J T) → ℕ
@@ -51,31 +53,31 @@ module _ {J T : Type 0} where
   number_before given capacity index = if nat_lt index capacity then 1 else number_of (slice_get given (index - capacity))
 
   -- the word and the content of a cell
-  abbrev pub word_at : List (Cell (Held J T)) → ℕ → ℕ
+  abbrev pub word_at : List (Cell (Content J T)) → ℕ → ℕ
   word_at cells place = (cell_in cells place).word
 
-  abbrev pub home_at : List (Cell (Held J T)) → ℕ → Option (Held J T)
+  abbrev pub home_at : List (Cell (Content J T)) → ℕ → Option (Content J T)
   home_at cells place = (cell_in cells place).home
 
   -- the word of an order that has no outcome yet is 0; each other word has a number, and once the gate is shut, the word that the next order would find has the top bit
-  pub record AreMarked (link : Whole J T) (cells : List (Cell (Held J T))) : Type 0 where
+  pub record AreMarked (link : Whole J T) (cells : List (Cell (Content J T))) : Type 0 where
     pub pending : (index : ℕ) → length link.given ≤ index → index < length link.sent → word_at cells (place_of link.capacity index) ≡ 0
     pub settled : (index : ℕ) → length link.sent ≤ index → index < length link.given + link.capacity
         → IsMarked link.shut (number_before link.given link.capacity index) (word_at cells (place_of link.capacity index))
     pub closed : link.shut ≡ true → length link.sent < length link.given + link.capacity → 2 ^ 63 ≤ word_at cells (place_of link.capacity (length link.sent))
 
   -- the cells of the indexes from `low` to below `high` are at home with their contents
-  abbrev pub AreHome : List (Cell (Held J T)) → ℕ → ℕ → ℕ → (ℕ → Held J T) → Type 0
+  abbrev pub AreHome : List (Cell (Content J T)) → ℕ → ℕ → ℕ → (ℕ → Content J T) → Type 0
   AreHome cells capacity low high content = (index : ℕ) → low ≤ index → index < high → home_at cells (place_of capacity index) ≡ Some (content index)
 
   -- the cells of these indexes hold nothing, and are at home unless they are the one that is away
-  abbrev pub AreFree : List (Cell (Held J T)) → Option ℕ → ℕ → ℕ → ℕ → Type 0
+  abbrev pub AreFree : List (Cell (Content J T)) → Option ℕ → ℕ → ℕ → ℕ → Type 0
   AreFree cells away capacity low high =
-      (index : ℕ) → low ≤ index → index < high → (away ≡ Some (place_of capacity index)) ⊎ (home_at cells (place_of capacity index) ≡ Some held.Empty)
+      (index : ℕ) → low ≤ index → index < high → (away ≡ Some (place_of capacity index)) ⊎ (home_at cells (place_of capacity index) ≡ Some None)
 
   -- An order lies in its cell until it is taken, and an outcome until it is got. All other cells hold nothing; the sender and the receiver
   -- may each have one of them out: the receiver one of the orders that have no outcome yet, the sender one of its next orders.
-  pub record AreInPlace (link : Whole J T) (cells : List (Cell (Held J T))) (out_sender out_receiver : Option ℕ) : Type 0 where
+  pub record AreInPlace (link : Whole J T) (cells : List (Cell (Content J T))) (out_sender out_receiver : Option ℕ) : Type 0 where
     pub orders : AreHome cells link.capacity link.taken (length link.sent) (order_at link.sent)
     pub outcomes : AreHome cells link.capacity link.got (length link.given) (outcome_at link.given)
     pub answered : AreFree cells out_receiver link.capacity (length link.given) link.taken

@@ -1,10 +1,9 @@
 -- Where cells lie, and what they are at first.
-use Rattle.std.specs.Prelude.{◌≡◌, ℕ, ◌<◌, List, length, Some}
+use Rattle.std.specs.Prelude.{◌≡◌, ℕ, ◌<◌, List, length, Some, None}
 use mathlib.Core.Path.{refl}
 use denote.RawPtr.{Ptr, InBlock, block_ptr, null_ptr}
 use Rattle.atomic_blocks.specs.Cells.{Cell, AllHome, cell_in}
-use Rattle.rt_ring_board.specs.declared.held.Held.{Held}
-use Rattle.rt_ring_board.specs.declared.held.Held.TheVariants as held
+use Rattle.rt_ring_board.specs.Held.{Content}
 
 -- there is one way at most to lie in two blocks
 pub in_blocks_prop : (p q : Ptr) → IsProp (InBlock p × InBlock q)
@@ -14,6 +13,6 @@ in_blocks_prop null_ptr q x y = absurd x.0
 
 module _ {J T : Type 0} where
   -- there are so many cells, each at home with nothing in it, and with this word
-  abbrev pub AreFresh : List (Cell (Held J T)) → ℕ → ℕ → Type 0
+  abbrev pub AreFresh : List (Cell (Content J T)) → ℕ → ℕ → Type 0
   AreFresh cells len word =
-      (length cells ≡ len) × AllHome cells × ((place : ℕ) → place < len → ((cell_in cells place).word ≡ word) × ((cell_in cells place).home ≡ Some held.Empty))
+      (length cells ≡ len) × AllHome cells × ((place : ℕ) → place < len → ((cell_in cells place).word ≡ word) × ((cell_in cells place).home ≡ Some None))

@@ -1,15 +1,15 @@
 -- The rule of the board, which holds between any two steps of its seats.
-use Rattle.std.specs.Prelude.{◌≡◌, ℕ, ◌<◌, ◌≤◌, true, List, [], ◌∷◌, length, Option}
+use Rattle.std.specs.Prelude.{◌≡◌, ℕ, ◌*◌, ◌<◌, ◌≤◌, true, List, [], ◌∷◌, length, Option}
 use Rattle.atomic_blocks.specs.Cells.{State, Cell, row_at}
 use Rattle.rt_ids.specs.declared.order.Order.{Order}
 use Rattle.rt_ids.specs.declared.order.Outcome.{Outcome}
 use Rattle.rt_link.specs.Whole.{IsLink}
 use Rattle.rt_link.specs.declared.plain.Whole.{Whole}
-use Rattle.rt_ring_board.specs.Cells.{AreMarked, AreInPlace}
+use Rattle.rt_ring_board.specs.Cells.{AreMarked, AreInPlace, apart_by}
 use Rattle.rt_ring_board.specs.Views.{AreTold}
 use Rattle.rt_ring_board.specs.declared.board.Known.{Known}
 use Rattle.rt_ring_board.specs.declared.board.Terms.{Terms}
-use Rattle.rt_ring_board.specs.declared.held.Held.{Held}
+use Rattle.rt_ring_board.specs.Held.{Content}
 
 module _ {J T : Type 0} where
   -- the link is of these terms
@@ -19,24 +19,24 @@ module _ {J T : Type 0} where
     pub base : link.base ≡ terms.base
     pub capacity : link.capacity ≡ terms.capacity
 
-  -- the rows are the gate's, of one cell, and that of the cells, of which there are as many as orders may be outstanding or more
-  pub record AreLaid (terms : Terms J T) (gate : Cell (Held J T)) (cells : List (Cell (Held J T))) (state : State (Held J T) (Known J T)) : Type 0 where
+  -- the rows are the gate's, of one cell, and that of the cells, of which there are enough for all orders that may be outstanding
+  pub record AreLaid (terms : Terms J T) (gate : Cell (Content J T)) (cells : List (Cell (Content J T))) (state : State (Content J T) (Known J T)) : Type 0 where
     pub rows : state.rows ≡ row_at terms.gate.ptr (gate ∷ []) ∷ row_at terms.cells.ptr cells ∷ []
     pub len : length cells ≡ terms.len
-    pub enough : terms.capacity ≤ terms.len
+    pub enough : apart_by * terms.capacity ≤ terms.len
     pub some : 0 < terms.len
 
   -- There is a link that keeps the law of links. The words of the cells tell what has no outcome yet, the cells hold it, and each seat knows its
   -- part of it; one seat is the sender's and one the receiver's. What was got counts as credited here: a credit takes no step, so no other
   -- seat can see it.
-  pub record IsRing (fits : Order J → Outcome J T → Type 0) (ready : Order J → Type 0) (terms : Terms J T) (state : State (Held J T) (Known J T)) : Type 0 where
+  pub record IsRing (fits : Order J → Outcome J T → Type 0) (ready : Order J → Type 0) (terms : Terms J T) (state : State (Content J T) (Known J T)) : Type 0 where
     pub link : Whole J T
     pub sender : ℕ
     pub receiver : ℕ
     pub out_sender : Option ℕ
     pub out_receiver : Option ℕ
-    pub gate : Cell (Held J T)
-    pub cells : List (Cell (Held J T))
+    pub gate : Cell (Content J T)
+    pub cells : List (Cell (Content J T))
     pub law : IsLink fits ready link
     pub credits : link.credited ≡ link.got
     pub terms_are : IsOfTerms link terms

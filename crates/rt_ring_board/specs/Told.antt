@@ -9,34 +9,32 @@ use Rattle.rt_link.specs.declared.ends.Outward.{Outward}
 use Rattle.rt_link.specs.declared.ends.Inward.{Inward}
 use Rattle.rt_ring_board.specs.After.{with_sent, with_closed, with_got, with_taken, with_shut, with_given, with_away}
 use Rattle.rt_ring_board.specs.Cells.{gate_bit, number_before}
-use Rattle.rt_ring_board.specs.Held.{of_order, of_outcome}
+use Rattle.rt_ring_board.specs.Held.{Content, of_order, of_outcome}
 use Rattle.rt_ring_board.specs.declared.board.Known.{Known}
-use Rattle.rt_ring_board.specs.declared.held.Held.{Held}
-use Rattle.rt_ring_board.specs.declared.held.Held.TheVariants as held
 
 -- a seat: what it knows, and the cell that is out with it
 abbrev pub Seated : Type 0 → Type 0 → Type 0
-Seated J T = Me (Held J T) (Known J T)
+Seated J T = Me (Content J T) (Known J T)
 
 module _ {J T : Type 0} where
   -- the seat with another view, with and without the cell of this step out
   abbrev pub with_view : Seated J T → Known J T → Seated J T
   with_view old view = me view old.hand old.spare
 
-  abbrev pub holding : Step → Seated J T → Known J T → Held J T → Seated J T
+  abbrev pub holding : Step → Seated J T → Known J T → Content J T → Seated J T
   holding step old view content = me (with_away view (Some step.index)) (Some (step.at, step.index, content)) old.spare
 
   abbrev pub resting : Seated J T → Known J T → Seated J T
   resting old view = me (with_away view None) None old.spare
 
   -- the cell of this step is out, with this content
-  abbrev pub Holds : Step → Seated J T → Held J T → Type 0
+  abbrev pub Holds : Step → Seated J T → Content J T → Type 0
   Holds step old content = old.hand ≡ Some (step.at, step.index, content)
 
   -- lend: where the top bit was 0, the cell of the next order is out, and the word was its number; otherwise the gate is shut
   pub record LendsOrder (step : Step) (old : Seated J T) (found : ℕ) (new : Seated J T) : Type 0 where
     pub clear : found < 2 ^ 63
-        → (found ≡ number_before old.view.out.seen old.view.out.capacity (length old.view.out.sent)) × (new ≡ holding step old old.view held.Empty)
+        → (found ≡ number_before old.view.out.seen old.view.out.capacity (length old.view.out.sent)) × (new ≡ holding step old old.view None)
     pub shut : 2 ^ 63 ≤ found → new ≡ with_view old (with_closed old.view)
 
   -- accept: where the word was as expected, the gate was open, the order in the cell is sent, and the cell is home; otherwise the gate is shut
@@ -52,7 +50,7 @@ module _ {J T : Type 0} where
 
   -- home: the cell that was out holds nothing, and is home
   abbrev pub Homes : Step → Seated J T → ℕ → Seated J T → Type 0
-  Homes step old found new = Holds step old held.Empty → new ≡ resting old old.view
+  Homes step old found new = Holds step old None → new ≡ resting old old.view
 
   -- the sender sees as many outcomes or more, each of an order that it sent
   pub record SeesOutcomes (fits : Order J → Outcome J T → Type 0) (out : Outward J T) (seen : List (ℕ × Outcome J T)) : Type 0 where
@@ -104,7 +102,7 @@ module _ {J T : Type 0} where
 
   -- lend back: the cell of the next outcome is out
   abbrev pub LendsBack : Step → Seated J T → ℕ → Seated J T → Type 0
-  LendsBack step old found new = new ≡ holding step old old.view held.Empty
+  LendsBack step old found new = new ≡ holding step old old.view None
 
   -- give: the outcome in the cell is given under the number that was stored, and the cell is home
   abbrev pub Gives : Step → Seated J T → ℕ → Seated J T → Type 0

@@ -17,7 +17,7 @@ ghost use Rattle.std.specs.Prelude.{◌≡◌};
 ghost use denote.RawPtr.{InBlock};
 ghost use Rattle.rt_ring_board.specs.Places.{in_blocks_prop};
 
-use crate::held::Held;
+use crate::held::Cell;
 use atomic_blocks::rows::{Link, RowRule, Rows, Seat};
 use rt_ids::{ActorNo, CoreNo};
 use rt_jobs::Task;
@@ -31,6 +31,10 @@ pub(crate) const GATE_ROW: u64 = 0;
 /// The row of the cells.
 pub(crate) const CELL_ROW: u64 = 1;
 
+/// How far the cells of two orders that follow each other are apart. Between them lies a cell that is never used, so that the two mostly share
+/// no line of a cache, and none if a cell has 64 bytes or more.
+pub const APART: u64 = 2;
+
 /// The top bit of a word.
 pub(crate) const GATE: u64 = 1 << 63;
 
@@ -42,10 +46,10 @@ pub struct Terms<J, T> {
     /// The number before the first order.
     pub base: u64,
     pub capacity: u64,
-    /// How many cells there are: one at least, also for no order.
+    /// How many cells there are: `APART` at least, also for no order.
     pub len: u64,
-    pub gate: Link<Held<J, T>>,
-    pub cells: Link<Held<J, T>>,
+    pub gate: Link<Cell<J, T>>,
+    pub cells: Link<Cell<J, T>>,
 }
 
 /// What a seat at the board knows. No value of it is made.
@@ -65,7 +69,7 @@ pub struct Ring<J> {
     job: PhantomData<J>,
 }
 
-impl<J: Task> RowRule<Held<J, J::Out>, Known<J, J::Out>, Terms<J, J::Out>> for Ring<J> {
+impl<J: Task> RowRule<Cell<J, J::Out>, Known<J, J::Out>, Terms<J, J::Out>> for Ring<J> {
     ghost use Rattle.rt_jobs.specs.Ready.{HasReadyJob};
     ghost use Rattle.rt_link.specs.Fits.{Fits};
     ghost use Rattle.rt_ring_board.specs.Rule.{IsRing};
@@ -77,20 +81,20 @@ impl<J: Task> RowRule<Held<J, J::Out>, Known<J, J::Out>, Terms<J, J::Out>> for R
 }
 
 pub type Lines<J> = Rows<
-    Held<J, <J as Task>::Out>,
+    Cell<J, <J as Task>::Out>,
     Known<J, <J as Task>::Out>,
     Terms<J, <J as Task>::Out>,
     Ring<J>,
     Global,
 >;
 
-pub type Place<J> = Seat<Held<J, <J as Task>::Out>, Known<J, <J as Task>::Out>, Global>;
+pub type Place<J> = Seat<Cell<J, <J as Task>::Out>, Known<J, <J as Task>::Out>, Global>;
 
-/// The cells with their memory, and where they lie.
+/// The cells with their memory, and where they lie. What lies in a cell when the board is dropped is forgotten.
 pub struct Board<J: Task> {
     pub(crate) lines: Lines<J>,
-    pub(crate) gate: Link<Held<J, J::Out>>,
-    pub(crate) cells: Link<Held<J, J::Out>>,
+    pub(crate) gate: Link<Cell<J, J::Out>>,
+    pub(crate) cells: Link<Cell<J, J::Out>>,
     pub(crate) len: u64,
     pub(crate) alloc: Global,
     ghost keyed: { (lines.key.gate.ptr ≡ gate.ptr) × (lines.key.cells.ptr ≡ cells.ptr) × (lines.key.len ≡ len) × (lines.heap ≡ alloc) },

@@ -1,10 +1,14 @@
 //! What a cell holds: an order, an outcome, or nothing.
 
-ghost use Rattle.std.specs.Prelude.{◌≡◌};
+ghost use Rattle.std.specs.Prelude.{◌≡◌, Some};
 ghost use Rattle.rt_ring_board.specs.Held.{of_back, of_order, of_outcome};
 
 use rt_ids::{ActorNo, Answer, Mode, Order, Outcome, QueueNo, Reason};
+use rt_ring_cells::MaybeTaken;
 use rt_shares::Shares;
+
+/// What the slot of a cell holds. Whoever takes it out leaves its bytes there, and writes nothing.
+pub type Cell<J, T> = MaybeTaken<Held<J, T>>;
 
 /// What a cell holds.
 ///
@@ -12,6 +16,7 @@ use rt_shares::Shares;
 /// outcome's order stands in the word of its cell.
 #[derive(Drop)]
 pub enum Held<J, T> {
+    /// The bytes of a cell that wasn't used yet.
     Empty,
     Job(QueueNo, J),
     Create(Shares),
@@ -32,7 +37,7 @@ pub enum Held<J, T> {
 /// An order, to lie in a cell.
 #[inline]
 pub(crate) fn hold_order<J, T>(order: Order<J>) -> Held<J, T>
-    ensures { result ≡ of_order order }
+    ensures { Some result ≡ of_order order }
 {
     match order {
         Order::Job(queue, job) => Held::Job(queue, job),
@@ -47,8 +52,8 @@ pub(crate) fn hold_order<J, T>(order: Order<J>) -> Held<J, T>
 /// The order that lay in a cell.
 #[inline]
 pub(crate) fn order_of<J: Drop, T: Drop>(held: Held<J, T>) -> Order<J>
-    requires { (order : Order J) × (held ≡ of_order order) }
-    ensures { held ≡ of_order result }
+    requires { (order : Order J) × (Some held ≡ of_order order) }
+    ensures { Some held ≡ of_order result }
 {
     match held {
         Held::Job(queue, job) => Order::Job(queue, job),
@@ -64,7 +69,7 @@ pub(crate) fn order_of<J: Drop, T: Drop>(held: Held<J, T>) -> Order<J>
 /// An order that is handed back, to lie in a cell.
 #[inline]
 fn hold_back<J, T>(reason: Reason, order: Order<J>) -> Held<J, T>
-    ensures { result ≡ of_back reason order }
+    ensures { Some result ≡ of_back reason order }
 {
     match order {
         Order::Job(queue, job) => Held::JobBack(reason, queue, job),
@@ -79,7 +84,7 @@ fn hold_back<J, T>(reason: Reason, order: Order<J>) -> Held<J, T>
 /// An outcome, to lie in a cell.
 #[inline]
 pub(crate) fn hold_outcome<J, T>(outcome: Outcome<J, T>) -> Held<J, T>
-    ensures { result ≡ of_outcome outcome }
+    ensures { Some result ≡ of_outcome outcome }
 {
     match outcome {
         Outcome::Finished(out) => Held::Finished(out),
@@ -91,8 +96,8 @@ pub(crate) fn hold_outcome<J, T>(outcome: Outcome<J, T>) -> Held<J, T>
 /// The outcome that lay in a cell.
 #[inline]
 pub(crate) fn outcome_of<J: Drop, T: Drop>(held: Held<J, T>) -> Outcome<J, T>
-    requires { (outcome : Outcome J T) × (held ≡ of_outcome outcome) }
-    ensures { held ≡ of_outcome result }
+    requires { (outcome : Outcome J T) × (Some held ≡ of_outcome outcome) }
+    ensures { Some held ≡ of_outcome result }
 {
     match held {
         Held::Finished(out) => Outcome::Finished(out),

@@ -8,8 +8,8 @@ mod plays;
 mod receiver;
 mod sender;
 
-pub use board::{Board, Known, Place, Ring, Terms};
-pub use held::Held;
-pub use opening::{join, lay};
+pub use board::{APART, Board, Known, Place, Ring, Terms};
+pub use held::{Cell, Held};
+pub use opening::{compare, lay};
 pub use receiver::{close, give, next_order, shows_order};
 pub use sender::{is_open, next_outcome, offer, see_none, shows_outcome};

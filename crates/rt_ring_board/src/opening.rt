@@ -1,4 +1,4 @@
-//! How a board is made, and how its two seats are joined at the end.
+//! How a board is made, and how its two seats are compared at the end.
 
 ghost use Rattle.std.specs.Prelude.{◌≡◌, ◌+◌, ◌^◌, ◌<◌, ◌≤◌, true, length, take, IfOk};
 ghost use denote.RawPtr.{InBlock};
@@ -8,26 +8,33 @@ ghost use Rattle.rt_link.specs.Whole.{fresh, inward_of, out_of};
 ghost use Rattle.rt_ring_board.specs.Places.{AreFresh};
 ghost use Rattle.rt_ring_board.specs.Seats.{IsReceiver, IsSender};
 
-use crate::board::{Board, GATE_ROW, Lines, Place, Terms};
-use crate::held::Held;
+use crate::board::{APART, Board, GATE_ROW, Lines, Place, Terms};
+use crate::held::{Cell, Held};
 use crate::plays::{Compare, Halves};
 use atomic_blocks::rows::{Link, Loose, Rows};
 use rt_ids::{ActorNo, CoreNo};
 use rt_jobs::Task;
+use rt_ring_cells::MaybeTaken;
 use std::alloc::{AllocError, Global};
 
 /// A row of cells that hold nothing, each with this word.
-fn row_of<J, T>(
+fn row_of<J: Drop, T: Drop>(
     alloc: &Global,
     len: u64,
     word: u64,
-) -> Result<(Link<Held<J, T>>, Loose<Held<J, T>, Global>), AllocError>
+) -> Result<(Link<Cell<J, T>>, Loose<Cell<J, T>, Global>), AllocError>
     ensures place { IfOk result (λ row. (row.1.heap ≡ alloc.now) × (row.1.at ≡ row.0.ptr) × InBlock row.0.ptr × (row.1.left ≡ 0)) }
     ensures cells { IfOk result (λ row. AreFresh row.1.cells len word) }
 {
     let (link, mut row) = Loose::reserve(alloc, len as usize)?;
     'cells: for index in 0..len {
-        row.push(link, index as usize, word, link, Held::Empty);
+        row.push(
+            link,
+            index as usize,
+            word,
+            link,
+            MaybeTaken::bytes_of(Held::Empty),
+        );
     }
     Ok((link, row))
 }
@@ -50,7 +57,7 @@ pub fn lay<J: Task>(
     ensures inward { IfOk result (λ laid. laid.2.me.view.inward ≡ inward_of (fresh from to capacity base)) }
 {
     let capacity = capacity as u64;
-    let len = capacity.max(1);
+    let len = APART * capacity.max(1);
     let (gate, gate_row) = row_of::<J, J::Out>(&alloc, 1, 0)?;
     let Ok((cells, cell_row)) = row_of::<J, J::Out>(&alloc, len, 1) else {
         gate_row.free(&alloc, gate, 1);
@@ -77,21 +84,24 @@ pub fn lay<J: Task>(
     Ok((board, seat, other))
 }
 
-/// Makes one seat of the two, by which both ends are those of one link.
-pub fn join<J: Task>(board: &Board<J>, mut seat: Place<J>, other: Place<J>)
-    requires at { (seat.rows ≡ board.now.lines.id) × (seat.heap ≡ board.now.lines.heap) }
+/// Compares what the two seats know, by which both ends are those of one link. The receiver's seat comes back.
+pub fn compare<J: Task>(board: &Board<J>, seat: &mut Place<J>, other: Place<J>) -> Place<J>
+    requires at { (seat.old.rows ≡ board.now.lines.id) × (seat.old.heap ≡ board.now.lines.heap) }
     requires other_at { (other.rows ≡ board.now.lines.id) × (other.heap ≡ board.now.lines.heap) }
-    requires sender { IsSender seat.me }
+    requires sender { IsSender seat.old.me }
     requires receiver { IsReceiver other.me }
-    ensures joined { Joined seat.me.view.out other.me.view.inward }
-    ensures outcomes { AreOf (Fits J.meaning) seat.me.view.out.base (take other.me.view.inward.taken seat.me.view.out.sent) other.me.view.inward.given }
+    ensures at { (seat.new.rows ≡ seat.old.rows) × (seat.new.heap ≡ seat.old.heap) }
+    ensures other_at { (result.rows ≡ other.rows) × (result.heap ≡ other.heap) }
+    ensures sender { IsSender seat.new.me }
+    ensures receiver { IsReceiver result.me }
+    ensures out { seat.new.me.view.out ≡ seat.old.me.view.out }
+    ensures inward { result.me.view.inward ≡ other.me.view.inward }
+    ensures joined { Joined seat.old.me.view.out other.me.view.inward }
+    ensures outcomes { AreOf (Fits J.meaning) seat.old.me.view.out.base (take other.me.view.inward.taken seat.old.me.view.out.sent) other.me.view.inward.given }
 {
-    board
-        .lines
-        .join_seat::<Halves>(&mut seat, other, GATE_ROW, board.gate);
+    let lines = &board.lines;
+    lines.join_seat::<Halves>(seat, other, GATE_ROW, board.gate);
     // step: the last load, by the seat that now knows both ends. No other thread has an end any more.
-    let _word = board
-        .lines
-        .load::<Compare>(&mut seat, GATE_ROW, board.gate, 0);
-    seat.leave();
+    let _word = lines.load::<Compare>(seat, GATE_ROW, board.gate, 0);
+    lines.split_seat::<Halves>(seat, GATE_ROW, board.gate)
 }

@@ -4,7 +4,7 @@ ghost use Rattle.rt_ring_board.specs.Told.{Accepts, Gives, Homes, LendsBack, Len
 ghost use Rattle.rt_ring_board.specs.Views.{both_parts, inward_part, out_part, spent_view};
 
 use crate::board::Known;
-use crate::held::Held;
+use crate::held::Cell;
 use atomic_blocks::rows::Play;
 use atomic_table::{Join, Split};
 use rt_jobs::Task;
@@ -12,42 +12,42 @@ use rt_jobs::Task;
 /// The sender's load of the word of its next order's cell, which takes the cell out.
 pub(crate) struct LendOrder;
 
-impl<J, T> Play<Held<J, T>, Known<J, T>> for LendOrder {
+impl<J, T> Play<Cell<J, T>, Known<J, T>> for LendOrder {
     ghost then = { LendsOrder };
 }
 
 /// The sender's compare-and-exchange of that word to 0.
 pub(crate) struct Accept;
 
-impl<J, T> Play<Held<J, T>, Known<J, T>> for Accept {
+impl<J, T> Play<Cell<J, T>, Known<J, T>> for Accept {
     ghost then = { Accepts };
 }
 
 /// The sender's load of the gate's word.
 pub(crate) struct Probe;
 
-impl<J, T> Play<Held<J, T>, Known<J, T>> for Probe {
+impl<J, T> Play<Cell<J, T>, Known<J, T>> for Probe {
     ghost then = { Probes };
 }
 
 /// A load that puts the cell which is out home, with nothing in it: by the sender.
 pub(crate) struct HomeFree;
 
-impl<J, T> Play<Held<J, T>, Known<J, T>> for HomeFree {
+impl<J, T> Play<Cell<J, T>, Known<J, T>> for HomeFree {
     ghost then = { Homes };
 }
 
 /// The same by the receiver.
 pub(crate) struct HomeAnswered;
 
-impl<J, T> Play<Held<J, T>, Known<J, T>> for HomeAnswered {
+impl<J, T> Play<Cell<J, T>, Known<J, T>> for HomeAnswered {
     ghost then = { Homes };
 }
 
 /// The sender's load of the word of its next outcome's cell.
 pub(crate) struct LiftOutcome;
 
-impl<J: Task> Play<Held<J, J::Out>, Known<J, J::Out>> for LiftOutcome {
+impl<J: Task> Play<Cell<J, J::Out>, Known<J, J::Out>> for LiftOutcome {
     ghost use Rattle.rt_link.specs.Fits.{Fits};
     ghost use Rattle.rt_ring_board.specs.Told.{LiftsOutcome};
 
@@ -57,7 +57,7 @@ impl<J: Task> Play<Held<J, J::Out>, Known<J, J::Out>> for LiftOutcome {
 /// The sender's load of the gate's word while nothing is outstanding.
 pub(crate) struct Gather;
 
-impl<J: Task> Play<Held<J, J::Out>, Known<J, J::Out>> for Gather {
+impl<J: Task> Play<Cell<J, J::Out>, Known<J, J::Out>> for Gather {
     ghost use Rattle.rt_link.specs.Fits.{Fits};
     ghost use Rattle.rt_ring_board.specs.Told.{Gathers};
 
@@ -67,7 +67,7 @@ impl<J: Task> Play<Held<J, J::Out>, Known<J, J::Out>> for Gather {
 /// The receiver's load of the word of its next order's cell.
 pub(crate) struct LiftOrder;
 
-impl<J: Task> Play<Held<J, J::Out>, Known<J, J::Out>> for LiftOrder {
+impl<J: Task> Play<Cell<J, J::Out>, Known<J, J::Out>> for LiftOrder {
     ghost use Rattle.rt_jobs.specs.Ready.{HasReadyJob};
     ghost use Rattle.rt_ring_board.specs.Told.{LiftsOrder};
 
@@ -77,21 +77,21 @@ impl<J: Task> Play<Held<J, J::Out>, Known<J, J::Out>> for LiftOrder {
 /// The receiver's load of the word of its next outcome's cell, which takes the cell out.
 pub(crate) struct LendBack;
 
-impl<J, T> Play<Held<J, T>, Known<J, T>> for LendBack {
+impl<J, T> Play<Cell<J, T>, Known<J, T>> for LendBack {
     ghost then = { LendsBack };
 }
 
 /// The receiver's store of that word.
 pub(crate) struct Give;
 
-impl<J, T> Play<Held<J, T>, Known<J, T>> for Give {
+impl<J, T> Play<Cell<J, T>, Known<J, T>> for Give {
     ghost then = { Gives };
 }
 
 /// The receiver's load of the word that the next order would find, before it shuts the gate.
 pub(crate) struct Look;
 
-impl<J: Task> Play<Held<J, J::Out>, Known<J, J::Out>> for Look {
+impl<J: Task> Play<Cell<J, J::Out>, Known<J, J::Out>> for Look {
     ghost use Rattle.rt_jobs.specs.Ready.{HasReadyJob};
     ghost use Rattle.rt_ring_board.specs.Told.{Looks};
 
@@ -101,7 +101,7 @@ impl<J: Task> Play<Held<J, J::Out>, Known<J, J::Out>> for Look {
 /// The receiver's compare-and-exchange that sets the top bit of that word.
 pub(crate) struct Mark;
 
-impl<J: Task> Play<Held<J, J::Out>, Known<J, J::Out>> for Mark {
+impl<J: Task> Play<Cell<J, J::Out>, Known<J, J::Out>> for Mark {
     ghost use Rattle.rt_jobs.specs.Ready.{HasReadyJob};
     ghost use Rattle.rt_ring_board.specs.Told.{Marks};
 
@@ -111,7 +111,7 @@ impl<J: Task> Play<Held<J, J::Out>, Known<J, J::Out>> for Mark {
 /// The receiver's store of the gate's word.
 pub(crate) struct Seal;
 
-impl<J: Task> Play<Held<J, J::Out>, Known<J, J::Out>> for Seal {
+impl<J: Task> Play<Cell<J, J::Out>, Known<J, J::Out>> for Seal {
     ghost use Rattle.rt_jobs.specs.Ready.{HasReadyJob};
     ghost use Rattle.rt_ring_board.specs.Told.{Seals};
 
@@ -121,7 +121,7 @@ impl<J: Task> Play<Held<J, J::Out>, Known<J, J::Out>> for Seal {
 /// A load by a new seat, which tells nothing.
 pub(crate) struct Peek;
 
-impl<J, T> Play<Held<J, T>, Known<J, T>> for Peek {
+impl<J, T> Play<Cell<J, T>, Known<J, T>> for Peek {
     ghost use Rattle.std.specs.Prelude.{◌≡◌};
 
     ghost then = { λ _ _ _ new. new.view ≡ spent_view };
@@ -130,7 +130,7 @@ impl<J, T> Play<Held<J, T>, Known<J, T>> for Peek {
 /// A load by the seat that knows both ends.
 pub(crate) struct Compare;
 
-impl<J: Task> Play<Held<J, J::Out>, Known<J, J::Out>> for Compare {
+impl<J: Task> Play<Cell<J, J::Out>, Known<J, J::Out>> for Compare {
     ghost use Rattle.rt_link.specs.Fits.{Fits};
     ghost use Rattle.rt_ring_board.specs.Told.{Compares};
 

@@ -1,19 +1,20 @@
 //! The steps of the receiver's seat.
 
-ghost use Rattle.std.specs.Prelude.{◌≡◌, ◌+◌, ◌^◌, ◌<◌, ◌≤◌, ◌⊎◌, false, true, length, Some, slice_get, IfNone, IfSome};
+ghost use Rattle.std.specs.Prelude.{◌≡◌, ◌+◌, ◌*◌, ◌^◌, ◌<◌, ◌≤◌, ◌⊎◌, false, true, length, Some, slice_get, IfNone, IfSome};
 ghost use Rattle.rt_jobs.specs.Ready.{HasReadyJob};
 ghost use Rattle.rt_link.specs.Calls.{MayGive};
 ghost use Rattle.rt_link.specs.Fits.{Fits};
 ghost use Rattle.rt_ring_board.specs.After.{with_given, with_shut, with_taken};
-ghost use Rattle.rt_ring_board.specs.Cells.{gate_bit, place_of};
+ghost use Rattle.rt_ring_board.specs.Cells.{apart_by, gate_bit, place_of};
 ghost use Rattle.rt_ring_board.specs.Seats.{IsReceiver, Watches};
 ghost use Rattle.rt_ring_board.specs.Told.{SeesOrders};
 
-use crate::board::{Board, CELL_ROW, GATE, GATE_ROW, Place};
-use crate::held::{Held, hold_outcome, order_of};
+use crate::board::{APART, Board, CELL_ROW, GATE, GATE_ROW, Place};
+use crate::held::{hold_outcome, order_of};
 use crate::plays::{Give, HomeAnswered, LendBack, LiftOrder, Look, Mark, Peek, Seal};
 use rt_ids::{Order, Outcome};
 use rt_jobs::Task;
+use rt_ring_cells::{MaybeTaken, take_out};
 use std::mem::forget;
 
 /// The next order, if it was sent.
@@ -36,7 +37,7 @@ pub fn next_order<J: Task>(board: &Board<J>, seat: &mut Place<J>, place: usize) 
     if lines.load::<LiftOrder>(seat, CELL_ROW, board.cells, place) != 0 {
         return None;
     }
-    let order = order_of(lines.exchange(seat, board.cells, place, Held::Empty));
+    let order = order_of(take_out(lines, seat, board.cells, place));
     // step: home.
     let _word = lines.load::<HomeAnswered>(seat, CELL_ROW, board.cells, place);
     Some(order)
@@ -75,7 +76,8 @@ pub fn give<J: Task>(
     let lines = &board.lines;
     // step: lend back. The word stays 0 until the outcome is given.
     let _word = lines.load::<LendBack>(seat, CELL_ROW, board.cells, place);
-    forget(lines.exchange(seat, board.cells, place, hold_outcome(outcome)));
+    let held = MaybeTaken::of(hold_outcome(outcome));
+    forget(lines.exchange(seat, board.cells, place, held));
     let marked = given_word(shut, number);
     // step: give.
     lines.store::<Give>(seat, CELL_ROW, board.cells, place, marked);
@@ -103,7 +105,7 @@ fn mark_next<J: Task>(
 {
     let mut seen = seen;
     'looks: while seen - given < capacity {
-        let place = (seen % capacity) as usize;
+        let place = (APART * (seen % capacity)) as usize;
         // step: look.
         let word = board.lines.load::<Look>(seat, CELL_ROW, board.cells, place);
         if word != 0 {
@@ -151,7 +153,7 @@ pub fn close<J: Task>(
 
 /// Whether an order lies in the cell of the next one. No clause says that the answer is right.
 pub fn shows_order<J: Task>(board: &Board<J>, place: usize) -> bool
-    requires { (place < board.now.lines.key.capacity) × (board.now.lines.key.capacity < 2 ^ 16) }
+    requires { (place < apart_by * board.now.lines.key.capacity) × (board.now.lines.key.capacity < 2 ^ 16) }
 {
     // step: peek. Neither end knows more by it.
     let (word, seat) = board

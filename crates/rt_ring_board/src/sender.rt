@@ -1,18 +1,19 @@
 //! The steps of the sender's seat.
 
-ghost use Rattle.std.specs.Prelude.{◌≡◌, ◌+◌, ◌^◌, ◌<◌, false, true, length, Some, slice_get, IfErr, IfNone, IfOk, IfSome};
+ghost use Rattle.std.specs.Prelude.{◌≡◌, ◌+◌, ◌*◌, ◌^◌, ◌<◌, false, true, length, Some, slice_get, IfErr, IfNone, IfOk, IfSome};
 ghost use Rattle.rt_jobs.specs.Ready.{HasReadyJob};
 ghost use Rattle.rt_link.specs.Fits.{Fits};
 ghost use Rattle.rt_ring_board.specs.After.{with_closed, with_got, with_sent};
-ghost use Rattle.rt_ring_board.specs.Cells.{place_of};
+ghost use Rattle.rt_ring_board.specs.Cells.{apart_by, place_of};
 ghost use Rattle.rt_ring_board.specs.Seats.{IsSender};
 ghost use Rattle.rt_ring_board.specs.Told.{SeesOutcomes};
 
 use crate::board::{Board, CELL_ROW, GATE, GATE_ROW, Place};
-use crate::held::{Held, hold_order, order_of, outcome_of};
+use crate::held::{hold_order, order_of, outcome_of};
 use crate::plays::{Accept, Gather, HomeFree, LendOrder, LiftOutcome, Peek, Probe};
 use rt_ids::{Order, Outcome};
 use rt_jobs::Task;
+use rt_ring_cells::{MaybeTaken, take_out};
 use std::mem::forget;
 
 /// One try to have an order accepted, in the cell of the next one. The order comes back if the gate is shut.
@@ -40,12 +41,13 @@ pub fn offer<J: Task>(
     if word >= GATE {
         return Err(order);
     }
-    forget(lines.exchange(seat, board.cells, place, hold_order(order)));
+    let held = MaybeTaken::of(hold_order(order));
+    forget(lines.exchange(seat, board.cells, place, held));
     // step: accept. One try decides, since only the gate can make it fail.
     if lines.compare_exchange::<Accept>(seat, CELL_ROW, board.cells, place, word, 0) == word {
         return Ok(());
     }
-    let back = order_of(lines.exchange(seat, board.cells, place, Held::Empty));
+    let back = order_of(take_out(lines, seat, board.cells, place));
     // step: home.
     let _word = lines.load::<HomeFree>(seat, CELL_ROW, board.cells, place);
     Err(back)
@@ -88,7 +90,7 @@ pub fn next_outcome<J: Task>(
     if word == 0 {
         return None;
     }
-    let outcome = outcome_of(lines.exchange(seat, board.cells, place, Held::Empty));
+    let outcome = outcome_of(take_out(lines, seat, board.cells, place));
     // step: home.
     let _word = lines.load::<HomeFree>(seat, CELL_ROW, board.cells, place);
     Some((word % GATE, outcome))
@@ -109,7 +111,7 @@ pub fn see_none<J: Task>(board: &Board<J>, seat: &mut Place<J>)
 
 /// Whether an outcome lies in the cell of the next one, which is outstanding. No clause says that the answer is right.
 pub fn shows_outcome<J: Task>(board: &Board<J>, place: usize) -> bool
-    requires { (place < board.now.lines.key.capacity) × (board.now.lines.key.capacity < 2 ^ 16) }
+    requires { (place < apart_by * board.now.lines.key.capacity) × (board.now.lines.key.capacity < 2 ^ 16) }
 {
     // step: peek. Neither end knows more by it.
     let (word, seat) = board

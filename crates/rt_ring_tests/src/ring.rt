@@ -24,6 +24,15 @@ const COUNTS: Accounts = Accounts {
     shut: Some(3),
 };
 
+/// The counts where an order and an outcome are left.
+const LEFT: Accounts = Accounts {
+    accepted: 3,
+    taken: 2,
+    given: 2,
+    collected: 0,
+    shut: None,
+};
+
 fn opened(alloc: Global, capacity: u16, accepted: u64) -> Option<Ring>
     requires { accepted < 2 ^ 63 }
 {
@@ -133,10 +142,25 @@ fn ring_holds_three(alloc: Global, held: &Arc<u64, Global>) -> bool {
     }
 }
 
+/// The same of this ring, whose two ends are reunited then.
+fn held_three_to_the_end(ring: Ring, held: &Arc<u64, Global>) -> bool {
+    let mut ring = ring;
+    let right = holds_three(&mut ring, held);
+    ended(ring, LEFT) && right
+}
+
+fn reunited_ring_held_three(alloc: Global, held: &Arc<u64, Global>) -> bool {
+    match opened(alloc, 4, 0) {
+        Some(ring) => held_three_to_the_end(ring, held),
+        None => false,
+    }
+}
+
 #[test]
 fn what_is_left_in_the_cells_is_dropped(rt: HostRuntime) -> Result<(), Fail> {
     let held = Arc::new(rt.alloc(), 0u64)?;
     assert!(rt; ring_holds_three(rt.alloc(), &held) && Arc::strong_count(&held) == 1);
+    assert!(rt; reunited_ring_held_three(rt.alloc(), &held) && Arc::strong_count(&held) == 1);
     Ok(())
 }
 

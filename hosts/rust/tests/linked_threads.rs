@@ -102,13 +102,15 @@ fn who_waits_is_told_that_a_core_was_dropped() -> Result<(), Error> {
         let (_house, mut cores, mut outside) = House::open(&Config { notes, ..config(1, 4) })?;
         outside.keep_notes_by(|_| {});
         let mut core = cores.remove(0);
-        let thread = std::thread::spawn(move || core.run(|job, _| if *job == panics { panic!("a job's own") } else { Step::Done(2 * *job) }).map(|()| core));
         let tickets = (1..=4u64).map(|job| sent(outside.submit(0, 0, job))).collect::<Result<Vec<_>, _>>()?;
+        let thread = std::thread::spawn(move || core.run(|job, _| if *job == panics { panic!("a job's own") } else { Step::Done(2 * *job) }).map(|()| core));
         for (job, ticket) in (1..).zip(&tickets[..answers]) {
             assert_eq!(outside.wait_for(ticket)?, Outcome::Done(if job == panics { 0 } else { 2 * job }));
         }
         assert_eq!(outside.wait_for(&tickets[3]), Err(Error::Pending));
         assert_eq!(thread.join().map(|told| told.err()).ok(), if panics == 0 { Some(Some(Error::JournalFull)) } else { None });
+        // A core that was dropped accepts nothing more.
+        assert_eq!(sent(outside.submit(0, 0, 5)).map(|_| ()), Err(Error::Closed));
     }
     Ok(())
 }

@@ -1,11 +1,9 @@
-use Rattle.std.proofs.Common.{rules, arith, ap, ◌∙◌, length, ◌+◌}
+use Rattle.std.proofs.Common.{rules, arith, ◌∙◌, length, None}
 use Rattle.rt_jobs.specs.Ready.{HasReadyJob}
 use Rattle.rt_link.specs.Fits.{Fits}
-use Rattle.rt_ring_board.specs.Cells.{gate_bit}
 use Rattle.rt_ring_board.specs.Held.{of_outcome}
-use Rattle.rt_ring_board.specs.declared.held.Held.TheVariants as held
 use Rattle.rt_ring_board.proofs.Filled.{gives_filled}
-use Rattle.rt_ring_board.proofs.Lent.{place-small, filled_is}
+use Rattle.rt_ring_board.proofs.Lent.{place-small, given-word, hand_of, filled_is}
 use Rattle.rt_ring_board.proofs.ReceiverSteps.{lends_back}
 use Rattle.rt_ring_board.proofs.Rests.{IsReceiver-gave}
 use Rattle.rt_ring_board.proofs.receiver.give.Goals as goal
@@ -22,21 +20,23 @@ load-word-requires g c = let is = c.requires.receiver in let inward = c.args.sea
 pub store-requires : goal.store-requires
 store-requires g c =
     let is = c.requires.receiver in let old = c.args.seat.now.me in let inward = old.view.inward in
-    let now = filled_is old.view old.spare c.args.board.now.cells.ptr c.args.place c.load-word.new.seat.me c.exchange.new.seat.me _ _ (of_outcome c.args.outcome) c.load-word.ensures.3 c.exchange.ensures.slot.1 c.hold_outcome.ensures in (
+    let now = filled_is old.view old.spare c.args.board.now.cells.ptr c.args.place c.load-word.new.seat.me c.exchange.new.seat.me _ _ (of_outcome c.args.outcome) c.load-word.ensures.3 c.exchange.ensures.slot.1 (c.of-held.ensures ∙ c.hold_outcome.ensures) in (
       search rules,
       search rules,
       c.args.board.now.placed.1,
       place-small inward.capacity (length inward.given) c.args.place (omega (arith, is.few, c.requires.owed)) is.small c.requires.place,
       gives_filled (Fits g.J.Task.meaning) (HasReadyJob g.J.Task.meaning) _ _ old.view old.spare c.exchange.new.seat.me _ _ c.args.board.now.keyed.1 c.args.number c.args.outcome c.given_word-marked.result now is.takes is.alone
-          c.requires.owed c.requires.place (c.given_word-marked.ensures ∙ ap (λ z. c.args.number + gate_bit z) c.requires.shut) c.requires.may,
+          c.requires.owed c.requires.place (given-word c.given_word-marked.result c.args.number c.args.shut inward.shut c.given_word-marked.ensures c.requires.shut) c.requires.may,
     )
 
 pub exchange-requires : goal.exchange-requires
-exchange-requires g c = (search rules, c.args.board.now.placed.1, (held.Empty, ap (λ m. m.hand) c.load-word.ensures.3))
+exchange-requires g c =
+    let old = c.args.seat.now.me in
+    (search rules, c.args.board.now.placed.1, (None, hand_of old.view old.spare c.args.board.now.cells.ptr c.args.place c.load-word.new.seat.me None c.load-word.ensures.3))
 
 pub returns-clause-receiver : goal.returns-clause-receiver
 returns-clause-receiver g c =
-    let is = c.requires.receiver in let old = c.args.seat.now.me in
-    let now = filled_is old.view old.spare c.args.board.now.cells.ptr c.args.place c.load-word.new.seat.me c.exchange.new.seat.me _ _ (of_outcome c.args.outcome) c.load-word.ensures.3 c.exchange.ensures.slot.1 c.hold_outcome.ensures in
+    let is = c.requires.receiver in let old = c.args.seat.now.me in let inward = old.view.inward in
+    let now = filled_is old.view old.spare c.args.board.now.cells.ptr c.args.place c.load-word.new.seat.me c.exchange.new.seat.me _ _ (of_outcome c.args.outcome) c.load-word.ensures.3 c.exchange.ensures.slot.1 (c.of-held.ensures ∙ c.hold_outcome.ensures) in
     IsReceiver-gave old is c.exchange.new.seat.me c.store.new.seat.me c.args.board.now.cells.ptr c.args.place c.args.number c.given_word-marked.result c.args.outcome c.requires.owed now
-    (c.given_word-marked.ensures ∙ ap (λ z. c.args.number + gate_bit z) c.requires.shut) c.store.ensures.3
+    (given-word c.given_word-marked.result c.args.number c.args.shut inward.shut c.given_word-marked.ensures c.requires.shut) c.store.ensures.3

@@ -1,9 +1,8 @@
-use Rattle.std.proofs.Common.{rules, arith, refl, ap, sym, subst, ◌∙◌, length}
+use Rattle.std.proofs.Common.{rules, arith, refl}
 use Rattle.rt_jobs.specs.Ready.{HasReadyJob}
 use Rattle.rt_link.specs.Fits.{Fits}
-use Rattle.rt_ring_board.specs.Told.{SawOrder}
 use Rattle.rt_ring_board.proofs.Lent.{place-small}
-use Rattle.rt_ring_board.proofs.Watching.{looks_after, marks_after, Watches-saw, Watches-shut}
+use Rattle.rt_ring_board.proofs.Watching.{looks_after, marks_after}
 use Rattle.rt_ring_board.proofs.receiver.mark_next.Goals as goal
 
 pub load-word-requires : goal.load-word-requires

@@ -1,10 +1,9 @@
-use Rattle.std.proofs.Common.{rules, arith, refl, ap, ◌+◌}
+use Rattle.std.proofs.Common.{rules, arith, refl, ◌+◌, None}
 use Rattle.rt_jobs.specs.Ready.{HasReadyJob}
 use Rattle.rt_link.specs.Fits.{Fits}
 use Rattle.rt_ring_board.specs.After.{with_taken}
-use Rattle.rt_ring_board.specs.declared.held.Held.TheVariants as held
 use Rattle.rt_ring_board.proofs.Filled.{homes_receiver}
-use Rattle.rt_ring_board.proofs.Lent.{place-small, filled_is}
+use Rattle.rt_ring_board.proofs.Lent.{place-small, order_out, filled_is}
 use Rattle.rt_ring_board.proofs.ReceiverSteps.{lifts_order}
 use Rattle.rt_ring_board.proofs.receiver.next_order.Goals as goal
 
@@ -20,14 +19,16 @@ load-requires g c = let is = c.requires.receiver in let inward = c.args.seat.now
 pub load-word-requires : goal.load-word-requires
 load-word-requires g c =
     let is = c.requires.receiver in let old = c.args.seat.now.me in let inward = old.view.inward in let lent = c.load.ensures.3.more c.if-load-ne0.false in
-    let now = filled_is (with_taken old.view lent.seen (inward.taken + 1)) old.spare c.args.board.now.cells.ptr c.args.place c.load.new.seat.me c.exchange.new.seat.me _ _ held.Empty lent.lifted c.exchange.ensures.slot.1 refl in (
+    let now = filled_is (with_taken old.view lent.seen (inward.taken + 1)) old.spare c.args.board.now.cells.ptr c.args.place c.load.new.seat.me c.take_out.new.seat.me _ _ None lent.lifted c.take_out.ensures.slot.1 refl in (
       search rules,
       search rules,
       c.args.board.now.placed.1,
       place-small inward.capacity inward.taken c.args.place (omega (arith, is.behind, c.requires.room)) is.small c.requires.place,
-      homes_receiver (Fits g.J.Task.meaning) (HasReadyJob g.J.Task.meaning) _ _ (with_taken old.view lent.seen (inward.taken + 1)) old.spare c.exchange.new.seat.me _ _ c.args.board.now.keyed.1 inward.taken now is.takes is.alone
+      homes_receiver (Fits g.J.Task.meaning) (HasReadyJob g.J.Task.meaning) _ _ (with_taken old.view lent.seen (inward.taken + 1)) old.spare c.take_out.new.seat.me _ _ c.args.board.now.keyed.1 inward.taken now is.takes is.alone
           is.behind (omega arith) c.requires.place,
     )
 
-pub exchange-requires : goal.exchange-requires
-exchange-requires g c = let lent = c.load.ensures.3.more c.if-load-ne0.false in (search rules, c.args.board.now.placed.1, (_, ap (λ m. m.hand) lent.lifted))
+pub take_out-requires : goal.take_out-requires
+take_out-requires g c =
+    let old = c.args.seat.now.me in let lent = c.load.ensures.3.more c.if-load-ne0.false in
+    (search rules, c.args.board.now.placed.1, order_out (with_taken old.view lent.seen (old.view.inward.taken + 1)) old.spare c.args.board.now.cells.ptr c.args.place c.load.new.seat.me lent.order lent.lifted)

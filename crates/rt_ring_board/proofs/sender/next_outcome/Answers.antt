@@ -1,11 +1,10 @@
-use Rattle.std.proofs.Common.{rules, arith, refl, ap, sym, subst, ◌∙◌, ◌+◌}
+use Rattle.std.proofs.Common.{rules, arith, refl, sym, subst, ◌∙◌, ◌+◌, None}
 use Rattle.rt_jobs.specs.Ready.{HasReadyJob}
 use Rattle.rt_link.specs.Fits.{Fits}
 use Rattle.rt_ring_board.specs.After.{with_got}
 use Rattle.rt_ring_board.specs.Told.{SeesOutcomes}
-use Rattle.rt_ring_board.specs.declared.held.Held.TheVariants as held
 use Rattle.rt_ring_board.proofs.Filled.{homes_sender}
-use Rattle.rt_ring_board.proofs.Lent.{place-small, filled_is, homed_is}
+use Rattle.rt_ring_board.proofs.Lent.{place-small, outcome_out, filled_is, homed_is}
 use Rattle.rt_ring_board.proofs.Numbers.{place-again}
 use Rattle.rt_ring_board.proofs.SenderSees.{lifts_outcome}
 use Rattle.rt_ring_board.proofs.sender.next_outcome.Goals as goal
@@ -22,17 +21,19 @@ load-word-requires g c = let is = c.requires.sender in let out = c.args.seat.now
 pub load-word-requires-2 : goal.load-word-requires-2
 load-word-requires-2 g c =
     let is = c.requires.sender in let old = c.args.seat.now.me in let out = old.view.out in let lent = c.load-word.ensures.3.more c.if-word-eq0.false in
-    let now = filled_is (with_got old.view lent.seen (out.got + 1)) old.spare c.args.board.now.cells.ptr c.args.place c.load-word.new.seat.me c.exchange.new.seat.me _ _ held.Empty lent.lifted c.exchange.ensures.slot.1 refl in (
+    let now = filled_is (with_got old.view lent.seen (out.got + 1)) old.spare c.args.board.now.cells.ptr c.args.place c.load-word.new.seat.me c.take_out.new.seat.me _ _ None lent.lifted c.take_out.ensures.slot.1 refl in (
       search rules,
       search rules,
       c.args.board.now.placed.1,
       place-small out.capacity out.got c.args.place (omega (arith, is.few, c.requires.waits)) is.small c.requires.place,
-      homes_sender (Fits g.J.Task.meaning) (HasReadyJob g.J.Task.meaning) _ _ (with_got old.view lent.seen (out.got + 1)) old.spare c.exchange.new.seat.me _ _ c.args.board.now.keyed.1 (out.got + out.capacity) now is.sends is.alone
+      homes_sender (Fits g.J.Task.meaning) (HasReadyJob g.J.Task.meaning) _ _ (with_got old.view lent.seen (out.got + 1)) old.spare c.take_out.new.seat.me _ _ c.args.board.now.keyed.1 (out.got + out.capacity) now is.sends is.alone
           is.few (omega arith) (c.requires.place ∙ sym (place-again out.capacity out.got)),
     )
 
-pub exchange-requires : goal.exchange-requires
-exchange-requires g c = let lent = c.load-word.ensures.3.more c.if-word-eq0.false in (search rules, c.args.board.now.placed.1, (_, ap (λ m. m.hand) lent.lifted))
+pub take_out-requires : goal.take_out-requires
+take_out-requires g c =
+    let old = c.args.seat.now.me in let lent = c.load-word.ensures.3.more c.if-word-eq0.false in
+    (search rules, c.args.board.now.placed.1, outcome_out (with_got old.view lent.seen (old.view.out.got + 1)) old.spare c.args.board.now.cells.ptr c.args.place c.load-word.new.seat.me lent.outcome lent.lifted)
 
 pub returns-then-word-eq0-clause-sees : goal.returns-then-word-eq0-clause-sees
 returns-then-word-eq0-clause-sees g c = let same = c.load-word.ensures.3.zero c.if-word-eq0.true in
@@ -41,6 +42,6 @@ returns-then-word-eq0-clause-sees g c = let same = c.load-word.ensures.3.zero c.
 pub returns-clause-sees : goal.returns-clause-sees
 returns-clause-sees g c =
     let old = c.args.seat.now.me in let out = old.view.out in let lent = c.load-word.ensures.3.more c.if-word-eq0.false in
-    let now = filled_is (with_got old.view lent.seen (out.got + 1)) old.spare c.args.board.now.cells.ptr c.args.place c.load-word.new.seat.me c.exchange.new.seat.me _ _ held.Empty lent.lifted c.exchange.ensures.slot.1 refl in
-    let last = homed_is (with_got old.view lent.seen (out.got + 1)) old.spare c.args.board.now.cells.ptr c.args.place c.exchange.new.seat.me c.load-word-2.new.seat.me c.load-word-2.result now c.load-word-2.ensures.3 in
+    let now = filled_is (with_got old.view lent.seen (out.got + 1)) old.spare c.args.board.now.cells.ptr c.args.place c.load-word.new.seat.me c.take_out.new.seat.me _ _ None lent.lifted c.take_out.ensures.slot.1 refl in
+    let last = homed_is (with_got old.view lent.seen (out.got + 1)) old.spare c.args.board.now.cells.ptr c.args.place c.take_out.new.seat.me c.load-word-2.new.seat.me c.load-word-2.result now c.load-word-2.ensures.3 in
     subst (λ m. SeesOutcomes (Fits g.J.Task.meaning) out m.view.out.seen) (sym last) lent.sees

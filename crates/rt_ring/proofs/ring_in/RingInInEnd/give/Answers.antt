@@ -12,5 +12,5 @@ give-requires-clause-owed g c =
 pub invariant_of-self : goal.invariant_of-self
 invariant_of-self g c =
     let may = subst (λ v. MayGive (Fits g.J.Task.meaning) v.inward c.args.number c.args.outcome) (sym c.self.view_is) c.requires in let step = c.give.ensures in
-    IsInward-given _ _ _ _ _ c.self.inside.seat.me _ _ _ _ _ _ _ _ _ _ c.self.invariant _ _ c.give.new.seat.me step.at step.receiver
+    IsInward-given _ _ _ _ _ c.self.inside.seat.me _ _ _ _ _ _ _ _ _ _ c.self.invariant c.give.new.seat.rows c.give.new.seat.heap c.give.new.seat.me step.at step.receiver
     (Fits g.J.Task.meaning) c.args.number c.args.outcome _ may step.gave c.following-self-inside.ensures

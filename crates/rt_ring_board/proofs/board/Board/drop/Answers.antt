@@ -1,8 +1,8 @@
-use Rattle.std.proofs.Common.{rules, arith, ap, sym, ◌∙◌, subst, length, set}
-use Rattle.atomic_blocks.specs.Cells.{row, no_row, AllHome}
+use Rattle.std.proofs.Common.{rules, arith, ap, sym, ◌∙◌, subst, length}
+use Rattle.atomic_blocks.specs.Cells.{row, AllHome}
 use Rattle.rt_jobs.specs.Ready.{HasReadyJob}
 use Rattle.rt_link.specs.Fits.{Fits}
-use Rattle.rt_ring_board.proofs.Ending.{ending, gate_stays, none_left}
+use Rattle.rt_ring_board.proofs.Ending.{ending, gate_stays, none_left_after}
 use Rattle.rt_ring_board.proofs.board.Board.drop.Goals as goal
 
 pub take-requires : goal.take-requires
@@ -37,5 +37,4 @@ free-requires-2 g c = let is = ending (Fits g.J.Task.meaning) (HasReadyJob g.J.T
 
 pub drop-closed-requires : goal.drop-closed-requires
 drop-closed-requires g c = let is = ending (Fits g.J.Task.meaning) (HasReadyJob g.J.Task.meaning) c.args.self.lines.key c.close-closed.result.rows c.close-closed.ensures.1 in
-    let left = c.take-2.ensures.left.1 ∙ ap (λ rows. set rows 0 no_row) c.take.ensures.left.1 in
-    λ k. ap (λ rows. (row rows k).cells) left ∙ none_left c.close-closed.result.rows is.two k
+    none_left_after c.close-closed.result.rows c.take.new.self.rows c.take-2.new.self.rows c.take.ensures.left.1 c.take-2.ensures.left.1 is.two
