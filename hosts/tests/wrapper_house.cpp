@@ -346,11 +346,13 @@ static void waits_for_a_while() {
         is("the time is over", refused([&] { (void)outside.wait_for(ticket, longest); }), FX_PENDING);
         is("and it was waited for", std::chrono::steady_clock::now() - begin >= longest, 1);
     }
-    std::thread thread([&] { is("the core ends", core.run(twice), FX_OK); });
+    fx_code ended = FX_NULL;
+    std::thread thread([&] { ended = core.run(twice); });
     is("the outcome comes", outside.wait_for(ticket, std::chrono::nanoseconds::max()).answer, 42);
     is("it is gone then", refused([&] { (void)outside.wait_for(ticket, std::chrono::hours(1)); }), FX_GONE);
     outside.close_all(mode::finish);
     thread.join();
+    is("the core ends", ended, FX_OK);
 }
 
 // Who waits is told that the thread of a core has ended, and not that it left its `run` and goes on.

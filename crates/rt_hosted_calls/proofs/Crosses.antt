@@ -17,6 +17,7 @@ use Rattle.rt_core.specs.contracts.one_core.Core.{the_row as core}
 use Rattle.rt_journal_desk.specs.contracts.desk.RecordedDesk.{the_row as desk}
 use Rattle.rt_journal.specs.contracts.recorded.Recorded.{the_row as recorded}
 use Rattle.rt_runtime_worker.specs.contracts.seat.Seat.{the_row as seat}
+use Rattle.rt_runtime_worker.specs.contracts.outside_seat.OutsideSeat.{the_row as outside_seat}
 use Rattle.rt_hosted.specs.contracts.job.HostJob.{the_row as job}
 use Rattle.rt_hosted.specs.contracts.job.HostJobTask.TheImpl.{ghosts as task}
 use Rattle.rt_hosted.specs.contracts.hosted.Hosted.{the_row as hosted}
@@ -47,9 +48,12 @@ seat_send = search (recorded_send, ends.the_send, crosses, sendable) depth 60 fi
 pub hosted_send : IsSend hosted
 hosted_send = search (seat_send, discard.the_send, crosses, sendable) depth 60 fits 20000
 
+outside_seat_send : IsSend (outside_seat job unit-field.row task local)
+outside_seat_send = search (desk_send, ends.the_send, crosses, sendable) depth 60 fits 20000
+
 -- the outside actor
 pub outside_send : IsSend outside
-outside_send = search (desk_send, ends.the_send, discard.the_send, job_send, crosses, sendable) depth 60 fits 20000
+outside_send = search (outside_seat_send, discard.the_send, crosses, sendable) depth 60 fits 20000
 
 -- the house, and what it left behind
 house_send : IsSend house

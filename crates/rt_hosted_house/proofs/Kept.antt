@@ -1,9 +1,21 @@
--- What a call on an end leaves of the outside actor.
-use Rattle.std.proofs.Common.{◌≡◌, ℕ, sym, ◌∙◌, ap}
+-- What a call at the seat leaves of the outside actor.
+use Rattle.std.proofs.Common.{◌≡◌, ℕ, refl, sym, ◌∙◌, ap}
+use Rattle.std.specs.Prelude.{[]}
 use Rattle.rt_ids.specs.Journal.{Journal}
-use Rattle.rt_hosted_house.specs.Outside.{CallerView, SendsFrom, StaysOutside}
+use Rattle.rt_link.specs.Fits.{Fits}
+use Rattle.rt_ring_mesh.proofs.Using.{ends_same}
+use Rattle.rt_runtime_worker.specs.OutsideSeats.{UsesOutside}
+use Rattle.rt_hosted.specs.Jobs.{host_meaning}
+use Rattle.rt_hosted_house.specs.Outside.{CallerView, StaysOutside}
 
--- beside its ends the count of cores, and what was passed on
-pub holds_after : {old new : CallerView} {cores : ℕ} {passed : Journal ℕ} → StaysOutside old new → SendsFrom new → cores ≡ old.desk.cores → passed ≡ old.desk.journal.passed →
-    SendsFrom new × (cores ≡ new.desk.cores) × (passed ≡ new.desk.journal.passed)
-holds_after stays sends counts had = (sends, counts ∙ sym (ap (λ desk. desk.cores) stays.seat), had ∙ sym (ap (λ desk. desk.journal.passed) stays.seat))
+-- a call that is refused leaves the outside actor as it was
+pub stays_same : (view : CallerView) → StaysOutside view view
+stays_same view = record { seat = refl; ends = ends_same view.ends; grows = ([], refl) }
+
+module _ {core : ℕ} {old new : CallerView} (uses : UsesOutside (Fits host_meaning) core old new) where
+  pub stays_after : StaysOutside old new
+  stays_after = record { seat = uses.rest; ends = uses.same; grows = uses.grows }
+
+  -- the count of cores, and what was passed on
+  pub holds_after : {cores : ℕ} {passed : Journal ℕ} → cores ≡ old.desk.cores → passed ≡ old.desk.journal.passed → (cores ≡ new.desk.cores) × (passed ≡ new.desk.journal.passed)
+  holds_after counts had = (counts ∙ sym (ap (λ desk. desk.cores) uses.rest), had ∙ sym (ap (λ desk. desk.journal.passed) uses.rest))

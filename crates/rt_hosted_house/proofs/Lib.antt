@@ -1,3 +1,2 @@
 mod Kept
 mod Opened
-mod Passed

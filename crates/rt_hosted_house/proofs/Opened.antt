@@ -1,33 +1,20 @@
 -- A house that was just opened.
 use Rattle.std.proofs.Common.{◌≡◌, ℕ, zero, suc, ◌+◌, ◌<◌, List, [], ◌∷◌, ◌++◌, length, map, get_or, refl, sym, ◌∙◌, ap, subst, arith, length-append}
-use Rattle.std.specs.Prelude.{All, Some, slice_get}
+use Rattle.std.specs.Prelude.{All}
 use Rattle.std.proofs.lemmas.List.{get_or_append_left, get_or_default}
-use Rattle.std.proofs.lemmas.Option.{slice_get_within, get_or_from_slice_get}
 use Rattle.std.proofs.Math.Seq.{get_or-append_seam}
-use Rattle.rt_link.specs.Fits.{Fits}
-use Rattle.rt_link.specs.Whole.{fresh, out_of}
-use Rattle.rt_desk.specs.Lanes.{IsLaneOf, IsUnused}
-use Rattle.rt_desk.proofs.Cores.{IsUnused-fresh}
-use Rattle.rt_ring.specs.declared.ring_out.Sending.{Sending}
-use Rattle.rt_journal_desk.specs.Ends.{IsOutOf}
-use Rattle.rt_journal_desk.specs.Posts.{AreOutsOf}
-use Rattle.rt_journal_desk.specs.Submissions.{DeskView, opened_desk}
-use Rattle.rt_journal_desk.specs.Tickets.{HasLane}
-use Rattle.rt_journal_desk.proofs.LaneEnds.{fresh_has_lane}
-use Rattle.rt_ring_mesh.specs.Ends.{EndsView, AreFresh, IsFreshOut, no_out}
+use Rattle.rt_journal_desk.specs.Submissions.{opened_desk}
+use Rattle.rt_ring_mesh.specs.Ends.{EndsView, AreFresh}
 use Rattle.rt_ring_mesh.specs.Grid.{IsGrid, AreAllFresh, ends_at, no_ends}
 use Rattle.rt_ring_mesh.proofs.Parts.{at_end}
-use Rattle.rt_ring_mesh.proofs.Using.{ends_same}
 use Rattle.rt_runtime_team.specs.Works.{Together}
 use Rattle.rt_runtime_team.proofs.Lists.{together_length}
 use Rattle.rt_runtime_worker.specs.Opening.{AreEndsOf, IsOpenedOver, IsWorkerOf}
 use Rattle.rt_runtime_worker.specs.Together.{no_linked, worker_at}
-use Rattle.rt_runtime_worker.proofs.Opened.{fresh_out}
 use Rattle.rt_hosted.specs.declared.job.HostJob.{HostJob}
 use Rattle.rt_hosted.specs.Hosted.{HostedView}
-use Rattle.rt_hosted.specs.Jobs.{host_meaning}
 use Rattle.rt_hosted_house.specs.Houses.{IsOpened}
-use Rattle.rt_hosted_house.specs.Outside.{CallerView, SendsFrom, StaysOutside}
+use Rattle.rt_hosted_house.specs.Outside.{CallerView}
 
 abbrev Ends : Type 0
 Ends = EndsView HostJob ℕ
@@ -106,32 +93,3 @@ module _ (cores cap burst room : ℕ) where
       grid =
           subst (IsGrid cores) (is ∙ (ap (λ front. front ++ last ∷ []) (sym (over_same front opened both)) ∙ ap (λ last. map (λ (core : HostedView). core.ends) opened ++ last ∷ []) (sym ends))) grid;
     }
-
--- the outside actor, over fresh ends
-module _ (cores cap burst room : ℕ) (desk : DeskView HostJob ℕ) (ends : Ends) (opened : desk ≡ opened_desk cores cores cap room burst) (count : length ends.outs ≡ cores) (are : AreFresh cap cores ends) where
-  opened_end : (core : ℕ) (end : Sending HostJob ℕ) → slice_get ends.outs core ≡ Some end → IsFreshOut cores core cap end × (core < cores)
-  opened_end core end there =
-      let low = slice_get_within ends.outs core end there in
-      (subst (IsFreshOut cores core cap) (get_or_from_slice_get ends.outs core end no_out there) (are.outs core low), omega (arith, low, count))
-
-  opened_lane : (core : ℕ) (end : Sending HostJob ℕ) → slice_get ends.outs core ≡ Some end → HasLane (Fits host_meaning) core (opened_desk cores cores cap room burst) end.out end.credited
-  opened_lane core end there =
-      let is = opened_end core end there in
-      let unused : IsUnused cap end.out end.credited = IsUnused-fresh (λ (end : Sending HostJob ℕ). end.out) (λ end. end.credited) cores core cap 0 end (omega arith) is.0.out is.0.credited in
-      let has : HasLane (Fits host_meaning) core (opened_desk cores cores cap room burst) end.out 0 = fresh_has_lane (Fits host_meaning) core cores cores cap room burst end.out is.1 (subst (IsUnused cap end.out) is.0.credited unused) in
-      record { lane = has.lane; is = has.is; lane_of = subst (IsLaneOf (Fits host_meaning) has.lane end.out) (sym is.0.credited) has.lane_of }
-
-  opened_out : (core : ℕ) (end : Sending HostJob ℕ) → slice_get ends.outs core ≡ Some end → IsOutOf core (opened_desk cores cores cap room burst) end.out end.credited
-  opened_out core end there =
-      let is = opened_end core end there in
-      subst (λ out. IsOutOf core (opened_desk cores cores cap room burst) out end.credited) (sym is.0.out)
-      (subst (IsOutOf core (opened_desk cores cores cap room burst) (out_of (fresh cores core cap 0))) (sym is.0.credited) (fresh_out cores core cores cap room burst is.1))
-
-  pub outside_sends : SendsFrom (record { desk = desk; ends = ends })
-  outside_sends =
-      subst (λ desk. AreOutsOf (Fits host_meaning) (λ (end : Sending HostJob ℕ). end.out) (λ (end : Sending HostJob ℕ). end.credited) desk ends.outs) (sym opened)
-      (record { count = count; beside = opened_out; lanes = opened_lane })
-
--- a call that is refused leaves the outside actor as it was
-pub stays_same : (view : CallerView) → StaysOutside view view
-stays_same view = record { seat = refl; ends = ends_same view.ends; grows = ([], refl) }

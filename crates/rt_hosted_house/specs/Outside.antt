@@ -8,10 +8,9 @@ use Rattle.rt_ids.specs.declared.order.SendError.{SendError}
 use Rattle.rt_desk.specs.Lanes.{FitsSent}
 use Rattle.rt_link.specs.Calls.{Sends}
 use Rattle.rt_link.specs.Fits.{Fits}
-use Rattle.rt_journal_desk.specs.Posts.{AreOutsOf}
-use Rattle.rt_journal_desk.specs.Submissions.{DeskView, Submits, numbered}
+use Rattle.rt_journal_desk.specs.Submissions.{Submits, numbered}
 use Rattle.rt_journal_desk.specs.Tickets.{CollectsFrom, DetachesTicket, GetsAll, RedeemsTicket}
-use Rattle.rt_ring_mesh.specs.Ends.{EndsView, SameEnds, out_at}
+use Rattle.rt_ring_mesh.specs.Ends.{SameEnds, out_at}
 use Rattle.rt_runtime_worker.specs.Linked.{Grows}
 use Rattle.rt_runtime_worker.specs.Seats.{UsesOut}
 use Rattle.rt_runtime_worker.specs.Together.{OutsideView}
@@ -24,10 +23,6 @@ use Rattle.rt_hosted.specs.Submissions.{told_of_send, told_of_ticket}
 -- its journal, and its ends
 abbrev pub CallerView : Type 0
 CallerView = OutsideView HostJob ℕ
-
--- an end to each core, beside the journal and the lane of that core
-abbrev pub SendsFrom : CallerView → Type 0
-SendsFrom view = AreOutsOf (Fits host_meaning) (λ end. end.out) (λ end. end.credited) view.desk view.ends.outs
 
 -- there is room for so many notes
 abbrev pub HasRoom : ℕ → CallerView → Type 0

@@ -4,7 +4,6 @@
 pub mod house;
 pub mod outside;
 mod passing;
-mod sent;
 
 pub use house::{House, OpenError, open_house};
 pub use outside::Outside;

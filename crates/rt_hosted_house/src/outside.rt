@@ -1,6 +1,6 @@
 //! The outside actor: the host's part of the house that belongs to no core.
 
-ghost use Rattle.std.specs.Prelude.{◌≡◌, ◌≢◌, ◌+◌, ◌≤◌, ◌↔◌, [], IfOk, IsTrue, length};
+ghost use Rattle.std.specs.Prelude.{◌≡◌, ◌≢◌, ◌↔◌, [], IfOk, IsTrue, length};
 ghost use Rattle.rt_journal_desk.specs.Submissions.{opened_desk};
 ghost use Rattle.rt_ring_mesh.specs.Ends.{AreFresh};
 ghost use Rattle.rt_hosted.specs.Submissions.{order_of_host};
@@ -8,38 +8,37 @@ ghost use Rattle.rt_hosted_house.specs.Outside.{Collects, Detaches, HasRoom, Pos
 ghost use Rattle.rt_hosted_house.specs.Passing.{HandsOn};
 
 use crate::passing::hand_on;
-use crate::sent::{collect_on, detach_on, redeem_on, submit_on};
-use rt_hosted::told::host_order;
+use rt_hosted::told::{host_order, told_detached, told_redeemed, told_sent};
 use rt_hosted::{HostJob, Refusal};
 use rt_hosted_parts::PassError;
 use rt_ids::{ActorNo, CoreNo, Order, Outcome, Ticket};
 use rt_journal_desk::RecordedDesk;
 use rt_journal_notes::RunningJournal;
 use rt_ring_mesh::Ends;
+use rt_runtime_worker::OutsideSeat;
 use rt_sinks::Discard;
 use std::alloc::{AllocError, Global};
 use std::marker::Model;
 
-/// The outside actor's journal, what it knows of its submissions, and its ends of the links. It receives from nobody.
+/// The outside actor at its seat: its journal, what it knows of its submissions, and its ends of the links. It receives from nobody.
 #[derive(Drop)]
 pub struct Outside {
     cores: u8,
-    desk: RecordedDesk<HostJob>,
-    ends: Ends<HostJob>,
+    seat: OutsideSeat<HostJob>,
     /// What was passed on.
     passed: Discard,
 }
 
 impl Model for Outside {
-    ghost use Rattle.rt_hosted_house.specs.Outside.{CallerView, SendsFrom};
+    ghost use Rattle.rt_hosted_house.specs.Outside.{CallerView};
 
     ghost Value = { CallerView };
 
     ghost use Rattle.std.specs.Prelude.{◌≡◌};
 
-    ghost view = { λ o. record { desk = o.desk; ends = o.ends } };
+    ghost view = { λ o. o.seat };
 
-    ghost invariant = { λ o. SendsFrom (record { desk = o.desk; ends = o.ends }) × (o.cores ≡ o.desk.cores) × (o.passed ≡ o.desk.journal.passed) };
+    ghost invariant = { λ o. (o.cores ≡ o.seat.desk.cores) × (o.passed ≡ o.seat.desk.journal.passed) };
 }
 
 impl Outside {
@@ -61,8 +60,7 @@ impl Outside {
         desk.prefault();
         Ok(Outside {
             cores,
-            desk,
-            ends,
+            seat: OutsideSeat::of(desk, ends),
             passed: Discard::new(),
         })
     }
@@ -78,7 +76,7 @@ impl Outside {
     fn has_room(&self, count: u16) -> bool
         ensures { IsTrue result ↔ HasRoom count self.now }
     {
-        u32::from(count) <= self.desk.journal().free()
+        u32::from(count) <= self.seat.journal().free()
     }
 
     /// Sends an order to a core, with the host's number of its job.
@@ -97,7 +95,7 @@ impl Outside {
             return Err(Refusal::JournalFull);
         }
         let order = host_order(order);
-        submit_on(&mut self.desk, &mut self.ends, to, order)
+        told_sent(self.seat.submit(to, order))
     }
 
     /// Collects all outcomes that the link to this core shows. How many there were.
@@ -112,10 +110,10 @@ impl Outside {
         if core.0 >= self.cores {
             return Err(Refusal::NoCore);
         }
-        if !self.has_room(self.desk.cap()) {
+        if !self.has_room(self.seat.cap()) {
             return Err(Refusal::JournalFull);
         }
-        Ok(collect_on(&mut self.desk, &mut self.ends, core))
+        Ok(self.seat.collect_from(core))
     }
 
     /// The outcome of a submission, which is gone from then on.
@@ -130,7 +128,10 @@ impl Outside {
         if !self.has_room(1) {
             return Err(Refusal::JournalFull);
         }
-        redeem_on(&mut self.desk, &mut self.ends, ticket)
+        if !self.seat.knows(ticket) {
+            return Err(Refusal::Unknown);
+        }
+        told_redeemed(self.seat.redeem(ticket))
     }
 
     /// Nobody will ask for the outcome of a submission.
@@ -145,19 +146,27 @@ impl Outside {
         if !self.has_room(1) {
             return Err(Refusal::JournalFull);
         }
-        detach_on(&mut self.desk, &mut self.ends, ticket)
+        if !self.seat.knows(ticket) {
+            return Err(Refusal::Unknown);
+        }
+        told_detached(self.seat.detach(ticket))
     }
 
     /// Whether a link shows an outcome that wasn't seen yet: one load for each link. No clause says that the answer is right.
     pub fn shows(&self) -> bool {
-        self.ends.outs.as_slice().iter().any(|end| end.shows())
+        self.seat
+            .ends()
+            .outs
+            .as_slice()
+            .iter()
+            .any(|end| end.shows())
     }
 
     /// The notes of the outside actor.
     pub fn journal(&self) -> &RunningJournal<u64>
         ensures { result.now ≡ self.now.desk.journal }
     {
-        self.desk.journal()
+        self.seat.journal()
     }
 
     /// Hands on the text of the notes that the journal keeps, as a core does.
@@ -169,7 +178,7 @@ impl Outside {
         ensures { HandsOn self.old bytes.old result bytes.new self.new }
     {
         let number = self.number();
-        hand_on(alloc, number, &mut self.desk, &mut self.passed, bytes)
+        hand_on(alloc, number, &mut self.seat, &mut self.passed, bytes)
     }
 
     /// Whether a note was passed on.
@@ -184,7 +193,8 @@ impl Outside {
         ensures journal { result.0 ≡ self.desk.journal }
         ensures ends { result.1 ≡ self.ends }
     {
-        let Outside { desk, ends, .. } = self;
+        let Outside { seat, .. } = self;
+        let (desk, ends) = seat.into_parts();
         (desk.into_journal(), ends)
     }
 }

@@ -7,7 +7,7 @@ ghost use Rattle.rt_hosted_parts.specs.Parts.{PassesPart};
 use rt_hosted::HostJob;
 use rt_hosted_parts::{PassError, copy_kept};
 use rt_ids::ActorNo;
-use rt_journal_desk::RecordedDesk;
+use rt_runtime_worker::OutsideSeat;
 use rt_sinks::Discard;
 use std::alloc::Global;
 
@@ -15,27 +15,27 @@ use std::alloc::Global;
 pub(crate) fn hand_on(
     alloc: Global,
     number: ActorNo,
-    desk: &mut RecordedDesk<HostJob>,
+    seat: &mut OutsideSeat<HostJob>,
     passed: &mut Discard,
     bytes: &mut [u8],
 ) -> Result<u64, PassError>
-    requires { passed.old ≡ desk.old.journal.passed }
-    ensures parts { PassesPart number desk.old.journal bytes.old result bytes.new desk.new.journal }
-    ensures rest { desk.new ≡ record desk.old { journal = desk.new.journal } }
-    ensures has { passed.new ≡ desk.new.journal.passed }
+    requires { passed.old ≡ seat.old.desk.journal.passed }
+    ensures parts { PassesPart number seat.old.desk.journal bytes.old result bytes.new seat.new.desk.journal }
+    ensures rest { seat.new ≡ record seat.old { desk = record seat.old.desk { journal = seat.new.desk.journal } } }
+    ensures has { passed.new ≡ seat.new.desk.journal.passed }
 {
-    let count = copy_kept(alloc, number, desk.journal(), bytes)?;
-    forget(desk, passed);
+    let count = copy_kept(alloc, number, seat.journal(), bytes)?;
+    forget(seat, passed);
     Ok(count)
 }
 
 /// Passes on all notes that the journal keeps, to a sink that keeps none.
-fn forget(desk: &mut RecordedDesk<HostJob>, passed: &mut Discard)
-    requires { passed.old ≡ desk.old.journal.passed }
-    ensures rest { desk.new ≡ record desk.old { journal = passed_all desk.old.journal } }
-    ensures has { passed.new ≡ desk.new.journal.passed }
+fn forget(seat: &mut OutsideSeat<HostJob>, passed: &mut Discard)
+    requires { passed.old ≡ seat.old.desk.journal.passed }
+    ensures rest { seat.new ≡ record seat.old { desk = record seat.old.desk { journal = passed_all seat.old.desk.journal } } }
+    ensures has { passed.new ≡ seat.new.desk.journal.passed }
 {
-    let Ok(()) = desk.pass_on(passed) else {
+    let Ok(()) = seat.pass_on(passed) else {
         unreachable!()
     };
 }

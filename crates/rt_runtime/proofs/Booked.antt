@@ -22,9 +22,9 @@ use Rattle.rt_journal_desk.specs.Tickets.{DetachesTicket, RedeemsTicket}
 use Rattle.rt_journal_desk.proofs.Spending.{all_three}
 use Rattle.rt_ring.proofs.SeatViews.{true-not_false}
 use Rattle.rt_ring_mesh.specs.Ends.{out_at}
-use Rattle.rt_runtime_worker.specs.Together.{OutsideView}
-use Rattle.rt_runtime.specs.Outside.{IsSeated}
 use Rattle.rt_runtime.specs.Sends.{outstanding_upto}
+use Rattle.rt_runtime.specs.State.{RuntimeView}
+use Rattle.rt_runtime.specs.Stored.{IsRuntime}
 
 -- the first counts together
 abbrev upto : (ℕ → ℕ) → ℕ → ℕ
@@ -59,7 +59,7 @@ module _ {J T : Type 0} where
   due_one desk core lane is =
       omega (arith, get_or-le-sum_by due_of desk.lanes core lane (slice_get_within desk.lanes core lane is), ap due_of (get_or_from_slice_get desk.lanes core lane lane is))
 
-  module _ {fits : Order J → Outcome J T → Type 0} (view : OutsideView J T) (is : IsSeated fits view) where
+  module _ {fits : Order J → Outcome J T → Type 0} (view : RuntimeView J T) (is : IsRuntime fits view) where
     -- there is room for what an end still shows
     pub room_to_collect : (core : ℕ) → core < view.desk.cores →
         length view.desk.journal.notes + length (out_at core view.ends).out.sent ≤ view.desk.journal.room + (out_at core view.ends).out.got

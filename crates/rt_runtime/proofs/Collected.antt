@@ -14,8 +14,8 @@ use Rattle.rt_journal_desk.specs.Tickets.{AreCollected, CollectsFrom, GetsAll}
 use Rattle.rt_ids.specs.declared.order.Order.{Order}
 use Rattle.rt_ids.specs.declared.order.Outcome.{Outcome}
 use Rattle.rt_ring_mesh.specs.Ends.{out_at}
+use Rattle.rt_runtime_worker.specs.OutsideSeats.{UsesOutside}
 use Rattle.rt_runtime_worker.specs.Together.{OutsideView}
-use Rattle.rt_runtime.specs.Outside.{UsesOut}
 use Rattle.rt_runtime.specs.State.{RuntimeView, outside_of}
 use Rattle.rt_runtime.specs.Stored.{IsRuntime}
 use Rattle.rt_runtime.specs.Tickets.{CollectsHere}
@@ -53,7 +53,7 @@ module _ {J T : Type 0} where
       omega (arith, first, last, more, long)
 
 -- a runtime whose outside actor collected all that the end to one core shows, over what was seen of it
-pub collects_here : {J T : Type 0} {fits : Order J → Outcome J T → Type 0} (view : RuntimeView J T) → IsRuntime fits view → (core : ℕ) → core < view.desk.cores → (outside : OutsideView J T) → UsesOut fits core (outside_of view) outside →
+pub collects_here : {J T : Type 0} {fits : Order J → Outcome J T → Type 0} (view : RuntimeView J T) → IsRuntime fits view → (core : ℕ) → core < view.desk.cores → (outside : OutsideView J T) → UsesOutside fits core (outside_of view) outside →
     (count : ℕ) → CollectsFrom core view.desk count outside.desk → GetsAll (out_at core view.ends).out (out_at core outside.ends).out → (seen : RuntimeView J T) → view ≡ seen → CollectsHere core seen count (record view { desk = outside.desk; ends = outside.ends })
 collects_here {J} {T} view is core low outside uses count collects shown seen same =
     let was = is.outside.outs core low in

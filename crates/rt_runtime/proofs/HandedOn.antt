@@ -8,22 +8,19 @@ use Rattle.rt_ids.specs.Outstanding.{outstanding_count}
 use Rattle.rt_journal_notes.specs.Journals.{JournalView, free_notes, passed_all, places_of}
 use Rattle.rt_journal_notes.specs.Passing.{IsAsked, PassesOn}
 use Rattle.rt_journal_notes.specs.declared.sink.Refused.{Refused}
-use Rattle.rt_journal_desk.specs.Ends.{IsOutOf}
 use Rattle.rt_journal_desk.specs.Spending.{booked, due_of}
-use Rattle.rt_journal_desk.specs.Submissions.{DeskView}
-use Rattle.rt_journal_desk.specs.Tickets.{HasLane}
 use Rattle.rt_journal_desk.proofs.Passed.{passed_holds}
 use Rattle.rt_journal_desk.proofs.Spending.{within_room}
-use Rattle.rt_ring_mesh.specs.Ends.{out_at}
+use Rattle.rt_runtime_config.specs.Configs.{least_room}
+use Rattle.rt_runtime_worker.specs.OutsideSeats.{IsSeatedOutside}
 use Rattle.rt_runtime_worker.specs.Together.{OutsideView}
-use Rattle.rt_runtime.specs.Outside.{IsSeated}
 use Rattle.rt_runtime.specs.Passing.{AsksOnce, PassesHere, passed_on, refused_of}
 use Rattle.rt_runtime.specs.Sends.{MakesRoom, outstanding_upto, room_left}
 use Rattle.rt_runtime.specs.State.{RuntimeView, outside_of}
-use Rattle.rt_runtime.specs.Stored.{IsHeld}
+use Rattle.rt_runtime.specs.Stored.{IsHeld, IsRuntime}
 use Rattle.rt_runtime.proofs.Booked.{due_all}
 
-module _ {J T : Type 0} {fits : Order J → Outcome J T → Type 0} (view : OutsideView J T) (is : IsSeated fits view) where
+module _ {J T : Type 0} {fits : Order J → Outcome J T → Type 0} (view : RuntimeView J T) (is : IsRuntime fits view) where
   -- no more submissions to a core are outstanding than a link holds
   few_at : (core : ℕ) → core < view.desk.cores → outstanding_count core view.desk.journal.notes ≤ view.desk.cap
   few_at core low =
@@ -48,43 +45,15 @@ module _ {J T : Type 0} {fits : Order J → Outcome J T → Type 0} (view : Outs
   pub room_behind : booked (record view.desk { journal = passed_all view.desk.journal }) + 3 ≤ (passed_all view.desk.journal).room
   room_behind = omega (arith, places_enough)
 
-  abbrev desk_behind : DeskView J T
-  desk_behind = record view.desk { journal = passed_all view.desk.journal }
+  -- with this journal what is booked has room, and there are as many places as a worker needs
+  abbrev HasRoomWith : JournalView T → Type 0
+  HasRoomWith journal = (booked (record view.desk { journal = journal }) ≤ journal.room) × (least_room view.desk.cores view.desk.cap view.desk.burst ≤ places_of journal)
 
-  out_behind : (core : ℕ) → core < view.desk.cores → IsOutOf core desk_behind (out_at core view.ends).out (out_at core view.ends).credited
-  out_behind core low =
-      let was = is.outside.outs core low in
-      record {
-        known = was.known;
-        from = was.from;
-        to = was.to;
-        base = was.base;
-        capacity = was.capacity;
-        accepted = was.accepted;
-        outstanding = was.outstanding;
-        behind = was.behind;
-        collected = was.collected;
-      }
-
-  lane_behind : (core : ℕ) → core < view.desk.cores → HasLane fits core desk_behind (out_at core view.ends).out (out_at core view.ends).credited
-  lane_behind core low = let has = is.lanes core low in record { lane = has.lane; is = has.is; lane_of = has.lane_of }
-
-  -- it stands beside its ends as before
-  seated_behind : IsSeated fits (record view { desk = desk_behind })
-  seated_behind = record {
-    outside = record { outs_are = is.outside.outs_are; written = is.outside.written; outs = out_behind };
-    lanes = lane_behind;
-    lanes_are = is.lanes_are;
-    room_is = omega (arith, room_behind);
-    places = omega (arith, is.places);
-  }
-
-  -- the same, whatever the sink answered
-  pub seated_passed : {S : Type 0} (has : S → Journal T) (refused : S → ℕ → Type 0) (desk : DeskView J T) (before after : S) (answer : Result (Unit {0}) Refused) →
-      PassesOn has refused view.desk.journal before answer desk.journal after → desk ≡ record view.desk { journal = desk.journal } → IsSeated fits (record view { desk = desk })
-  seated_passed has refused desk before after answer passes rest =
-      subst (λ (desk : DeskView J T). IsSeated fits (record view { desk = desk })) (sym rest)
-      (passed_holds has refused (λ journal. IsSeated fits (record view { desk = record view.desk { journal = journal } })) view.desk.journal before answer desk.journal after is seated_behind passes)
+  -- so it is, whatever the sink answered
+  pub room_passed_on : {S : Type 0} (has : S → Journal T) (refused : S → ℕ → Type 0) (before after : S) (answer : Result (Unit {0}) Refused) (journal : JournalView T) →
+      PassesOn has refused view.desk.journal before answer journal after → HasRoomWith journal
+  room_passed_on has refused before after answer journal passes =
+      passed_holds has refused HasRoomWith view.desk.journal before answer journal after (is.room_is, is.places) (omega (arith, room_behind), omega (arith, is.places)) passes
 
 module _ {S : Type 0} (has : S → Journal ℕ) (refused : S → ℕ → Type 0) (old new : JournalView ℕ) (before after : S) where
   -- behind a pass the sink has all notes, or what it had
@@ -105,11 +74,12 @@ asked_later view told asks marks outside = record view { desk = outside.desk; en
 module _ {J S : Type 0} (has : S → Journal ℕ) (refused : S → ℕ → Type 0) (view : RuntimeView J ℕ) (outside : OutsideView J ℕ)
     (rest : outside ≡ record (outside_of view) { desk = record view.desk { journal = outside.desk.journal } }) (before after : S) (told : Bool) (asks : Option ℕ) (marks : List ℕ) where
   -- it is a runtime as before, whatever its sink answered
-  pub held_passed : {fits : Order J → Outcome J ℕ → Type 0} {cores cap : ℕ} → IsHeld fits has refused view cores cap before → IsSeated fits outside → (answer : Result (Unit {0}) Refused) → told ≡ is_err answer →
+  pub held_passed : {fits : Order J → Outcome J ℕ → Type 0} {cores cap : ℕ} → IsHeld fits has refused view cores cap before → IsSeatedOutside fits outside → (answer : Result (Unit {0}) Refused) → told ≡ is_err answer →
       PassesOn has refused view.desk.journal before answer outside.desk.journal after → IsHeld fits has refused (asked_later view told asks marks outside) cores cap after
   held_passed {fits} {cores} {cap} held seated answer told_is passes =
       let is = held.runtime in
-      let now : IsSeated fits (record (outside_of view) { desk = record view.desk { journal = outside.desk.journal } }) = subst (IsSeated fits) rest seated in
+      let now : IsSeatedOutside fits (record (outside_of view) { desk = record view.desk { journal = outside.desk.journal } }) = subst (IsSeatedOutside fits) rest seated in
+      let room = room_passed_on view is has refused before after answer outside.desk.journal passes in
       subst (λ (outside : OutsideView J ℕ). IsHeld fits has refused (asked_later view told asks marks outside) cores cap after) (sym rest)
       (record {
         runtime = record {
@@ -122,8 +92,8 @@ module _ {J S : Type 0} (has : S → Journal ℕ) (refused : S → ℕ → Type 
           bells = is.bells;
           lanes = now.lanes;
           lanes_are = now.lanes_are;
-          room_is = now.room_is;
-          places = now.places;
+          room_is = room.0;
+          places = room.1;
           limits = is.limits;
         };
         cores_are = held.cores_are;

@@ -24,7 +24,6 @@ pub mod HandedOn
 pub mod Dealt
 pub mod Watched
 pub mod Started
-pub mod Seated
 pub mod Collected
 pub mod Sent
 mod Closing

@@ -1,39 +1,21 @@
 -- A runtime after a ticket was redeemed or detached.
-use Rattle.std.proofs.Common.{◌≡◌, ◌-◌, ◌<◌, Some, [], ◌∷◌, length, ap, subst, arith}
+use Rattle.std.proofs.Common.{◌≡◌, ◌-◌, ◌<◌, Some, length, ap, subst, arith}
 use Rattle.std.specs.Prelude.{IfOk, IfSome, Result, Ok, Err, slice_get}
 use Rattle.rt_ids.specs.declared.names.JobId.{JobId}
 use Rattle.rt_ids.specs.declared.names.TicketError.{TicketError}
-use Rattle.rt_ids.specs.declared.names.TicketError.TheVariants.{Unknown, Gone, Pending}
-use Rattle.rt_ids.specs.declared.note.Note.TheVariants.{Redeemed, Detached}
 use Rattle.rt_ids.specs.declared.order.Order.{Order}
 use Rattle.rt_ids.specs.declared.order.Outcome.{Outcome}
-use Rattle.rt_ids.specs.Outcomes.{outcome_note}
 use Rattle.rt_ring.proofs.Fronts.{slice_get-there}
 use Rattle.rt_desk.specs.Lanes.{FitsSent, IsGot}
 use Rattle.rt_desk.proofs.Taken.{taken-get}
-use Rattle.rt_journal_desk.specs.Submissions.{DeskView}
 use Rattle.rt_journal_desk.specs.Tickets.{DetachesTicket, RedeemsTicket}
 use Rattle.rt_ring_mesh.specs.Ends.{out_at}
-use Rattle.rt_runtime_worker.specs.Linked.{Grows}
+use Rattle.rt_runtime_worker.specs.OutsideSeats.{UsesOutside}
 use Rattle.rt_runtime_worker.specs.Together.{OutsideView}
-use Rattle.rt_runtime.specs.Outside.{UsesOut}
 use Rattle.rt_runtime.specs.State.{RuntimeView, SubmitsNothing, outside_of, submitted}
 use Rattle.rt_runtime.specs.Stored.{IsRuntime}
 use Rattle.rt_runtime.specs.Tickets.{DetachesHere, FitsSubmitted, RedeemsHere}
 use Rattle.rt_runtime.proofs.Sent.{nothing_on}
-
-module _ {J T : Type 0} where
-  -- a redemption adds one note at most
-  pub redeemed_grows : (name : JobId) (old new : DeskView J T) (answer : Result (Outcome J T) TicketError) → RedeemsTicket name old answer new → Grows old.journal.notes new.journal.notes
-  redeemed_grows name old new (Ok outcome) redeems = (Redeemed name (outcome_note outcome) ∷ [], ap (λ journal. journal.notes) redeems.2)
-  redeemed_grows name old new (Err error) redeems = ([], ap (λ desk. desk.journal.notes) redeems.1)
-
-  -- so does a detachment
-  pub detached_grows : (name : JobId) (old new : DeskView J T) (answer : Result (Unit {0}) TicketError) → DetachesTicket name old answer new → Grows old.journal.notes new.journal.notes
-  detached_grows name old new (Ok done) detaches = (Detached name ∷ [], ap (λ journal. journal.notes) detaches.1)
-  detached_grows name old new (Err Unknown) detaches = ([], ap (λ desk. desk.journal.notes) detaches.1)
-  detached_grows name old new (Err Gone) detaches = ([], ap (λ desk. desk.journal.notes) detaches.1)
-  detached_grows name old new (Err Pending) detaches = absurd detaches
 
 module _ {J T : Type 0} {fits : Order J → Outcome J T → Type 0} where
   -- an outcome that was got under a name fits the order that was submitted under it
@@ -52,7 +34,7 @@ module _ {J T : Type 0} {fits : Order J → Outcome J T → Type 0} where
 
   -- a call for a ticket
   module _ (inside view : RuntimeView J T) (seen : inside ≡ view) (is : IsRuntime fits inside) (name : JobId) (low : name.to < inside.desk.cores) (outside : OutsideView J T)
-      (uses : UsesOut fits name.to (outside_of inside) outside) (out : (out_at name.to outside.ends).out ≡ (out_at name.to inside.ends).out) where
+      (uses : UsesOutside fits name.to (outside_of inside) outside) (out : (out_at name.to outside.ends).out ≡ (out_at name.to inside.ends).out) where
     abbrev new : RuntimeView J T
     new = record inside { desk = outside.desk; ends = outside.ends }
 

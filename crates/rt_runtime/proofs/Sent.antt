@@ -1,5 +1,5 @@
 -- A runtime after a call of its outside actor on the end to one core.
-use Rattle.std.proofs.Common.{◌≡◌, ◌≢◌, ℕ, add-one, ◌+◌, ◌<◌, List, [], ◌∷◌, ◌++◌, length, map, set, refl, sym, ◌∙◌, ap, subst, arith, ⊎_elim, ◌-◌, Some}
+use Rattle.std.proofs.Common.{◌≡◌, ◌≢◌, ℕ, add-one, ◌+◌, ◌<◌, ◌≤◌, List, [], ◌∷◌, ◌++◌, length, map, set, refl, sym, ◌∙◌, ap, subst, arith, ⊎_elim, ◌-◌, Some}
 use Rattle.std.specs.Prelude.{Bool, IfOk, Result, Ok, Err, ◌||◌, slice_get}
 use Rattle.std.proofs.lemmas.Bool.{cases_eq}
 use Rattle.std.proofs.lemmas.List.{append-nil}
@@ -7,27 +7,27 @@ use Rattle.rt_ring.proofs.Windows.{slice_get-last}
 use Rattle.rt_ring.specs.declared.ring_out.Sending.{Sending}
 use Rattle.rt_ids.specs.declared.order.Order.{Order}
 use Rattle.rt_ids.specs.declared.order.Outcome.{Outcome}
-use Rattle.rt_ids.specs.declared.note.Note.TheVariants as writes
-use Rattle.rt_ids.specs.Orders.{without_job}
 use Rattle.rt_ids.specs.Spelled.{IsWithinLimits}
 use Rattle.rt_ids.specs.declared.names.JobId.{JobId}
 use Rattle.rt_ids.specs.declared.order.SendError.{SendError}
 use Rattle.rt_ids.specs.declared.order.SendError.TheVariants.{Closed, Full, Spent, NoCore}
 use Rattle.rt_link.specs.declared.ends.Outward.{Outward}
 use Rattle.rt_link.specs.Calls.{Sends}
+use Rattle.rt_journal_desk.specs.Spending.{booked}
 use Rattle.rt_journal_desk.specs.Submissions.{DeskView, Submits, numbered}
 use Rattle.rt_ring_mesh.specs.Ends.{out_at}
 use Rattle.rt_ring_mesh.specs.Grid.{IsGrid}
 use Rattle.rt_ring_mesh.proofs.Using.{all_same, one_more_same}
 use Rattle.rt_ring_mesh.proofs.Keeping.{grid_kept}
 use Rattle.rt_journal_notes.specs.Journals.{JournalView, places_of}
+use Rattle.rt_runtime_config.specs.Configs.{least_room}
 use Rattle.rt_runtime_worker.specs.Bells.{rung_at}
-use Rattle.rt_runtime_worker.specs.Linked.{Grows, LinkedView}
+use Rattle.rt_runtime_worker.specs.Linked.{LinkedView}
 use Rattle.rt_runtime_worker.specs.Opening.{IsWorkerOf}
+use Rattle.rt_runtime_worker.specs.OutsideSeats.{UsesOutside}
 use Rattle.rt_runtime_worker.specs.Together.{OutsideView, worker_at}
 use Rattle.rt_ids.specs.Journal.{Journal}
 use Rattle.rt_ids.specs.Outstanding.{outstanding_count}
-use Rattle.rt_runtime.specs.Outside.{UsesOut}
 use Rattle.rt_runtime.specs.Rings.{RingsView}
 use Rattle.rt_runtime.specs.Sends.{SendsTo, accepted, is_closing, outstanding_upto, tells_closing}
 use Rattle.rt_runtime.specs.State.{PassesNothing, RuntimeView, StaysRunning, SubmitsNothing, closing_at, is_told_shut, outside_of, submitted}
@@ -49,23 +49,14 @@ module _ {J T : Type 0} (out later : Outward J T) (credited : ℕ) (order : Orde
       rw place (rw (ap (λ end. end.sent) sends.4) (slice_get-last out.sent order))
   sent_named (Err error) sends base = tt
 
-module _ {J T : Type 0} (order : Order J) where
-  -- a send loses no note
-  pub sent_grows : (core : ℕ) (old new : DeskView J T) (answer : Result JobId (SendError J)) → Submits core order old answer new → Grows old.journal.notes new.journal.notes
-  sent_grows core old new (Ok name) submits = (writes.Sent name (without_job order) ∷ [], ap (λ journal. journal.notes) submits.2)
-  sent_grows core old new (Err (Closed back final)) submits = ([], ap (λ desk. desk.journal.notes) submits.2)
-  sent_grows core old new (Err (Full back)) submits = ([], ap (λ desk. desk.journal.notes) submits.2)
-  sent_grows core old new (Err (Spent back)) submits = ([], ap (λ desk. desk.journal.notes) submits.3)
-  sent_grows core old new (Err (NoCore back)) submits = absurd submits
-
 -- a runtime whose outside actor made a call on the end to one core
-module _ {J T : Type 0} {fits : Order J → Outcome J T → Type 0} (view : RuntimeView J T) (core : ℕ) (outside : OutsideView J T) (uses : UsesOut fits core (outside_of view) outside) where
+module _ {J T : Type 0} {fits : Order J → Outcome J T → Type 0} (view : RuntimeView J T) (core : ℕ) (outside : OutsideView J T) (uses : UsesOutside fits core (outside_of view) outside) where
   cores : outside.desk.cores ≡ view.desk.cores
   cores = ap (λ desk. desk.cores) uses.rest
 
-  pub runtime_on : IsRuntime fits view → (closing : List Bool) → length closing ≡ view.desk.cores → (rung : RingsView J T) → length rung.times ≡ view.desk.cores + 1 →
+  pub runtime_on : IsRuntime fits view → booked outside.desk ≤ view.desk.journal.room → (closing : List Bool) → length closing ≡ view.desk.cores → (rung : RingsView J T) → length rung.times ≡ view.desk.cores + 1 →
       IsRuntime fits (record view { desk = outside.desk; ends = outside.ends; closing = closing; rung = rung })
-  runtime_on is closing count rung bells = record {
+  runtime_on is books closing count rung bells = record {
     count = is.count ∙ sym cores;
     each = subst (λ (desk : DeskView J T). (core : ℕ) → core < desk.cores → IsWorkerOf core desk.cores desk.cap desk.burst view.room (worker_at core view.workers)) (sym uses.rest) is.each;
     actor = ap (λ desk. desk.actor) uses.rest ∙ (is.actor ∙ sym cores);
@@ -75,8 +66,8 @@ module _ {J T : Type 0} {fits : Order J → Outcome J T → Type 0} (view : Runt
     bells = bells ∙ ap (λ cores. cores + 1) (sym cores);
     lanes = uses.seated.lanes;
     lanes_are = uses.seated.lanes_are;
-    room_is = uses.seated.room_is;
-    places = uses.seated.places;
+    room_is = omega (arith, books, ap (λ desk. desk.journal.room) uses.rest);
+    places = subst (λ (desk : DeskView J T). least_room desk.cores desk.cap desk.burst ≤ places_of desk.journal) (sym uses.rest) is.places;
     limits = subst (λ (desk : DeskView J T). IsWithinLimits desk.cores desk.cap desk.burst) (sym uses.rest) is.limits;
   }
 
@@ -105,8 +96,8 @@ module _ {J T : Type 0} {fits : Order J → Outcome J T → Type 0} (view : Runt
   -- nothing was submitted, where this end has sent what it had sent and heard of no gate
   pub nothing_on : (out_at core outside.ends).out.sent ≡ submitted core view → (out_at core outside.ends).out.closed ≡ is_told_shut core view → SubmitsNothing view (record view { desk = outside.desk; ends = outside.ends })
   nothing_on sent gate = record {
-    orders = λ to. ⊎_elim (λ (same : to ≡ core). rw same sent) (λ (away : to ≢ core). ap (λ (end : Sending J T). end.out.sent) (uses.others to away)) (cases_eq to core);
-    gates = λ to. ⊎_elim (λ (same : to ≡ core). rw same gate) (λ (away : to ≢ core). ap (λ (end : Sending J T). end.out.closed) (uses.others to away)) (cases_eq to core);
+    orders = λ to. ⊎_elim (λ (same : to ≡ core). rw same sent) (λ (away : to ≢ core). ap (λ (end : Sending J T). end.out.sent) (uses.uses.others to away)) (cases_eq to core);
+    gates = λ to. ⊎_elim (λ (same : to ≡ core). rw same gate) (λ (away : to ≢ core). ap (λ (end : Sending J T). end.out.closed) (uses.uses.others to away)) (cases_eq to core);
     closing = refl;
     rung = refl;
     passes = passes_nothing_on view.closing view.rung;
@@ -132,8 +123,8 @@ module _ {J T : Type 0} {fits : Order J → Outcome J T → Type 0} (view : Runt
         link = sends;
         closing = closing_is;
         orders = sent_orders _ _ _ order answer sends;
-        others = λ other away. ap (λ (end : Sending J T). end.out.sent) (uses.others other away);
-        gates = λ other away. ap (λ (end : Sending J T). end.out.closed) (uses.others other away);
+        others = λ other away. ap (λ (end : Sending J T). end.out.sent) (uses.uses.others other away);
+        gates = λ other away. ap (λ (end : Sending J T). end.out.closed) (uses.uses.others other away);
         named = named_there order answer submits (sent_named _ _ _ order answer sends (is.outside.outs core low).base);
         rings = rings;
         passes = passes_nothing_on closing rung;
@@ -142,12 +133,13 @@ module _ {J T : Type 0} {fits : Order J → Outcome J T → Type 0} (view : Runt
 
 module _ {J S : Type 0} {fits : Order J → Outcome J ℕ → Type 0} {has : S → Journal ℕ} {refused : S → ℕ → Type 0} where
   -- it has its numbers, and its sink stays what it is
-  pub held_on : (view : RuntimeView J ℕ) {cores cap : ℕ} (sink : S) → IsHeld fits has refused view cores cap sink → (core : ℕ) (outside : OutsideView J ℕ) → UsesOut fits core (outside_of view) outside → (closing : List Bool) → length closing ≡ view.desk.cores →
-      (rung : RingsView J ℕ) → length rung.times ≡ view.desk.cores + 1 → IsHeld fits has refused (record view { desk = outside.desk; ends = outside.ends; closing = closing; rung = rung }) cores cap sink
-  held_on view sink held core outside uses closing count rung bells =
+  pub held_on : (view : RuntimeView J ℕ) {cores cap : ℕ} (sink : S) → IsHeld fits has refused view cores cap sink → (core : ℕ) (outside : OutsideView J ℕ) → UsesOutside fits core (outside_of view) outside → booked outside.desk ≤ view.desk.journal.room →
+      (closing : List Bool) → length closing ≡ view.desk.cores → (rung : RingsView J ℕ) → length rung.times ≡ view.desk.cores + 1 →
+      IsHeld fits has refused (record view { desk = outside.desk; ends = outside.ends; closing = closing; rung = rung }) cores cap sink
+  held_on view sink held core outside uses books closing count rung bells =
       let passed : outside.desk.journal.passed ≡ view.desk.journal.passed = ap (λ desk. desk.journal.passed) uses.rest in
       record {
-        runtime = runtime_on view core outside uses held.runtime closing count rung bells;
+        runtime = runtime_on view core outside uses held.runtime books closing count rung bells;
         cores_are = held.cores_are ∙ sym (ap (λ desk. desk.cores) uses.rest);
         cap_is = held.cap_is ∙ sym (ap (λ desk. desk.cap) uses.rest);
         has_passed = held.has_passed ∙ sym passed;

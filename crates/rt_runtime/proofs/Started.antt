@@ -5,30 +5,23 @@ use Rattle.std.proofs.lemmas.List.Folds.{sum_by-replicate}
 use Rattle.std.proofs.lemmas.List.{get_or_append_left, get_or_default, length-replicate}
 use Rattle.std.proofs.Math.Seq.{get_or-append_seam}
 use Rattle.rt_ids.specs.Spelled.{IsWithinLimits}
-use Rattle.rt_link.specs.Whole.{fresh, out_of}
 use Rattle.rt_runtime_config.specs.Configs.{Entry, IsGood, least_room}
 use Rattle.rt_runtime_team.specs.Works.{Together}
 use Rattle.rt_runtime_team.proofs.Lists.{together_length}
 use Rattle.rt_journal_notes.specs.Journals.{places_of}
-use Rattle.rt_journal_desk.specs.Submissions.{DeskView, IsWritten, opened_desk, terms_of_desk}
-use Rattle.rt_journal_desk.specs.Ends.{IsOutOf}
+use Rattle.rt_journal_desk.specs.Submissions.{DeskView, opened_desk}
 use Rattle.rt_ids.specs.declared.order.Order.{Order}
 use Rattle.rt_ids.specs.declared.order.Outcome.{Outcome}
-use Rattle.rt_ring.specs.declared.ring_out.Sending.{Sending}
-use Rattle.rt_desk.specs.Lanes.{IsUnused, fresh_lane}
+use Rattle.rt_desk.specs.Lanes.{fresh_lane}
 use Rattle.rt_journal_desk.specs.Spending.{booked, due_of}
-use Rattle.rt_desk.proofs.Cores.{IsUnused-fresh}
-use Rattle.rt_journal_desk.specs.Tickets.{HasLane}
-use Rattle.rt_journal_desk.proofs.LaneEnds.{fresh_has_lane}
 use Rattle.rt_ring_mesh.specs.Ends.{EndsView, AreFresh, out_at}
 use Rattle.rt_ring_mesh.specs.Grid.{IsGrid, AreAllFresh, ends_at, no_ends}
 use Rattle.rt_ring_mesh.proofs.Parts.{at_end}
 use Rattle.rt_runtime_worker.specs.Linked.{LinkedView}
 use Rattle.rt_runtime_worker.specs.Opening.{IsWorkerOf}
+use Rattle.rt_runtime_worker.specs.OutsideSeats.{IsSeatedOutside}
 use Rattle.rt_runtime_worker.specs.Queues.{creations}
 use Rattle.rt_runtime_worker.specs.Together.{OutsideView, no_linked, worker_at}
-use Rattle.rt_runtime_worker.proofs.Opened.{fresh_out}
-use Rattle.rt_runtime.specs.Outside.{IsSeated}
 use Rattle.rt_runtime.specs.Rings.{RingsView}
 use Rattle.rt_watch.specs.declared.watcher.Watching.{Watching}
 use Rattle.rt_runtime.specs.Stored.{IsRuntime}
@@ -37,6 +30,10 @@ use Rattle.rt_runtime.proofs.Finished.{together_at}
 
 all_from : {A : Type 0} (P : A → Type 0) (xs : List A) (d : A) → ((i : ℕ) → i < length xs → P (get_or xs i d)) → All P xs
 all_from P xs d each place other low = subst P (sym (get_or_default xs place other d low)) (each place low)
+
+-- of submissions that weren't made no note is due
+none_due : (J T : Type 0) (cores cap : ℕ) → sum_by due_of (replicate cores (fresh_lane {J = J} {T = T} cap)) ≡ 0
+none_due J T cores cap = sum_by-replicate due_of cores (fresh_lane cap) ∙ omega arith
 
 module _ {J T : Type 0} (cores cap burst room : ℕ) (queues : List Entry) where
   -- the workers have the ends over which they were opened
@@ -94,42 +91,9 @@ module _ {J T : Type 0} (cores cap burst room : ℕ) (queues : List Entry) where
   pub none_submitted : (workers : List (LinkedView J T)) (ends : EndsView J T) → IsHouse cores cap burst room queues workers ends → (core : ℕ) → core < cores → (out_at core ends).out.sent ≡ []
   none_submitted workers ends house core low = ap (λ out. out.sent) (house.fresh.outs core (omega (arith, low, house.outs))).out
 
-  -- an outside actor that has noted nothing
-  module _ (workers : List (LinkedView J T)) (ends : EndsView J T) (desk : DeskView J T) (house : IsHouse cores cap burst room queues workers ends) (opened : desk ≡ opened_desk cores cores cap room burst)
-      (written : IsWritten (terms_of_desk desk) desk.journal.notes) (enough : least_room cores cap burst ≤ room) where
-    outs_opened : (core : ℕ) → core < cores → IsOutOf core (opened_desk cores cores cap room burst) (out_at core ends).out (out_at core ends).credited
-    outs_opened core low =
-        let is = house.fresh.outs core (omega (arith, low, house.outs)) in
-        subst (λ out. IsOutOf core (opened_desk cores cores cap room burst) out (out_at core ends).credited) (sym is.out)
-        (subst (IsOutOf core (opened_desk cores cores cap room burst) (out_of (fresh cores core cap 0))) (sym is.credited) (fresh_out cores core cores cap room burst low))
-
-    lanes_opened : (fits : Order J → Outcome J T → Type 0) (core : ℕ) → core < cores → HasLane fits core (opened_desk cores cores cap room burst) (out_at core ends).out (out_at core ends).credited
-    lanes_opened fits core low =
-        let is = house.fresh.outs core (omega (arith, low, house.outs)) in
-        subst (λ credited. HasLane fits core (opened_desk cores cores cap room burst) (out_at core ends).out credited) (sym is.credited)
-        (fresh_has_lane fits core cores cores cap room burst (out_at core ends).out low
-        (subst (λ credited. IsUnused cap (out_at core ends).out credited) is.credited
-        (IsUnused-fresh (λ (end : Sending J T). end.out) (λ (end : Sending J T). end.credited) cores core cap 0 (out_at core ends) (omega arith) is.out is.credited)))
-
-    none_due : sum_by due_of (replicate cores (fresh_lane {J = J} {T = T} cap)) ≡ 0
-    none_due = sum_by-replicate due_of cores (fresh_lane cap) ∙ omega arith
-
-    pub seated : (fits : Order J → Outcome J T → Type 0) → IsSeated fits (record { desk = desk; ends = ends })
-    seated fits = record {
-      outside = record {
-        outs_are = house.outs ∙ ap (λ desk. desk.cores) (sym opened);
-        written = written;
-        outs = subst (λ (desk : DeskView J T). (core : ℕ) → core < desk.cores → IsOutOf core desk (out_at core ends).out (out_at core ends).credited) (sym opened) outs_opened;
-      };
-      lanes = subst (λ (desk : DeskView J T). (core : ℕ) → core < desk.cores → HasLane fits core desk (out_at core ends).out (out_at core ends).credited) (sym opened) (lanes_opened fits);
-      lanes_are = ap (λ desk. length desk.lanes) opened ∙ (length-replicate cores (fresh_lane cap) ∙ ap (λ desk. desk.cores) (sym opened));
-      room_is = subst (λ (desk : DeskView J T). booked desk ≤ desk.journal.room) (sym opened) (omega (arith, none_due));
-      places = subst (λ (desk : DeskView J T). least_room desk.cores desk.cap desk.burst ≤ places_of desk.journal) (sym opened) (omega (arith, enough));
-    }
-
   -- a runtime in which nothing has happened
-  module _ {fits : Order J → Outcome J T → Type 0} (workers : List (LinkedView J T)) (outside : OutsideView J T) (seated : IsSeated fits outside) (house : IsHouse cores cap burst room queues workers outside.ends)
-      (opened : outside.desk ≡ opened_desk cores cores cap room burst) (limits : IsWithinLimits cores cap burst) where
+  module _ {fits : Order J → Outcome J T → Type 0} (workers : List (LinkedView J T)) (outside : OutsideView J T) (seated : IsSeatedOutside fits outside) (house : IsHouse cores cap burst room queues workers outside.ends)
+      (opened : outside.desk ≡ opened_desk cores cores cap room burst) (enough : least_room cores cap burst ≤ room) (limits : IsWithinLimits cores cap burst) where
     pub started : (closing : List Bool) → closing ≡ replicate cores false → (rung : RingsView J T) → rung.times ≡ replicate (cores + 1) 0 → (bells : List (List ℕ)) (refused : Bool) (asks : Option ℕ) (watched : List Watching) (marks tries : List ℕ) →
         IsRuntime fits (record { desk = outside.desk; ends = outside.ends; closing = closing; workers = workers; room = room; rung = rung; bells = bells; refused = refused; asks = asks; watched = watched; marks = marks; tries = tries })
     started closing none rung silent bells refused asks watched marks tries = record {
@@ -142,8 +106,8 @@ module _ {J T : Type 0} (cores cap burst room : ℕ) (queues : List Entry) where
       bells = ap length silent ∙ (length-replicate (cores + 1) 0 ∙ ap (λ desk. desk.cores + 1) (sym opened));
       lanes = seated.lanes;
       lanes_are = seated.lanes_are;
-      room_is = seated.room_is;
-      places = seated.places;
+      room_is = subst (λ (desk : DeskView J T). booked desk ≤ desk.journal.room) (sym opened) (omega (arith, none_due J T cores cap));
+      places = subst (λ (desk : DeskView J T). least_room desk.cores desk.cap desk.burst ≤ places_of desk.journal) (sym opened) (omega (arith, enough));
       limits = subst (λ (desk : DeskView J T). IsWithinLimits desk.cores desk.cap desk.burst) (sym opened) limits;
     }
 

@@ -1,6 +1,5 @@
 pub mod Rings
 pub mod State
-pub mod Outside
 pub mod Stored
 pub mod Watching
 pub mod Passing

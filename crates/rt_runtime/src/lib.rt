@@ -5,7 +5,6 @@ mod calls;
 pub mod error;
 mod finishing;
 pub mod laws;
-mod outside;
 pub mod passed;
 mod passing;
 mod quiet;

@@ -2,14 +2,13 @@
 
 ghost use Rattle.std.specs.Prelude.{◌≡◌};
 
-use crate::outside::Outside;
 use crate::passed::ActorNotes;
 use crate::rings::Rings;
 use rt_jobs::Task;
 use rt_journal_notes::{Journal, Sink, Whole};
 use rt_ring_mesh::Ends;
 use rt_runtime_team::Team;
-use rt_runtime_worker::Worker;
+use rt_runtime_worker::{OutsideSeat, Worker};
 use rt_watch::Watcher;
 use std::marker::Model;
 
@@ -28,7 +27,7 @@ pub struct Runtime<J: Task<Out = u64>, C: Drop, G: Drop, S: Sink = Whole> {
     pub(crate) cap: u16,
     pub(crate) room: u32,
     /// The outside actor: its journal, and its end to each core.
-    pub(crate) outside: Outside<J>,
+    pub(crate) outside: OutsideSeat<J>,
     /// The outside actor's sink, and whether it refused when it was last asked.
     pub(crate) sink: S,
     pub(crate) refused: bool,

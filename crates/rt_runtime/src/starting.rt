@@ -11,7 +11,6 @@ ghost use Rattle.rt_runtime.specs.WithLocals.{without_locals};
 ghost use Rattle.rt_runtime.specs.WithSinks.{HasSinks};
 
 use crate::error::StartError;
-use crate::outside::Outside;
 use crate::passed::ActorNotes;
 use crate::rings::Rings;
 use crate::runtime::Runtime;
@@ -22,7 +21,7 @@ use rt_journal_notes::{Journal, Sink};
 use rt_ring_mesh::{Ends, open_all};
 use rt_runtime_config::{Clock, Config, Gate};
 use rt_runtime_team::{NotStarted, Team};
-use rt_runtime_worker::{Bells, Worker};
+use rt_runtime_worker::{Bells, OutsideSeat, Worker};
 use rt_watch::Watcher;
 use std::alloc::{AllocError, Global};
 use std::snapshot::Snapshot;
@@ -275,7 +274,7 @@ impl<J: Task<Out = u64>, C: Drop, G: Drop, S: Sink> Runtime<J, C, G, S> {
             return Err(StartError::Memory);
         };
         let bells = Rings::of(bells, &ends);
-        let outside = Outside::of(desk, ends);
+        let outside = OutsideSeat::of(desk, ends);
         let given = Snapshot::of(&workers);
         match Team::start(rt, alloc, workers) {
             Ok(team) => Ok((

@@ -51,5 +51,6 @@ pub mod GivenBack
 mod Resting
 mod ShownAgain
 pub mod Opened
+pub mod OutsideSeats
 pub mod Creating
 pub mod Ending

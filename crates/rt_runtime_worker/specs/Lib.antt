@@ -18,4 +18,5 @@ pub mod Looks
 pub mod Serves
 pub mod Opening
 pub mod Together
+pub mod OutsideSeats
 pub mod Readings

@@ -1,11 +1,18 @@
-use Rattle.std.proofs.Common.{sym, ap, ◌∙◌}
-use Rattle.rt_hosted_house.proofs.Opened.{outside_sends}
+use Rattle.std.proofs.Common.{subst, sym, ap, ◌∙◌}
+use Rattle.rt_journal_desk.specs.Submissions.{IsWritten, terms_of_desk}
+use Rattle.rt_link.specs.Fits.{Fits}
+use Rattle.rt_runtime_worker.proofs.OutsideSeats.{seated_fresh}
+use Rattle.rt_hosted.specs.Jobs.{host_meaning}
 use Rattle.rt_hosted_house.proofs.outside.Outside.open.Goals as goal
+
+pub of-requires : goal.of-requires
+of-requires c =
+    let written = subst (λ desk. IsWritten (terms_of_desk desk) desk.journal.notes) (sym c.prefault.ensures) c.in_ok-desk.ensures.written in
+    seated_fresh _ _ _ _ c.prefault.new.self c.args.ends (c.prefault.ensures ∙ c.in_ok-desk.ensures.opened) written c.requires.outs c.requires.fresh (Fits host_meaning)
 
 pub invariant_of-result : goal.invariant_of-result
 invariant_of-result c =
-    let opened = c.prefault.ensures ∙ c.in_ok-desk.ensures.opened in (
-      outside_sends _ _ _ _ c.prefault.new.self c.args.ends opened c.requires.outs c.requires.fresh,
+    let opened = ap (λ seat. seat.desk) c.of.ensures.is ∙ (c.prefault.ensures ∙ c.in_ok-desk.ensures.opened) in (
       ap (λ desk. desk.cores) (sym opened),
       c.new.ensures ∙ ap (λ desk. desk.journal.passed) (sym opened),
     )

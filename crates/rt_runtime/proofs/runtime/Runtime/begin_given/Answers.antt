@@ -9,10 +9,11 @@ use Rattle.rt_ring_mesh.specs.Ends.{AreFresh, out_at}
 use Rattle.rt_runtime.specs.Starting.{HaveQueues, IsHouse}
 use Rattle.std.proofs.lemmas.List.{length-map}
 use Rattle.rt_runtime_team.proofs.Lists.{together_length}
+use Rattle.rt_runtime_worker.proofs.OutsideSeats.{seated_fresh}
 use Rattle.rt_runtime.specs.Watching.{IsUnseen, IsWatcherOf}
 use Rattle.rt_runtime.proofs.AllPassed.{together_all}
 use Rattle.rt_runtime.proofs.Dealt.{made_with_last, same_maps}
-use Rattle.rt_runtime.proofs.Started.{holds_next, none_submitted, seated, started}
+use Rattle.rt_runtime.proofs.Started.{holds_next, none_submitted, started}
 use Rattle.rt_runtime.proofs.runtime.Runtime.begin_given.Goals as goal
 
 pub start-requires-send-W : goal.start-requires-send-W
@@ -33,9 +34,8 @@ start-requires-send-W-Ended g c κs within =
 
 pub of-outside-requires : goal.of-outside-requires
 of-outside-requires g c =
-    let first = c.requires.good.each 0 (omega (arith, c.requires.good.numbers.some_core)) in
-    seated c.args.config.now.cores c.args.config.now.cap c.args.config.now.burst c.args.config.now.room c.args.config.now.queues.items (map (λ worker. worker.linked) c.in-Ok.workers.items) c.in-Ok.ends c.in-Ok-open_outside.desk
-    c.in-Ok.ensures.house c.in-Ok-open_outside.ensures.desk c.in-Ok-open_outside.ensures.written (omega (arith, first.room_least)) (Fits g.J.Task.meaning)
+    seated_fresh c.args.config.now.cores c.args.config.now.cap c.args.config.now.burst c.args.config.now.room c.in-Ok-open_outside.desk c.in-Ok.ends c.in-Ok-open_outside.ensures.desk c.in-Ok-open_outside.ensures.written
+    c.in-Ok.ensures.house.outs c.in-Ok.ensures.house.fresh (Fits g.J.Task.meaning)
 
 pub invariant_of-result : goal.invariant_of-result
 invariant_of-result g c =
@@ -46,13 +46,14 @@ invariant_of-result g c =
     (sym (ap (λ outside. outside.ends) c.of-outside.ensures.is)) c.in-Ok.ensures.house in
     let empty : g.row.S.Denot → Type 0 = λ sink. g.S.Sink.has sink ≡ [] in
     let none = holds_next empty c.args.sinks.items c.pop.new.self.items (c.in-Some.sink ∷ []) [] c.in-Some.sink c.requires.empty c.in-Some.ensures.items refl in
-    let numbers = c.requires.good.numbers in (
+    let numbers = c.requires.good.numbers in
+    let first = c.requires.good.each 0 (omega (arith, numbers.some_core)) in (
       (c.in-Ok-open_spares.ensures.ends, c.in-Ok-open_spares.ensures.actors, c.in-Ok-open_spares.ensures.journals, c.in-Ok-open_spares.ensures.locals),
       same_maps (λ worker. worker.shown.board) (λ watcher. watcher.board) IsWatcherOf (λ worker watcher is. is.board) c.in-Ok.workers.items c.in-Ok.watchers.items c.in-Ok.ensures.watchers
           ∙ ap (λ workers. map (λ worker. worker.shown.board) workers) (sym c.in-Ok-start.ensures.ok),
       (record {
         runtime = started c.args.config.now.cores c.args.config.now.cap c.args.config.now.burst c.args.config.now.room c.args.config.now.queues.items (map (λ worker. worker.linked) c.in-Ok-start.team) c.of-outside.result c.of-outside.ensures.seated
-            (subst (λ workers. IsHouse c.args.config.now.cores c.args.config.now.cap c.args.config.now.burst c.args.config.now.room c.args.config.now.queues.items workers c.of-outside.result.ends) (sym workers) house) desk
+            (subst (λ workers. IsHouse c.args.config.now.cores c.args.config.now.cap c.args.config.now.burst c.args.config.now.room c.args.config.now.queues.items workers c.of-outside.result.ends) (sym workers) house) desk (omega (arith, first.room_least))
             (record {
               some_core = omega (arith, numbers.some_core);
               few_cores = numbers.cores_most;

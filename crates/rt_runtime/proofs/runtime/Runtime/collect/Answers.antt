@@ -1,17 +1,23 @@
-use Rattle.std.proofs.Common.{◌<◌, ap, arith}
+use Rattle.std.proofs.Common.{◌<◌, ◌≤◌, ap, arith}
+use Rattle.rt_journal_desk.specs.Spending.{booked}
+use Rattle.rt_runtime.proofs.Booked.{room_to_collect}
 use Rattle.rt_runtime.proofs.Collected.{collects_here}
 use Rattle.rt_runtime.proofs.Sent.{held_on}
 use Rattle.rt_runtime.proofs.runtime.Runtime.collect.Goals as goal
 
 pub collect_from-requires : goal.collect_from-requires
-collect_from-requires g c = omega (arith, c.if-core-self.false, c.core.view_is, c.self.invariant.2.cores_are)
+collect_from-requires g c =
+    let low : c.args.core < c.self.inside.outside.desk.cores = omega (arith, c.if-core-self.false, c.core.view_is, c.self.invariant.2.cores_are) in
+    record { there = low; room = room_to_collect _ c.self.invariant.2.runtime c.args.core low }
 
 pub invariant_of-self : goal.invariant_of-self
-invariant_of-self g c = (
-  c.self.invariant.0,
-  c.self.invariant.1,
-  held_on _ c.self.inside.sink c.self.invariant.2 c.args.core c.collect_from.new.self c.collect_from.ensures.uses c.self.inside.closing.items c.self.invariant.2.runtime.closings c.self.inside.bells c.self.invariant.2.runtime.bells,
-)
+invariant_of-self g c =
+    let did = c.collect_from.ensures in
+    let books : booked c.collect_from.new.self.desk ≤ c.self.inside.outside.desk.journal.room = omega (arith, did.books, c.self.invariant.2.runtime.room_is) in (
+      c.self.invariant.0,
+      c.self.invariant.1,
+      held_on _ c.self.inside.sink c.self.invariant.2 c.args.core c.collect_from.new.self did.uses books c.self.inside.closing.items c.self.invariant.2.runtime.closings c.self.inside.bells c.self.invariant.2.runtime.bells,
+    )
 
 pub returns : goal.returns
 returns g c =

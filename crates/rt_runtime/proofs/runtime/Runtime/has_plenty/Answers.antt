@@ -6,7 +6,6 @@ use Rattle.rt_runtime.specs.Sends.{room_left}
 use Rattle.rt_runtime.specs.Passing.{passed_on}
 use Rattle.rt_runtime.proofs.Booked.{room_to_send}
 use Rattle.rt_runtime.proofs.HandedOn.{room_behind, room_for_all}
-use Rattle.rt_runtime.proofs.Seated.{seat_of}
 use Rattle.rt_runtime.proofs.runtime.Runtime.has_plenty.Goals as goal
 
 pub returns-clause-plenty : goal.returns-clause-plenty
@@ -15,13 +14,13 @@ returns-clause-plenty g c plenty =
     let cores = c.self.invariant.2.cores_are ∙ ap (λ view. view.desk.cores) c.self.view_is in
     let cap = c.self.invariant.2.cap_is ∙ ap (λ view. view.desk.cap) c.self.view_is in
     let all = subst (λ view. 3 * (view.desk.cores * view.desk.cap + 1) + c.args.each * view.desk.cores ≤ free_notes view.desk.journal → room_left c.args.each view ≤ free_notes view.desk.journal) c.self.view_is
-    (room_for_all _ (seat_of _ c.self.invariant.2.runtime) c.args.each) in
+    (room_for_all _ c.self.invariant.2.runtime c.args.each) in
     all (rw (← cores, ← cap, ← free) (leb-true _ _ plenty))
 
 pub returns-clause-room : goal.returns-clause-room
 returns-clause-room g c plenty =
     let least = returns-clause-plenty g c plenty in
-    subst (λ view. room_left c.args.each view ≤ free_notes view.desk.journal → booked view.desk + 3 ≤ view.desk.journal.room) c.self.view_is (room_to_send _ (seat_of _ c.self.invariant.2.runtime) c.args.each) least
+    subst (λ view. room_left c.args.each view ≤ free_notes view.desk.journal → booked view.desk + 3 ≤ view.desk.journal.room) c.self.view_is (room_to_send _ c.self.invariant.2.runtime c.args.each) least
 
 pub returns-clause-behind : goal.returns-clause-behind
-returns-clause-behind g c = subst (λ view. booked (passed_on view).desk + 3 ≤ (passed_on view).desk.journal.room) c.self.view_is (room_behind _ (seat_of _ c.self.invariant.2.runtime))
+returns-clause-behind g c = subst (λ view. booked (passed_on view).desk + 3 ≤ (passed_on view).desk.journal.room) c.self.view_is (room_behind _ c.self.invariant.2.runtime)

@@ -1,14 +1,22 @@
-use Rattle.std.proofs.Common.{◌<◌}
+use Rattle.std.proofs.Common.{◌<◌, ◌≤◌, arith}
+use Rattle.rt_journal_desk.specs.Spending.{booked}
+use Rattle.rt_runtime.proofs.Booked.{books_redeemed, room_held}
 use Rattle.rt_runtime.proofs.Redeemed.{redeemed_here}
 use Rattle.rt_runtime.proofs.Sent.{held_on}
 use Rattle.rt_runtime.proofs.runtime.Runtime.redeem.Goals as goal
 
+pub redeem-requires-clause-room : goal.redeem-requires-clause-room
+redeem-requires-clause-room g c = room_held _ c.self.invariant.2.runtime c.args.ticket
+
 pub invariant_of-self : goal.invariant_of-self
-invariant_of-self g c = (
-  c.self.invariant.0,
-  c.self.invariant.1,
-  held_on _ c.self.inside.sink c.self.invariant.2 c.args.ticket.to c.redeem.new.self c.redeem.ensures.uses c.self.inside.closing.items c.self.invariant.2.runtime.closings c.self.inside.bells c.self.invariant.2.runtime.bells,
-)
+invariant_of-self g c =
+    let did = c.redeem.ensures in
+    let books : booked c.redeem.new.self.desk ≤ c.self.inside.outside.desk.journal.room =
+    omega (arith, books_redeemed c.args.ticket c.self.inside.outside.desk c.redeem.new.self.desk c.redeem.result did.redeems did.spends, c.self.invariant.2.runtime.room_is) in (
+      c.self.invariant.0,
+      c.self.invariant.1,
+      held_on _ c.self.inside.sink c.self.invariant.2 c.args.ticket.to c.redeem.new.self did.uses books c.self.inside.closing.items c.self.invariant.2.runtime.closings c.self.inside.bells c.self.invariant.2.runtime.bells,
+    )
 
 pub returns : goal.returns
 returns g c =

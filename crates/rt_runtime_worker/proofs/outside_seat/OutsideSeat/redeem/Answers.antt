@@ -1,19 +1,19 @@
-use Rattle.std.proofs.Common.{◌≡◌, ◌≤◌, ap, arith}
+use Rattle.std.proofs.Common.{◌≡◌, ◌<◌, ap, length, subst, sym, arith}
 use Rattle.std.specs.Prelude.{IfOk}
 use Rattle.rt_desk.specs.Lanes.{FitsSent, IsGot}
 use Rattle.rt_link.specs.Fits.{Fits}
-use Rattle.rt_journal_desk.specs.Spending.{booked}
-use Rattle.rt_runtime.proofs.Booked.{books_redeemed, room_held}
-use Rattle.rt_runtime.proofs.Redeemed.{redeemed_grows}
-use Rattle.rt_runtime.proofs.Seated.{LendsOut, lent_beside, lent_lane, seated_now, there_too, uses_now}
-use Rattle.rt_runtime.proofs.outside.Outside.redeem.Given.{Over}
-use Rattle.rt_runtime.proofs.outside.Outside.redeem.Goals as goal
-use Rattle.rt_runtime.proofs.outside.Outside.redeem.Goals.{After-out_mut, After-redeem}
+use Rattle.rt_journal_desk.specs.Spending.{HoldsSome}
+use Rattle.rt_runtime_worker.proofs.Adding.{redeems_add}
+use Rattle.rt_runtime_worker.proofs.OutsideSeats.{LendsAt, lent_beside, lent_lane, seated_now, there_too, uses_now}
+use Rattle.rt_runtime_worker.proofs.outside_seat.OutsideSeat.redeem.Given.{Over}
+use Rattle.rt_runtime_worker.proofs.outside_seat.OutsideSeat.redeem.Goals as goal
+use Rattle.rt_runtime_worker.proofs.outside_seat.OutsideSeat.redeem.Goals.{After-out_mut}
 
 pub out_mut-requires : goal.out_mut-requires
 out_mut-requires g c = omega (arith, c.requires.there, ap (λ view. view.desk.cores) c.self.view_is, c.self.invariant.outside.outs_are, ap (λ name. name.to) c.name-to.ensures)
 
-lends : (g : Over) (c : After-out_mut g) → LendsOut (Fits g.J.Task.meaning) c.self.inside.desk c.self.inside.ends c.args.ticket.to c.name-to.result.to c.out_mut.result.now
+-- the end to the core of the ticket, as it is lent
+lends : (g : Over) (c : After-out_mut g) → LendsAt g.J.Task.meaning c.self.inside.desk c.self.inside.ends c.args.ticket.to c.name-to.result.to c.out_mut.result.now
 lends g c = record {
   seated = c.self.invariant;
   known = omega (arith, c.requires.there, ap (λ view. view.desk.cores) c.self.view_is);
@@ -24,16 +24,14 @@ lends g c = record {
 pub redeem-requires : goal.redeem-requires
 redeem-requires g c =
     let lent = lends g (goal.at.redeem-requires g c).After-out_mut in
-    record { beside = lent_beside lent; lane = lent_lane lent; room = room_held _ c.self.invariant c.args.ticket }
-
--- what is booked still has room
-booked_now : (g : Over) (c : After-redeem g) → booked c.redeem.new.self ≤ c.self.inside.desk.journal.room
-booked_now g c = omega (arith, books_redeemed c.args.ticket c.self.inside.desk c.redeem.new.self c.redeem.result c.redeem.ensures.redeems c.redeem.ensures.spends, c.self.invariant.room_is)
+    record {
+      beside = lent_beside lent;
+      lane = lent_lane lent;
+      room = subst (λ view. HoldsSome c.args.ticket view.desk → length view.desk.journal.notes < view.desk.journal.room) (sym c.self.view_is) c.requires.room;
+    }
 
 pub invariant_of-self : goal.invariant_of-self
-invariant_of-self g c =
-    let at = goal.at.invariant_of-self g c in
-    seated_now (lends g at.After-out_mut) c.redeem.new.end c.redeem.new.self c.redeem.ensures.stays (booked_now g at.After-redeem)
+invariant_of-self g c = seated_now (lends g (goal.at.invariant_of-self g c).After-out_mut) c.redeem.new.end c.redeem.ensures.stays
 
 pub returns-clause-given : goal.returns-clause-given
 returns-clause-given g c =
@@ -49,7 +47,5 @@ returns-clause-out g c = rw (← c.self.view_is) (there_too (lends g (goal.at.re
 
 pub returns-clause-uses : goal.returns-clause-uses
 returns-clause-uses g c =
-    let at = goal.at.returns-clause-uses g c in
     rw (← c.self.view_is)
-    (uses_now (lends g at.After-out_mut) c.redeem.new.end c.redeem.new.self c.redeem.ensures.stays (booked_now g at.After-redeem) c.redeem.ensures.untouched
-    (redeemed_grows c.args.ticket c.self.inside.desk c.redeem.new.self c.redeem.result c.redeem.ensures.redeems))
+    (uses_now (lends g (goal.at.returns-clause-uses g c).After-out_mut) c.redeem.new.end c.redeem.ensures.stays c.redeem.ensures.untouched (redeems_add _ _ _ _ c.redeem.ensures.redeems).grows)

@@ -1,16 +1,16 @@
 use Rattle.std.proofs.Common.{◌<◌, ◌∙◌, ap, subst, sym, arith}
 use Rattle.rt_ids.specs.Outstanding.{outstanding_count}
 use Rattle.rt_link.specs.Fits.{Fits}
-use Rattle.rt_runtime.specs.Outside.{IsSeated}
-use Rattle.rt_runtime.proofs.Seated.{read_beside}
-use Rattle.rt_runtime.proofs.outside.Outside.outstanding.Goals as goal
+use Rattle.rt_runtime_worker.specs.OutsideSeats.{IsSeatedOutside}
+use Rattle.rt_runtime_worker.proofs.OutsideSeats.{read_beside}
+use Rattle.rt_runtime_worker.proofs.outside_seat.OutsideSeat.outstanding.Goals as goal
 
 pub outstanding-requires : goal.outstanding-requires
 outstanding-requires g c =
     let seen = c.self-inside.view_is in
-    let seated = subst (λ inside. IsSeated (Fits g.J.Task.meaning) (record { desk = inside.desk; ends = inside.ends })) (sym seen) c.self.invariant in
+    let seated = subst (λ inside. IsSeatedOutside (Fits g.J.Task.meaning) (record { desk = inside.desk; ends = inside.ends })) (sym seen) c.self.invariant in
     let known : c.args.core < c.self-inside.inside.0.0.cores = omega (arith, c.requires.there, ap (λ view. view.desk.cores) c.self.view_is, ap (λ inside. inside.desk.cores) seen) in
-    read_beside _ _ seated c.args.core c.core.inside.0 known c.core.view_is c.index.result.now c.index.ensures
+    read_beside g.J.Task.meaning _ _ seated c.args.core c.core.inside.0 known c.core.view_is c.index.result.now c.index.ensures
 
 pub returns : goal.returns
 returns g c =
