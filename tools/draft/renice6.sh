@@ -12,7 +12,7 @@ while true; do
       /work/h/worker*) n=-2 ;;
       /work/h/house*) n=0 ;;
       /work/h/perf*) n=-1 ;;
-      /work/h/bench/*) n=-12 ;;
+      /work/h/bench/*|/work/h/nat*) n=-12 ;;
       /tmp/tmp.*) n=-8 ;;
       /tmp/tryedits/*) n=9 ;;
       /work/h/ringedits*) n=8 ;;
