@@ -396,7 +396,8 @@ uint32_t fx_house_text(fx_house *house, uint64_t from, uint8_t *bytes, size_t ro
 uint32_t fx_house_free(fx_house *house) FX_NOT_NULL;
 
 /*
- * Frees a seat, and forgets its jobs, its journal and its tickets. The other actors find its links as they were left.
+ * Frees a seat, and forgets its jobs, its journal and its tickets. A core shuts its gates then: who submits to it is told
+ * FX_CLOSED. What it was sent before stays outstanding.
  * FX_EMPTY; FX_OK.
  */
 uint32_t fx_seat_free(fx_seat *seat) FX_NOT_NULL;

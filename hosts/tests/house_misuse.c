@@ -326,9 +326,10 @@ static void moving(void) {
     IS(fx_seat_next(&moved, &out.turn), FX_START);
     is("the job moved with the core", (uint32_t)out.turn.job, 5);
     IS(fx_seat_free(&moved), FX_OK);
-    /* The other actors find their links as they were left. */
+    /* What the other actors sent stays outstanding, and they send nothing more. */
     IS(fx_seat_collect(&of.seats[OUTSIDE], 0, &out.count), FX_OK);
     IS(fx_seat_redeem(&of.seats[OUTSIDE], &name, &out.outcome), FX_PENDING);
+    IS(fx_seat_submit(&of.seats[OUTSIDE], 0, 0, 6, &name), FX_CLOSED);
     freed(&of);
 }
 

@@ -18,7 +18,7 @@ const SLOT: usize = 16;
 
 /// A value, or the bytes of one that was taken out. Those own nothing.
 ///
-/// Dropping it drops nothing, also where the value is still there: `into_value` gives it.
+/// Dropping it drops nothing, also where the value is still there: `take_out` gives it.
 pub struct MaybeTaken<X> {
     bits: X,
 }
@@ -52,16 +52,6 @@ impl<X> MaybeTaken<X> {
         ensures { result ≡ None }
     {
         MaybeTaken { bits: value }
-    }
-
-    /// The value that is there.
-    #[inline]
-    pub fn into_value(self) -> X
-        requires { (x : X) × (self ≡ Some x) }
-        ensures { self ≡ Some result }
-    {
-        let Self { bits } = self;
-        bits
     }
 }
 

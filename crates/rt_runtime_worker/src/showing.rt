@@ -18,7 +18,7 @@ pub(crate) const PLACES: u16 = 256;
 /// Behind so many rounds in which something was done the numbers are published.
 pub(crate) const SHOWN_EACH: u32 = 1024;
 
-/// The numbers of so many queues are handed on in a place that is as small. The one for 256 has 20 kB, which are written and copied each time.
+/// The numbers of so many queues, or of fewer, are handed on in a small place. One for 256 has 20 kB, which are written and copied each time.
 const FEW: u16 = 16;
 
 /// Publishes these numbers, if the counts are exact.
