@@ -6,9 +6,9 @@ use Rattle.rt_ids.specs.declared.order.Outcome.{Outcome}
 use Rattle.rt_link.specs.declared.plain.Whole.{Whole}
 use Rattle.rt_ring_board.specs.Held.{Content, of_order, of_outcome}
 
--- how far the cells of two indexes that follow each other are apart: between them lies one that is never used, so that the two mostly share no line of a cache
+-- how far the cells of two indexes that follow each other are apart: those between them are never used, so that the two share no line of a cache
 abbrev pub apart_by : ℕ
-apart_by = 2
+apart_by = 4
 
 -- the cell of an index, for the order at that index of those sent and for the outcome at that index of those given; after the last cell comes the first again
 abbrev pub place_of : ℕ → ℕ → ℕ

@@ -31,9 +31,9 @@ pub(crate) const GATE_ROW: u64 = 0;
 /// The row of the cells.
 pub(crate) const CELL_ROW: u64 = 1;
 
-/// How far the cells of two orders that follow each other are apart. Between them lies a cell that is never used, so that the two mostly share
-/// no line of a cache, and none if a cell has 64 bytes or more.
-pub const APART: u64 = 2;
+/// How far the cells of two orders that follow each other are apart. Between them lie three that are never used. So the two share no line of a
+/// cache. If a cell takes a multiple of 16 bytes, all cells in use lie at the same place of their lines, as the first does.
+pub const APART: u64 = 4;
 
 /// The top bit of a word.
 pub(crate) const GATE: u64 = 1 << 63;
