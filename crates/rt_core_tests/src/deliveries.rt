@@ -90,3 +90,42 @@ pub(crate) fn all_queues(core: &mut OneCore<'_>) -> bool {
         && takes(core, 2, last, 0, 1)
         && picks(core, &[(last, 0)])
 }
+
+/// What becomes of the next job of actor 0 where it is delivered alone, without its note: a job of one poll, with its number as its time.
+fn comes_alone(core: &mut OneCore<'_>, number: u64, queue: QueueNo) -> Option<Delivered<Steps>> {
+    let name = name(number);
+    if !core.has_room() || !core.is_next(&name) {
+        return None;
+    }
+    let job = Steps {
+        parks: 0,
+        left: 0,
+        time: number,
+        done: false,
+    };
+    Some(core.deliver_job(name, queue, job))
+}
+
+/// A job for this queue that is delivered alone comes back as it was, since there is no such queue.
+fn is_refused_alone(core: &mut OneCore<'_>, number: u64, queue: QueueNo) -> bool {
+    let Some(delivered) = comes_alone(core, number, queue) else {
+        return false;
+    };
+    let Delivered::Back(reason, order) = delivered else {
+        return false;
+    };
+    let Order::Job(to, back) = order else {
+        return false;
+    };
+    reason == Reason::NoQueue && to == queue && back.time == number
+}
+
+/// A job that is delivered alone waits in its queue. One for a queue that there isn't comes back.
+pub(crate) fn jobs_alone(core: &mut OneCore<'_>) -> bool {
+    let Some(delivered) = comes_alone(core, 1, FIRST) else {
+        return false;
+    };
+    matches!(delivered, Delivered::Took)
+        && is_refused_alone(core, 2, SECOND)
+        && picks(core, &[(FIRST, 0)])
+}

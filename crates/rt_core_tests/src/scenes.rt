@@ -2,7 +2,7 @@
 
 use crate::bursts::{two_polls_a_turn, two_polls_in_place};
 use crate::closings::{a_core_finishes, a_core_hands_back, a_queue_finishes, a_queue_hands_back};
-use crate::deliveries::{all_queues, commands, eight_jobs};
+use crate::deliveries::{all_queues, commands, eight_jobs, jobs_alone};
 use crate::one_core::OneCore;
 use crate::parks::{
     a_closing_ends_parks, a_core_with_a_parked_job, a_kept_wake_lets_one_park_pass,
@@ -15,10 +15,10 @@ use rt_ids::CoreNo;
 use std::test::Fail;
 
 /// The scene of a core that has one turn left.
-const LAST_TURN: u8 = 15;
+const LAST_TURN: u8 = 16;
 
 /// The first of the scenes of cores that poll twice a turn.
-const TWO_POLLS: u8 = 16;
+const TWO_POLLS: u8 = 17;
 
 /// Whether each step of this scene comes out.
 fn plays(core: &mut OneCore<'_>, scene: u8) -> bool {
@@ -38,6 +38,7 @@ fn plays(core: &mut OneCore<'_>, scene: u8) -> bool {
         12 => a_closing_ends_parks(core),
         13 => a_core_with_a_parked_job(core),
         14 => a_core_is_busy(core),
+        15 => jobs_alone(core),
         LAST_TURN => the_last_turn_is_made(core),
         TWO_POLLS => two_polls_a_turn(core),
         _ => two_polls_in_place(core),
@@ -64,7 +65,7 @@ fn plays_in(heap: &LocalHeap, scene: u8) -> Option<bool> {
 #[test]
 fn each_scene_comes_out(rt: HostRuntime) -> Result<(), Fail> {
     let heap = LocalHeap::new(rt.alloc(), 1 << 18)?;
-    for scene in 0..18 {
+    for scene in 0..19 {
         let went = plays_in(&heap, scene);
         assert!(rt; went == Some(true) && heap.used() == 0, "scene {scene}");
     }
