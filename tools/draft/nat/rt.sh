@@ -7,7 +7,7 @@ for i in $(seq $n); do
   for p in "$@"; do
     LD_PRELOAD=./pin.so${PL:+:$PL} ./$p ${m/_0/ 0} 2>&1 | awk -v p=$p -v m=$m '{print p, m, $3/10}' | head -1
   done
-  LD_PRELOAD=./pin.so ./hand ${m/_0/ 0} 2>&1 | awk -v m=$m '$2=="booked"||$1=="booked"{print "hand", m, $3}'
+  LD_PRELOAD=./pin.so ./handb ${m/_0/ 0} 2>&1 | awk -v m=$m '$2=="booked"||$1=="booked"{print "hand", m, $3}'
  done
 done > last.txt
 awk '{k=$2" "$1; v[k, ++n[k]] = $3 } END { for (k in n) { c=n[k]; for(i=2;i<=c;i++) for(j=i;j>1&&v[k,j-1]>v[k,j];j--){x=v[k,j];v[k,j]=v[k,j-1];v[k,j-1]=x} printf "%s: middle %.0f  quarters %.0f %.0f least %.0f (%d)\n", k, v[k,int((c+1)/2)], v[k,int((c+3)/4)], v[k,int((3*c+1)/4)], v[k,1], c } }' last.txt | sort

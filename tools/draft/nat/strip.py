@@ -14,8 +14,10 @@ for l in open(src):
         else:
             out.write('  ret void\n}\n')
         mode='skip'; continue
+    if l.startswith('define ') and '@"core::hint::spin_loop"' in l:
+        out.write(l); out.write('start:\n  call void @llvm.x86.sse2.pause()\n  ret void\n}\n'); mode='skip'; continue
     if l.startswith('define ') and '@"rattle-try::site-' in l:
         out.write(l); out.write('start:\n  unreachable\n}\n'); mode='skip'; continue
     if 'llvm.memset' in l and ', i8 -86, ' in l and 'call' in l: continue
     out.write(l)
-out.write('\ndeclare void @llvm.assume(i1 noundef)\n')
+out.write('\ndeclare void @llvm.assume(i1 noundef)\ndeclare void @llvm.x86.sse2.pause()\n')
