@@ -1,5 +1,7 @@
 //! What a core does at once when a command or a job is delivered, and what it refuses.
 
+ghost use Rattle.std.specs.Prelude.{◌≡◌, false};
+
 use crate::one_core::{
     FIRST, OneCore, SECOND, THIRD, answers, creates, is_one, name, picks, shares, submit, takes,
 };
@@ -8,6 +10,29 @@ use rt_core::Delivered;
 use rt_ids::{Answer, Note, Order, QueueNo, Reason};
 use rt_taskqueue::CreateError;
 
+/// A job of one poll, with its number as its time.
+fn one_poll(number: u64) -> Steps
+    ensures { result.done ≡ false }
+{
+    Steps {
+        parks: 0,
+        left: 0,
+        time: number,
+        done: false,
+    }
+}
+
+/// Whether that job comes back as it was, for this reason.
+fn is_back(delivered: Delivered<Steps>, number: u64, queue: QueueNo, want: Reason) -> bool {
+    let Delivered::Back(reason, order) = delivered else {
+        return false;
+    };
+    let Order::Job(to, back) = order else {
+        return false;
+    };
+    reason == want && (to, back.left, back.time) == (queue, 0, number)
+}
+
 /// A job for this queue comes back at its delivery, as it was.
 pub(crate) fn is_refused(
     core: &mut OneCore<'_>,
@@ -15,24 +40,11 @@ pub(crate) fn is_refused(
     queue: QueueNo,
     want: Reason,
 ) -> bool {
-    let job = Steps {
-        parks: 0,
-        left: 0,
-        time: number,
-        done: false,
-    };
-    let Some((delivered, notes)) = submit(core, number, Order::Job(queue, job)) else {
+    let order = Order::Job(queue, one_poll(number));
+    let Some((delivered, notes)) = submit(core, number, order) else {
         return false;
     };
-    let Delivered::Back(reason, order) = delivered else {
-        return false;
-    };
-    let Order::Job(to, back) = order else {
-        return false;
-    };
-    reason == want
-        && (to, back.left, back.time) == (queue, 0, number)
-        && is_one(&notes, Note::Back(name(number), want))
+    is_back(delivered, number, queue, want) && is_one(&notes, Note::Back(name(number), want))
 }
 
 /// Commands take effect at once, and what names no queue is refused.
@@ -91,41 +103,24 @@ pub(crate) fn all_queues(core: &mut OneCore<'_>) -> bool {
         && picks(core, &[(last, 0)])
 }
 
-/// What becomes of the next job of actor 0 where it is delivered alone, without its note: a job of one poll, with its number as its time.
+/// What becomes of the next job of actor 0, of one poll, where it is delivered alone, without its note.
 fn comes_alone(core: &mut OneCore<'_>, number: u64, queue: QueueNo) -> Option<Delivered<Steps>> {
     let name = name(number);
     if !core.has_room() || !core.is_next(&name) {
         return None;
     }
-    let job = Steps {
-        parks: 0,
-        left: 0,
-        time: number,
-        done: false,
-    };
-    Some(core.deliver_job(name, queue, job))
-}
-
-/// A job for this queue that is delivered alone comes back as it was, since there is no such queue.
-fn is_refused_alone(core: &mut OneCore<'_>, number: u64, queue: QueueNo) -> bool {
-    let Some(delivered) = comes_alone(core, number, queue) else {
-        return false;
-    };
-    let Delivered::Back(reason, order) = delivered else {
-        return false;
-    };
-    let Order::Job(to, back) = order else {
-        return false;
-    };
-    reason == Reason::NoQueue && to == queue && back.time == number
+    Some(core.deliver_job(name, queue, one_poll(number)))
 }
 
 /// A job that is delivered alone waits in its queue. One for a queue that there isn't comes back.
 pub(crate) fn jobs_alone(core: &mut OneCore<'_>) -> bool {
-    let Some(delivered) = comes_alone(core, 1, FIRST) else {
+    let Some(took) = comes_alone(core, 1, FIRST) else {
         return false;
     };
-    matches!(delivered, Delivered::Took)
-        && is_refused_alone(core, 2, SECOND)
+    let Some(back) = comes_alone(core, 2, SECOND) else {
+        return false;
+    };
+    matches!(took, Delivered::Took)
+        && is_back(back, 2, SECOND, Reason::NoQueue)
         && picks(core, &[(FIRST, 0)])
 }
