@@ -16,6 +16,7 @@ uses and with checks, and runs it. Those that take longest begin first.
 The last line is 'N passed, M failed' and counts tests. A layer that isn't compiled, or that ends before its tests, is one failure.
 The status is 0 if nothing failed, 1 if not, 2 if the words are wrong.
 """
+import contextlib
 import os
 import re
 import shutil
@@ -90,6 +91,28 @@ def copy_of_libraries(top):
         shutil.copy(ROOT / name, top)
 
 
+def children(pid):
+    """The processes that a process started, each with its words."""
+    for name in filter(str.isdigit, os.listdir("/proc")):
+        try:
+            parent = Path(f"/proc/{name}/stat").read_bytes().rpartition(b")")[2].split()[1]
+            if int(parent) == pid:
+                yield int(name), Path(f"/proc/{name}/cmdline").read_bytes().split(b"\0")
+        except OSError:
+            continue
+
+
+def end_hint(started):
+    """Ends the check that `rt try` makes beside its compiling. It takes as long, and only tells of names that a proof would refuse."""
+    while started.poll() is None:
+        for pid, words in children(started.pid):
+            if words[1:2] == [b"check"] and b"--start" in words:
+                with contextlib.suppress(ProcessLookupError):
+                    os.kill(pid, signal.SIGKILL)
+                return
+        time.sleep(0.5)
+
+
 class Commands:
     """The commands that run, which a signal ends."""
 
@@ -98,8 +121,8 @@ class Commands:
         self.running = set()
         self.ended_by = None
 
-    def run(self, words, folder):
-        """Runs a command, and answers what it says and its status."""
+    def run(self, words, folder, beside=None):
+        """Runs a command, and answers what it says and its status. Calls `beside` with its process."""
         how = {"stdin": subprocess.DEVNULL, "stdout": subprocess.PIPE, "stderr": subprocess.STDOUT, "start_new_session": True}
         with self.lock:
             if self.ended_by is not None:
@@ -109,6 +132,8 @@ class Commands:
             except OSError as error:
                 return f"{words[0]} doesn't start: {error.strerror}", 1
             self.running.add(started)
+        if beside:
+            threading.Thread(target=beside, args=(started,), daemon=True).start()
         said = started.communicate()[0]
         with self.lock:
             self.running.discard(started)
@@ -116,7 +141,7 @@ class Commands:
 
     def try_tests(self, layer, top, seconds):
         """Compiles and runs the tests of a layer in a copy, for at most so many seconds."""
-        return self.run(["rt", "try", "--test", "--seconds", str(seconds)], top / "crates" / crate_of(layer))
+        return self.run(["rt", "try", "--test", "--seconds", str(seconds)], top / "crates" / crate_of(layer), end_hint)
 
     def stop(self, number):
         """Ends each command that runs, with all that it started. No other begins."""
