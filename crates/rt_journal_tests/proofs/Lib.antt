@@ -1,4 +1,0 @@
-mod Owing
-mod Fresh
-mod OneOut
-mod PassedEnds

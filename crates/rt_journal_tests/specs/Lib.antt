@@ -1,2 +1,0 @@
-pub mod BadDesks
-pub mod BadCalls
