@@ -1,5 +1,5 @@
 """Tries the edits of crates/NAME/edits/, which the gate does not try: the prover must refuse each.
-Those that begin with a line 'tests: CRATE' are left to tests/tested-edits: a test must refuse them.
+Those that begin with a line 'tests: LAYER' are left to tests/tested-edits: a test must refuse them.
 
   tests/edits [--jobs N] [--gate] [--alone] [NAME..]
   tests/edits --look [NAME..]

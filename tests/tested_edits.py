@@ -1,4 +1,4 @@
-"""Tries the edits of crates/NAME/edits/ that begin with a line 'tests: CRATE'. No contract refuses them: the tests of that crate must.
+"""Tries the edits of crates/NAME/edits/ that begin with a line 'tests: LAYER'. No contract refuses them: the tests of tests/units/LAYER must.
 
   tests/tested-edits [--jobs N] [--minutes N] [NAME..]
 
@@ -8,15 +8,11 @@ NAME..       the edits of these crates alone; without a name those of every crat
              changed last (what isn't committed, and then by the time of the commit), then one in turn, and so on. The turn goes
              through all edits, one further with each commit, so that over the commits each is tried
 
-Works on copies. The tests of a crate are built and run with no proof (`rt try --test`), once without an edit, when they must pass, and
-then with each edit. An edit is refused if a test fails.
+Works on copies, as tests/run-units does. The tests of a layer are built and run with no proof, once without an edit, when they must pass,
+and then with each edit. An edit is refused if a test fails.
 The last line is 'N passed, M failed': the edits that were refused, and all else. An edit that is left counts as neither.
 The status is 0 if nothing failed, 1 if not, 2 if the words are wrong.
 """
-import os
-import re
-import shutil
-import signal
 import subprocess
 import sys
 import tempfile
@@ -26,15 +22,14 @@ from pathlib import Path
 
 sys.dont_write_bytecode = True
 from edits import ROOT, edits_of, stop
+from run_units import FAILED, MOST_SECONDS, UNITS, Commands, copy_of_libraries, layers, lay_out, side_by_side
 
-FAILED = re.compile(r"^test (\S+) \.\.\. FAILED", re.MULTILINE)
-# How many seconds the tests may take without an edit, and with one, by which some hang. On a busy machine the first must not be too few.
-UNTOUCHED_SECONDS = 300
+# How many seconds the tests may take with an edit, by which some hang.
 EDITED_SECONDS = 60
 
 
 class Try:
-    """One build of the tests of a crate: with an edit of a crate, or without any."""
+    """One build of the tests of a layer: with an edit of a crate, or without any."""
 
     def __init__(self, tests, crate=None, edit=None):
         self.tests = tests
@@ -43,10 +38,10 @@ class Try:
         self.passes = None
         self.said = ""
 
-    def run(self, lane, begin):
-        """Builds and runs the tests in the copy of a lane. `begin` runs them for at most so many seconds, and answers what is said and the status."""
-        folder = lane / "crates" / (self.crate or self.tests)
+    def run(self, top, commands):
+        """Builds and runs the tests in a copy of the repository."""
         texts = {}
+        folder = top / "crates" / (self.crate or "")
         why = self.edit and self.edit.apply(folder, texts)
         if why:
             self.said = why
@@ -55,8 +50,7 @@ class Try:
         try:
             for file, text in texts.items():
                 (folder / file).write_text(text)
-            seconds = EDITED_SECONDS if self.edit else UNTOUCHED_SECONDS
-            self.said, status = begin(lane / "crates" / self.tests, seconds)
+            self.said, status = commands.try_tests(self.tests, top, EDITED_SECONDS if self.edit else MOST_SECONDS)
             self.passes = status == 0
         finally:
             for file, text in were.items():
@@ -81,61 +75,35 @@ def last_line(text):
 
 
 class Lanes:
-    """Copies of the repository in which tries run side by side, and the commands that run there."""
+    """Copies of the repository in which tries run side by side."""
 
     def __init__(self, room, number, end):
         self.room = Path(room)
         self.number = number
         self.end = end
         self.lock = threading.Lock()
-        self.running = set()
-        self.is_stopped = False
-
-    def begin(self, folder, seconds):
-        with self.lock:
-            if self.is_stopped:
-                return "stopped", 1
-            how = {"stdin": subprocess.DEVNULL, "stdout": subprocess.PIPE, "stderr": subprocess.STDOUT, "start_new_session": True}
-            try:
-                started = subprocess.Popen(["rt", "try", "--test", "--seconds", str(seconds)], cwd=folder, text=True, errors="replace", **how)
-            except OSError as error:
-                return f"rt doesn't start: {error.strerror}", 1
-            self.running.add(started)
-        said = started.communicate()[0]
-        with self.lock:
-            self.running.discard(started)
-        return said, started.returncode
-
-    def stop(self):
-        """Ends each command that runs, with all that it started."""
-        with self.lock:
-            self.is_stopped = True
-            for it in self.running:
-                try:
-                    os.killpg(it.pid, signal.SIGTERM)
-                except ProcessLookupError:
-                    pass
-
-    def work(self, name, tries, done):
-        copy = self.room / name
-        shutil.copytree(ROOT, copy, ignore=shutil.ignore_patterns(".git", "out", "benches", "examples", "docs", "edits", "must-fail"))
-        while True:
-            with self.lock:
-                if self.is_stopped or not tries or self.end and time.monotonic() > self.end:
-                    return
-                one = tries.pop(0)
-            one.run(copy, self.begin)
-            done(one)
+        self.commands = Commands()
 
     def run(self, tries, done):
         """Runs the tries in their order, and leaves those that the time doesn't hold. `done` is called with each."""
-        threads = [threading.Thread(target=self.work, args=(f"copy{it}", tries, done)) for it in range(min(self.number, len(tries)))]
-        for it in threads:
-            it.start()
-        for it in threads:
-            # A signal is seen only between two waits.
-            while it.is_alive():
-                it.join(0.2)
+
+        def work(number):
+            copy = self.room / f"copy{number}"
+            copy_of_libraries(copy)
+            laid = set()
+            while True:
+                with self.lock:
+                    if self.commands.ended_by is not None or not tries or self.end and time.monotonic() > self.end:
+                        return
+                    one = tries.pop(0)
+                if one.tests not in laid:
+                    laid.add(one.tests)
+                    one.said = lay_out(one.tests, copy) or ""
+                if not one.said:
+                    one.run(copy, self.commands)
+                done(one)
+
+        side_by_side(min(self.number, len(tries)), work)
 
 
 def git(*words):
@@ -163,7 +131,7 @@ def newest_first(tries):
         return times[path]
 
     crates = ROOT / "crates"
-    return sorted(tries, key=lambda it: -max(of(crates / it.crate / "src"), of(crates / it.tests / "src"), of(it.edit.path)))
+    return sorted(tries, key=lambda it: -max(of(crates / it.crate / "src"), of(UNITS / it.tests), of(it.edit.path)))
 
 
 def in_turn(tries):
@@ -180,7 +148,7 @@ def newest_and_in_turn(tries):
 
 
 def with_untouched(tries):
-    """These tries, and in front of the first one of each crate of tests the one without an edit. Answers those by crate too."""
+    """These tries, and in front of the first one of each layer the one without an edit. Answers those by layer too."""
     found, untouched = [], {}
     for it in tries:
         if it.tests not in untouched:
@@ -188,18 +156,6 @@ def with_untouched(tries):
             found.append(untouched[it.tests])
         found.append(it)
     return found, untouched
-
-
-def stop_on_signals(lanes):
-    def ended(number, _):
-        for it in (signal.SIGHUP, signal.SIGINT, signal.SIGTERM):
-            signal.signal(it, signal.SIG_IGN)
-        lanes.stop()
-        lanes.ended_by = number
-
-    lanes.ended_by = None
-    for it in (signal.SIGHUP, signal.SIGINT, signal.SIGTERM):
-        signal.signal(it, ended)
 
 
 def main(words):
@@ -219,8 +175,8 @@ def main(words):
             stop(f"tests/tested-edits: no crate {name}")
     tries = [Try(edit.tests, crate, edit) for crate in names or here for edit in edits_of(crate, "edits") if edit.tests]
     for it in tries:
-        if it.tests not in here:
-            stop(f"tests/tested-edits: {it.edit.path.relative_to(ROOT)}: no crate {it.tests}")
+        if it.tests not in layers():
+            stop(f"tests/tested-edits: {it.edit.path.relative_to(ROOT)}: no layer {it.tests}")
     if minutes:
         tries = newest_and_in_turn(tries)
     left, untouched = with_untouched(tries)
@@ -245,14 +201,12 @@ def main(words):
 
     with tempfile.TemporaryDirectory() as room:
         lanes = Lanes(room, jobs, minutes and time.monotonic() + 60 * minutes)
-        stop_on_signals(lanes)
+        lanes.commands.stop_on_signals()
         lanes.run(left, done)
-        if lanes.ended_by is None:
+        if lanes.commands.ended_by is None:
             for it in waiting:
                 tell(it)
-    if lanes.ended_by is not None:
-        signal.signal(lanes.ended_by, signal.SIG_DFL)
-        os.kill(os.getpid(), lanes.ended_by)
+    lanes.commands.end_as_told()
     names_left = [f"{it.crate}/{it.edit.path.name}" for it in left if it.edit]
     if names_left:
         print(f"left, since the time was over: {' '.join(names_left)}")
