@@ -1,3 +1,0 @@
-pub mod Crosses
-pub mod FirstEnds
-pub mod TwoEnds
