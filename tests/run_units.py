@@ -139,9 +139,9 @@ class Commands:
             self.running.discard(started)
         return said, started.returncode
 
-    def try_tests(self, layer, top, seconds):
+    def try_tests(self, layer, top, seconds, *flags):
         """Compiles and runs the tests of a layer in a copy, for at most so many seconds."""
-        return self.run(["rt", "try", "--test", "--seconds", str(seconds)], top / "crates" / crate_of(layer), end_hint)
+        return self.run(["rt", "try", "--test", "--seconds", str(seconds), *flags], top / "crates" / crate_of(layer), end_hint)
 
     def stop(self, number):
         """Ends each command that runs, with all that it started. No other begins."""

@@ -1,10 +1,6 @@
 // Lets one call for memory fail. Preloaded into a program, it counts the program's calls of malloc and realloc, and answers that there is
 // no memory at the call whose number stands in FAILING_CALL. At the end it writes how many calls there were into the file FAILING_COUNT,
 // and behind it how many failed. A program with threads ends by `_exit`, and any other by its return.
-//
-// With FAILING_IN_TURN the calls of further numbers fail too: after the first failure the second call from there, then the third from
-// there, and so on. So where a step asks for memory again from its beginning whenever it was refused, each of its calls fails in turn
-// until the step succeeds. Only calls of one thread are counted so: those of others may fall between.
 #define _GNU_SOURCE
 #include <dlfcn.h>
 #include <fcntl.h>
@@ -18,16 +14,13 @@
 static void *(*next_malloc)(size_t);
 static void *(*next_realloc)(void *, size_t);
 static atomic_ulong calls, failed;
-static unsigned long failing, gap;
-static int in_turn;
+static unsigned long failing;
 
 __attribute__((constructor)) static void begin(void) {
     next_malloc = dlsym(RTLD_NEXT, "malloc");
     next_realloc = dlsym(RTLD_NEXT, "realloc");
     const char *number = getenv("FAILING_CALL");
     failing = number ? strtoul(number, NULL, 10) : 0;
-    in_turn = getenv("FAILING_IN_TURN") != NULL;
-    gap = 1;
     atomic_store(&calls, 0);
     atomic_store(&failed, 0);
 }
@@ -35,7 +28,6 @@ __attribute__((constructor)) static void begin(void) {
 static int fails(void) {
     if (atomic_fetch_add(&calls, 1) + 1 != failing) return 0;
     atomic_fetch_add(&failed, 1);
-    if (in_turn) failing += ++gap;
     return 1;
 }
 
