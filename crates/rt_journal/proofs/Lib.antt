@@ -36,6 +36,7 @@ pub mod Received
 pub mod RefusalsCounted
 pub mod ScriptPolls
 pub mod SentNotes
+mod Passed
 pub mod SettledPolls
 pub mod SettledEnds
 pub mod StatsTold

@@ -6,7 +6,7 @@ use Rattle.rt_journal.proofs.Names.{final_count, created_count, shares, delivere
 use Rattle.rt_journal.proofs.Names.{Journal, EachNote, or_else, without_job, outcome_note, Meaning, CoreView, Lane}
 use Rattle.rt_journal.proofs.Names.{Agrees, polls_made, DeskView, IsWritten, Submits, terms_of_desk, RecordedView}
 use Rattle.rt_journal.proofs.Names.{IsRecorded, desk_of, terms_at, given_count, KeepsIn, ArePosts, AreCollected}
-use Rattle.rt_journal.proofs.Names.{CollectsFrom, RedeemsTicket, DetachesTicket, Pending}
+use Rattle.rt_journal.proofs.Names.{CollectsFrom, RedeemsTicket, DetachesTicket, IsSameSeat, Pending}
 use Rattle.rt_ids.specs.declared.note.Note.TheVariants as writes
 use Rattle.rt_ids.specs.declared.order.SendError.TheVariants.{Spent}
 use Rattle.rt_journal.proofs.Kept.{IsOpenNote, closing-stays, agrees_unmoved, IsCalm}
@@ -127,12 +127,21 @@ module _ {J T : Type 0} (said now : DeskView J T) where
 pub record HasSaid {J T : Type 0} (meaning : Meaning J T) (desk : DeskView J T) (old new : RecordedView J T) : Type 0 where
   pub sound : IsRecorded meaning new
   pub is_its : desk ≡ desk_of new
+  pub rest : new ≡ record old { journal = new.journal; lanes = new.lanes }
   pub ins : (sender : ℕ) → KeepsIn sender old new
+  pub seat : IsSameSeat old new
 
 -- whatever its desk did
 module _ {J T : Type 0} {meaning : Meaning J T}
     (inside : CoreView J) (took : List (Envelope J)) (said : DeskView J T)
     (invariant : IsRecorded meaning (view_of inside took said) × (said ≡ desk_of (view_of inside took said))) {before : RecordedView J T} (view_is : view_of inside took said ≡ before) where
+  -- nothing of the core but its journal and its lanes has changed
+  now_rest : {now : DeskView J T} → now ≡ record said { journal = record said.journal { notes = now.journal.notes }; lanes = now.lanes } →
+      view_of inside took now ≡ record before { journal = now.journal; lanes = now.lanes }
+  now_rest {now} rest =
+      subst (λ before. view_of inside took now ≡ record before { journal = now.journal; lanes = now.lanes }) view_is
+      (λ i. record { cap = (rest i).cap; core = inside; journal = now.journal; took = took; lanes = now.lanes })
+
   pub has_said : {now : DeskView J T} → now ≡ record said { journal = record said.journal { notes = now.journal.notes }; lanes = now.lanes } →
       IsWritten (terms_of_desk now) now.journal.notes → SaysNoMore said.journal.notes now.journal.notes → HasSaid meaning now before (view_of inside took now)
   has_said {now} rest written silent =
@@ -142,5 +151,12 @@ module _ {J T : Type 0} {meaning : Meaning J T}
         sound = subst (IsRecorded meaning) (sym now_is)
             (recorded_silent old now.journal.notes now.lanes silent invariant.0 (subst (λ terms. IsWritten terms now.journal.notes) (ap terms_of_desk rest ∙ ap terms_of_desk invariant.1) written));
         is_its = desk_is now inside took (ap (λ desk. desk.actor) rest ∙ ap (λ desk. desk.actor) invariant.1) (ap (λ desk. desk.cores) rest ∙ ap (λ desk. desk.cores) invariant.1) (ap (λ desk. desk.burst) rest ∙ ap (λ desk. desk.burst) invariant.1);
+        rest = now_rest rest;
         ins = λ sender. subst (λ before. KeepsIn sender before (view_of inside took now)) view_is (subst (KeepsIn sender old) (sym now_is) (ins_silent old now.journal.notes now.lanes silent sender));
+        seat = subst (λ before. IsSameSeat before (view_of inside took now)) view_is
+            (record { number = refl; cores = refl; cap = ap (λ desk. desk.cap) rest; burst = refl; room = ap (λ desk. desk.journal.room) rest; passed = ap (λ desk. desk.journal.passed) rest });
       }
+
+  -- what its desk did, the desk of the core did
+  pub said_so : {now : DeskView J T} → now ≡ desk_of (view_of inside took now) → (P : DeskView J T → DeskView J T → Type 0) → P said now → P (desk_of before) (desk_of (view_of inside took now))
+  said_so {now} is_its P did = subst (λ desk. P desk (desk_of (view_of inside took now))) (invariant.1 ∙ ap desk_of view_is) (subst (P said) is_its did)

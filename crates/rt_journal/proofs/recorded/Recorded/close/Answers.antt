@@ -1,4 +1,4 @@
-use Rattle.rt_journal.proofs.Names.{arith, ℕ}
+use Rattle.rt_journal.proofs.Names.{arith}
 use Rattle.rt_journal.proofs.CoreCalls.{closed_did}
 use Rattle.rt_journal.proofs.QuietSteps.{view_of, quiet_invariant, quiet_now, quiet_noted}
 use Rattle.rt_journal.proofs.recorded.Recorded.close.Goals as goal
@@ -7,7 +7,7 @@ pub write-requires : goal.write-requires
 write-requires g c =
     let did = closed_did (view_of c.self.inside.core c.self.inside.took.items c.self.inside.said) c.self.invariant.0 c.args.mode c.close-closed.result.0 c.close-closed.new.self c.close-closed.result.1.items c.close-closed.ensures.closes in
     let may = quiet_noted c.self.inside.core c.self.inside.took.items c.self.inside.said c.self.invariant c.as_slice.ensures.value did c.self.view_is (omega (arith, c.requires)) in
-    assumption
+    record { room = may.room; written = may.written; sent = may.sent }
 
 pub invariant_of-self : goal.invariant_of-self
 invariant_of-self g c =
@@ -18,5 +18,11 @@ pub returns : goal.returns
 returns g c =
     let did = closed_did (view_of c.self.inside.core c.self.inside.took.items c.self.inside.said) c.self.invariant.0 c.args.mode c.close-closed.result.0 c.close-closed.new.self c.close-closed.result.1.items c.close-closed.ensures.closes in
     let now = quiet_now c.self.inside.core c.self.inside.took.items c.self.inside.said c.self.invariant c.as_slice.ensures.value did c.write.ensures c.self.view_is in
-    let ins = λ (sender : ℕ). now.ins sender tt in
-    assumption
+    record {
+      closes = now.does_so;
+      ins = λ sender. now.ins sender tt;
+      outs = now.outs;
+      seat = now.seat;
+      lanes = now.lanes;
+      sound = now.sound;
+    }

@@ -1,5 +1,6 @@
-use Rattle.rt_journal.proofs.Names.{sym, ◌∙◌, ap, desk_of, booked}
-use Rattle.rt_journal.proofs.SentNotes.{has_said, collected_silent}
+use Rattle.rt_journal.proofs.Names.{CollectsFrom, Fits, booked, ◌∙◌, ◌+◌, ◌≡◌, ◌≤◌, ap, desk_of, length}
+use Rattle.rt_journal_desk.specs.Tickets.{StaysBeside}
+use Rattle.rt_journal.proofs.SentNotes.{has_said, collected_silent, said_so}
 use Rattle.rt_journal.proofs.recorded.Recorded.collect_from.Goals as goal
 
 pub collect_from-requires : goal.collect_from-requires
@@ -11,21 +12,19 @@ invariant_of-self g c =
     let now = has_said c.self.inside.core c.self.inside.took.items c.self.inside.said c.self.invariant c.self.view_is c.collect_from.ensures.stays.rest c.collect_from.ensures.stays.written silent in
     (now.sound, now.is_its)
 
-pub returns-clause-ins : goal.returns-clause-ins
-returns-clause-ins g c =
+pub returns : goal.returns
+returns g c =
     let silent = collected_silent c.self.inside.said c.collect_from.new.self c.args.core c.collect_from.result c.collect_from.ensures.collects in
     let now = has_said c.self.inside.core c.self.inside.took.items c.self.inside.said c.self.invariant c.self.view_is c.collect_from.ensures.stays.rest c.collect_from.ensures.stays.written silent in
-    now.ins
-
-pub returns-clause-sound : goal.returns-clause-sound
-returns-clause-sound g c =
-    let silent = collected_silent c.self.inside.said c.collect_from.new.self c.args.core c.collect_from.result c.collect_from.ensures.collects in
-    let now = has_said c.self.inside.core c.self.inside.took.items c.self.inside.said c.self.invariant c.self.view_is c.collect_from.ensures.stays.rest c.collect_from.ensures.stays.written silent in
-    now.sound
-
-pub returns-clause-books : goal.returns-clause-books
-returns-clause-books g c =
-    let silent = collected_silent c.self.inside.said c.collect_from.new.self c.args.core c.collect_from.result c.collect_from.ensures.collects in
-    let now = has_said c.self.inside.core c.self.inside.took.items c.self.inside.said c.self.invariant c.self.view_is c.collect_from.ensures.stays.rest c.collect_from.ensures.stays.written silent in
-    ap booked (sym now.is_its)
-    ∙ (c.collect_from.ensures.books ∙ ap booked (c.self.invariant.1 ∙ ap desk_of c.self.view_is))
+    record {
+      collects = said_so c.self.inside.core c.self.inside.took.items c.self.inside.said c.self.invariant c.self.view_is now.is_its (λ old new. CollectsFrom c.args.core old c.collect_from.result new) c.collect_from.ensures.collects;
+      books = said_so c.self.inside.core c.self.inside.took.items c.self.inside.said c.self.invariant c.self.view_is now.is_its (λ old new. booked new ≡ booked old) c.collect_from.ensures.books;
+      few = said_so c.self.inside.core c.self.inside.took.items c.self.inside.said c.self.invariant c.self.view_is now.is_its (λ old new. length new.journal.notes ≤ length old.journal.notes + old.cap) c.collect_from.ensures.few;
+      end = c.collect_from.ensures.end;
+      stays = said_so c.self.inside.core c.self.inside.took.items c.self.inside.said c.self.invariant c.self.view_is now.is_its (λ old new. StaysBeside (Fits g.J.Task.meaning) c.args.core old new (g.O.OutEnd.out c.collect_from.new.end) (g.O.OutEnd.credited c.collect_from.new.end)) c.collect_from.ensures.stays;
+      rest = now.rest;
+      ins = now.ins;
+      seat = now.seat;
+      sound = now.sound;
+      untouched = c.collect_from.ensures.untouched;
+    }

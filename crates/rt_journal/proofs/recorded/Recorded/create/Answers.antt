@@ -1,4 +1,4 @@
-use Rattle.rt_journal.proofs.Names.{sym, ◌∙◌, subst, arith, InRange, IsOpening, ℕ}
+use Rattle.rt_journal.proofs.Names.{sym, ◌∙◌, subst, arith, InRange, IsOpening}
 use Rattle.rt_journal.proofs.Kept.{opening_is_open}
 use Rattle.rt_journal.proofs.CoreCalls.{created_did}
 use Rattle.rt_journal.proofs.QuietSteps.{view_of, quiet_invariant, quiet_now, quiet_noted}
@@ -15,7 +15,7 @@ write-requires g c =
     let in_range : InRange c.args.shares = omega (arith, c.get-in_range.ensures) in
     let did = created_did (view_of c.self.inside.core c.self.inside.took.items c.self.inside.said) c.self.invariant.0 opening c.args.shares in_range c.create-created.new.self c.create-created.result.0 c.create-created.result.1.items c.create-created.ensures.creates in
     let may = quiet_noted c.self.inside.core c.self.inside.took.items c.self.inside.said c.self.invariant c.as_slice.ensures.value did c.self.view_is (omega (arith, c.requires.room)) in
-    assumption
+    record { room = may.room; written = may.written; sent = may.sent }
 
 pub invariant_of-self : goal.invariant_of-self
 invariant_of-self g c =
@@ -30,5 +30,11 @@ returns g c =
     let in_range : InRange c.args.shares = omega (arith, c.get-in_range.ensures) in
     let did = created_did (view_of c.self.inside.core c.self.inside.took.items c.self.inside.said) c.self.invariant.0 opening c.args.shares in_range c.create-created.new.self c.create-created.result.0 c.create-created.result.1.items c.create-created.ensures.creates in
     let now = quiet_now c.self.inside.core c.self.inside.took.items c.self.inside.said c.self.invariant c.as_slice.ensures.value did c.write.ensures c.self.view_is in
-    let ins = λ (sender : ℕ). now.ins sender tt in
-    assumption
+    record {
+      creates = now.does_so;
+      ins = λ sender. now.ins sender tt;
+      outs = now.outs;
+      seat = now.seat;
+      lanes = now.lanes;
+      sound = now.sound;
+    }

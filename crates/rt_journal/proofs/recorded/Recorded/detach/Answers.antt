@@ -1,5 +1,6 @@
-use Rattle.rt_journal.proofs.Names.{◌∙◌, ap, desk_of}
-use Rattle.rt_journal.proofs.SentNotes.{has_said, detached_silent}
+use Rattle.rt_journal.proofs.Names.{DetachesTicket, Fits, ◌∙◌, ap, desk_of}
+use Rattle.rt_journal_desk.specs.Tickets.{StaysBeside}
+use Rattle.rt_journal.proofs.SentNotes.{has_said, detached_silent, said_so}
 use Rattle.rt_journal.proofs.recorded.Recorded.detach.Goals as goal
 
 pub detach-requires : goal.detach-requires
@@ -11,14 +12,17 @@ invariant_of-self g c =
     let now = has_said c.self.inside.core c.self.inside.took.items c.self.inside.said c.self.invariant c.self.view_is c.detach.ensures.stays.rest c.detach.ensures.stays.written silent in
     (now.sound, now.is_its)
 
-pub returns-clause-ins : goal.returns-clause-ins
-returns-clause-ins g c =
+pub returns : goal.returns
+returns g c =
     let silent = detached_silent c.self.inside.said c.detach.new.self c.args.ticket c.detach.result c.detach.ensures.detaches in
     let now = has_said c.self.inside.core c.self.inside.took.items c.self.inside.said c.self.invariant c.self.view_is c.detach.ensures.stays.rest c.detach.ensures.stays.written silent in
-    now.ins
-
-pub returns-clause-sound : goal.returns-clause-sound
-returns-clause-sound g c =
-    let silent = detached_silent c.self.inside.said c.detach.new.self c.args.ticket c.detach.result c.detach.ensures.detaches in
-    let now = has_said c.self.inside.core c.self.inside.took.items c.self.inside.said c.self.invariant c.self.view_is c.detach.ensures.stays.rest c.detach.ensures.stays.written silent in
-    now.sound
+    record {
+      detaches = said_so c.self.inside.core c.self.inside.took.items c.self.inside.said c.self.invariant c.self.view_is now.is_its (λ old new. DetachesTicket c.args.ticket old c.detach.result new) c.detach.ensures.detaches;
+      out = c.detach.ensures.out;
+      stays = said_so c.self.inside.core c.self.inside.took.items c.self.inside.said c.self.invariant c.self.view_is now.is_its (λ old new. StaysBeside (Fits g.J.Task.meaning) c.args.ticket.to old new (g.O.OutEnd.out c.detach.new.end) (g.O.OutEnd.credited c.detach.new.end)) c.detach.ensures.stays;
+      rest = now.rest;
+      ins = now.ins;
+      seat = now.seat;
+      sound = now.sound;
+      untouched = c.detach.ensures.untouched;
+    }

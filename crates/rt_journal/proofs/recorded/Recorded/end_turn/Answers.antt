@@ -1,4 +1,4 @@
-use Rattle.rt_journal.proofs.Names.{arith, ℕ, ◌≡◌, IsSome, None, subst, sym, NothingFollows}
+use Rattle.rt_journal.proofs.Names.{arith, ◌≡◌, IsSome, None, subst, sym, NothingFollows}
 use Rattle.rt_ids.specs.Bursts.{queue_in_turn}
 use Rattle.rt_journal.proofs.Followed.{asks_end, ended_did}
 use Rattle.rt_journal.proofs.QuietSteps.{view_of, quiet_invariant, quiet_now, quiet_noted}
@@ -15,7 +15,7 @@ pub write-requires : goal.write-requires
 write-requires g c =
     let did = ended_did (view_of c.self.inside.core c.self.inside.took.items c.self.inside.said) c.self.invariant.0 c.end_turn-time.result.0 c.end_turn-time.new.self c.end_turn-time.result.1.items c.end_turn-time.ensures.ends in
     let may = quiet_noted c.self.inside.core c.self.inside.took.items c.self.inside.said c.self.invariant c.as_slice.ensures.value did c.self.view_is (omega (arith, c.requires.room)) in
-    assumption
+    record { room = may.room; written = may.written; sent = may.sent }
 
 pub invariant_of-self : goal.invariant_of-self
 invariant_of-self g c =
@@ -26,5 +26,11 @@ pub returns : goal.returns
 returns g c =
     let did = ended_did (view_of c.self.inside.core c.self.inside.took.items c.self.inside.said) c.self.invariant.0 c.end_turn-time.result.0 c.end_turn-time.new.self c.end_turn-time.result.1.items c.end_turn-time.ensures.ends in
     let now = quiet_now c.self.inside.core c.self.inside.took.items c.self.inside.said c.self.invariant c.as_slice.ensures.value did c.write.ensures c.self.view_is in
-    let ins = λ (sender : ℕ). now.ins sender tt in
-    assumption
+    record {
+      ends = now.does_so;
+      ins = λ sender. now.ins sender tt;
+      outs = now.outs;
+      seat = now.seat;
+      lanes = now.lanes;
+      sound = now.sound;
+    }

@@ -1,4 +1,4 @@
-use Rattle.rt_journal.proofs.Names.{arith, ℕ}
+use Rattle.rt_journal.proofs.Names.{arith}
 use Rattle.rt_journal.proofs.Followed.{followed_did}
 use Rattle.rt_journal.proofs.QuietSteps.{view_of, quiet_invariant, quiet_now, quiet_noted}
 use Rattle.rt_journal.proofs.recorded.Recorded.follow.Goals as goal
@@ -7,7 +7,7 @@ pub write-requires : goal.write-requires
 write-requires g c =
     let did = followed_did (view_of c.self.inside.core c.self.inside.took.items c.self.inside.said) c.self.invariant.0 c.follow-followed.new.self c.follow-followed.result.0 c.follow-followed.result.1.items c.follow-followed.ensures.follows in
     let may = quiet_noted c.self.inside.core c.self.inside.took.items c.self.inside.said c.self.invariant c.as_slice.ensures.value did c.self.view_is (omega (arith, c.requires.room)) in
-    assumption
+    record { room = may.room; written = may.written; sent = may.sent }
 
 pub invariant_of-self : goal.invariant_of-self
 invariant_of-self g c =
@@ -18,5 +18,12 @@ pub returns : goal.returns
 returns g c =
     let did = followed_did (view_of c.self.inside.core c.self.inside.took.items c.self.inside.said) c.self.invariant.0 c.follow-followed.new.self c.follow-followed.result.0 c.follow-followed.result.1.items c.follow-followed.ensures.follows in
     let now = quiet_now c.self.inside.core c.self.inside.took.items c.self.inside.said c.self.invariant c.as_slice.ensures.value did c.write.ensures c.self.view_is in
-    let ins = λ (sender : ℕ). now.ins sender tt in
-    assumption
+    record {
+      follows = now.does_so;
+      ready = c.follow-followed.ensures.ready;
+      ins = λ sender. now.ins sender tt;
+      outs = now.outs;
+      seat = now.seat;
+      lanes = now.lanes;
+      sound = now.sound;
+    }

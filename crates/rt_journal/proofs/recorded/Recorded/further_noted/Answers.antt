@@ -16,7 +16,7 @@ write-requires g c =
     let may = quiet_noted c.self.inside.core c.self.inside.took.items c.self.inside.said c.self.invariant c.followed_notes-begun.ensures
     (follow_ahead c.self.inside.core c.self.inside.took.items c.self.inside.said c.self.invariant next.queue next.vr next.name next.started next.woken ahead).2
     c.self.view_is (omega (arith, c.requires.room)) in
-    assumption
+    record { room = may.room; written = may.written; sent = may.sent }
 
 pub further_lent-step-requires-clause-outs : goal.further_lent-step-requires-clause-outs
 further_lent-step-requires-clause-outs g c =
@@ -53,7 +53,7 @@ note_settled-requires g c =
     (λ picked. further_in_turn (view_of c.self.inside.core c.self.inside.took.items c.self.inside.said) next.name next.queue next.started turn.2.2.ran.before picked c.self.invariant.0.kept.no_pick)
     c.followed_notes-begun.result c.followed_notes-begun.ensures c.write.new.self c.write.ensures c.further_lent-step.new.said c.args.ends.now.items c.further_lent-step.new.ends.items posted c.further_lent-step.ensures.written
     (settle_notes next.name c.further_lent-step.result.1 c.further_lent-step.result.0 next.woken) refl (omega (arith, c.further_lent-step.ensures.room)) in
-    assumption
+    record { room = c.further_lent-step.ensures.room; written = may.written; sent = may.sent }
 
 pub invariant_of-self : goal.invariant_of-self
 invariant_of-self g c =

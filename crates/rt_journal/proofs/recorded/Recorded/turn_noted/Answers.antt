@@ -15,7 +15,7 @@ write-requires g c =
     let may = quiet_noted c.self.inside.core c.self.inside.took.items c.self.inside.said c.self.invariant c.picked_notes-picked.ensures
     (pick_ahead c.self.inside.core c.self.inside.took.items c.self.inside.said c.self.invariant next.queue next.vr next.name next.started left next.woken ahead).2
     c.self.view_is (omega (arith, c.requires.room)) in
-    assumption
+    record { room = may.room; written = may.written; sent = may.sent }
 
 pub turn_lent-step-requires-clause-outs : goal.turn_lent-step-requires-clause-outs
 turn_lent-step-requires-clause-outs g c =
@@ -57,7 +57,7 @@ note_settled-requires g c =
     (λ picked. pick_in_turn (view_of c.self.inside.core c.self.inside.took.items c.self.inside.said) next.name next.queue next.started turn.2.2.ran.before picked)
     c.picked_notes-picked.result c.picked_notes-picked.ensures c.write.new.self c.write.ensures c.turn_lent-step.new.said c.args.ends.now.items c.turn_lent-step.new.ends.items posted c.turn_lent-step.ensures.written
     (settle_notes next.name c.turn_lent-step.result.1 c.turn_lent-step.result.0 next.woken) refl (omega (arith, c.turn_lent-step.ensures.room)) in
-    assumption
+    record { room = c.turn_lent-step.ensures.room; written = may.written; sent = may.sent }
 
 pub invariant_of-self : goal.invariant_of-self
 invariant_of-self g c =

@@ -1,0 +1,23 @@
+use Rattle.rt_journal.proofs.Names.{◌≡◌, ◌∙◌, ap, subst, sym}
+use Rattle.rt_journal_notes.specs.Passing.{PassesOn}
+use Rattle.rt_journal.proofs.Passed.{passed_invariant, passed_is}
+use Rattle.rt_journal.proofs.QuietSteps.{view_of}
+use Rattle.rt_journal.proofs.recorded.Recorded.pass_on.Goals as goal
+
+pub pass_on-requires : goal.pass_on-requires
+pass_on-requires g c = c.requires ∙ ap (λ view. view.journal.passed) (sym c.self.view_is)
+
+pub invariant_of-self : goal.invariant_of-self
+invariant_of-self g c =
+    passed_invariant g.S.Sink.has g.S.Sink.refused c.self.inside.core c.self.inside.took.items c.self.inside.said c.self.invariant c.pass_on.ensures.rest c.args.sink.now c.pass_on.new.sink c.pass_on.result c.pass_on.ensures.passes
+
+pub returns : goal.returns
+returns g c = record {
+  passes = subst (λ view. PassesOn g.S.Sink.has g.S.Sink.refused view.journal c.args.sink.now c.pass_on.result c.pass_on.new.self.journal c.pass_on.new.sink) c.self.view_is c.pass_on.ensures.passes;
+  refusals = c.pass_on.ensures.refusals;
+  asked = c.pass_on.ensures.asked;
+  marked = c.pass_on.ensures.marked;
+  rest = subst (λ view. view_of c.self.inside.core c.self.inside.took.items c.pass_on.new.self ≡ record view { journal = c.pass_on.new.self.journal }) c.self.view_is
+      (passed_is g.S.Sink.has g.S.Sink.refused c.self.inside.core c.self.inside.took.items c.self.inside.said c.self.invariant c.pass_on.ensures.rest);
+  sound = (passed_invariant g.S.Sink.has g.S.Sink.refused c.self.inside.core c.self.inside.took.items c.self.inside.said c.self.invariant c.pass_on.ensures.rest c.args.sink.now c.pass_on.new.sink c.pass_on.result c.pass_on.ensures.passes).0;
+}
