@@ -6,7 +6,9 @@ pub mod FrontPlaces
 pub mod FrontSearch
 pub mod FrontSteps
 pub mod Heights
+pub mod Joins
 pub mod Leading
+pub mod Lifts
 pub mod Places
 pub mod Queues
 pub mod Removed

@@ -29,17 +29,28 @@ impl<A: Allocator + Clone> Places<A> {
         ensures keys { IfOk result (λ places. front_keys places.vrs.items places.nodes.items ≡ []) }
     {
         let vrs = Vec::from_elem(alloc.clone()?, 0, PLACES)?;
-        let mut nodes = Vec::with_capacity(alloc, PLACES)?;
-        for _ in 0..PLACES {
-            nodes.push_reserved(None);
-        }
+        let nodes = without_nodes(alloc)?;
         Ok(Places {
             vrs: SealedVec::sealed(vrs),
-            nodes: SealedVec::sealed(nodes),
+            nodes,
             begin: 0,
             end: 0,
         })
     }
+}
+
+/// The nodes of free places.
+fn without_nodes<A: Allocator>(
+    alloc: A,
+) -> Result<SealedVec<Option<Box<Node<A>, A>>, A>, AllocError>
+    ensures long { IfOk result (λ nodes. length nodes.items ≡ 64) }
+    ensures free { IfOk result (λ nodes. (k : ℕ) → slice_index_or nodes.items k None ≡ None) }
+{
+    let mut nodes = Vec::with_capacity(alloc, PLACES)?;
+    for _ in 0..PLACES {
+        nodes.push_reserved(None);
+    }
+    Ok(SealedVec::sealed(nodes))
 }
 
 impl<A: Allocator> Places<A> {

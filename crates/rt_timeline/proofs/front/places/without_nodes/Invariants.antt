@@ -1,6 +1,6 @@
 use Rattle.std.proofs.Common.{◌≡◌, length, vec_capacity}
 use Rattle.rt_timeline.proofs.FrontCompact.{AreFree}
-use Rattle.rt_timeline.proofs.front.places.Places.free.Given as goal
+use Rattle.rt_timeline.proofs.front.places.without_nodes.Given as goal
 
 -- a free place for each step of the loop, and room for all
 abbrev pub invariant-loop : goal.invariant-loop
