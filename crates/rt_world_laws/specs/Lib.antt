@@ -8,3 +8,6 @@ pub mod OwedRuns
 pub mod Rows
 pub mod ScriptRuns
 pub mod WorkedRows
+pub mod BadWorlds
+pub mod BadDesks
+pub mod BadCalls
