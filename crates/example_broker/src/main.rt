@@ -1,10 +1,12 @@
 //! A broker on three cores: messages are published in the foreground, indexed by a neighbour, and compacted in the background.
 //!
-//! It prints how many messages were published, the sum of their places, how many blocks were merged, and whether the journals are sound. The
+//! It prints how many messages were published, the sum of their places, how many blocks were merged, what became of the batches that were
+//! fetched, and whether the journals are sound. The
 //! shares and counts of each queue go to standard error, since times differ from run to run.
 #![tactic(auto)]
 
 use fairexec_report::put_stats;
+use fetching::{Fetched, fetch_all};
 use rt_audit::{Verdict, audit};
 use rt_ids::{ActorNo, CoreNo, JobId, Mode, Order, Outcome, Ticket};
 use rt_journal::Assembly;
@@ -17,6 +19,8 @@ use std::thread::Threads;
 use std::time::Clock;
 use work::{COMPACTION, NOT_INDEXED, PUBLISH, Work};
 
+mod batch;
+mod fetching;
 mod work;
 
 const CORES: u8 = 3;
@@ -36,6 +40,7 @@ struct Counts {
     published: u32,
     places: u64,
     merged: u64,
+    fetched: Option<Fetched>,
 }
 
 /// The shares of publishing, of indexing and of compaction.
@@ -157,6 +162,7 @@ fn do_work<R: Wait + Eprint + Drop>(rt: &R, alloc: Global, node: &mut Node<R>) -
         published: 0,
         places: 0,
         merged: 0,
+        fetched: None,
     };
     for ticket in messages.iter() {
         let place = answer(rt, node, *ticket)?;
@@ -167,6 +173,7 @@ fn do_work<R: Wait + Eprint + Drop>(rt: &R, alloc: Global, node: &mut Node<R>) -
         let blocks = answer(rt, node, *ticket)?;
         counts.merged = counts.merged.saturating_add(blocks);
     }
+    counts.fetched = Some(fetch_all(rt, node, alloc)?);
     Some(counts)
 }
 
@@ -210,7 +217,17 @@ fn statistics(alloc: Global, assembly: &Assembly) -> Result<String, AllocError> 
 fn tell<R: Print>(rt: &R, counts: &Counts) -> Option<()> {
     println!(rt; "published {}", counts.published).ok()?;
     println!(rt; "places {}", counts.places).ok()?;
-    println!(rt; "merged {}", counts.merged).ok()
+    println!(rt; "merged {}", counts.merged).ok()?;
+    if let Some(fetched) = &counts.fetched {
+        println!(rt;
+            "core 0 read the batch of core 1: its last place is {}",
+            fetched.last
+        )
+        .ok()?;
+        println!(rt; "the caller took a batch: its sum is {}", fetched.taken).ok()?;
+        println!(rt; "a job came back with {} places", fetched.returned).ok()?;
+    }
+    Some(())
 }
 
 /// Works, finishes, and tells. Whether all went well and the journals are sound.

@@ -1,14 +1,19 @@
 //! The kinds of work of a broker, as one type. A publish job has its message indexed by another core, and is parked until that core wakes it.
+//! A fetch answers more than a number: a batch, in a place or in the job itself.
 
 ghost use Rattle.std.specs.Prelude.{◌≡◌, true};
 ghost use Rattle.example_broker.specs.Over.{is_over};
+ghost use Rattle.rt_jobs.specs.Steps.{is_done_step};
 ghost use Rattle.rt_jobs.specs.declared.job.Step.TheVariants.{Done};
 
+use crate::batch::Batch;
+use rt_answers::{Asked, Reply};
 use rt_ids::{CoreNo, JobId, Order, Outcome, QueueNo, SendError, Ticket};
 use rt_jobs::{
     Asks, Job, Post, Redeemed, Step, Task, poll_asking, redeem_if_there, submit_and_detach,
     submit_and_keep,
 };
+use std::mem;
 use std::snapshot::Snapshot;
 
 /// Each core has these three queues beside queue 0.
@@ -41,6 +46,22 @@ pub enum Work {
         blocks: u32,
         left: u32,
     },
+    /// Fetches the places of so many messages, one in each poll, and fills a place of rt_answers with them.
+    Fetch {
+        count: u64,
+        batch: Batch,
+        reply: Reply<Batch>,
+    },
+    /// Reads the batch that a job of another core answered by this number, and answers its last place.
+    Read {
+        number: u64,
+        asked: Asked<Batch>,
+    },
+    /// Fetches a batch and holds it. It is parked until its queue closes in mode `Return`, and comes back with it.
+    Hold {
+        count: u64,
+        batch: Batch,
+    },
     /// It has answered.
     Ended,
 }
@@ -53,6 +74,45 @@ impl Work {
     {
         *self = Work::Ended;
         Step::Done(answer)
+    }
+
+    /// One poll of a job with a batch. It takes the job apart, which is over unless the poll puts it together again.
+    fn poll_batch(&mut self) -> Step<u64>
+        ensures done { is_over self.new ≡ is_done_step result }
+    {
+        match mem::replace(self, Work::Ended) {
+            Work::Fetch {
+                count,
+                mut batch,
+                reply,
+            } => {
+                if !batch.add_next(count) {
+                    return Step::Done(reply.fill(batch));
+                }
+                *self = Work::Fetch {
+                    count,
+                    batch,
+                    reply,
+                };
+                Step::Yield
+            }
+            Work::Read { number, asked } => Step::Done(last_of(asked.answer(number))),
+            Work::Hold { count, mut batch } => {
+                let added = batch.add_next(count);
+                *self = Work::Hold { count, batch };
+                if added { Step::Yield } else { Step::Park }
+            }
+            // No other job has a batch.
+            _ => Step::Done(0),
+        }
+    }
+}
+
+/// The last place of a batch, and 0 if there is none.
+fn last_of(batch: Option<&Batch>) -> u64 {
+    match batch {
+        Some(batch) => batch.last(),
+        None => 0,
     }
 }
 
@@ -126,6 +186,7 @@ impl Asks for Work {
                 let merged = *blocks as u64;
                 self.end(merged)
             }
+            Work::Fetch { .. } | Work::Read { .. } | Work::Hold { .. } => self.poll_batch(),
             Work::Ended => Step::Yield,
         }
     }
