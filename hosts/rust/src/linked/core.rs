@@ -1,7 +1,7 @@
 //! A core of a house, and what its jobs may do.
 
 use super::actor::{submissions, Actor, Ticket};
-use super::lanes::{Bell, LONGEST_SLEEP};
+use super::lanes::{Bell, Ringer, LONGEST_SLEEP};
 use super::names::{Name, Outcome, Step};
 use super::seat::{Next, Settled};
 use crate::clock::{now, Clock};
@@ -12,6 +12,7 @@ use std::collections::VecDeque;
 use std::marker::PhantomData;
 use std::panic::catch_unwind;
 use std::sync::Arc;
+use std::time::Duration;
 
 /// A round runs jobs for so many nanoseconds at most, or one job, unless `set_round_time` says otherwise.
 const LONGEST: u64 = 5_000;
@@ -333,6 +334,31 @@ impl<J> Core<J> {
     /// Sleeps until another actor submits to this core or gives it an outcome, for 10 ms at most.
     pub fn sleep(&mut self) {
         self.actor.enter().sleep(LONGEST_SLEEP);
+    }
+
+    /// Who has something for this core while it waits by [`wait_by`](Core::wait_by) calls `rings`, as by the write of an eventfd. A ring is kept
+    /// until a wait hears it. Only the first call of `set_bell` counts, and [`sleep`](Core::sleep) isn't cut short behind it.
+    pub fn set_bell(&mut self, rings: impl Fn() + Send + Sync + 'static) {
+        self.actor.lanes.bells()[self.actor.number as usize].set_ringer(Box::new(rings));
+    }
+
+    /// Rings the bell of this core, from any thread.
+    pub fn ringer(&self) -> Ringer {
+        Ringer::new(self.actor.lanes.bells(), self.actor.number)
+    }
+
+    /// Waits by the host's own means, such as `epoll`: calls `wait` once, with how long it may wait at most. That is no time if a link shows
+    /// something, a waker was called, or `looks` tells that the host has something to do for this core. Who gives the host more to do puts it
+    /// where `looks` finds it, and rings then.
+    pub fn wait_by<T>(&mut self, looks: impl FnOnce() -> bool, wait: impl FnOnce(Duration) -> T) -> T {
+        let mut entered = self.actor.enter();
+        let Actor { seat, number, lanes, .. } = &mut *entered;
+        lanes.wait_by(*number, || seat.shows() || looks(), wait)
+    }
+
+    /// Whether a link shows something that this core hasn't taken: an order to it, or an outcome for it.
+    pub fn shows(&mut self) -> bool {
+        self.actor.enter().seat.shows()
     }
 
     /// Closes the core by itself.

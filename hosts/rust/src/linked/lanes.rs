@@ -5,7 +5,7 @@ use std::cell::UnsafeCell;
 use std::collections::VecDeque;
 use std::mem::needs_drop;
 use std::sync::atomic::{AtomicBool, AtomicU32, AtomicU64, Ordering};
-use std::sync::{Arc, Condvar, Mutex, MutexGuard, PoisonError};
+use std::sync::{Arc, Condvar, Mutex, MutexGuard, OnceLock, PoisonError};
 use std::time::Duration;
 
 /// A sleeper looks again after this. No clause says that a link shows at once what the other end did.
@@ -35,12 +35,14 @@ pub(super) struct Bell {
     has_left: AtomicBool,
     rung: Mutex<bool>,
     rings: Condvar,
+    // What is called in place of the condition variable, if the host waits by its own means.
+    ringer: OnceLock<Box<dyn Fn() + Send + Sync>>,
     // The tasks of this core whose wakers were called, and to whom no wake was sent yet.
     woken: Mutex<VecDeque<Name>>,
 }
 
 impl Bell {
-    /// Tells the actor that there is something to do.
+    /// Tells the actor that there is something to do. [`Lanes::wait_by`] says why no ring is lost.
     #[inline]
     fn ring(&self) {
         if self.sleeps.load(Ordering::SeqCst) {
@@ -50,8 +52,20 @@ impl Bell {
 
     #[cold]
     fn rouse(&self) {
+        if let Some(rings) = self.ringer.get() {
+            // One ring ends a wait, so the second of two that ring at once is spared.
+            if self.sleeps.swap(false, Ordering::SeqCst) {
+                rings();
+            }
+            return;
+        }
         *lock(&self.rung) = true;
         self.rings.notify_one();
+    }
+
+    /// Whoever rings calls this from now on. Only the first one counts.
+    pub(super) fn set_ringer(&self, rings: Box<dyn Fn() + Send + Sync>) {
+        let _ = self.ringer.set(rings);
     }
 
     /// Tells that the core was dropped.
@@ -72,6 +86,26 @@ impl Bell {
 
     pub(super) fn forget_first(&self) {
         lock(&self.woken).pop_front();
+    }
+}
+
+/// Rings for one core of a house, from any thread. It is cheap to clone.
+#[derive(Clone)]
+pub struct Ringer {
+    bells: Arc<[Bell]>,
+    core: u32,
+}
+
+impl Ringer {
+    pub(super) fn new(bells: &Arc<[Bell]>, core: u32) -> Ringer {
+        Ringer { bells: Arc::clone(bells), core }
+    }
+
+    /// Tells the core that there is something to do: it doesn't wait any longer. What there is to do stands where the core looks before it
+    /// waits, and was put there before this call.
+    #[inline]
+    pub fn ring(&self) {
+        self.bells[self.core as usize].ring();
     }
 }
 
@@ -199,6 +233,23 @@ impl<J> Lanes<J> {
     /// Whether this core was dropped: nobody runs its jobs any more.
     pub(super) fn has_left(&self, core: u32) -> bool {
         self.bells[core as usize].has_left.load(Ordering::SeqCst)
+    }
+
+    /// Calls `wait` with how long it may wait: no time if a waker was called, the seat shows something or `looks` finds something to do.
+    ///
+    /// Flag, look, sleep. The sleeper sets its flag, then looks, then waits. Who has something for it puts that where the sleeper looks, then
+    /// reads the flag, and rings if it is set. All four are sequentially consistent, so they have one order. If the flag was set before it was
+    /// read, the other one rings, and a ringer that is kept until it is heard, as an eventfd is, ends also a wait that begins behind it. Else
+    /// the flag was read before it was set, so what was put there stands before the look, which finds it. Either way nothing is slept over.
+    ///
+    /// That a link shows at once what was put there is no clause, so a wait isn't longer than `LONGEST_SLEEP`.
+    pub(super) fn wait_by<T>(&self, actor: u32, looks: impl FnOnce() -> bool, wait: impl FnOnce(Duration) -> T) -> T {
+        let bell = &self.bells[actor as usize];
+        bell.sleeps.store(true, Ordering::SeqCst);
+        let is_idle = lock(&bell.woken).is_empty() && !looks();
+        let told = wait(if is_idle { LONGEST_SLEEP } else { Duration::ZERO });
+        bell.sleeps.store(false, Ordering::SeqCst);
+        told
     }
 
     /// Sleeps until the bell of this actor is rung, for so long at most, unless a waker was called or its seat shows something.

@@ -176,19 +176,32 @@ impl Core<Task> {
     ///
     /// `BadNumber` if links have a single place, since tasks and their wakes share that from a core to itself; `JournalFull`, `Spent`.
     pub fn run_tasks(&mut self) -> Result<(), Error> {
-        if self.actor.lanes.places() < 2 {
-            return Err(Error::BadNumber);
-        }
-        let bells = Arc::clone(self.actor.lanes.bells());
-        while !self.has_ended() || self.spawned.iter().any(|it| !it.is_empty()) {
-            let mut did = self.send_wakes(&bells[self.number() as usize])?;
-            did |= self.round_of_tasks(&bells)?;
-            did |= self.submit_spawned()?;
+        while let Some(did) = self.step_tasks()? {
             if !did {
                 self.sleep();
             }
         }
         Ok(())
+    }
+
+    /// One round of [`run_tasks`](Core::run_tasks), for a host that waits by itself, as by [`wait_by`](Core::wait_by). Whether anything
+    /// happened, or `None` once the core is drained.
+    ///
+    /// # Errors
+    ///
+    /// As `run_tasks`.
+    pub fn step_tasks(&mut self) -> Result<Option<bool>, Error> {
+        if self.actor.lanes.places() < 2 {
+            return Err(Error::BadNumber);
+        }
+        if self.has_ended() && self.spawned.iter().all(VecDeque::is_empty) {
+            return Ok(None);
+        }
+        let bells = Arc::clone(self.actor.lanes.bells());
+        let mut did = self.send_wakes(&bells[self.number() as usize])?;
+        did |= self.round_of_tasks(&bells)?;
+        did |= self.submit_spawned()?;
+        Ok(Some(did))
     }
 
     /// Sends a wake for each task whose waker was called. Those for which the link or the journal has no place wait.
