@@ -1,0 +1,375 @@
+//! How an executor is made, runs and ends.
+
+use crate::drive::Driver;
+use crate::journal::{judge, keep, pass_on_rest, Journal, Passed};
+use crate::local::{on_core, Job, Local};
+use crate::reactor::Reactor;
+use crate::report::{CoreStats, Report};
+use crate::shared::{lock, Handle, Port, Queue, QueueSetup, Shared};
+use crate::stop::Ending;
+use crate::{task, Error};
+use fairexec::linked::{Answer, Config, Core, House, Outcome, Outside, Ticket};
+use fairexec::Mode;
+use polling::Poller;
+use std::future::Future;
+use std::panic::resume_unwind;
+use std::sync::{Arc, Mutex};
+use std::time::Duration;
+
+/// An executor. It is made by [`Executor::builder`], and lives as long as [`Builder::run`] goes on.
+pub struct Executor;
+
+impl Executor {
+    /// What an executor is made by: one core with one queue of 1000 shares, unless it is told otherwise.
+    pub fn builder() -> Builder {
+        Builder::default()
+    }
+}
+
+/// On which processors the cores run.
+#[derive(Clone, PartialEq, Eq, Debug, Default)]
+#[non_exhaustive]
+pub enum Pin {
+    /// Wherever the system puts their threads.
+    #[default]
+    No,
+    /// Core 0 on the processor of this number, and each further core on the next one.
+    From(usize),
+    /// Each core on the processor of this list.
+    List(Vec<usize>),
+}
+
+/// A run that took longer than [`Builder::slow_poll`] allows.
+#[derive(Clone, PartialEq, Eq, Debug)]
+pub struct SlowPoll {
+    /// The core.
+    pub core: u32,
+    /// The queue.
+    pub queue: Queue,
+    /// Its name.
+    pub name: String,
+    /// How long the run took.
+    pub ran: Duration,
+}
+
+type Tells = Box<dyn Fn(SlowPoll) + Send + Sync>;
+
+/// What the loop of a core reads.
+pub(crate) struct Setup {
+    pub(crate) reactor_every: Duration,
+    pub(crate) slow_poll: Option<(Duration, Tells)>,
+    pub(crate) passed: Vec<Passed>,
+    round: Duration,
+    journal: Journal,
+    pin: Pin,
+}
+
+/// Says what an executor is made of.
+pub struct Builder {
+    cores: u32,
+    queues: Vec<QueueSetup>,
+    places: u32,
+    burst: u32,
+    notes: Option<u32>,
+    signals: Option<Duration>,
+    setup: Setup,
+}
+
+impl Default for Builder {
+    fn default() -> Builder {
+        let setup = Setup {
+            reactor_every: Duration::from_micros(50),
+            slow_poll: None,
+            passed: Vec::new(),
+            round: Duration::from_micros(10),
+            journal: Journal::default(),
+            pin: Pin::No,
+        };
+        Builder { cores: 1, queues: Vec::new(), places: 512, burst: 1, notes: None, signals: None, setup }
+    }
+}
+
+/// `yield_if_needed` yields after so much time, unless `slice` says otherwise.
+const SLICE: u64 = 10_000;
+
+impl Builder {
+    /// How many cores, 1 to 16. Each has a thread of its own.
+    pub fn cores(mut self, cores: u32) -> Builder {
+        self.cores = cores;
+        self
+    }
+
+    /// On which processors they run.
+    pub fn pin(mut self, pin: Pin) -> Builder {
+        self.setup.pin = pin;
+        self
+    }
+
+    /// One more queue on each core, with these shares, 1 to 10000. The first is queue 0. Without a call of this there is one, with 1000 shares.
+    pub fn queue(mut self, name: &str, shares: u32) -> Builder {
+        self.queues.push(QueueSetup { name: name.to_owned(), shares, slice: SLICE });
+        self
+    }
+
+    /// [`yield_if_needed`](crate::yield_if_needed) yields, in the queue that was named last, after so much time. At first it is 10 µs. A short
+    /// slice of a background queue is what keeps the latency of the others low: a task that becomes ready waits for the run that goes on.
+    ///
+    /// # Panics
+    ///
+    /// If no queue was named.
+    pub fn slice(mut self, slice: Duration) -> Builder {
+        self.queues.last_mut().expect("a queue is named before its slice").slice = slice.as_nanos() as u64;
+        self
+    }
+
+    /// What becomes of the journals. At first they are passed on and dropped.
+    pub fn journal(mut self, journal: Journal) -> Builder {
+        self.setup.journal = journal;
+        self
+    }
+
+    /// Notes that the journal of each core has room for: those of a whole run if they are kept, else those between two times that they are passed
+    /// on. At first these are 2^20, and 4 times the places. A note has 48 bytes.
+    pub fn notes(mut self, notes: u32) -> Builder {
+        self.notes = Some(notes);
+        self
+    }
+
+    /// Submissions that may be outstanding from one core to another, 2 to 1024. At first it is 512. Tasks that wait need none.
+    pub fn places(mut self, places: u32) -> Builder {
+        self.places = places;
+        self
+    }
+
+    /// Runs that one turn of a queue may have, 1 to 64. At first it is 1. A queue is charged once for all runs of a turn, which makes turns cheaper
+    /// and lets other queues wait for so many runs.
+    pub fn burst(mut self, burst: u32) -> Builder {
+        self.burst = burst;
+        self
+    }
+
+    /// A core that has work asks its reactor after so much time. At first it is 50 µs.
+    pub fn reactor_every(mut self, time: Duration) -> Builder {
+        self.setup.reactor_every = time;
+        self
+    }
+
+    /// A core looks at its links and at what was woken after so much time. At first it is 10 µs.
+    pub fn round(mut self, time: Duration) -> Builder {
+        self.setup.round = time;
+        self
+    }
+
+    /// Who is told of each run that takes so long or longer. It is called on the core, behind that run.
+    pub fn slow_poll(mut self, longest: Duration, tell: impl Fn(SlowPoll) + Send + Sync + 'static) -> Builder {
+        self.setup.slow_poll = Some((longest, Box::new(tell)));
+        self
+    }
+
+    /// SIGTERM and SIGINT [stop](crate::stop()) the executor, with this grace.
+    pub fn stop_on_signals(mut self, grace: Duration) -> Builder {
+        self.signals = Some(grace);
+        self
+    }
+
+    /// Starts a future on each core, in queue 0, and runs the cores until all these futures have ended. Then the tasks that are left are dropped. If
+    /// [`stop`](crate::stop()) was called before, the tasks that are left have its grace.
+    ///
+    /// # Errors
+    ///
+    /// `Setup` for a number that is out of its range; `Library` and `Io` if a core failed.
+    pub fn run<F, Fut>(mut self, begin: F) -> Result<Report, Error>
+    where
+        F: Fn(Here) -> Fut + Send + Sync,
+        Fut: Future<Output = ()> + 'static,
+    {
+        if self.queues.is_empty() {
+            self = self.queue("default", 1000);
+        }
+        let journal = self.setup.journal.clone();
+        self.check()?;
+        let notes = self.notes.unwrap_or(if journal == Journal::Keep { 1 << 20 } else { 4 * self.places.max(64) });
+        let (house, mut cores, mut outside) = House::open(&Config { cores: self.cores, places: self.places, burst: self.burst, notes })?;
+        let pollers = (0..self.cores).map(|_| Poller::new().map(Arc::new)).collect::<Result<Vec<_>, _>>()?;
+        for (core, poller) in cores.iter_mut().zip(&pollers) {
+            let poller = Arc::clone(poller);
+            // A ring that fails has no end of the wait, and nobody else to tell. An eventfd fails if the process has closed it.
+            core.set_bell(move || poller.notify().expect("an eventfd takes a ring"));
+        }
+        self.setup.passed = (0..=self.cores).map(|_| Passed::default()).collect();
+        let ports = cores.iter().map(|it| Port::new(it.ringer(), CoreStats { core: it.number(), ..CoreStats::default() })).collect();
+        let (ending, parts) = (Ending::new(self.cores), Mutex::default());
+        let shared = Arc::new(Shared { ports, queues: std::mem::take(&mut self.queues), places: self.places, ending, parts });
+        keep(&journal, self.cores, &mut outside, &shared, &self.setup.passed[self.cores as usize])?;
+        let (setup, signals) = (&self.setup, self.signals);
+        let cores = std::thread::scope(|scope| {
+            let threads = cores.into_iter().zip(pollers).map(|(core, poller)| {
+                let (shared, begin) = (Arc::clone(&shared), &begin);
+                let name = format!("core {}", core.number());
+                let fails = Arc::clone(&shared);
+                let thread = std::thread::Builder::new().name(name).spawn_scoped(scope, move || serve(core, poller, shared, setup, signals, begin));
+                thread.inspect_err(|_| fails.ending.fail())
+            });
+            let threads: Vec<_> = threads.collect();
+            shared.ending.wait();
+            let closed = outside.close_all(Mode::Return);
+            shared.ending.close();
+            shared.ring_all();
+            let ended: Vec<_> = threads.into_iter().map(|it| it.map(|it| it.join().unwrap_or_else(|panic| resume_unwind(panic)))).collect();
+            let cores = ended.into_iter().map(|it| it.map_err(Error::Io).and_then(|it| it)).collect::<Result<Vec<_>, _>>();
+            cores.and_then(|it| closed.map_err(Error::from).map(|()| it))
+        })?;
+        self.end(house, cores, outside, &shared, &journal)
+    }
+
+    fn end(&self, house: House<Job>, cores: Vec<Core<Job>>, mut outside: Outside<Job>, shared: &Shared, journal: &Journal) -> Result<Report, Error> {
+        pass_on_rest(journal, self.cores, &mut outside)?;
+        let journals = house.end(cores, outside).map_err(|(error, ..)| error)?;
+        let (audit, text) = judge(journal, journals)?;
+        if let Some(error) = lock(&shared.parts).take() {
+            return Err(error.into());
+        }
+        Ok(Report { cores: shared.ports.iter().map(|it| lock(&it.stats).clone()).collect(), audit, journal: text })
+    }
+
+    /// What the library would refuse later, and with fewer words.
+    fn check(&self) -> Result<(), Error> {
+        let queues = self.queues.len();
+        let wrong = [
+            (!(1..=16).contains(&self.cores), format!("an executor has 1 to 16 cores, and not {}", self.cores)),
+            (queues > 256, format!("a core has at most 256 queues, and not {queues}")),
+            (!(2..=1024).contains(&self.places), format!("a link has 2 to 1024 places, and not {}", self.places)),
+            (self.places as usize <= queues, format!("{queues} queues want more than {} places", self.places)),
+            (!(1..=64).contains(&self.burst), format!("a burst is 1 to 64, and not {}", self.burst)),
+            (self.notes.is_some_and(|it| it < self.places + 64), format!("a journal wants 64 notes more than a link has places ({})", self.places)),
+            (matches!(&self.setup.pin, Pin::List(all) if all.len() != self.cores as usize), "a pin names one processor for each core".to_owned()),
+        ];
+        let shares = self.queues.iter().find(|it| !(1..=10_000).contains(&it.shares));
+        let shares = shares.map(|it| (true, format!("shares are 1 to 10000, and not {} ({})", it.shares, it.name)));
+        match wrong.into_iter().chain(shares).find(|(is_wrong, _)| *is_wrong) {
+            Some((_, text)) => Err(Error::Setup(text)),
+            None => Ok(()),
+        }
+    }
+}
+
+/// What a future of [`Builder::run`] is told of where it is.
+#[derive(Clone)]
+pub struct Here {
+    core: u32,
+    shared: Arc<Shared>,
+}
+
+impl Here {
+    /// The number of this core.
+    pub fn core(&self) -> u32 {
+        self.core
+    }
+
+    /// How many cores there are.
+    pub fn cores(&self) -> u32 {
+        self.shared.cores()
+    }
+
+    /// The queue of this name.
+    pub fn queue(&self, name: &str) -> Option<Queue> {
+        self.shared.queues.iter().position(|it| it.name == name).map(|it| Queue(it as u32))
+    }
+
+    /// The executor, for other threads.
+    pub fn handle(&self) -> Handle {
+        Handle(Arc::clone(&self.shared))
+    }
+}
+
+/// An order of a core to itself, with its answer.
+fn order(core: &mut Core<Job>, make: impl FnOnce(&mut Core<Job>) -> Result<Ticket, fairexec::Error>) -> Result<(), Error> {
+    let ticket = make(core)?;
+    core.deliver()?;
+    core.collect()?;
+    match core.redeem(&ticket)? {
+        Outcome::Answered(Answer::SharesSet | Answer::Created(_)) => Ok(()),
+        Outcome::Answered(answer) => Err(Error::Setup(format!("a queue isn't made: {answer:?}"))),
+        Outcome::Done(_) | Outcome::Back(..) => unreachable!("an order is answered"),
+    }
+}
+
+/// The thread of a core. One that fails ends the others.
+fn serve<F, Fut>(
+    mut core: Core<Job>,
+    poller: Arc<Poller>,
+    shared: Arc<Shared>,
+    setup: &Setup,
+    signals: Option<Duration>,
+    begin: &F,
+) -> Result<Core<Job>, Error>
+where
+    F: Fn(Here) -> Fut,
+    Fut: Future<Output = ()> + 'static,
+{
+    struct Failing(Option<Arc<Shared>>);
+    impl Drop for Failing {
+        fn drop(&mut self) {
+            if let Some(shared) = self.0.take() {
+                shared.ending.fail();
+            }
+        }
+    }
+    let mut failing = Failing(Some(Arc::clone(&shared)));
+    let number = core.number();
+    pin(&setup.pin, number)?;
+    core.set_round_time(setup.round.as_nanos() as u64);
+    keep(&setup.journal, number, &mut core, &shared, &setup.passed[number as usize])?;
+    order(&mut core, |it| it.set_shares(number, 0, shared.queues[0].shares))?;
+    for queue in &shared.queues[1..] {
+        order(&mut core, |it| it.create(number, queue.shares))?;
+    }
+    on_core(Local::new(number, Arc::clone(&shared), Reactor::new(poller)), |local| {
+        let mut driver = Driver::new(local, &mut core, setup);
+        let here = Here { core: number, shared: Arc::clone(&shared) };
+        let (root, ends) = (begin(here), Rooted(Arc::clone(&shared)));
+        task::spawn_local(Queue::FIRST, async move {
+            let _ends = ends;
+            root.await;
+        })
+        .detach();
+        if let (0, Some(grace)) = (number, signals) {
+            crate::signal::stop_on_signals(grace)?;
+        }
+        driver.run()
+    })?;
+    pass_on_rest(&setup.journal, number, &mut core)?;
+    failing.0 = None;
+    Ok(core)
+}
+
+/// Tells as a future of `run` ends, also by a panic or a drop.
+struct Rooted(Arc<Shared>);
+
+impl Drop for Rooted {
+    fn drop(&mut self) {
+        self.0.ending.root_ended();
+    }
+}
+
+/// Keeps this thread on its processor.
+fn pin(pin: &Pin, core: u32) -> Result<(), Error> {
+    let processor = match pin {
+        Pin::No => return Ok(()),
+        Pin::From(first) => first + core as usize,
+        Pin::List(all) => all[core as usize],
+    };
+    if processor >= libc::CPU_SETSIZE as usize {
+        return Err(Error::Setup(format!("there is no processor {processor}")));
+    }
+    // SAFETY: zeroes are a set of no processor. The number is one of the set, and the call reads a local value of the size that it is told.
+    let told = unsafe {
+        let mut set: libc::cpu_set_t = std::mem::zeroed();
+        libc::CPU_SET(processor, &mut set);
+        libc::sched_setaffinity(0, size_of::<libc::cpu_set_t>(), &set)
+    };
+    if told != 0 {
+        return Err(std::io::Error::last_os_error().into());
+    }
+    Ok(())
+}

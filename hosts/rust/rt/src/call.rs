@@ -1,0 +1,212 @@
+//! Calls from one core to another.
+
+use crate::local::{here, Sending};
+use crate::shared::{lock, Queue};
+use crate::task::start_now;
+use futures_lite::future::FutureExt;
+use std::fmt;
+use std::future::{poll_fn, Future};
+use std::panic::AssertUnwindSafe;
+use std::pin::{pin, Pin};
+use std::sync::{Arc, Mutex};
+use std::task::{Context, Poll, Waker};
+
+/// Why a call has no answer.
+#[derive(Clone, Copy, PartialEq, Eq, Debug)]
+#[non_exhaustive]
+pub enum CallError {
+    /// It was dropped before its end: the core that it went to is closing, or has ended.
+    Dropped,
+    /// Its future panicked.
+    Panicked,
+}
+
+impl fmt::Display for CallError {
+    fn fmt(&self, f: &mut fmt::Formatter<'_>) -> fmt::Result {
+        f.write_str(match self {
+            CallError::Dropped => "the call was dropped before its end: its core is closing",
+            CallError::Panicked => "the call panicked",
+        })
+    }
+}
+
+impl std::error::Error for CallError {}
+
+/// What both sides of a call share.
+struct Answer<T> {
+    value: Option<Result<T, CallError>>,
+    // Of who awaits the answer.
+    caller: Option<Waker>,
+    // Of the task that makes it.
+    callee: Option<Waker>,
+    is_given_up: bool,
+}
+
+/// The side of a call that tells its answer. One that is dropped tells that the call was.
+pub(crate) struct Slot<T>(Option<Arc<Mutex<Answer<T>>>>);
+
+impl<T> Slot<T> {
+    pub(crate) fn new() -> (Slot<T>, Call<T>) {
+        let answer = Arc::new(Mutex::new(Answer { value: None, caller: None, callee: None, is_given_up: false }));
+        (Slot(Some(Arc::clone(&answer))), Call(answer))
+    }
+
+    pub(crate) fn tell(mut self, value: Result<T, CallError>) {
+        self.put(value);
+    }
+
+    fn put(&mut self, value: Result<T, CallError>) {
+        let Some(answer) = self.0.take() else { return };
+        let (caller, _callee) = {
+            let mut answer = lock(&answer);
+            answer.value = Some(value);
+            (answer.caller.take(), answer.callee.take())
+        };
+        if let Some(caller) = caller {
+            caller.wake();
+        }
+    }
+
+    /// Whether nobody wants the answer. Else the task of this context is woken when nobody does any more.
+    fn is_given_up(&self, cx: &Context<'_>) -> bool {
+        let Some(answer) = &self.0 else { return true };
+        let mut answer = lock(answer);
+        if !answer.callee.as_ref().is_some_and(|it| it.will_wake(cx.waker())) {
+            answer.callee = Some(cx.waker().clone());
+        }
+        answer.is_given_up
+    }
+}
+
+impl<T> Drop for Slot<T> {
+    fn drop(&mut self) {
+        self.put(Err(CallError::Dropped));
+    }
+}
+
+/// What a call to a core comes to: a future that may be awaited on any thread.
+///
+/// A call that is dropped is given up. If it didn't begin, its function isn't called. If its future waits, that is dropped at its next turn. A run
+/// that has begun goes on until it waits, and what was done before stays done.
+#[must_use = "a call that is dropped is given up"]
+pub struct Call<T>(Arc<Mutex<Answer<T>>>);
+
+impl<T> Future for Call<T> {
+    type Output = Result<T, CallError>;
+
+    fn poll(self: Pin<&mut Self>, cx: &mut Context<'_>) -> Poll<Self::Output> {
+        let mut answer = lock(&self.0);
+        if let Some(value) = answer.value.take() {
+            return Poll::Ready(value);
+        }
+        answer.caller = Some(cx.waker().clone());
+        Poll::Pending
+    }
+}
+
+impl<T> Drop for Call<T> {
+    fn drop(&mut self) {
+        let (callee, _caller) = {
+            let mut answer = lock(&self.0);
+            answer.is_given_up = true;
+            (answer.callee.take(), answer.caller.take())
+        };
+        if let Some(callee) = callee {
+            callee.wake();
+        }
+    }
+}
+
+/// A call on its way: it is started in a queue of the core that it comes to.
+pub(crate) struct Start(Box<dyn FnOnce(u32) + Send>);
+
+impl Start {
+    pub(crate) fn new<F, T>(make: impl FnOnce() -> F + Send + 'static) -> (Start, Call<T>)
+    where
+        F: Future<Output = T> + 'static,
+        T: Send + 'static,
+    {
+        let (slot, call) = Slot::new();
+        (Start(Box::new(move |queue| start_now(queue, answer(slot, make)))), call)
+    }
+
+    /// Starts it on this core, in this queue, whose run it is.
+    pub(crate) fn start(self, queue: u32) {
+        (self.0)(queue);
+    }
+}
+
+async fn answer<F: Future>(slot: Slot<F::Output>, make: impl FnOnce() -> F) {
+    let mut future = pin!(AssertUnwindSafe(async move { make().await }).catch_unwind());
+    let told = poll_fn(|cx| {
+        if slot.is_given_up(cx) {
+            return Poll::Ready(None);
+        }
+        future.as_mut().poll(cx).map(Some)
+    })
+    .await;
+    if let Some(told) = told {
+        slot.tell(told.map_err(|_| CallError::Panicked));
+    }
+}
+
+/// The link to a core is full. The function comes back.
+pub struct Full<M>(pub M);
+
+impl<M> fmt::Debug for Full<M> {
+    fn fmt(&self, f: &mut fmt::Formatter<'_>) -> fmt::Result {
+        f.write_str("Full")
+    }
+}
+
+impl<M> fmt::Display for Full<M> {
+    fn fmt(&self, f: &mut fmt::Formatter<'_>) -> fmt::Result {
+        f.write_str("the link to the core is full")
+    }
+}
+
+impl<M> std::error::Error for Full<M> {}
+
+/// Calls a function on a core, in a queue of it. The future that it makes is polled there, and needn't be `Send`. The order goes by the link of the
+/// library behind this run; a link that is full takes it later.
+///
+/// # Panics
+///
+/// Outside a task, and if there is no such core or queue. Other threads have [`Handle::submit`](crate::Handle::submit).
+pub fn submit<F, T>(core: u32, queue: Queue, make: impl FnOnce() -> F + Send + 'static) -> Call<T>
+where
+    F: Future<Output = T> + 'static,
+    T: Send + 'static,
+{
+    let (start, call) = Start::new(make);
+    here(|it| {
+        it.check(core, queue);
+        it.outbox[core as usize].borrow_mut().push_back(Sending::Start(queue.0, start));
+    });
+    call
+}
+
+/// The same, if the link takes it now.
+///
+/// # Errors
+///
+/// `Full`, with the function: as many calls to that core as the link has places didn't begin yet, or their outcomes weren't seen.
+///
+/// # Panics
+///
+/// As `submit`.
+pub fn try_submit<F, T, M>(core: u32, queue: Queue, make: M) -> Result<Call<T>, Full<M>>
+where
+    F: Future<Output = T> + 'static,
+    T: Send + 'static,
+    M: FnOnce() -> F + Send + 'static,
+{
+    let is_full = here(|it| {
+        it.check(core, queue);
+        it.is_full(core)
+    });
+    if is_full {
+        return Err(Full(make));
+    }
+    Ok(submit(core, queue, make))
+}

@@ -1,0 +1,52 @@
+//! What an executor tells of itself.
+
+use fairexec::linked::Verdict;
+use std::time::Duration;
+
+/// The counts of one core.
+#[derive(Clone, PartialEq, Eq, Debug, Default)]
+pub struct CoreStats {
+    /// Its number.
+    pub core: u32,
+    /// Turns that it made.
+    pub turns: u64,
+    /// Tasks that haven't ended, waiting ones counted too.
+    pub tasks: u64,
+    /// Its queues, by their numbers.
+    pub queues: Vec<QueueStats>,
+    /// Bytes of its journal that were passed on as text.
+    pub journal_bytes: u64,
+}
+
+/// The counts of one queue of a core.
+#[derive(Clone, PartialEq, Eq, Debug, Default)]
+pub struct QueueStats {
+    /// The name that the builder gave it.
+    pub name: String,
+    /// Its shares.
+    pub shares: u32,
+    /// Turns of this queue.
+    pub picks: u64,
+    /// The time of its runs.
+    pub time: Duration,
+    /// Its virtual runtime, in nanoseconds of a queue with 1000 shares.
+    pub virtual_runtime: u128,
+}
+
+/// What a run of the executor came to.
+#[derive(Debug)]
+pub struct Report {
+    /// The counts of each core at its end.
+    pub cores: Vec<CoreStats>,
+    /// The audit's verdict over all journals, if they were kept ([`Journal::Keep`](crate::Journal::Keep)).
+    pub audit: Option<Verdict>,
+    /// The text of the journals, if they were kept.
+    pub journal: Option<String>,
+}
+
+impl Report {
+    /// Whether the journals were kept and are sound.
+    pub fn is_sound(&self) -> bool {
+        self.audit.is_some_and(|it| it.is_sound)
+    }
+}

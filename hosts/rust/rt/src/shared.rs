@@ -1,0 +1,164 @@
+//! What all threads reach of an executor.
+
+use crate::call::{Call, Start};
+use crate::report::CoreStats;
+use crate::stop::Ending;
+use crate::task::Turn;
+use fairexec::linked::Ringer;
+use std::io;
+use std::sync::atomic::{AtomicBool, Ordering};
+use std::sync::{Arc, Mutex, MutexGuard, PoisonError};
+use std::time::Duration;
+
+/// Nothing that is kept under a lock here is left half done by a panic.
+pub(crate) fn lock<T>(of: &Mutex<T>) -> MutexGuard<'_, T> {
+    of.lock().unwrap_or_else(PoisonError::into_inner)
+}
+
+/// A task queue, by its number. [`Builder::queue`](crate::Builder::queue) numbers them from 0, and each core has all of them.
+#[derive(Clone, Copy, PartialEq, Eq, Hash, Debug)]
+pub struct Queue(pub(crate) u32);
+
+impl Queue {
+    /// Queue 0, in which the futures of [`Builder::run`](crate::Builder::run) run.
+    pub const FIRST: Queue = Queue(0);
+
+    /// The queue of this number. A number that no queue has is found by the call that is handed it.
+    pub const fn new(number: u32) -> Queue {
+        Queue(number)
+    }
+
+    /// Its number.
+    pub const fn number(self) -> u32 {
+        self.0
+    }
+}
+
+/// What the builder says of a queue.
+pub(crate) struct QueueSetup {
+    pub(crate) name: String,
+    pub(crate) shares: u32,
+    /// `yield_if_needed` yields after so many nanoseconds.
+    pub(crate) slice: u64,
+}
+
+/// What another thread has for a core.
+pub(crate) enum Mail {
+    /// A task whose waker was called, and its queue.
+    Woken(u32, Turn),
+    /// A call of a thread that is no core.
+    Start(u32, Start),
+}
+
+/// What other threads reach of a core.
+pub(crate) struct Port {
+    ringer: Ringer,
+    has_mail: AtomicBool,
+    mail: Mutex<Vec<Mail>>,
+    pub(crate) stats: Mutex<CoreStats>,
+}
+
+impl Port {
+    pub(crate) fn new(ringer: Ringer, stats: CoreStats) -> Port {
+        Port { ringer, has_mail: AtomicBool::new(false), mail: Mutex::default(), stats: Mutex::new(stats) }
+    }
+
+    /// Leaves mail, and then rings: the order that `wait_by` of the wrapper asks for.
+    pub(crate) fn leave(&self, mail: Mail) {
+        let mut all = lock(&self.mail);
+        all.push(mail);
+        self.has_mail.store(true, Ordering::SeqCst);
+        drop(all);
+        self.ring();
+    }
+
+    pub(crate) fn ring(&self) {
+        self.ringer.ring();
+    }
+
+    /// Whether mail was left: what a core looks at before it sleeps.
+    pub(crate) fn has_mail(&self) -> bool {
+        self.has_mail.load(Ordering::SeqCst)
+    }
+
+    /// Takes all mail.
+    pub(crate) fn take(&self) -> Vec<Mail> {
+        let mut all = lock(&self.mail);
+        self.has_mail.store(false, Ordering::SeqCst);
+        std::mem::take(&mut *all)
+    }
+}
+
+/// What all threads share.
+pub(crate) struct Shared {
+    pub(crate) ports: Vec<Port>,
+    pub(crate) queues: Vec<QueueSetup>,
+    /// Submissions that may be outstanding on a link.
+    pub(crate) places: u32,
+    pub(crate) ending: Ending,
+    /// Why a part of a journal couldn't be written, if one couldn't.
+    pub(crate) parts: Mutex<Option<io::Error>>,
+}
+
+impl Shared {
+    pub(crate) fn cores(&self) -> u32 {
+        self.ports.len() as u32
+    }
+
+    pub(crate) fn ring_all(&self) {
+        self.ports.iter().for_each(Port::ring);
+    }
+}
+
+/// The executor, for any thread. It is cheap to clone, and may outlive the executor.
+///
+/// ```
+/// use fairexec_rt::{Executor, Queue};
+///
+/// Executor::builder().cores(2).run(|here| async move {
+///     let handle = here.handle();
+///     let other = std::thread::spawn(move || {
+///         let call = handle.submit(1, Queue::FIRST, || async { 21 });
+///         2 * futures_lite::future::block_on(call).unwrap()
+///     });
+///     assert_eq!(fairexec_rt::fs::unblock(move || other.join().unwrap()).await, 42);
+/// })?;
+/// # Ok::<(), fairexec_rt::Error>(())
+/// ```
+#[derive(Clone)]
+pub struct Handle(pub(crate) Arc<Shared>);
+
+impl Handle {
+    /// How many cores there are.
+    pub fn cores(&self) -> u32 {
+        self.0.cores()
+    }
+
+    /// The counts of all cores, at most some 20 ms old.
+    pub fn stats(&self) -> Vec<CoreStats> {
+        self.0.ports.iter().map(|it| lock(&it.stats).clone()).collect()
+    }
+
+    /// As [`stop`](crate::stop()).
+    pub fn stop(&self, grace: Duration) {
+        self.0.ending.stop(grace);
+        self.0.ring_all();
+    }
+
+    /// As [`submit`](crate::submit), from a thread that is no core. The order goes by the core's mail, not by a link of the library.
+    ///
+    /// # Panics
+    ///
+    /// If there is no such core or queue.
+    pub fn submit<F, T>(&self, core: u32, queue: Queue, make: impl FnOnce() -> F + Send + 'static) -> Call<T>
+    where
+        F: std::future::Future<Output = T> + 'static,
+        T: Send + 'static,
+    {
+        assert!(queue.0 < self.0.queues.len() as u32, "there is no queue {}", queue.0);
+        let port = self.0.ports.get(core as usize).unwrap_or_else(|| panic!("there is no core {core}"));
+        let (start, call) = Start::new(make);
+        port.leave(Mail::Start(queue.0, start));
+        call
+    }
+}

@@ -1,0 +1,43 @@
+//! How a task that computes lets others run.
+
+use crate::local::here;
+use fairexec::wall_clock;
+use std::future::poll_fn;
+use std::task::Poll;
+use std::time::Duration;
+
+/// Lets other tasks run: this one goes to the tail of its queue.
+pub async fn yield_now() {
+    let mut was_polled = false;
+    poll_fn(move |cx| {
+        if std::mem::replace(&mut was_polled, true) {
+            return Poll::Ready(());
+        }
+        cx.waker().wake_by_ref();
+        Poll::Pending
+    })
+    .await;
+}
+
+/// How long the run of this task has gone on.
+///
+/// # Panics
+///
+/// Outside a task.
+pub fn ran_for() -> Duration {
+    Duration::from_nanos(here(|it| wall_clock().saturating_sub(it.began.get())))
+}
+
+/// Ends the slice of a task that computes: it lets others run if its run is as long as the slice of its queue, which
+/// [`Builder::slice`](crate::Builder::slice) says. Nothing is broken off without it, and no shares help a task that waits behind a long run. So a
+/// loop in a background task calls this each time around.
+///
+/// # Panics
+///
+/// Outside a task.
+pub async fn yield_if_needed() {
+    let is_over = here(|it| wall_clock().saturating_sub(it.began.get()) >= it.slice.get());
+    if is_over {
+        yield_now().await;
+    }
+}

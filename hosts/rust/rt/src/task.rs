@@ -1,0 +1,183 @@
+//! Tasks of one core.
+
+use crate::local::{here, with_here, Local};
+use crate::shared::{Mail, Queue, Shared};
+use async_task::{FallibleTask, Runnable};
+use futures_lite::future::FutureExt;
+use std::any::Any;
+use std::fmt;
+use std::future::Future;
+use std::panic::AssertUnwindSafe;
+use std::pin::Pin;
+use std::sync::{Arc, Mutex, PoisonError};
+use std::task::{Context, Poll};
+use std::thread::{self, ThreadId};
+
+type Panic = Box<dyn Any + Send>;
+
+/// Why a task has no value: it was dropped before its end, or it panicked.
+pub struct JoinError(Option<Mutex<Panic>>);
+
+impl JoinError {
+    /// Whether it was aborted, or dropped as its core ended.
+    pub fn is_cancelled(&self) -> bool {
+        self.0.is_none()
+    }
+
+    /// Whether it panicked.
+    pub fn is_panic(&self) -> bool {
+        self.0.is_some()
+    }
+
+    /// What it panicked with, for `std::panic::resume_unwind`.
+    pub fn into_panic(self) -> Option<Box<dyn Any + Send + 'static>> {
+        self.0.map(|it| it.into_inner().unwrap_or_else(PoisonError::into_inner))
+    }
+}
+
+impl fmt::Debug for JoinError {
+    fn fmt(&self, f: &mut fmt::Formatter<'_>) -> fmt::Result {
+        f.write_str(if self.is_panic() { "JoinError::Panic" } else { "JoinError::Cancelled" })
+    }
+}
+
+impl fmt::Display for JoinError {
+    fn fmt(&self, f: &mut fmt::Formatter<'_>) -> fmt::Result {
+        f.write_str(if self.is_panic() { "the task panicked" } else { "the task was dropped before its end" })
+    }
+}
+
+impl std::error::Error for JoinError {}
+
+/// What a task comes to. The task runs on if this is dropped.
+pub struct JoinHandle<T>(Option<FallibleTask<Result<T, Panic>>>);
+
+impl<T> JoinHandle<T> {
+    /// Drops the task, at its next turn if it doesn't run. Its value is lost if it has ended.
+    pub fn abort(mut self) {
+        drop(self.0.take());
+    }
+
+    /// Lets the task run on. To drop the handle does the same.
+    pub fn detach(self) {}
+}
+
+impl<T> Drop for JoinHandle<T> {
+    fn drop(&mut self) {
+        if let Some(task) = self.0.take() {
+            task.detach();
+        }
+    }
+}
+
+impl<T> Future for JoinHandle<T> {
+    type Output = Result<T, JoinError>;
+
+    fn poll(mut self: Pin<&mut Self>, cx: &mut Context<'_>) -> Poll<Self::Output> {
+        let Some(task) = &mut self.0 else { return Poll::Ready(Err(JoinError(None))) };
+        task.poll(cx).map(|told| match told {
+            Some(Ok(value)) => Ok(value),
+            Some(Err(panic)) => Err(JoinError(Some(Mutex::new(panic)))),
+            None => Err(JoinError(None)),
+        })
+    }
+}
+
+/// The place of a task among those of its core, which is free again once its future is dropped.
+struct Alive(usize);
+
+impl Drop for Alive {
+    fn drop(&mut self) {
+        // The waker is dropped behind the borrow.
+        let _waker = with_here(|it| it.alive.borrow_mut().try_remove(self.0));
+    }
+}
+
+/// The right to poll a task once. To drop it drops the task.
+pub(crate) struct Turn {
+    // None once it was used.
+    runnable: Option<Runnable>,
+    pub(crate) task: usize,
+    thread: ThreadId,
+}
+
+impl Turn {
+    /// Polls the task.
+    pub(crate) fn run(mut self) {
+        if let Some(runnable) = self.runnable.take() {
+            runnable.run();
+        }
+    }
+}
+
+impl Drop for Turn {
+    fn drop(&mut self) {
+        // A core that failed leaves tasks in its links and its mail, whose futures no other thread may drop. They are forgotten.
+        if self.runnable.is_some() && self.thread != thread::current().id() {
+            std::mem::forget(self.runnable.take());
+        }
+    }
+}
+
+/// Where a task goes when it was woken.
+struct Home {
+    shared: Arc<Shared>,
+    core: u32,
+    queue: u32,
+    task: usize,
+    thread: ThreadId,
+}
+
+impl Home {
+    fn take(&self, runnable: Runnable) {
+        let mut turn = Some(Turn { runnable: Some(runnable), task: self.task, thread: self.thread });
+        with_here(|it| {
+            if it.number == self.core && Arc::ptr_eq(&it.shared, &self.shared) {
+                it.take_woken(self.queue, turn.take().expect("it is taken once"));
+            }
+        });
+        if let Some(turn) = turn {
+            self.shared.ports[self.core as usize].leave(Mail::Woken(self.queue, turn));
+        }
+    }
+}
+
+/// A task that was made and not handed in yet.
+fn make<T: 'static>(local: &Local, queue: u32, future: impl Future<Output = T> + 'static) -> (Turn, FallibleTask<Result<T, Panic>>) {
+    let mut all = local.alive.borrow_mut();
+    let entry = all.vacant_entry();
+    let number = entry.key();
+    let alive = Alive(number);
+    let thread = local.thread;
+    let home = Home { shared: Arc::clone(&local.shared), core: local.number, queue, task: number, thread };
+    let future = async move {
+        let _alive = alive;
+        AssertUnwindSafe(future).catch_unwind().await
+    };
+    let (runnable, task) = async_task::spawn_local(future, move |runnable| home.take(runnable));
+    entry.insert(runnable.waker());
+    (Turn { runnable: Some(runnable), task: number, thread }, task.fallible())
+}
+
+/// Starts a task in a queue of this core. It needn't be `Send`, and never leaves this thread. A panic of the task ends the task alone.
+///
+/// # Panics
+///
+/// Outside a task, and if there is no such queue.
+pub fn spawn_local<T: 'static>(queue: Queue, future: impl Future<Output = T> + 'static) -> JoinHandle<T> {
+    here(|it| {
+        it.check(it.number, queue);
+        let (turn, task) = make(it, queue.0, future);
+        it.hand_in(queue.0, turn);
+        JoinHandle(Some(task))
+    })
+}
+
+/// Starts a task in the run that goes on. Its first poll is part of that.
+pub(crate) fn start_now(queue: u32, future: impl Future<Output = ()> + 'static) {
+    here(|it| {
+        let (turn, task) = make(it, queue, future);
+        task.detach();
+        it.run_within(queue, turn);
+    });
+}

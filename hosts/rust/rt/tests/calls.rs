@@ -1,0 +1,189 @@
+//! Calls between cores, and the end of all.
+
+use fairexec_rt::{fs, set_shares, sleep, spawn_local, stats, stop, stopping, submit, try_submit, yield_now, CallError, Executor, Journal, Queue};
+use std::rc::Rc;
+use std::sync::atomic::{AtomicU64, Ordering};
+use std::sync::Arc;
+use std::time::{Duration, Instant};
+
+const BACKGROUND: Queue = Queue::new(1);
+
+#[test]
+fn calls_are_answered() {
+    let report = Executor::builder()
+        .cores(3)
+        .journal(Journal::Keep)
+        .run(|here| async move {
+            let cores = here.cores();
+            let calls: Vec<_> = (0..2000u64)
+                .map(|it| {
+                    submit((it % u64::from(cores)) as u32, Queue::FIRST, move || async move {
+                        let local = Rc::new(it);
+                        yield_now().await;
+                        *local * 2
+                    })
+                })
+                .collect();
+            let mut sum = 0;
+            for call in calls {
+                sum += call.await.unwrap();
+            }
+            assert_eq!(sum, 2000 * 1999);
+        })
+        .unwrap();
+    assert!(report.is_sound());
+}
+
+#[test]
+fn a_call_that_panics_or_is_given_up_is_told() {
+    let ran = Arc::new(AtomicU64::new(0));
+    let counts = Arc::clone(&ran);
+    Executor::builder()
+        .cores(2)
+        .run(move |here| {
+            let counts = Arc::clone(&counts);
+            async move {
+                if here.core() == 1 {
+                    return;
+                }
+                let panics = submit(1, Queue::FIRST, || async { panic!("as it should") });
+                assert_eq!(panics.await, Err::<(), _>(CallError::Panicked));
+                // It waits for ever, unless it is given up.
+                let alive = Arc::new(());
+                let held = Arc::clone(&alive);
+                let call = submit(1, Queue::FIRST, move || async move {
+                    let _held = held;
+                    std::future::pending::<()>().await;
+                });
+                sleep(Duration::from_millis(10)).await;
+                assert_eq!(Arc::strong_count(&alive), 2);
+                drop(call);
+                sleep(Duration::from_millis(10)).await;
+                assert_eq!(Arc::strong_count(&alive), 1);
+                // One that is given up before it begins isn't made.
+                let counts_it = Arc::clone(&counts);
+                drop(submit(1, Queue::FIRST, move || async move {
+                    counts_it.fetch_add(1, Ordering::SeqCst);
+                }));
+                sleep(Duration::from_millis(10)).await;
+            }
+        })
+        .unwrap();
+    assert_eq!(ran.load(Ordering::SeqCst), 0);
+}
+
+#[test]
+fn a_full_link_gives_the_function_back() {
+    Executor::builder()
+        .cores(2)
+        .places(8)
+        .run(|here| async move {
+            if here.core() == 1 {
+                return;
+            }
+            let mut calls = Vec::new();
+            let full = loop {
+                match try_submit(1, Queue::FIRST, || async { 1 }) {
+                    Ok(call) => calls.push(call),
+                    Err(full) => break full,
+                }
+            };
+            assert_eq!((calls.len(), full.to_string().as_str()), (8, "the link to the core is full"));
+            for call in calls {
+                assert_eq!(call.await, Ok(1));
+            }
+            assert!(try_submit(1, Queue::FIRST, full.0).is_ok());
+        })
+        .unwrap();
+}
+
+#[test]
+fn a_stop_leaves_tasks_their_grace() {
+    let began = Instant::now();
+    let ended = Arc::new(AtomicU64::new(0));
+    let counts = Arc::clone(&ended);
+    let report = Executor::builder()
+        .cores(2)
+        .journal(Journal::Keep)
+        .run(move |here| {
+            let counts = Arc::clone(&counts);
+            async move {
+                let quick = Arc::clone(&counts);
+                spawn_local(Queue::FIRST, async move {
+                    stopping().await;
+                    sleep(Duration::from_millis(50)).await;
+                    quick.fetch_add(1, Ordering::SeqCst);
+                });
+                spawn_local(Queue::FIRST, async {
+                    sleep(Duration::from_secs(3600)).await;
+                });
+                if here.core() == 0 {
+                    sleep(Duration::from_millis(20)).await;
+                    stop(Duration::from_millis(300));
+                }
+                stopping().await;
+            }
+        })
+        .unwrap();
+    assert_eq!(ended.load(Ordering::SeqCst), 2);
+    assert!(began.elapsed() >= Duration::from_millis(300) && began.elapsed() < Duration::from_secs(3));
+    assert!(report.is_sound());
+}
+
+#[test]
+fn a_stop_ends_once_nothing_is_left() {
+    let began = Instant::now();
+    Executor::builder()
+        .cores(4)
+        .stop_on_signals(Duration::from_secs(60))
+        .run(|here| async move {
+            if here.core() == 0 {
+                stop(Duration::from_secs(60));
+            }
+            stopping().await;
+            let next = (here.core() + 1) % 4;
+            spawn_local(Queue::FIRST, async move {
+                for _ in 0..20 {
+                    submit(next, Queue::FIRST, || async { sleep(Duration::from_millis(1)).await }).await.unwrap();
+                }
+            });
+        })
+        .unwrap();
+    assert!(began.elapsed() < Duration::from_secs(20));
+}
+
+#[test]
+fn shares_change_and_statistics_are_told() {
+    Executor::builder()
+        .cores(2)
+        .queue("first", 1000)
+        .queue("background", 100)
+        .run(|here| async move {
+            assert_eq!(here.queue("background"), Some(BACKGROUND));
+            if here.core() == 1 {
+                return;
+            }
+            set_shares(1, BACKGROUND, 777).await.unwrap();
+            sleep(Duration::from_millis(60)).await;
+            // A core that sleeps wakes each 10 ms.
+            assert_eq!(stats()[1].queues[1].shares, 777);
+            assert_eq!(here.handle().stats().len(), 2);
+        })
+        .unwrap();
+}
+
+#[test]
+fn other_threads_call_and_wake() {
+    Executor::builder()
+        .cores(2)
+        .run(|here| async move {
+            let handle = here.handle();
+            let sum = fs::unblock(move || {
+                (0..500u64)
+                    .map(|it| futures_lite::future::block_on(handle.submit((it % 2) as u32, Queue::FIRST, move || async move { it })).unwrap())
+                    .sum::<u64>()
+            });
+            assert_eq!(sum.await, 499 * 250);
+        })
+        .unwrap();
+}

@@ -1,0 +1,199 @@
+//! Tasks of one core: they run by shares, wait, end, panic and are aborted.
+
+use fairexec_rt::{interval, ran_for, sleep, spawn_local, timeout, yield_if_needed, yield_now, Elapsed, Executor, Journal, Queue};
+use std::cell::{Cell, RefCell};
+use std::rc::Rc;
+use std::sync::atomic::{AtomicU64, Ordering};
+use std::sync::{Arc, Mutex};
+use std::time::{Duration, Instant};
+
+const BACKGROUND: Queue = Queue::new(1);
+
+#[test]
+fn tasks_end_with_what_they_came_to() {
+    let report = Executor::builder()
+        .journal(Journal::Keep)
+        .run(|_| async {
+            let shared = Rc::new(Cell::new(0));
+            let adds: Vec<_> = (1..=100)
+                .map(|it| {
+                    let shared = Rc::clone(&shared);
+                    spawn_local(Queue::FIRST, async move {
+                        yield_now().await;
+                        shared.set(shared.get() + it);
+                        it
+                    })
+                })
+                .collect();
+            let mut sum = 0;
+            for add in adds {
+                sum += add.await.unwrap();
+            }
+            assert_eq!((sum, shared.get()), (5050, 5050));
+        })
+        .unwrap();
+    assert!(report.is_sound());
+    assert!(report.journal.unwrap().starts_with("journal 1\ncores 1 cap "));
+    assert!(report.cores[0].turns > 200);
+}
+
+#[test]
+fn a_panic_ends_its_task_alone() {
+    Executor::builder()
+        .run(|_| async {
+            let panics = spawn_local(Queue::FIRST, async { panic!("as it should") });
+            let payload = panics.await.unwrap_err().into_panic().expect("it panics");
+            assert_eq!(*payload.downcast_ref::<&str>().unwrap(), "as it should");
+            assert_eq!(spawn_local(Queue::FIRST, async { 7 }).await.unwrap(), 7);
+        })
+        .unwrap();
+}
+
+struct Dropped(Arc<AtomicU64>);
+
+impl Drop for Dropped {
+    fn drop(&mut self) {
+        self.0.fetch_add(1, Ordering::SeqCst);
+    }
+}
+
+#[test]
+fn what_is_left_is_dropped() {
+    let dropped = Arc::new(AtomicU64::new(0));
+    let counts = Arc::clone(&dropped);
+    let report = Executor::builder()
+        .journal(Journal::Keep)
+        .queue("first", 1000)
+        .queue("background", 10)
+        .run(move |_| {
+            let counts = Arc::clone(&counts);
+            async move {
+                for _ in 0..3000 {
+                    let held = Dropped(Arc::clone(&counts));
+                    spawn_local(Queue::FIRST, async move {
+                        let _held = held;
+                        sleep(Duration::from_secs(3600)).await;
+                    });
+                }
+                for _ in 0..50 {
+                    let held = Dropped(Arc::clone(&counts));
+                    spawn_local(BACKGROUND, async move {
+                        let _held = held;
+                        loop {
+                            yield_now().await;
+                        }
+                    });
+                }
+                // One that is aborted is dropped at its next turn.
+                let held = Dropped(Arc::clone(&counts));
+                let before = counts.load(Ordering::SeqCst);
+                let aborted = spawn_local(Queue::FIRST, async move {
+                    let _held = held;
+                    sleep(Duration::from_secs(3600)).await;
+                });
+                yield_now().await;
+                aborted.abort();
+                sleep(Duration::from_millis(20)).await;
+                assert_eq!(counts.load(Ordering::SeqCst), before + 1);
+            }
+        })
+        .unwrap();
+    assert_eq!(dropped.load(Ordering::SeqCst), 3051);
+    assert!(report.is_sound());
+}
+
+#[test]
+fn queues_have_time_by_their_shares() {
+    let report = Executor::builder()
+        .queue("first", 1000)
+        .queue("background", 100)
+        .run(|_| async {
+            let end = Instant::now() + Duration::from_secs(1);
+            let works = |queue| {
+                spawn_local(queue, async move {
+                    while Instant::now() < end {
+                        yield_if_needed().await;
+                    }
+                })
+            };
+            let all: Vec<_> = (0..8).map(|it| works(if it == 0 { Queue::FIRST } else { BACKGROUND })).collect();
+            for it in all {
+                it.await.unwrap();
+            }
+        })
+        .unwrap();
+    let [first, background] = [0, 1].map(|it| report.cores[0].queues[it].time.as_secs_f64());
+    let part = first / (first + background);
+    // Ten to one, but for the last run, which a busy machine may set aside for some 10 ms.
+    assert!((0.86..0.95).contains(&part), "{part}");
+    assert_eq!(report.cores[0].queues[1].name, "background");
+}
+
+#[test]
+fn timers_are_not_early_and_not_very_late() {
+    Executor::builder()
+        .run(|_| async {
+            let order = Rc::new(RefCell::new(Vec::new()));
+            let waits: Vec<_> = [30, 10, 20]
+                .into_iter()
+                .map(|time| {
+                    let order = Rc::clone(&order);
+                    spawn_local(Queue::FIRST, async move {
+                        let began = Instant::now();
+                        sleep(Duration::from_millis(time)).await;
+                        assert!(began.elapsed() >= Duration::from_millis(time) - Duration::from_micros(200));
+                        order.borrow_mut().push(time);
+                    })
+                })
+                .collect();
+            for it in waits {
+                it.await.unwrap();
+            }
+            assert_eq!(*order.borrow(), [10, 20, 30]);
+            assert_eq!(timeout(Duration::from_millis(5), std::future::pending::<()>()).await, Err(Elapsed));
+            assert_eq!(timeout(Duration::from_secs(5), async { 3 }).await, Ok(3));
+            let (began, mut ticks) = (Instant::now(), interval(Duration::from_millis(4)));
+            for _ in 0..5 {
+                ticks.tick().await;
+            }
+            assert!(began.elapsed() >= Duration::from_millis(19), "{:?}", began.elapsed());
+        })
+        .unwrap();
+}
+
+#[test]
+fn slow_runs_are_told() {
+    let told = Arc::new(Mutex::new(Vec::new()));
+    let keeps = Arc::clone(&told);
+    Executor::builder()
+        .queue("only", 1000)
+        .slow_poll(Duration::from_millis(5), move |it| keeps.lock().unwrap().push((it.core, it.name, it.ran)))
+        .run(|_| async {
+            yield_now().await;
+            std::thread::sleep(Duration::from_millis(8));
+            assert!(ran_for() >= Duration::from_millis(7));
+            yield_now().await;
+        })
+        .unwrap();
+    let told = told.lock().unwrap();
+    assert!(told.iter().any(|(core, name, ran)| (*core, name.as_str()) == (0, "only") && *ran >= Duration::from_millis(7)), "{told:?}");
+}
+
+#[test]
+fn wrong_setups_are_told() {
+    let refused = |builder: fairexec_rt::Builder| builder.run(|_| async {}).unwrap_err().to_string();
+    assert_eq!(refused(Executor::builder().cores(17)), "an executor has 1 to 16 cores, and not 17");
+    assert_eq!(refused(Executor::builder().queue("none", 0)), "shares are 1 to 10000, and not 0 (none)");
+    assert_eq!(refused(Executor::builder().places(1)), "a link has 2 to 1024 places, and not 1");
+    assert_eq!(refused(Executor::builder().notes(100)), "a journal wants 64 notes more than a link has places (512)");
+}
+
+#[test]
+fn a_journal_that_is_kept_and_full_ends_the_run() {
+    let told = Executor::builder().places(8).journal(Journal::Keep).notes(200).run(|_| async {
+        loop {
+            yield_now().await;
+        }
+    });
+    assert_eq!(told.unwrap_err().to_string(), format!("the library: {}", fairexec::Error::JournalFull));
+}
