@@ -6,13 +6,11 @@
 //! order was refused, and which core closed by itself.
 #![tactic(auto)]
 
-use fairexec_report::put_stats;
-use rt_audit::{Verdict, audit};
-use rt_ids::{ActorNo, CoreNo, Mode, Note, Order, Outcome, QueueNo, Ticket};
-use rt_journal::{Assembly, Journal};
-use rt_runtime::{Config, NoGate, Runtime, SubmitError, SystemClock};
-use rt_shares::Shares;
-use std::alloc::{AllocError, Global};
+use duthlwyran::{
+    ActorNo, Assembly, CoreNo, House, Journal, Mode, Node, Note, Order, Outcome, PlanError, QueueNo,
+    SubmitError, Ticket, Verdict, audit, put_all_stats,
+};
+use std::alloc::Global;
 use std::process::ExitCode;
 use std::sync::Wait;
 use std::thread::Threads;
@@ -30,47 +28,28 @@ const READS: QueueNo = QueueNo(1);
 
 const COMPACTION: QueueNo = QueueNo(2);
 
-/// A core reads the system's clock round each poll, and asks nobody before it.
-type Node<R> = Runtime<Work, SystemClock<R>, NoGate>;
-
 /// Reads weigh nine times as much as compaction, if both have work.
-fn config(alloc: Global) -> Result<Config, AllocError> {
-    let mut queues = Vec::new(alloc);
+fn planned(alloc: Global) -> Result<House, PlanError> {
+    let mut house = House::new(alloc, CORES, 64);
     for core in 0..CORES {
-        for shares in [900, 100] {
-            if let Ok(shares) = Shares::try_new(shares) {
-                queues.push((CoreNo(core), shares))?;
-            }
-        }
+        let _reads = house.queue(CoreNo(core), "reads", 900)?;
+        let _compaction = house.queue(CoreNo(core), "compaction", 100)?;
     }
-    Ok(Config {
-        cores: CORES,
-        cap: 64,
-        burst: 1,
-        room: 65536,
-        queues,
-    })
+    Ok(house)
 }
 
-/// Starts the threads. None if memory or a thread is wanting.
-fn start<R>(rt: R, alloc: Global) -> Option<Node<R>>
+/// Starts the threads, each with a table of its own. None if memory or a thread is wanting.
+fn start<R>(rt: R, alloc: Global) -> Option<Node<Work, R>>
 where
     R: Threads + Wait + Clock + Copy + Drop + Send + 'static,
 {
-    let Ok(config) = config(alloc) else {
-        return None;
-    };
-    let (mut clocks, mut gates) = (Vec::new(alloc), Vec::new(alloc));
     let mut tables = Vec::new(alloc);
     for _ in 0..CORES {
-        if clocks.push(SystemClock::new(rt)).is_err() || gates.push(NoGate).is_err() {
-            return None;
-        }
-        if tables.push(Table::new(alloc)).is_err() {
-            return None;
-        }
+        tables.push(Table::new(alloc)).ok()?;
     }
-    Node::start_with_locals(rt, alloc, config, clocks, gates, tables).ok()
+    let house = planned(alloc).ok()?;
+    let (node, _names) = house.start_with_locals(rt, alloc, tables).ok()?;
+    Some(node)
 }
 
 /// The ticket of an order that was submitted. Standard error tells why it was refused, if it was: its core has closed, or the journal of the
@@ -91,7 +70,7 @@ fn accepted<R: Eprint>(
 }
 
 /// Submits a compaction of so many blocks, and nobody waits for it.
-fn compact<R: Eprint + Drop>(rt: &R, node: &mut Node<R>, core: CoreNo, blocks: u32) -> bool {
+fn compact<R: Eprint + Drop>(rt: &R, node: &mut Node<Work, R>, core: CoreNo, blocks: u32) -> bool {
     let job = Work::Compact {
         blocks,
         left: blocks,
@@ -105,7 +84,7 @@ fn compact<R: Eprint + Drop>(rt: &R, node: &mut Node<R>, core: CoreNo, blocks: u
 /// Reads the value of a key. None if the read was refused or handed back.
 fn read<R: Wait + Eprint + Drop>(
     rt: &R,
-    node: &mut Node<R>,
+    node: &mut Node<Work, R>,
     core: CoreNo,
     key: u32,
 ) -> Option<u64> {
@@ -119,7 +98,7 @@ fn read<R: Wait + Eprint + Drop>(
 
 /// Commits a key: core 0 writes it, and its job parks until core 1 has answered. Whoever hears that answer wakes the job, so it is polled
 /// twice and never in vain. A wake that comes before the park is kept.
-fn commit<R: Wait + Eprint + Drop>(rt: &R, node: &mut Node<R>, key: u32) -> Option<u64> {
+fn commit<R: Wait + Eprint + Drop>(rt: &R, node: &mut Node<Work, R>, key: u32) -> Option<u64> {
     let job = Work::Commit {
         key,
         is_written: false,
@@ -140,7 +119,7 @@ fn commit<R: Wait + Eprint + Drop>(rt: &R, node: &mut Node<R>, key: u32) -> Opti
 }
 
 /// Does the work of the day: a compaction on each core, and reads beside it. The sum of what was read.
-fn serve<R: Wait + Eprint + Drop>(rt: &R, node: &mut Node<R>) -> Option<u64> {
+fn serve<R: Wait + Eprint + Drop>(rt: &R, node: &mut Node<Work, R>) -> Option<u64> {
     let mut sum: u64 = 0;
     for core in 0..CORES {
         if !compact(rt, node, CoreNo(core), 1000) {
@@ -155,7 +134,7 @@ fn serve<R: Wait + Eprint + Drop>(rt: &R, node: &mut Node<R>) -> Option<u64> {
 }
 
 /// The work of the day and a commit. What was read, and the key that was committed. None where an order was refused or handed back.
-fn do_work<R: Wait + Eprint + Drop>(rt: &R, node: &mut Node<R>) -> Option<(u64, u64)> {
+fn do_work<R: Wait + Eprint + Drop>(rt: &R, node: &mut Node<Work, R>) -> Option<(u64, u64)> {
     let sum = serve(rt, node)?;
     let key = commit(rt, node, 7)?;
     Some((sum, key))
@@ -163,7 +142,7 @@ fn do_work<R: Wait + Eprint + Drop>(rt: &R, node: &mut Node<R>) -> Option<(u64, 
 
 /// Closes the cores, waits until they have ended, and puts the journals together. A core that has closed by itself refuses the order, and
 /// counts as closed, too. The table of each core comes back.
-fn finish<R>(rt: &R, node: Node<R>, mode: Mode) -> Option<(Assembly, Vec<Table>)>
+fn finish<R>(rt: &R, node: Node<Work, R>, mode: Mode) -> Option<(Assembly, Vec<Table>)>
 where
     R: Threads + Wait + Clock + Eprint + Drop,
 {
@@ -202,23 +181,6 @@ fn tell_short<R: Eprint>(rt: &R, assembly: &Assembly) {
     }
 }
 
-/// The statistics of each core and its queues, as text.
-fn statistics(alloc: Global, assembly: &Assembly) -> Result<String, AllocError> {
-    let mut page = String::new(alloc);
-    let cores = assembly.cores();
-    for core in 0..cores {
-        put_stats(
-            alloc,
-            CoreNo(core),
-            cores,
-            assembly.burst(),
-            assembly.journal(ActorNo(core)),
-            &mut page,
-        )?;
-    }
-    Ok(page)
-}
-
 /// Tells what stands in the tables of all cores.
 fn tell_tables<R: Print>(rt: &R, tables: &[Table]) -> Option<()> {
     let (mut reads, mut keys) = (0u64, 0usize);
@@ -255,7 +217,8 @@ where
     };
     let (assembly, tables) = finish(rt, node, mode)?;
     tell_short(rt, &assembly);
-    let page = statistics(alloc, &assembly).ok()?;
+    let mut page = String::new(alloc);
+    put_all_stats(alloc, &assembly, &mut page).ok()?;
     eprint!(rt; "{page}").ok()?;
     tell_work(rt, done)?;
     tell_tables(rt, &tables)?;

@@ -1,7 +1,6 @@
 //! The table of one core. All jobs of the core share it, and no lock guards it: it is lent to one poll at a time.
 
-use rt_ids::CoreNo;
-use rt_jobs::CoreState;
+use duthlwyran::{CoreNo, CoreState};
 use std::alloc::Global;
 
 /// Room for so many keys is made at the start.

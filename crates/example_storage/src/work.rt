@@ -3,7 +3,7 @@
 ghost use Rattle.std.specs.Prelude.{◌≡◌, false};
 
 use crate::table::Table;
-use rt_jobs::{Job, Post, Step, Task};
+use duthlwyran::{Job, Post, Step, Task};
 
 /// What is submitted to a core.
 #[derive(Drop)]

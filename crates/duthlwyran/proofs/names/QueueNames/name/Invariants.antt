@@ -1,6 +1,6 @@
 use Rattle.std.proofs.Common.{◌≡◌, drop}
-use Rattle.rt_runtime_house.specs.Plans.{name_of}
-use Rattle.rt_runtime_house.proofs.names.QueueNames.name.Given as goal
+use Rattle.duthlwyran.specs.Plans.{name_of}
+use Rattle.duthlwyran.proofs.names.QueueNames.name.Given as goal
 
 abbrev pub invariant-loop-index : goal.invariant-loop-index
 invariant-loop-index l =

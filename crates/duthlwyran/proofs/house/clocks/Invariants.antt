@@ -1,5 +1,5 @@
 use Rattle.std.proofs.Common.{◌≡◌, ◌≤◌, length}
-use Rattle.rt_runtime_house.proofs.house.clocks.Given as goal
+use Rattle.duthlwyran.proofs.house.clocks.Given as goal
 
 abbrev pub invariant-loop : goal.invariant-loop
 invariant-loop g l = (length l.clocks.items ≡ l.counter) × (l.counter ≤ l.cores)

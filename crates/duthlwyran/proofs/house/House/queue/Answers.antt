@@ -2,9 +2,9 @@ use Rattle.std.proofs.Common.{arith, ◌≡◌, ◌∙◌, ◌<◌, ◌+◌, ℕ
 use Rattle.std.proofs.lemmas.Grind.{common_steps}
 use Rattle.rt_runtime_config.specs.Configs.{Entry, queues_of}
 use Rattle.rt_runtime_worker.specs.Queues.{creations}
-use Rattle.rt_runtime_house.specs.Plans.{Name, Plan}
-use Rattle.rt_runtime_house.proofs.Plans.{plans_next, planned}
-use Rattle.rt_runtime_house.proofs.house.House.queue.Goals as goal
+use Rattle.duthlwyran.specs.Plans.{Name, Plan}
+use Rattle.duthlwyran.proofs.Plans.{plans_next, planned}
+use Rattle.duthlwyran.proofs.house.House.queue.Goals as goal
 
 pub overflow_add-count : goal.overflow_add-count
 overflow_add-count c = grind (arith, common_steps, c.deref.ensures.len, c.planned_of-count.ensures.few, c.self.inside.config.queues.small)

@@ -8,7 +8,7 @@ use Rattle.rt_ids.specs.declared.note.Note.TheVariants.{Created}
 use Rattle.rt_ids.specs.Work.{number_if}
 use Rattle.rt_runtime_config.specs.Configs.{Entry, queues_of}
 use Rattle.rt_runtime_worker.specs.Queues.{behind_entry, behind_entries, creations}
-use Rattle.rt_runtime_house.specs.Plans.{Name, Plan}
+use Rattle.duthlwyran.specs.Plans.{Name, Plan}
 
 module _ {T : Type 0} (core : ℕ) where
   -- what stands behind one more is what stands behind those before it, and it

@@ -4,7 +4,7 @@ use Rattle.std.specs.Prelude.{Ok}
 use Rattle.rt_ids.specs.declared.note.Note.TheVariants.{Created}
 use Rattle.rt_runtime_config.specs.Configs.{Entry}
 use Rattle.rt_runtime_worker.specs.Queues.{creations}
-use Rattle.rt_runtime_house.specs.Plans.{Plan, Name, PlansQueue}
+use Rattle.duthlwyran.specs.Plans.{Plan, Name, PlansQueue}
 
 abbrev reads : Name
 reads = record { core = 0; queue = 1; text = 114 ∷ [] }

@@ -1,5 +1,5 @@
 use Rattle.std.proofs.Common.{◌≡◌, ◌≤◌, length}
-use Rattle.rt_runtime_house.proofs.house.gates.Given as goal
+use Rattle.duthlwyran.proofs.house.gates.Given as goal
 
 abbrev pub invariant-loop : goal.invariant-loop
 invariant-loop l = (length l.gates.items ≡ l.counter) × (l.counter ≤ l.cores)

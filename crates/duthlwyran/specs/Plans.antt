@@ -1,6 +1,7 @@
 -- What is planned of a house, and what becomes of it.
-use Rattle.std.specs.Prelude.{◌≡◌, ◌==◌, ◌&&◌, ℕ, ◌+◌, ◌<◌, ◌≤◌, if◌then◌else◌, Option, Some, None, List, [], ◌∷◌, ◌++◌, Result, Ok, Err}
+use Rattle.std.specs.Prelude.{◌≡◌, ◌==◌, ◌&&◌, ℕ, ◌+◌, ◌<◌, ◌≤◌, if◌then◌else◌, ◌⊎◌, Option, Some, None, List, [], ◌∷◌, ◌++◌, Result, Ok, Err}
 use Rattle.rt_ids.specs.Limits.{most_queues}
+use Rattle.rt_shares.specs.Charge.{InRange}
 use Rattle.rt_ids.specs.declared.note.Note.TheVariants.{Created}
 use Rattle.rt_runtime_config.specs.Configs.{Entry, queues_of}
 use Rattle.rt_runtime_worker.specs.Queues.{creations}
@@ -9,8 +10,8 @@ use Rattle.rt_runtime.specs.State.{RuntimeView}
 use Rattle.rt_runtime.specs.WithLocals.{StartsWithLocals, StartsWithSinksAndLocals}
 use Rattle.rt_runtime.specs.WithSinks.{StartsWithSinks}
 use Rattle.rt_runtime.specs.declared.error.StartError.{StartError}
-use Rattle.rt_runtime_house.specs.declared.house.PlanError.{PlanError}
-use Rattle.rt_runtime_house.specs.declared.house.PlanError.TheVariants.{NoCore, TooMany, Memory}
+use Rattle.duthlwyran.specs.declared.house.PlanError.{PlanError}
+use Rattle.duthlwyran.specs.declared.house.PlanError.TheVariants.{NoCore, BadShares, TooMany, Memory}
 
 -- a queue of a core, and the bytes of its name
 pub record Name : Type 0 where
@@ -40,12 +41,13 @@ name_of core queue (first ∷ rest) = if (first.core == core) && (first.queue ==
 -- refused, for what the plan says, and nothing is planned.
 abbrev pub PlansQueue : ℕ → ℕ → List ℕ → Plan → Result ℕ PlanError → Plan → Type 0
 PlansQueue core shares text old (Ok queue) new =
-    (core < old.cores) × (queue < most_queues)
+    (core < old.cores) × InRange shares × (queue < most_queues)
     × (new ≡ record old { queues = old.queues ++ (core, shares) ∷ []; names = old.names ++ record { core = core; queue = queue; text = text } ∷ [] })
     × (creations {T = ℕ} core new.queues ≡ Created queue shares ∷ creations core old.queues)
 PlansQueue core shares text old (Err NoCore) new = (old.cores ≤ core) × (new ≡ old)
-PlansQueue core shares text old (Err TooMany) new = (core < old.cores) × (most_queues ≤ queues_of core old.queues + 1) × (new ≡ old)
-PlansQueue core shares text old (Err Memory) new = (core < old.cores) × (queues_of core old.queues + 1 < most_queues) × (new ≡ old)
+PlansQueue core shares text old (Err BadShares) new = (core < old.cores) × ((shares ≡ 0) ⊎ (10000 < shares)) × (new ≡ old)
+PlansQueue core shares text old (Err TooMany) new = (core < old.cores) × InRange shares × (most_queues ≤ queues_of core old.queues + 1) × (new ≡ old)
+PlansQueue core shares text old (Err Memory) new = (core < old.cores) × InRange shares × (queues_of core old.queues + 1 < most_queues) × (new ≡ old)
 
 -- the house starts as its plan says, with a clock and a gate for each core, and the names come back
 abbrev pub StartsPlan : {J T : Type 0} → Plan → Result (RuntimeView J T × List Name) StartError → Type 0

@@ -3,7 +3,7 @@ use Rattle.std.proofs.Common.{◌≡◌, ◌≢◌, ◌==◌, ◌&&◌, ℕ, ◌
 use Rattle.std.proofs.Math.Seq.{drop-cons}
 use Rattle.std.proofs.lemmas.Bool.{eq-eqb, ne_eqb}
 use Rattle.std.proofs.lemmas.List.{drop_all}
-use Rattle.rt_runtime_house.specs.Plans.{Name, name_of}
+use Rattle.duthlwyran.specs.Plans.{Name, name_of}
 
 module _ (all : List Name) (index : ℕ) (none : Name) (low : index < length all) (core queue : ℕ) where
   abbrev first : Name

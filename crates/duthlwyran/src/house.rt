@@ -1,10 +1,11 @@
 //! A house that is planned before its threads are there.
 
-ghost use Rattle.std.specs.Prelude.{◌≡◌, ◌+◌, ◌≤◌, All, [], IfOk, length, min};
+ghost use Rattle.std.specs.Prelude.{◌≡◌, ◌+◌, ◌<◌, ◌≤◌, All, [], IfOk, Some, length, min};
 ghost use Rattle.rt_ids.specs.Limits.{most_notes};
 ghost use Rattle.rt_runtime_config.specs.Configs.{least_room, queues_of};
 ghost use Rattle.rt_runtime.specs.WithSinks.{HasSinks};
-ghost use Rattle.rt_runtime_house.specs.Plans.{fresh_plan, PlansQueue, StartsPlan, StartsPlanWithLocals, StartsPlanWithSinks, StartsPlanWithSinksAndLocals};
+ghost use Rattle.duthlwyran.specs.Errors.{plan_text};
+ghost use Rattle.duthlwyran.specs.Plans.{fresh_plan, PlansQueue, StartsPlan, StartsPlanWithLocals, StartsPlanWithSinks, StartsPlanWithSinksAndLocals};
 
 use crate::names::QueueNames;
 use rt_ids::{CoreNo, MOST_NOTES, MOST_QUEUES, QueueNo};
@@ -13,6 +14,8 @@ use rt_runtime::{Runtime, Sink, StartError, Whole};
 use rt_runtime_config::{Config, NoGate, SystemClock, is_good};
 use rt_shares::Shares;
 use std::alloc::{AllocError, Global};
+use std::error::Error;
+use std::fmt;
 use std::marker::Model;
 use std::sync::Wait;
 use std::thread::Threads;
@@ -22,15 +25,32 @@ use std::time;
 pub const SPARE_NOTES: usize = 65_536;
 
 /// Why a queue wasn't planned, tried in this order.
-#[derive(Clone, Copy, PartialEq, Eq, Debug)]
+#[derive(Clone, Copy, PartialEq, Eq, Debug, Drop)]
 pub enum PlanError {
     /// There is no such core.
     NoCore,
+    /// Shares are from 1 to 10,000.
+    BadShares,
     /// The core has 256 queues, queue 0 among them.
     TooMany,
     /// There is no memory for one more.
     Memory,
 }
+
+impl fmt::Display for PlanError {
+    ghost output = { λ error. Some (plan_text error) };
+
+    fn fmt<W: fmt::Write>(&self, f: &mut fmt::Formatter<W>) -> fmt::Result {
+        match self {
+            PlanError::NoCore => f.write_str("no such core"),
+            PlanError::BadShares => f.write_str("shares are from 1 to 10000"),
+            PlanError::TooMany => f.write_str("the core has 256 queues"),
+            PlanError::Memory => f.write_str("out of memory"),
+        }
+    }
+}
+
+impl Error for PlanError {}
 
 /// How many queues were planned for this core.
 #[tactic(auto, using(rt_runtime_config::proofs::Counts::queues_here, rt_runtime_config::proofs::Counts::queues_away, rt_runtime_config::proofs::Counts::queues_none))]
@@ -96,7 +116,7 @@ pub struct House {
 }
 
 impl Model for House {
-    ghost use Rattle.rt_runtime_house.specs.Plans.{Plan};
+    ghost use Rattle.duthlwyran.specs.Plans.{Plan};
 
     ghost Value = { Plan };
 
@@ -151,17 +171,33 @@ impl House {
         house
     }
 
-    /// Plans the next queue of a core, with a name and shares from 1 to 10,000, and answers its number. The first of a core is queue 1.
+    /// Plans the next queue of a core, with a name and shares from 1 to 10,000, and returns its number. The first of a core is queue 1.
     ///
     /// # Errors
     ///
-    /// `NoCore`, `TooMany` or `Memory`, tried in this order. Nothing was planned then.
-    pub fn queue(&mut self, core: CoreNo, name: &str, shares: Shares) -> Result<QueueNo, PlanError>
+    /// `NoCore`, `BadShares`, `TooMany` or `Memory`, tried in this order. Nothing was planned then.
+    pub fn queue(&mut self, core: CoreNo, name: &str, shares: u32) -> Result<QueueNo, PlanError>
         ensures { PlansQueue core shares name.now self.old result self.new }
     {
         if core.0 >= self.config.cores {
             return Err(PlanError::NoCore);
         }
+        let Ok(shares) = Shares::try_new(shares) else {
+            return Err(PlanError::BadShares);
+        };
+        self.next_queue(core, name, shares)
+    }
+
+    /// The next queue of a core that is there.
+    fn next_queue(
+        &mut self,
+        core: CoreNo,
+        name: &str,
+        shares: Shares,
+    ) -> Result<QueueNo, PlanError>
+        requires there { core < self.old.cores }
+        ensures { PlansQueue core shares name.now self.old result self.new }
+    {
         let count = planned_of(core, &self.config.queues);
         if count + 1 >= MOST_QUEUES {
             return Err(PlanError::TooMany);

@@ -2,7 +2,7 @@
 
 ghost use Rattle.std.specs.Prelude.{◌≡◌, ◌++◌, ◌∷◌, [], OnErr, OnOk, option_map};
 ghost use Rattle.std.specs.String.{string_bytes};
-ghost use Rattle.rt_runtime_house.specs.Plans.{Name, name_of};
+ghost use Rattle.duthlwyran.specs.Plans.{Name, name_of};
 
 use rt_ids::{CoreNo, QueueNo};
 use std::alloc::{AllocError, Global};
@@ -17,7 +17,7 @@ struct Named {
 }
 
 impl Model for Named {
-    ghost use Rattle.rt_runtime_house.specs.Plans.{Name};
+    ghost use Rattle.duthlwyran.specs.Plans.{Name};
     ghost use Rattle.std.specs.String.{string_bytes};
 
     ghost Value = { Name };
@@ -34,7 +34,7 @@ pub struct QueueNames {
 
 impl Model for QueueNames {
     ghost use Rattle.std.specs.Prelude.{List};
-    ghost use Rattle.rt_runtime_house.specs.Plans.{Name};
+    ghost use Rattle.duthlwyran.specs.Plans.{Name};
 
     ghost Value = { List Name };
 

@@ -1,0 +1,56 @@
+//! Work that needs no words for the prover: one function, and what it answers is a number.
+
+ghost use Rattle.rt_jobs.specs.Plain.{plain_laws, plain_meaning};
+
+use rt_jobs::{Job, Post, Step, Task};
+
+/// Work in steps. It submits nothing itself, and shares nothing with other jobs of its core.
+///
+/// A job that submits, that shares a state of its core, or whose answers are known to a contract is a type of your own, with `Task`
+/// and `Job`.
+pub trait Work: Drop {
+    /// One step, which takes the core until it returns.
+    fn step(&mut self) -> Step<u64>;
+}
+
+/// A job that does such work, a step in each poll. A contract knows whether it has answered, and nothing else.
+#[derive(Drop)]
+pub struct Plain<W> {
+    work: W,
+    ended: bool,
+}
+
+impl<W: Work> Plain<W> {
+    /// A job that has still to do this work.
+    pub fn new(work: W) -> Self
+        ensures open { result.ended ≡ false }
+    {
+        Plain { work, ended: false }
+    }
+}
+
+impl<W: Work> Task for Plain<W> {
+    type Out = u64;
+
+    type Local = ();
+
+    ghost meaning = { plain_meaning (λ job. job.ended) };
+
+    ghost laws = { plain_laws (λ job. job.ended) };
+
+    fn is_done(&self) -> bool {
+        self.ended
+    }
+
+    fn told(&self) -> Option<u64> {
+        None
+    }
+}
+
+impl<W: Work> Job for Plain<W> {
+    fn poll<P: Post<Self, u64>>(&mut self, _post: &mut P) -> Step<u64> {
+        let step = self.work.step();
+        self.ended = matches!(step, Step::Done(_));
+        step
+    }
+}
