@@ -1,21 +1,18 @@
 //! A first program: it starts a core, submits a job, waits for it, and finishes.
 #![tactic(auto)]
 
-use duthlwyran::{CoreNo, House, Mode, Order, Outcome, Plain, Step, Verdict, Work, audit};
+use duthlwyran::{CoreNo, House, Mode, Order, Outcome, Plain, Step, Work};
 
-/// Counts up to a number, one step in each poll.
+/// Counts up to a number, a step in each poll.
 #[derive(Drop)]
-struct Count {
-    so_far: u64,
-    to: u64,
-}
+struct Count(u64, u64);
 
 impl Work for Count {
     fn step(&mut self) -> Step<u64> {
-        if self.so_far >= self.to {
-            return Step::Done(self.to);
+        if self.0 >= self.1 {
+            return Step::Done(self.1);
         }
-        self.so_far += 1;
+        self.0 += 1;
         Step::Yield
     }
 }
@@ -24,14 +21,12 @@ fn main(rt: HostRuntime) -> anyhow::Result<()> {
     let mut house = House::new(rt.alloc(), 1, 64);
     let requests = house.queue(CoreNo(0), "requests", 900)?;
     let (mut node, _names) = house.start(rt, rt.alloc())?;
-    let job = Plain::new(Count { so_far: 0, to: 1000 });
+    let job = Plain::new(Count(0, 1000));
     let ticket = node.submit(CoreNo(0), Order::Job(requests, job))?;
     if let Outcome::Finished(count) = node.wait(&rt, ticket)? {
         println!(rt; "counted to {count}")?;
     }
-    let _closed = node.close_core(CoreNo(0), Mode::Finish)?;
-    let journals = node.finish(&rt)?;
-    let is_sound = matches!(audit(rt.alloc(), &journals)?, Verdict::Sound);
-    println!(rt; "sound: {is_sound}")?;
+    node.close_core(CoreNo(0), Mode::Finish)?;
+    let _journals = node.finish(&rt)?;
     Ok(())
 }
