@@ -17,11 +17,11 @@ one_queue = record { cores = 2; cap = 8; burst = 1; room = 4000; queues = (0, 90
 number_given_twice : (new : Plan) → PlansQueue 0 100 (99 ∷ []) one_queue (Ok 1) new → ⊥
 number_given_twice new plans =
     let told : creations {T = ℕ} 0 ((0, 900) ∷ (0, 100) ∷ []) ≡ Created 1 100 ∷ creations 0 ((0, 900) ∷ [])
-    = sym (ap (λ (p : Plan). creations 0 p.queues) plans.2) ∙ plans.3 in
+    = sym (ap (λ (p : Plan). creations 0 p.queues) plans.3) ∙ plans.4 in
     cc
 
 -- a queue is answered and not planned
 queue_forgotten : PlansQueue 0 100 (99 ∷ []) one_queue (Ok 2) one_queue → ⊥
 queue_forgotten plans =
-    let same : ◌≡◌ {A = List Entry} ((0, 900) ∷ []) ((0, 900) ∷ (0, 100) ∷ []) = ap (λ (p : Plan). p.queues) plans.2 in
+    let same : ◌≡◌ {A = List Entry} ((0, 900) ∷ []) ((0, 900) ∷ (0, 100) ∷ []) = ap (λ (p : Plan). p.queues) plans.3 in
     cc

@@ -2,6 +2,7 @@
 
 ghost use Rattle.std.specs.Prelude.{◌≡◌, ◌+◌, ◌<◌, ◌≤◌, All, [], IfOk, Some, length, min};
 ghost use Rattle.rt_ids.specs.Limits.{most_notes};
+ghost use Rattle.rt_shares.specs.Charge.{InRange};
 ghost use Rattle.rt_runtime_config.specs.Configs.{least_room, queues_of};
 ghost use Rattle.rt_runtime.specs.WithSinks.{HasSinks};
 ghost use Rattle.duthlwyran.specs.Errors.{plan_text};
@@ -196,6 +197,7 @@ impl House {
         shares: Shares,
     ) -> Result<QueueNo, PlanError>
         requires there { core < self.old.cores }
+        requires good { InRange shares }
         ensures { PlansQueue core shares name.now self.old result self.new }
     {
         let count = planned_of(core, &self.config.queues);
