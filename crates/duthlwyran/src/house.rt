@@ -16,11 +16,10 @@ use rt_runtime_config::{Config, NoGate, SystemClock, is_good};
 use rt_shares::Shares;
 use std::alloc::{AllocError, Global};
 use std::error::Error;
-use std::fmt;
 use std::marker::Model;
 use std::sync::Wait;
 use std::thread::Threads;
-use std::time;
+use std::{fmt, time};
 
 /// How many notes a journal has room for, beside those that a worker keeps free.
 pub const SPARE_NOTES: usize = 65_536;
@@ -190,12 +189,7 @@ impl House {
     }
 
     /// The next queue of a core that is there.
-    fn next_queue(
-        &mut self,
-        core: CoreNo,
-        name: &str,
-        shares: Shares,
-    ) -> Result<QueueNo, PlanError>
+    fn next_queue(&mut self, core: CoreNo, name: &str, shares: Shares) -> Result<QueueNo, PlanError>
         requires there { core < self.old.cores }
         requires good { InRange shares }
         ensures { PlansQueue core shares name.now self.old result self.new }

@@ -22,8 +22,8 @@ pub use rt_jobs::{
 };
 pub use rt_journal::{Assembly, Journal};
 pub use rt_runtime::{
-    ActorNotes, Clock, Config, FinishError, Gate, NoGate, Passed, Refused, Runtime, Sink, StartError,
-    SubmitError, SystemClock, Watcher, Whole,
+    ActorNotes, Clock, Config, FinishError, Gate, NoGate, Passed, Refused, Runtime, Sink,
+    StartError, SubmitError, SystemClock, Watcher, Whole,
 };
 pub use rt_shares::Shares;
 pub use rt_sinks::{Discard, Keep};

@@ -7,8 +7,8 @@
 #![tactic(auto)]
 
 use duthlwyran::{
-    ActorNo, Assembly, CoreNo, House, Journal, Mode, Node, Note, Order, Outcome, PlanError, QueueNo,
-    SubmitError, Ticket, Verdict, audit, put_all_stats,
+    ActorNo, Assembly, CoreNo, House, Journal, Mode, Node, Note, Order, Outcome, PlanError,
+    QueueNo, SubmitError, Ticket, Verdict, audit, put_all_stats,
 };
 use std::alloc::Global;
 use std::process::ExitCode;
