@@ -1,5 +1,6 @@
 //! Work that needs no words for the prover: one function, and what it answers is a number.
 
+ghost use Rattle.std.specs.Prelude.{◌≡◌, false};
 ghost use Rattle.rt_jobs.specs.Plain.{plain_laws, plain_meaning};
 
 use rt_jobs::{Job, Post, Step, Task};
