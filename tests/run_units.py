@@ -35,7 +35,19 @@ UNITS = ROOT / "tests" / "units"
 SHARED = UNITS / "shared"
 
 # About how many processor seconds each layer takes, so that the longest begin first. One that isn't named begins before all.
-SECONDS = {}
+SECONDS = {
+    "run": 300,
+    "host": 120,
+    "fairexec": 110,
+    "note": 100,
+    "model": 80,
+    "link": 80,
+    "judge": 60,
+    "actor": 45,
+    "core": 45,
+    "base": 45,
+    "fairview": 40,
+}
 # How many seconds the tests of a layer may run for. On a busy machine they must not be too few.
 MOST_SECONDS = 300
 

@@ -9,16 +9,16 @@ ROOT = Path(__file__).resolve().parent.parent
 TABLE = ROOT / "tools" / "gate-table.tsv"
 KINDS = ("proof", "tests", "edits")
 
-# Processor seconds of the parts of ./check beside `rt ci`, and how many of them run at once at most.
+# About how many processor seconds the parts of ./check beside `rt ci` take, and how many processors they use at most.
 PARTS = {
-    "tests/run-units": (1300, 16),
+    "tests/run-units": (1100, 4),
     "tests/front-door": (20, 1),
     "tests/program": (60, 1),
     "tests/fairview": (120, 1),
     "tests/hosts": (480, 2),
     "tests/memory/run": (60, 1),
     "tests/memory/steady": (20, 1),
-    "tests/memory/again": (120, 1),
+    "tests/memory/again": (300, 4),
     "tests/tested-edits": (240, 1),
 }
 
