@@ -6,6 +6,7 @@ import shutil
 import signal
 import socket
 import subprocess
+import sys
 import time
 
 PORT = 16379
@@ -146,6 +147,8 @@ def try_redis(program, check, skip):
 
 
 def try_python(program, check, skip):
+    # Debian's packages are those of its own python.
+    sys.path.append("/usr/lib/python3/dist-packages")
     try:
         import redis
     except ImportError:
@@ -159,7 +162,8 @@ def try_python(program, check, skip):
         pipe = client.pipeline(transaction=False)
         for number in range(1000):
             pipe.set(f"key{number}", number)
-            pipe.incr("count")
+            # Its own call is INCRBY, which kv has not.
+            pipe.execute_command("INCR", "count")
         check("python: a pipeline", pipe.execute()[-1], 1000)
         check("python: scan", len(set(client.scan_iter(count=37))), 1002)
         check("python: mget", client.mget("key1", "key2"), [b"1", b"2"])

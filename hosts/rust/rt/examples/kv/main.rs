@@ -41,6 +41,9 @@ thread_local! {
 /// Cores that accept, and connections of all of them: as long as there are some, a core has calls of others.
 static OPEN: AtomicU32 = AtomicU32::new(0);
 
+/// Cores that have opened their shard.
+static OPENED: AtomicU32 = AtomicU32::new(0);
+
 /// Calls something with the shard of this core.
 fn shard<R>(call: impl FnOnce(&mut Shard) -> R) -> R {
     SHARD.with_borrow_mut(|it| call(it.as_mut().expect("each core opens its shard first")))
@@ -374,6 +377,11 @@ fn main() {
                 SHARD.set(Some(opened.unwrap_or_else(|error| panic!("the log of core {}: {error}", here.core()))));
                 let works: Vec<_> = (0..background).map(|_| spawn_local(COMPACTION, work())).collect();
                 let writes = spawn_local(REQUESTS, log::write());
+                // A core that accepts calls the others, so each has opened its shard before one accepts.
+                OPENED.fetch_add(1, SeqCst);
+                while OPENED.load(SeqCst) < here.cores() {
+                    sleep(Duration::from_millis(1)).await;
+                }
                 accept(here, port, idle).await;
                 works.into_iter().for_each(JoinHandle::abort);
                 OPEN.fetch_sub(1, SeqCst);
