@@ -36,10 +36,12 @@ SHARED = UNITS / "shared"
 
 # About how many processor seconds each layer takes, so that the longest begin first. One that isn't named begins before all.
 SECONDS = {
-    "run": 300,
+    "run": 200,
+    "run_sinks": 150,
     "host": 120,
     "fairexec": 110,
     "note": 100,
+    "run_workers": 90,
     "model": 80,
     "link": 80,
     "judge": 60,
