@@ -15,7 +15,7 @@ use rt_ids::{ActorNo, CoreNo, Order, Outcome, Ticket};
 use rt_journal_desk::RecordedDesk;
 use rt_journal_notes::RunningJournal;
 use rt_ring_mesh::Ends;
-use rt_runtime_worker::OutsideSeat;
+use actor_seat::OutsideSeat;
 use rt_sinks::Discard;
 use std::alloc::{AllocError, Global};
 use std::marker::Model;

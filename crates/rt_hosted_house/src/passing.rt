@@ -7,7 +7,7 @@ ghost use Rattle.rt_hosted_parts.specs.Parts.{PassesPart};
 use rt_hosted::HostJob;
 use rt_hosted_parts::{PassError, copy_kept};
 use rt_ids::ActorNo;
-use rt_runtime_worker::OutsideSeat;
+use actor_seat::OutsideSeat;
 use rt_sinks::Discard;
 use std::alloc::Global;
 

@@ -6,11 +6,11 @@ ghost use Rattle.rt_ids.specs.Commands.{IsOpening, created_count};
 ghost use Rattle.rt_runtime_config.specs.Configs.{least_room, queues_of};
 ghost use Rattle.rt_journal.specs.Recorded.{IsRecorded};
 ghost use Rattle.rt_journal.specs.Steps.{opened_beside};
-ghost use Rattle.rt_runtime_worker.specs.Opening.{AreEndsOf, CreatesSince, IsOpenedOver};
+ghost use Rattle.actor_seat.specs.Opening.{AreEndsOf, CreatesSince, IsOpenedOver};
 ghost use Rattle.rt_runtime_worker.specs.Queues.{behind_entries, creations};
 ghost use Rattle.rt_runtime_worker.specs.Workers.{HasNotBegun};
 
-use crate::bells::Bells;
+use actor_seat::Bells;
 use crate::linked::Linked;
 use crate::served::Served;
 use crate::showing::PLACES;

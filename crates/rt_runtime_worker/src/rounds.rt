@@ -3,7 +3,8 @@
 ghost use Rattle.std.specs.Prelude.{◌≡◌, ◌||◌, ◌+◌, ◌*◌, ◌≤◌, ◌↔◌, IsTrue, drop, false, length, reverse, true};
 ghost use Rattle.rt_ids.specs.Closing.{IsDrained};
 ghost use Rattle.rt_journal.specs.Recorded.{IsRecorded};
-ghost use Rattle.rt_runtime_worker.specs.Bells.{AreRung, once_more, rung_for};
+ghost use Rattle.rt_runtime_worker.specs.Rounds.{AreRung};
+ghost use Rattle.actor_seat.specs.Bells.{once_more, rung_for};
 ghost use Rattle.rt_runtime_worker.specs.Asks.{AsksSince, NotesNoPoll};
 ghost use Rattle.rt_runtime_worker.specs.Ended.{IsServed};
 ghost use Rattle.rt_runtime_worker.specs.Few.{RoundsFew, TurnsFew, WritesFew};
@@ -12,10 +13,10 @@ ghost use Rattle.rt_runtime_worker.specs.Passing.{HandsOn, HasPlaces, IsDue, IsD
 ghost use Rattle.rt_runtime_worker.specs.Readings.{watch_view};
 ghost use Rattle.rt_runtime_worker.specs.Rounds.{CollectsFirst, HearsAll, ShutsClosed, StepsServed};
 ghost use Rattle.rt_runtime_worker.specs.Shown.{TellsAlone};
-ghost use Rattle.rt_runtime_worker.specs.Steps.{HasNoTurn};
+ghost use Rattle.actor_seat.specs.Steps.{HasNoTurn};
 ghost use Rattle.rt_runtime_worker.specs.Turns.{TurnsWith};
 
-use crate::bells::Bells;
+use actor_seat::Bells;
 use crate::linked::Linked;
 use crate::served::Served;
 use crate::stopwatch::Stopwatch;

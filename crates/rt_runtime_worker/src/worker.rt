@@ -3,15 +3,15 @@
 ghost use Rattle.std.specs.Prelude.{◌≡◌, false};
 ghost use Rattle.rt_ids.specs.Closing.{IsDrained};
 ghost use Rattle.rt_runtime_worker.specs.Asks.{AsksSince};
-ghost use Rattle.rt_runtime_worker.specs.Bells.{AreRung};
-ghost use Rattle.rt_runtime_worker.specs.Linked.{RunsOn};
+ghost use Rattle.rt_runtime_worker.specs.Rounds.{AreRung};
+ghost use Rattle.actor_seat.specs.Linked.{RunsOn};
 ghost use Rattle.rt_runtime_worker.specs.Shown.{IsShown, Shows, shown_of};
 ghost use Rattle.rt_runtime_worker.specs.Passing.{HandsOn, HandsOnWhere, IsDue, IsDueAtRest, IsSupplied, PassesTo};
 ghost use Rattle.rt_runtime_worker.specs.Serves.{GoesOn, Rests, Serves, ServesOnce, ServesToItsEnd, ShowsAgain, ShowsEnd, ShowsNow};
 ghost use Rattle.rt_runtime_worker.specs.Workers.{HasNotBegun, IsBellOf, KeepsOn, served_of};
 
-use crate::bell::Bell;
-use crate::bells::Bells;
+use actor_seat::Bell;
+use actor_seat::Bells;
 use crate::ended::Ended;
 use crate::quiet::rest;
 use crate::rounds::Rounds;
@@ -55,7 +55,7 @@ impl<J: Task<Out = u64>, C: Drop, G: Drop, S: Sink> Model for Worker<J, C, G, S>
 
     ghost Value = { WorkerView J ℕ C G S };
 
-    ghost use Rattle.rt_runtime_worker.specs.Bells.{AreRung};
+    ghost use Rattle.rt_runtime_worker.specs.Rounds.{AreRung};
     ghost use Rattle.rt_runtime_worker.specs.Passing.{PassesTo};
     ghost use Rattle.rt_runtime_worker.specs.Shown.{IsShown, shown_of};
     ghost use Rattle.rt_runtime_worker.specs.Workers.{IsBellOf};

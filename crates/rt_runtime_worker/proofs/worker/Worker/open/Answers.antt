@@ -1,6 +1,6 @@
 use Rattle.std.proofs.Common.{◌≡◌, false, [], length, sym, ◌∙◌, ap, arith}
 use Rattle.std.specs.Prelude.{slice_index_or}
-use Rattle.rt_runtime_worker.specs.Bells.{BellView}
+use Rattle.actor_seat.specs.Bells.{BellView}
 use Rattle.rt_watch.specs.declared.publisher.Publishing.{Publishing}
 use Rattle.rt_runtime_worker.specs.Shown.{shown_of}
 use Rattle.rt_runtime_worker.proofs.Published.{opened_shown}

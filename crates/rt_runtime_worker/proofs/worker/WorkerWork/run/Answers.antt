@@ -1,8 +1,8 @@
 use Rattle.std.proofs.Common.{[], ◌∷◌, sym, ◌∙◌, ap, subst}
 use Rattle.rt_runtime_worker.specs.Asks.{AsksSince, polls_of}
-use Rattle.rt_runtime_worker.specs.Linked.{RunsOn}
+use Rattle.actor_seat.specs.Linked.{RunsOn}
 use Rattle.rt_runtime_worker.specs.Workers.{WorkerView}
-use Rattle.rt_runtime_worker.proofs.Along.{runs_along, runs_same}
+use Rattle.actor_seat.proofs.Along.{runs_along, runs_same}
 use Rattle.rt_runtime_worker.proofs.Asking.{asks_none, asks_then}
 use Rattle.rt_runtime_worker.proofs.Resting.{worker_of}
 use Rattle.rt_runtime_worker.specs.Shown.{shown_of}

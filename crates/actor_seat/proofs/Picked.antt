@@ -1,0 +1,52 @@
+-- A core and its ends after a pick.
+use Rattle.std.proofs.Common.{◌≡◌, ℕ, ◌≤◌, None, subst, ◌∙◌, ap}
+use Rattle.std.specs.Prelude.{Result, Ok}
+use Rattle.rt_ids.specs.declared.names.JobId.{JobId}
+use Rattle.rt_ids.specs.declared.order.Order.{Order}
+use Rattle.rt_ids.specs.declared.order.Reason.{Reason}
+use Rattle.rt_core.specs.declared.turn.Turn.{Turn}
+use Rattle.rt_core.specs.declared.turn.Turn.TheVariants.{Back}
+use Rattle.rt_core.specs.declared.turn.PickError.{PickError}
+use Rattle.rt_jobs.specs.Meanings.{Meaning}
+use Rattle.rt_journal.specs.Ends.{IsSameSeat, LeavesOwed}
+use Rattle.rt_journal.specs.Owed.{owed_back}
+use Rattle.rt_journal.specs.Recorded.{RecordedView, IsRecorded, desk_of, order_taken}
+use Rattle.rt_journal.specs.Turns.{Picks}
+use Rattle.rt_journal_desk.specs.Ends.{KeepsOuts}
+use Rattle.rt_ring_mesh.specs.Ends.{EndsView, SameEnds}
+use Rattle.actor_seat.specs.Linked.{SeesNoLess, StaysLinked}
+use Rattle.actor_seat.proofs.AddedTurns.{adds_picked}
+use Rattle.actor_seat.proofs.HandedBack.{handed_back}
+use Rattle.actor_seat.proofs.Kept.{LeavesEnds}
+
+module _ {J T : Type 0} (meaning : Meaning J T) where
+  -- what a pick leaves of the core: the outcome of a job that goes back is owed
+  pub record LeavesPick (turned : Result (Turn J) PickError) (old new : RecordedView J T) : Type 0 where
+    pub picks : Picks meaning old turned new
+    pub ins : (sender : ℕ) → LeavesOwed sender (owed_back turned sender) old new
+    pub outs : KeepsOuts (desk_of old) (desk_of new)
+    pub lanes : new.lanes ≡ old.lanes
+    pub seat : IsSameSeat old new
+    pub sound : IsRecorded meaning new
+
+module _ {J T : Type 0} {meaning : Meaning J T} {turned : Result (Turn J) PickError} {old new : RecordedView J T} (left : LeavesPick meaning turned old new) where
+  -- one that owes nothing touches no end
+  pub owes_none : ((sender : ℕ) → owed_back {T = T} turned sender ≡ None) → LeavesEnds meaning old new
+  owes_none none = record {
+    ins = λ sender. subst (λ owed. LeavesOwed sender owed old new) (none sender) (left.ins sender);
+    outs = left.outs;
+    lanes = left.lanes;
+    seat = left.seat;
+    sound = left.sound;
+  }
+
+  pub picked_stays : (ends given : EndsView J T) → SameEnds ends given → SeesNoLess ends given → StaysLinked (record { recorded = old; ends = ends }) (record { recorded = new; ends = given })
+  picked_stays ends given same sees =
+      let adds = adds_picked meaning old new turned left.picks in
+      record { seat = left.seat; ends = same; sees = sees; opening = adds.opening; grows = adds.grows }
+
+  -- the sender of a job that goes back is there
+  pub back_known : (name : JobId) (reason : Reason) (order : Order J) → turned ≡ Ok (Back name reason order) → name.from ≤ new.core.cores
+  back_known name reason order is =
+      let did = handed_back old new turned name reason order is meaning left.picks in
+      (left.sound.taken name _ (ap (λ took. order_taken took name) did.took ∙ did.task)).sender
