@@ -1,14 +1,18 @@
 -- A worker of a core that was just opened: no turn is open, and the core never closed by itself.
-use Rattle.std.proofs.Common.{ℕ, [], ◌∷◌}
+use Rattle.std.proofs.Common.{◌≡◌, ℕ, ◌+◌, ◌*◌, ◌≤◌, [], ◌∷◌, length, ap, arith}
 use Rattle.rt_ids.specs.declared.note.Note.TheVariants.{Created}
+use Rattle.rt_ids.specs.Terms.{Terms}
 use Rattle.rt_ids.specs.Commands.{IsOpening}
 use Rattle.rt_ids.specs.Journal.{Journal, EachNote}
 use Rattle.rt_jobs.specs.Meanings.{Meaning}
 use Rattle.rt_journal.specs.Recorded.{RecordedView}
 use Rattle.rt_journal.specs.Steps.{opened_beside}
-use Rattle.actor_seat.specs.Linked.{IsBetweenTurns}
-use Rattle.actor_seat.specs.Opening.{CreatesSince}
-use Rattle.rt_runtime_worker.specs.Rooms.{MayAct, ActsByCommand}
+use Rattle.rt_ring_mesh.specs.Ends.{EndsView}
+use Rattle.rt_runtime_config.specs.Configs.{least_room}
+use Rattle.actor_seat.specs.Linked.{IsBetweenTurns, LinkedView}
+use Rattle.actor_seat.specs.Opening.{CreatesSince, IsOpenedOver}
+use Rattle.rt_runtime_worker.specs.Passing.{HasPlaces}
+use Rattle.rt_runtime_worker.specs.Rooms.{MayAct, ActsByCommand, least_free}
 use Rattle.rt_runtime_worker.proofs.Between.{opening_between}
 
 module _ {T : Type 0} where
@@ -26,3 +30,11 @@ module _ {J T : Type 0} {meaning : Meaning J T} (core cores cap burst room count
 
   pub opened_acts : ActsByCommand recorded.journal.notes
   opened_acts = opening_acts 0 0 recorded.journal.notes created.opening
+
+module _ {J T : Type 0} where
+  -- there are places for two rounds
+  pub opened_places : (cores cap burst room count : ℕ) (ends : EndsView J T) (worker : LinkedView J T) → IsOpenedOver cores cap burst room ends worker → least_room cores cap burst + count ≤ room → HasPlaces worker.recorded
+  opened_places cores cap burst room count ends worker over enough =
+      let least : 2 * least_free worker.recorded.core.cores worker.recorded.cap worker.recorded.core.bursts.burst ≡ 2 * least_free cores cap burst = ap (λ (terms : Terms). 2 * least_free terms.cores terms.cap terms.burst) over.of.terms in
+      let none : length worker.recorded.journal.passed ≡ 0 = ap length over.of.none_passed in
+      omega (arith, enough, least, none, over.of.room_is)

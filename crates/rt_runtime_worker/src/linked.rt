@@ -114,11 +114,6 @@ impl<J: Task<Out = u64>> Linked<J> {
         self.recorded().is_drained()
     }
 
-    /// Whether a link shows an order or an outcome that wasn't seen yet: one load for each link. No clause says that the answer is right.
-    pub(crate) fn shows(&self) -> bool {
-        self.seat.shows()
-    }
-
     /// Whether a turn would poll a job or hand one back. Nothing changes.
     pub(crate) fn has_turn(&self) -> bool
         ensures none { result ≡ false → HasNoTurn self.now.recorded.journal.notes }

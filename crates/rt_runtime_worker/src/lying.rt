@@ -55,7 +55,7 @@ pub(crate) fn lie_down<'a, J: Task<Out = u64>, C: Drop, G: Drop>(
 {
     Lain {
         key: own.lie_down(),
-        looks: rounds.looks(),
+        looks: rounds.looks,
     }
 }
 

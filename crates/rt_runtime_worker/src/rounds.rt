@@ -57,14 +57,14 @@ fn ring_since(bells: &mut Bells, journal: &RunningJournal<u64>, count: usize)
 /// A core beside its journal, over its actor's ends of the links, with a clock and a gate of its own, and the bells of all cores.
 #[derive(Drop)]
 pub(crate) struct Rounds<J: Task<Out = u64>, C: Drop, G: Drop> {
-    served: Served<J>,
+    pub(crate) served: Served<J>,
     watch: Stopwatch<C>,
     gate: G,
     bells: Bells,
     /// How many turns may be made before the next look at the links.
     turns: u32,
     /// How many looks at the links were made.
-    looks: u64,
+    pub(crate) looks: u64,
 }
 
 impl<J: Task<Out = u64>, C: Drop, G: Drop> Rounds<J, C, G> {
@@ -87,39 +87,6 @@ impl<J: Task<Out = u64>, C: Drop, G: Drop> Rounds<J, C, G> {
         }
     }
 
-    /// Writes to the memory of all notes that there may be. Nothing is noted.
-    pub(crate) fn prefault(&mut self)
-        ensures { self.new ≡ self.old }
-    {
-        self.served.prefault();
-    }
-
-    /// Makes what is still to be made of what the jobs of the core share.
-    pub(crate) fn begin(&self, local: &mut J::Local) {
-        self.served.begin(local);
-    }
-
-    /// Whether every gate is shut, all behind it was delivered, no queue has work, and no job is parked.
-    pub(crate) fn is_drained(&self) -> bool
-        ensures { IsTrue result ↔ IsDrained self.now.served.linked.recorded.core.cores self.now.served.linked.recorded.journal.notes }
-    {
-        self.served.is_drained()
-    }
-
-    /// Whether the worker is at its end.
-    pub(crate) fn is_ending(&self) -> bool
-        ensures { result ≡ self.now.served.ending }
-    {
-        self.served.is_ending()
-    }
-
-    /// Whether the core closed by itself at its end. No clause says that it didn't where the answer is false.
-    pub(crate) fn closed_alone(&self) -> bool
-        ensures { TellsAlone result self.now.served.linked.recorded.journal.notes }
-    {
-        self.served.closed_alone()
-    }
-
     /// The linked core.
     pub(crate) fn into_linked(self) -> Linked<J>
         ensures same { result ≡ self.served.linked }
@@ -127,28 +94,6 @@ impl<J: Task<Out = u64>, C: Drop, G: Drop> Rounds<J, C, G> {
     {
         let Rounds { served, .. } = self;
         served.into_linked()
-    }
-
-    /// The core beside its journal.
-    pub(crate) fn recorded(&self) -> &Recorded<J>
-        ensures recorded { result.now ≡ self.now.served.linked.recorded }
-        ensures sound { IsRecorded J.meaning self.now.served.linked.recorded }
-    {
-        self.served.recorded()
-    }
-
-    /// Whether notes are due to be passed on before a round.
-    pub(crate) fn is_due(&self) -> bool
-        ensures { IsTrue result ↔ IsDue self.now.served }
-    {
-        self.served.is_due()
-    }
-
-    /// Whether notes are due to be passed on before a rest.
-    pub(crate) fn is_due_at_rest(&self) -> bool
-        ensures { IsTrue result ↔ IsDueAtRest self.now.served }
-    {
-        self.served.is_due_at_rest()
     }
 
     /// Hands all notes that are kept to the sink, if the worker isn't at its end.
@@ -175,13 +120,6 @@ impl<J: Task<Out = u64>, C: Drop, G: Drop> Rounds<J, C, G> {
         self.turns = if leaves { MOST_TURNS } else { 0 };
     }
 
-    /// How many looks at the links were made.
-    pub(crate) fn looks(&self) -> u64
-        ensures { result ≡ self.now.looks }
-    {
-        self.looks
-    }
-
     /// Whether no turn is to be made and no link shows anything, behind a round in which nothing was done.
     fn has_nothing(&self, was_idle: bool) -> bool
         ensures idle { result ≡ true → was_idle ≡ true }
@@ -190,10 +128,10 @@ impl<J: Task<Out = u64>, C: Drop, G: Drop> Rounds<J, C, G> {
         if !was_idle {
             return false;
         }
-        if self.served.has_turn() {
+        if self.served.linked.has_turn() {
             return false;
         }
-        !self.served.shows()
+        !self.served.linked.seat.shows()
     }
 
     /// Whether a turn is made without a look at the links. It counts as made.
@@ -287,7 +225,7 @@ impl<J: Job + Task<Out = u64>, C: Clock + Drop, G: Gate + Drop> Rounds<J, C, G> 
         let turned = self.take_turn(local);
         let collected = self.gather();
         let came = either(taken, collected);
-        let closed = self.served.is_closed();
+        let closed = self.served.linked.is_closed();
         self.plan(leaves(turned, came, closed));
         either(turned, came)
     }

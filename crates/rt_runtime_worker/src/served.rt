@@ -38,7 +38,7 @@ fn is_work(made: Turned) -> bool
 /// A linked core, and whether its worker is at its end: then each gate is shut, and nothing is polled any more.
 #[derive(Drop)]
 pub struct Served<J: Task<Out = u64>> {
-    linked: Linked<J>,
+    pub(crate) linked: Linked<J>,
     ending: bool,
     /// The core closed by itself.
     alone: bool,
@@ -73,30 +73,11 @@ impl<J: Task<Out = u64>> Served<J> {
         }
     }
 
-    /// Whether the core is closed, in either mode.
-    pub(crate) fn is_closed(&self) -> bool
-        ensures { result ≡ is_some (core_mode self.now.linked.recorded.journal.notes) }
-    {
-        self.linked.is_closed()
-    }
-
-    /// Whether every gate is shut, all behind it was delivered, no queue has work, and no job is parked.
-    pub(crate) fn is_drained(&self) -> bool
-        ensures { IsTrue result ↔ IsDrained self.now.linked.recorded.core.cores self.now.linked.recorded.journal.notes }
-    {
-        self.linked.is_drained()
-    }
-
     /// Writes to the memory of all notes that there may be. Nothing is noted.
     pub(crate) fn prefault(&mut self)
         ensures { self.new ≡ self.old }
     {
         self.linked.prefault();
-    }
-
-    /// Makes what is still to be made of what the jobs of the core share.
-    pub(crate) fn begin(&self, local: &mut J::Local) {
-        self.linked.begin(local);
     }
 
     /// Whether the worker is at its end.
@@ -235,19 +216,6 @@ impl<J: Task<Out = u64>> Served<J> {
             }
         }
         some
-    }
-
-    /// Whether a link shows what wasn't seen yet. No clause says that the answer is right.
-    pub(crate) fn shows(&self) -> bool {
-        self.linked.shows()
-    }
-
-    /// Whether a turn would poll a job or hand one back.
-    pub(crate) fn has_turn(&self) -> bool
-        ensures none { result ≡ false → HasNoTurn self.now.linked.recorded.journal.notes }
-        ensures rightly { result ≡ true → HasNoTurn self.now.linked.recorded.journal.notes → ⊥ }
-    {
-        self.linked.has_turn()
     }
 
     /// The core beside its journal.

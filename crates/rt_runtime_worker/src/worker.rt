@@ -135,7 +135,7 @@ impl<J: Task<Out = u64>, C: Drop, G: Drop, S: Sink> Worker<J, C, G, S> {
         ensures supplied { IsSupplied S.has S.refused (served_of self.new) self.new.sink }
         ensures marked { S.mark self.new.sink ≡ S.mark self.old.sink }
     {
-        if self.rounds.is_due() {
+        if self.rounds.served.is_due() {
             self.rounds.hand_on(&mut self.sink);
         }
     }
@@ -146,7 +146,7 @@ impl<J: Task<Out = u64>, C: Drop, G: Drop, S: Sink> Worker<J, C, G, S> {
         ensures supplied { IsSupplied S.has S.refused (served_of self.new) self.new.sink }
         ensures marked { S.mark self.new.sink ≡ S.mark self.old.sink }
     {
-        if self.rounds.is_due_at_rest() {
+        if self.rounds.served.is_due_at_rest() {
             self.rounds.hand_on(&mut self.sink);
         }
     }
@@ -155,8 +155,8 @@ impl<J: Task<Out = u64>, C: Drop, G: Drop, S: Sink> Worker<J, C, G, S> {
     fn show(&mut self)
         ensures { ShowsNow self.old self.new }
     {
-        let alone = self.rounds.closed_alone();
-        show_on(self.rounds.recorded(), alone, &mut self.publisher);
+        let alone = self.rounds.served.closed_alone();
+        show_on(self.rounds.served.recorded(), alone, &mut self.publisher);
         self.since = 0;
     }
 
@@ -175,7 +175,7 @@ impl<J: Task<Out = u64>, C: Drop, G: Drop, S: Sink> Worker<J, C, G, S> {
     fn is_ending(&self) -> bool
         ensures { result ≡ self.now.ending }
     {
-        self.rounds.is_ending()
+        self.rounds.served.is_ending()
     }
 
     /// Publishes where the worker is at its end, and wasn't before.
@@ -205,8 +205,8 @@ impl<J: Task<Out = u64>, C: Drop, G: Drop, S: Sink> Worker<J, C, G, S> {
             ..
         } = self;
         let (mut sink, mut publisher) = (sink, publisher);
-        let alone = rounds.closed_alone();
-        show_on(rounds.recorded(), alone, &mut publisher);
+        let alone = rounds.served.closed_alone();
+        show_on(rounds.served.recorded(), alone, &mut publisher);
         let mut linked = rounds.into_linked();
         let _answer = linked.hand_on(&mut sink);
         Ended::of(linked, sink, local, publisher)
@@ -295,11 +295,11 @@ impl<J: Job + Task<Out = u64>, C: Clock + Drop, G: Gate + Drop, S: Sink> Work
     {
         let mut worker = self;
         // On the thread that writes the notes, so that their pages come from memory that is near to it.
-        worker.rounds.prefault();
+        worker.rounds.served.prefault();
         // On the thread that polls the jobs, and before each of their polls.
-        worker.rounds.begin(&mut worker.local);
+        worker.rounds.served.linked.begin(&mut worker.local);
         for _ in rt.forever() {
-            if worker.rounds.is_drained() {
+            if worker.rounds.served.linked.is_drained() {
                 return worker.into_ended();
             }
             worker.serve(rt);

@@ -1,4 +1,4 @@
-use Rattle.std.proofs.Common.{ap}
+use Rattle.std.proofs.Common.{◌≡◌, subst, ap}
 use Rattle.rt_link.specs.Fits.{Fits}
 use Rattle.actor_seat.specs.OutsideSeats.{IsSeatedOutside}
 use Rattle.actor_seat.proofs.OutsideSeats.{seated_passed}
@@ -17,4 +17,4 @@ pub returns-clause-seated : goal.returns-clause-seated
 returns-clause-seated g c = seated_now g (goal.at.returns-clause-seated g c).After-pass_on
 
 pub returns-clause-rest : goal.returns-clause-rest
-returns-clause-rest g c = rw (← c.self.view_is) (ap (λ desk. record { desk = desk; ends = c.self.inside.ends }) c.pass_on.ensures.rest)
+returns-clause-rest g c = subst (λ view. record { desk = c.pass_on.new.self; ends = c.self.inside.ends } ≡ record view { desk = record view.desk { journal = c.pass_on.new.self.journal } }) c.self.view_is (ap (λ desk. record { desk = desk; ends = c.self.inside.ends }) c.pass_on.ensures.rest)

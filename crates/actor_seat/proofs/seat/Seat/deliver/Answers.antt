@@ -1,4 +1,4 @@
-use Rattle.std.proofs.Common.{ap, subst, sym, arith}
+use Rattle.std.proofs.Common.{◌+◌, ◌≤◌, length, ap, subst, sym, arith}
 use Rattle.rt_ring_mesh.specs.Lending.{with_in}
 use Rattle.actor_seat.specs.Linked.{IsLinked}
 use Rattle.actor_seat.specs.Steps.{DeliversFrom}
@@ -32,6 +32,9 @@ in_mut-requires g c = omega (arith, c.self.invariant.beside.ins_are, c.requires.
 
 pub deliver-requires-clause-beside : goal.deliver-requires-clause-beside
 deliver-requires-clause-beside g c = from_in (lends g (goal.at.deliver-requires-clause-beside g c).After-in_mut)
+
+pub deliver-requires-clause-room : goal.deliver-requires-clause-room
+deliver-requires-clause-room g c = subst (λ view. length view.recorded.journal.notes + 2 ≤ view.recorded.journal.room) (sym c.self.view_is) c.requires.room
 
 pub invariant_of-self : goal.invariant_of-self
 invariant_of-self g c = let here = goal.at.invariant_of-self g c in delivers_seated (lends g here.After-in_mut) c.deliver.result c.deliver.ensures.delivers (leaves g here.After-deliver)

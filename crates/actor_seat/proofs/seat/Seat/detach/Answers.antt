@@ -1,4 +1,4 @@
-use Rattle.std.proofs.Common.{ap, length, refl, subst, sym, ◌∙◌, arith}
+use Rattle.std.proofs.Common.{◌<◌, ap, length, refl, subst, sym, ◌∙◌, arith}
 use Rattle.std.specs.Prelude.{Err}
 use Rattle.rt_ids.specs.declared.names.TicketError.TheVariants.{Unknown}
 use Rattle.rt_journal.specs.Recorded.{desk_of}
@@ -40,6 +40,9 @@ detach-requires-clause-beside g c = out_beside (lends g (goal.at.detach-requires
 
 pub detach-requires-clause-lane : goal.detach-requires-clause-lane
 detach-requires-clause-lane g c = out_lane (lends g (goal.at.detach-requires-clause-lane g c).After-out_mut)
+
+pub detach-requires-clause-room : goal.detach-requires-clause-room
+detach-requires-clause-room g c = subst (λ view. length view.recorded.journal.notes < view.recorded.journal.room) (sym c.self.view_is) c.requires.room
 
 pub invariant_of-self : goal.invariant_of-self
 invariant_of-self g c = let here = goal.at.invariant_of-self g c in seated g here.After-detach (lends g here.After-out_mut)

@@ -1,4 +1,4 @@
-use Rattle.std.proofs.Common.{ap, length, refl, subst, sym, ◌∙◌, arith}
+use Rattle.std.proofs.Common.{◌<◌, ap, length, refl, subst, sym, ◌∙◌, arith}
 use Rattle.std.specs.Prelude.{Err}
 use Rattle.rt_ids.specs.declared.names.TicketError.TheVariants.{Unknown}
 use Rattle.rt_desk.specs.Lanes.{FitsSent}
@@ -42,6 +42,9 @@ redeem-requires-clause-beside g c = out_beside (lends g (goal.at.redeem-requires
 
 pub redeem-requires-clause-lane : goal.redeem-requires-clause-lane
 redeem-requires-clause-lane g c = out_lane (lends g (goal.at.redeem-requires-clause-lane g c).After-out_mut)
+
+pub redeem-requires-clause-room : goal.redeem-requires-clause-room
+redeem-requires-clause-room g c = subst (λ view. length view.recorded.journal.notes < view.recorded.journal.room) (sym c.self.view_is) c.requires.room
 
 pub invariant_of-self : goal.invariant_of-self
 invariant_of-self g c = let here = goal.at.invariant_of-self g c in seated g here.After-redeem (lends g here.After-out_mut)

@@ -1,4 +1,5 @@
-use Rattle.std.proofs.Common.{ap, subst, arith}
+use Rattle.std.proofs.Common.{◌<◌, length, ap, subst, arith}
+use Rattle.rt_journal.specs.Turns.{IsOut, IsOutUnder, Settles}
 use Rattle.rt_journal.specs.Owed.{outcome_settled}
 use Rattle.rt_ring_mesh.specs.Lending.{with_in}
 use Rattle.actor_seat.specs.Linked.{StaysLinked}
@@ -33,6 +34,18 @@ in_mut-requires g c = omega (arith, c.self.invariant.beside.ins_are, c.requires.
 
 pub settle-requires-clause-beside : goal.settle-requires-clause-beside
 settle-requires-clause-beside g c = its_in (lends g (goal.at.settle-requires-clause-beside g c).After-in_mut)
+
+pub settle-requires-clause-out : goal.settle-requires-clause-out
+settle-requires-clause-out g c = subst (λ view. IsOut view.recorded.core.out c.args.ran.before) (sym c.self.view_is) c.requires.out
+
+pub settle-requires-clause-named : goal.settle-requires-clause-named
+settle-requires-clause-named g c = subst (λ view. IsOutUnder view.recorded.core.out c.args.name) (sym c.self.view_is) c.requires.named
+
+pub settle-requires-clause-room : goal.settle-requires-clause-room
+settle-requires-clause-room g c = subst (λ view. length view.recorded.journal.notes < view.recorded.journal.room) (sym c.self.view_is) c.requires.room
+
+pub returns-clause-settles : goal.returns-clause-settles
+returns-clause-settles g c = subst (λ view. Settles g.J.Task.meaning view.recorded c.args.ran c.args.spent c.settle.result c.settle.new.self) c.self.view_is c.settle.ensures.settles
 
 pub invariant_of-self : goal.invariant_of-self
 invariant_of-self g c =

@@ -1,4 +1,6 @@
-use Rattle.std.proofs.Common.{ap, subst, sym, arith}
+use Rattle.std.proofs.Common.{◌<◌, ◌∙◌, length, ap, subst, sym, arith}
+use Rattle.std.specs.Prelude.{IsSome}
+use Rattle.rt_ids.specs.Closing.{core_mode, final_count}
 use Rattle.rt_ring_mesh.specs.Lending.{with_in}
 use Rattle.actor_seat.specs.Linked.{IsLinked}
 use Rattle.actor_seat.specs.Steps.{ShutsGate}
@@ -32,6 +34,15 @@ in_mut-requires g c = omega (arith, c.self.invariant.beside.ins_are, c.requires.
 
 pub shut-requires-clause-beside : goal.shut-requires-clause-beside
 shut-requires-clause-beside g c = its_in (lends g (goal.at.shut-requires-clause-beside g c).After-in_mut)
+
+pub shut-requires-clause-closed : goal.shut-requires-clause-closed
+shut-requires-clause-closed g c = subst (λ view. IsSome (core_mode view.recorded.journal.notes)) (sym c.self.view_is) c.requires.closed
+
+pub shut-requires-clause-untold : goal.shut-requires-clause-untold
+shut-requires-clause-untold g c = ap (λ view. final_count c.args.sender view.recorded.journal.notes) c.self.view_is ∙ c.requires.untold
+
+pub shut-requires-clause-room : goal.shut-requires-clause-room
+shut-requires-clause-room g c = subst (λ view. length view.recorded.journal.notes < view.recorded.journal.room) (sym c.self.view_is) c.requires.room
 
 pub invariant_of-self : goal.invariant_of-self
 invariant_of-self g c = let here = goal.at.invariant_of-self g c in shuts_seated (lends g here.After-in_mut) c.shut.result c.shut.ensures.shuts c.shut.ensures.tells (leaves g here.After-shut)

@@ -1,4 +1,4 @@
-use Rattle.std.proofs.Common.{length, ap, subst, arith}
+use Rattle.std.proofs.Common.{◌<◌, length, ap, subst, arith}
 use Rattle.rt_journal.specs.Recorded.{desk_of}
 use Rattle.rt_journal_desk.specs.Submissions.{numbered}
 use Rattle.rt_ring_mesh.specs.Lending.{with_out}
@@ -30,6 +30,9 @@ submit-requires-clause-beside g c = out_beside (lends g (goal.at.submit-requires
 
 pub submit-requires-clause-lane : goal.submit-requires-clause-lane
 submit-requires-clause-lane g c = out_lane (lends g (goal.at.submit-requires-clause-lane g c).After-out_mut)
+
+pub submit-requires-clause-room : goal.submit-requires-clause-room
+submit-requires-clause-room g c = subst (λ view. length view.recorded.journal.notes < view.recorded.journal.room) (sym c.self.view_is) c.requires.room
 
 pub invariant_of-self : goal.invariant_of-self
 invariant_of-self g c = let here = goal.at.invariant_of-self g c in seated g here.After-submit (lends g here.After-out_mut)
