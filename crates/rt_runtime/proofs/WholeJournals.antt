@@ -1,7 +1,7 @@
 -- The journals of a runtime that passed nothing on are whole.
 use Rattle.std.proofs.Common.{◌≡◌, ℕ, ◌+◌, List, [], ◌∷◌, ◌++◌, map, sym, ◌∙◌, ap, subst, arith, ⊎_elim, inl}
 use Rattle.std.proofs.lemmas.List.{append-nil}
-use Rattle.std.specs.Prelude.{IsSome, Option}
+use Rattle.std.specs.Prelude.{IsSome, Option, Err}
 use Rattle.rt_ids.specs.declared.note.Note.{Note}
 use Rattle.rt_ids.specs.declared.note.Note.TheVariants.{CoreClosed, Sent, Redeemed, Detached}
 use Rattle.rt_ids.specs.Assembly.{Assembly}
@@ -11,11 +11,13 @@ use Rattle.rt_jobs.specs.Meanings.{Meaning}
 use Rattle.rt_journal_notes.specs.Journals.{JournalView}
 use Rattle.rt_runtime_team.specs.Works.{Together}
 use Rattle.rt_runtime_worker.specs.Rooms.{ActsByCommand, MayAct, least_free}
+use Rattle.rt_runtime.specs.declared.error.FinishError.{FinishError}
+use Rattle.rt_runtime.specs.declared.error.FinishError.TheVariants.{NotClosed}
 use Rattle.rt_runtime.specs.declared.passed.ActorNotes.{ActorNotes}
 use Rattle.rt_runtime.specs.declared.passed.Passed.{Passed}
-use Rattle.rt_runtime.specs.Calls.{HasFinished, HasFinishedBy, MayActWhole}
+use Rattle.rt_runtime.specs.Calls.{Finishes, HasFinished, HasFinishedBy, MayActWhole}
 use Rattle.rt_runtime.specs.State.{RuntimeView}
-use Rattle.rt_runtime.specs.WithSinks.{HasPassed, MayActAmong, assembly_of, notes_of}
+use Rattle.rt_runtime.specs.WithSinks.{FinishesWithSinks, HasPassed, MayActAmong, assembly_of, notes_of}
 use Rattle.rt_runtime.proofs.Dealt.{same_maps}
 
 -- nothing is below 0, so a core that closed only by command closed as it may
@@ -77,3 +79,8 @@ module _ {J S : Type 0} (meaning : Meaning J ℕ) (has : S → Journal ℕ) (ref
   pub finished_whole : {asks : S → Option ℕ} {mark : S → ℕ} (assembly : Assembly ℕ) → assembly ≡ assembly_of has passed → HasPassed meaning has refused asks mark view passed → HasFinished meaning view assembly
   finished_whole assembly is has_passed =
       subst (HasFinished meaning view) (sym is) (finished_more meaning (MayActAmong refused view passed.actors.items) (MayActWhole view) view (assembly_of has passed) may_whole has_passed.finished)
+
+-- a core that the caller didn't close is still open, whatever a finish would have told
+pub still_open : {J S : Type 0} (meaning : Meaning J ℕ) (has : S → Journal ℕ) (refused : S → ℕ → Type 0) {asks : S → Option ℕ} {mark : S → ℕ} (view : RuntimeView J ℕ) (error : FinishError (RuntimeView J ℕ)) →
+    FinishesWithSinks meaning has refused asks mark view (Err error) → Finishes meaning view (Err error)
+still_open meaning has refused view (NotClosed core same) open_still = open_still

@@ -114,6 +114,27 @@ impl<J: Task<Out = u64>, C: Drop, G: Drop, S: Sink> Runtime<J, C, G, S> {
         answer
     }
 
+    /// Sends an order to a core, if `each` notes stay free for each core beside those that the submissions may still need. If the outside
+    /// journal has too few notes free, those that are kept are passed on first.
+    #[inline(always)]
+    fn submit_beside(
+        &mut self,
+        each: u8,
+        to: CoreNo,
+        order: Order<J>,
+    ) -> Result<Ticket, SubmitError<J>>
+        requires ready { HasReadyJob J.meaning order }
+        ensures { SubmitsTo each to order self.old result self.new }
+    {
+        match self.make_room(each) {
+            Err(_refused) => Err(SubmitError::JournalFull(order)),
+            Ok(()) => match self.send(to, order) {
+                Ok(ticket) => Ok(ticket),
+                Err(error) => Err(SubmitError::Send(error)),
+            },
+        }
+    }
+
     /// Sends an order to a core, and leaves room for what the submissions may still need. If the outside journal has too few notes free,
     /// those that are kept are passed on first.
     ///
@@ -126,13 +147,7 @@ impl<J: Task<Out = u64>, C: Drop, G: Drop, S: Sink> Runtime<J, C, G, S> {
         requires ready { HasReadyJob J.meaning order }
         ensures { SubmitsTo 3 to order self.old result self.new }
     {
-        if self.make_room(3).is_err() {
-            return Err(SubmitError::JournalFull(order));
-        }
-        match self.send(to, order) {
-            Ok(ticket) => Ok(ticket),
-            Err(error) => Err(SubmitError::Send(error)),
-        }
+        self.submit_beside(3, to, order)
     }
 
     /// Sends an order to close a core. It may take the notes that `submit` leaves for it.
@@ -143,13 +158,6 @@ impl<J: Task<Out = u64>, C: Drop, G: Drop, S: Sink> Runtime<J, C, G, S> {
     pub fn close_core(&mut self, core: CoreNo, mode: Mode) -> Result<Ticket, SubmitError<J>>
         ensures { SubmitsTo 0 core (CloseCore mode) self.old result self.new }
     {
-        let order = Order::CloseCore(mode);
-        if self.make_room(0).is_err() {
-            return Err(SubmitError::JournalFull(order));
-        }
-        match self.send(core, order) {
-            Ok(ticket) => Ok(ticket),
-            Err(error) => Err(SubmitError::Send(error)),
-        }
+        self.submit_beside(0, core, Order::CloseCore(mode))
     }
 }

@@ -1,6 +1,6 @@
 //! How the workers of a runtime end, and what their journals are together.
 
-ghost use Rattle.std.specs.Prelude.{◌≡◌, ◌+◌, ◌<◌, ◌≤◌, ℕ, true, [], IfOk, length, map, vec_capacity};
+ghost use Rattle.std.specs.Prelude.{◌≡◌, ◌+◌, ◌<◌, ◌≤◌, ℕ, true, [], Err, IfErr, IfOk, length, map, vec_capacity};
 ghost use Rattle.rt_ring_mesh.specs.Grid.{IsGrid, AreReunited};
 ghost use Rattle.rt_journal_notes.specs.Passing.{IsAsked};
 ghost use Rattle.rt_link.specs.Fits.{Fits};
@@ -198,6 +198,20 @@ impl<J: Job + Task<Out = u64>, C: Clock + Drop, G: Gate + Drop, S: Sink> Runtime
         (passed, spare_journals, locals)
     }
 
+    /// The same, if the caller closed each core. Otherwise the runtime comes back, with the first core that it didn't close.
+    fn end_closed<R: Threads + Wait>(self, rt: &R) -> Result<Over<S, J::Local>, FinishError<Self>>
+        ensures passed { IfOk result (λ over. HasPassed J.meaning S.has S.refused S.asks S.mark self over.0) }
+        ensures still_open { IfErr result (λ error. FinishesWithSinks J.meaning S.has S.refused S.asks S.mark self (Err error)) }
+        ensures none { IfOk result (λ over. over.1.items ≡ []) }
+        ensures room { IfOk result (λ over. length over.0.actors.items ≤ vec_capacity over.1) }
+        ensures locals { IfOk result (λ over. length over.2.items ≡ self.desk.cores) }
+    {
+        match first_open(self.cores, &self.closing) {
+            Some(core) => Err(FinishError::NotClosed(CoreNo(core), self)),
+            None => Ok(self.end(rt)),
+        }
+    }
+
     /// Waits until all workers have ended. The notes of each actor come back: its sink, and what the sink refused. The body asks for no
     /// memory; no clause says so.
     ///
@@ -210,12 +224,9 @@ impl<J: Job + Task<Out = u64>, C: Clock + Drop, G: Gate + Drop, S: Sink> Runtime
     ) -> Result<Passed<S>, FinishError<Self>>
         ensures { FinishesWithSinks J.meaning S.has S.refused S.asks S.mark self result }
     {
-        match first_open(self.cores, &self.closing) {
-            Some(core) => Err(FinishError::NotClosed(CoreNo(core), self)),
-            None => {
-                let (passed, _journals, _locals) = self.end(rt);
-                Ok(passed)
-            }
+        match self.end_closed(rt) {
+            Ok((passed, _journals, _locals)) => Ok(passed),
+            Err(error) => Err(error),
         }
     }
 
@@ -231,12 +242,9 @@ impl<J: Job + Task<Out = u64>, C: Clock + Drop, G: Gate + Drop, S: Sink> Runtime
         ensures finishes { FinishesWithSinks J.meaning S.has S.refused S.asks S.mark self (without_locals result) }
         ensures locals { IfOk result (λ both. length both.1.items ≡ self.desk.cores) }
     {
-        match first_open(self.cores, &self.closing) {
-            Some(core) => Err(FinishError::NotClosed(CoreNo(core), self)),
-            None => {
-                let (passed, _journals, locals) = self.end(rt);
-                Ok((passed, locals))
-            }
+        match self.end_closed(rt) {
+            Ok((passed, _journals, locals)) => Ok((passed, locals)),
+            Err(error) => Err(error),
         }
     }
 }
@@ -250,12 +258,9 @@ impl<J: Job + Task<Out = u64>, C: Clock + Drop, G: Gate + Drop> Runtime<J, C, G>
     pub fn finish<R: Threads + Wait>(self, rt: &R) -> Result<Assembly, FinishError<Self>>
         ensures { Finishes J.meaning self result }
     {
-        match first_open(self.cores, &self.closing) {
-            Some(core) => Err(FinishError::NotClosed(CoreNo(core), self)),
-            None => {
-                let (passed, journals, _locals) = self.end(rt);
-                Ok(whole_assembly(passed, journals))
-            }
+        match self.finish_with_locals(rt) {
+            Ok((assembly, _locals)) => Ok(assembly),
+            Err(error) => Err(error),
         }
     }
 
@@ -271,12 +276,9 @@ impl<J: Job + Task<Out = u64>, C: Clock + Drop, G: Gate + Drop> Runtime<J, C, G>
         ensures finishes { Finishes J.meaning self (without_locals result) }
         ensures locals { IfOk result (λ both. length both.1.items ≡ self.desk.cores) }
     {
-        match first_open(self.cores, &self.closing) {
-            Some(core) => Err(FinishError::NotClosed(CoreNo(core), self)),
-            None => {
-                let (passed, journals, locals) = self.end(rt);
-                Ok((whole_assembly(passed, journals), locals))
-            }
+        match self.end_closed(rt) {
+            Ok((passed, journals, locals)) => Ok((whole_assembly(passed, journals), locals)),
+            Err(error) => Err(error),
         }
     }
 }

@@ -1,22 +1,7 @@
-use Rattle.std.proofs.Common.{refl, subst}
-use Rattle.std.specs.Prelude.{Some, None}
-use Rattle.rt_runtime.specs.State.{RuntimeView}
-use Rattle.rt_runtime.specs.Finishing.{IsFirstOpenOf}
-use Rattle.rt_runtime.proofs.Finished.{first_open_of}
-use Rattle.rt_runtime.proofs.WholeJournals.{finished_whole}
 use Rattle.rt_runtime.proofs.finishing.Runtime+J+C+G.finish.Goals as goal
 
-pub returns-in-Some : goal.returns-in-Some
-returns-in-Some g c = (
-  first_open_of _ c.args.self c.in-Some.core c.self.view_is c.self.invariant.2.runtime
-      (subst (λ closing. IsFirstOpenOf closing (Some c.in-Some.core)) c.deref.ensures.value c.in-Some.ensures),
-  refl,
-)
+pub returns-in-Ok : goal.returns-in-Ok
+returns-in-Ok g c = c.in-Ok.ensures.finishes
 
-pub end-passed-requires : goal.end-passed-requires
-end-passed-requires g c =
-    subst (λ (view : RuntimeView _ _). IsFirstOpenOf view.closing None) c.self.view_is
-    (subst (λ closing. IsFirstOpenOf closing None) c.deref.ensures.value c.in-None.ensures)
-
-pub returns-in-None : goal.returns-in-None
-returns-in-None g c = finished_whole g.J.Task.meaning _ _ (λ sink count told. told) c.args.self c.end-passed.result.0 c.whole_assembly.result c.whole_assembly.ensures c.end-passed.ensures.passed
+pub returns-in-Err : goal.returns-in-Err
+returns-in-Err g c = c.in-Err.ensures.finishes

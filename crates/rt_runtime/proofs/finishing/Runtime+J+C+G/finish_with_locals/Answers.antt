@@ -1,22 +1,22 @@
-use Rattle.std.proofs.Common.{refl, subst}
-use Rattle.std.specs.Prelude.{Some, None}
-use Rattle.rt_runtime.specs.State.{RuntimeView}
-use Rattle.rt_runtime.specs.Finishing.{IsFirstOpenOf}
-use Rattle.rt_runtime.proofs.Finished.{first_open_of}
-use Rattle.rt_runtime.proofs.WholeJournals.{finished_whole}
+use Rattle.std.proofs.Common.{◌∙◌, sym}
+use Rattle.std.proofs.lemmas.List.{length-map}
+use Rattle.rt_runtime.proofs.WholeJournals.{finished_whole, still_open}
 use Rattle.rt_runtime.proofs.finishing.Runtime+J+C+G.finish_with_locals.Goals as goal
 
-pub returns-in-Some-clause-finishes : goal.returns-in-Some-clause-finishes
-returns-in-Some-clause-finishes g c = (
-  first_open_of _ c.args.self c.in-Some.core c.self.view_is c.self.invariant.2.runtime
-      (subst (λ closing. IsFirstOpenOf closing (Some c.in-Some.core)) c.deref.ensures.value c.in-Some.ensures),
-  refl,
-)
+pub whole_assembly-requires-clause-none : goal.whole_assembly-requires-clause-none
+whole_assembly-requires-clause-none g c = c.in-Ok.ensures.none
 
-pub end-passed-requires : goal.end-passed-requires
-end-passed-requires g c =
-    subst (λ (view : RuntimeView _ _). IsFirstOpenOf view.closing None) c.self.view_is
-    (subst (λ closing. IsFirstOpenOf closing None) c.deref.ensures.value c.in-None.ensures)
+pub whole_assembly-requires-clause-room : goal.whole_assembly-requires-clause-room
+whole_assembly-requires-clause-room g c = c.in-Ok.ensures.room
 
-pub returns-in-None-clause-finishes : goal.returns-in-None-clause-finishes
-returns-in-None-clause-finishes g c = finished_whole g.J.Task.meaning _ _ (λ sink count told. told) c.args.self c.end-passed.result.0 c.whole_assembly.result c.whole_assembly.ensures c.end-passed.ensures.passed
+pub whole_assembly-requires-clause-count : goal.whole_assembly-requires-clause-count
+whole_assembly-requires-clause-count g c = sym (length-map c.in-Ok.passed.actors.items _) ∙ c.in-Ok.ensures.passed.finished.joined.journals
+
+pub returns-in-Ok-clause-finishes : goal.returns-in-Ok-clause-finishes
+returns-in-Ok-clause-finishes g c = finished_whole g.J.Task.meaning _ _ (λ sink count told. told) c.args.self c.in-Ok.passed c.whole_assembly.result c.whole_assembly.ensures c.in-Ok.ensures.passed
+
+pub returns-in-Ok-clause-locals : goal.returns-in-Ok-clause-locals
+returns-in-Ok-clause-locals g c = c.in-Ok.ensures.locals
+
+pub returns-in-Err-clause-finishes : goal.returns-in-Err-clause-finishes
+returns-in-Err-clause-finishes g c = still_open g.J.Task.meaning _ _ c.args.self c.in-Err.error c.in-Err.ensures.still_open

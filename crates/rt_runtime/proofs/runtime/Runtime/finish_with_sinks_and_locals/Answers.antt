@@ -1,18 +1,10 @@
-use Rattle.std.proofs.Common.{refl, subst}
-use Rattle.std.specs.Prelude.{Some, None}
-use Rattle.rt_runtime.specs.State.{RuntimeView}
-use Rattle.rt_runtime.specs.Finishing.{IsFirstOpenOf}
-use Rattle.rt_runtime.proofs.Finished.{first_open_of}
 use Rattle.rt_runtime.proofs.runtime.Runtime.finish_with_sinks_and_locals.Goals as goal
 
-pub returns-in-Some-clause-finishes : goal.returns-in-Some-clause-finishes
-returns-in-Some-clause-finishes g c = (
-  first_open_of _ c.args.self c.in-Some.core c.self.view_is c.self.invariant.2.runtime
-      (subst (λ closing. IsFirstOpenOf closing (Some c.in-Some.core)) c.deref.ensures.value c.in-Some.ensures),
-  refl,
-)
+pub returns-in-Ok-clause-finishes : goal.returns-in-Ok-clause-finishes
+returns-in-Ok-clause-finishes g c = c.in-Ok.ensures.passed
 
-pub end-passed-requires : goal.end-passed-requires
-end-passed-requires g c =
-    subst (λ (view : RuntimeView _ _). IsFirstOpenOf view.closing None) c.self.view_is
-    (subst (λ closing. IsFirstOpenOf closing None) c.deref.ensures.value c.in-None.ensures)
+pub returns-in-Ok-clause-locals : goal.returns-in-Ok-clause-locals
+returns-in-Ok-clause-locals g c = c.in-Ok.ensures.locals
+
+pub returns-in-Err-clause-finishes : goal.returns-in-Err-clause-finishes
+returns-in-Err-clause-finishes g c = c.in-Err.ensures.still_open
