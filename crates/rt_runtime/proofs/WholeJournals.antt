@@ -15,7 +15,7 @@ use Rattle.rt_runtime.specs.declared.error.FinishError.{FinishError}
 use Rattle.rt_runtime.specs.declared.error.FinishError.TheVariants.{NotClosed}
 use Rattle.rt_runtime.specs.declared.passed.ActorNotes.{ActorNotes}
 use Rattle.rt_runtime.specs.declared.passed.Passed.{Passed}
-use Rattle.rt_runtime.specs.Calls.{Finishes, HasFinished, HasFinishedBy, MayActWhole}
+use Rattle.rt_runtime.specs.Calls.{Finishes, HasFinished, HasFinishedBy, IsStillOpen, MayActWhole}
 use Rattle.rt_runtime.specs.State.{RuntimeView}
 use Rattle.rt_runtime.specs.WithSinks.{FinishesWithSinks, HasPassed, MayActAmong, assembly_of, notes_of}
 use Rattle.rt_runtime.proofs.Dealt.{same_maps}
@@ -80,7 +80,11 @@ module _ {J S : Type 0} (meaning : Meaning J ℕ) (has : S → Journal ℕ) (ref
   finished_whole assembly is has_passed =
       subst (HasFinished meaning view) (sym is) (finished_more meaning (MayActAmong refused view passed.actors.items) (MayActWhole view) view (assembly_of has passed) may_whole has_passed.finished)
 
--- a core that the caller didn't close is still open, whatever a finish would have told
-pub still_open : {J S : Type 0} (meaning : Meaning J ℕ) (has : S → Journal ℕ) (refused : S → ℕ → Type 0) {asks : S → Option ℕ} {mark : S → ℕ} (view : RuntimeView J ℕ) (error : FinishError (RuntimeView J ℕ)) →
-    FinishesWithSinks meaning has refused asks mark view (Err error) → Finishes meaning view (Err error)
-still_open meaning has refused view (NotClosed core same) open_still = open_still
+module _ {J : Type 0} (meaning : Meaning J ℕ) (view : RuntimeView J ℕ) where
+  -- a core that is still open is so for each finish
+  pub open_still : (error : FinishError (RuntimeView J ℕ)) → IsStillOpen view error → Finishes meaning view (Err error)
+  open_still (NotClosed core same) is = is
+
+  pub open_beside : {S : Type 0} (has : S → Journal ℕ) (refused : S → ℕ → Type 0) (asks : S → Option ℕ) (mark : S → ℕ) (error : FinishError (RuntimeView J ℕ)) →
+      IsStillOpen view error → FinishesWithSinks meaning has refused asks mark view (Err error)
+  open_beside has refused asks mark (NotClosed core same) is = is

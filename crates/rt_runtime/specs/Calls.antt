@@ -95,6 +95,10 @@ module _ {J : Type 0} where
   abbrev pub MayActWhole : RuntimeView J ℕ → ℕ → Journal ℕ → Type 0
   MayActWhole view core notes = EachNote (MayAct (least_free view.desk.cores view.desk.cap view.desk.burst) view.room) notes
 
+  -- a finish for which a core is still open: the runtime comes back
+  abbrev pub IsStillOpen : RuntimeView J ℕ → FinishError (RuntimeView J ℕ) → Type 0
+  IsStillOpen view (NotClosed core same) = IsFirstOpen core view × (same ≡ view)
+
   -- the same of the journals of a runtime that passed nothing on
   abbrev pub HasFinished : Meaning J ℕ → RuntimeView J ℕ → Assembly ℕ → Type 0
   HasFinished meaning view assembly = HasFinishedBy meaning (MayActWhole view) view assembly

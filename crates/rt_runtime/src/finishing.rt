@@ -1,10 +1,10 @@
 //! How the workers of a runtime end, and what their journals are together.
 
-ghost use Rattle.std.specs.Prelude.{◌≡◌, ◌+◌, ◌<◌, ◌≤◌, ℕ, true, [], Err, IfErr, IfOk, length, map, vec_capacity};
+ghost use Rattle.std.specs.Prelude.{◌≡◌, ◌+◌, ◌<◌, ◌≤◌, ℕ, true, [], IfErr, IfOk, length, map, vec_capacity};
 ghost use Rattle.rt_ring_mesh.specs.Grid.{IsGrid, AreReunited};
 ghost use Rattle.rt_journal_notes.specs.Passing.{IsAsked};
 ghost use Rattle.rt_link.specs.Fits.{Fits};
-ghost use Rattle.rt_runtime.specs.Calls.{Finishes};
+ghost use Rattle.rt_runtime.specs.Calls.{Finishes, IsStillOpen};
 ghost use Rattle.rt_runtime.specs.State.{closing_at};
 ghost use Rattle.rt_runtime.specs.Finishing.{IsFirstOpenOf, IsPart, Parts};
 ghost use Rattle.rt_runtime.specs.Watching.{watch_at};
@@ -201,7 +201,7 @@ impl<J: Job + Task<Out = u64>, C: Clock + Drop, G: Gate + Drop, S: Sink> Runtime
     /// The same, if the caller closed each core. Otherwise the runtime comes back, with the first core that it didn't close.
     fn end_closed<R: Threads + Wait>(self, rt: &R) -> Result<Over<S, J::Local>, FinishError<Self>>
         ensures passed { IfOk result (λ over. HasPassed J.meaning S.has S.refused S.asks S.mark self over.0) }
-        ensures still_open { IfErr result (λ error. FinishesWithSinks J.meaning S.has S.refused S.asks S.mark self (Err error)) }
+        ensures still_open { IfErr result (IsStillOpen self) }
         ensures none { IfOk result (λ over. over.1.items ≡ []) }
         ensures room { IfOk result (λ over. length over.0.actors.items ≤ vec_capacity over.1) }
         ensures locals { IfOk result (λ over. length over.2.items ≡ self.desk.cores) }

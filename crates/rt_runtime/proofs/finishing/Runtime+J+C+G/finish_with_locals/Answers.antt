@@ -1,6 +1,6 @@
 use Rattle.std.proofs.Common.{◌∙◌, sym}
 use Rattle.std.proofs.lemmas.List.{length-map}
-use Rattle.rt_runtime.proofs.WholeJournals.{finished_whole, still_open}
+use Rattle.rt_runtime.proofs.WholeJournals.{finished_whole, open_still}
 use Rattle.rt_runtime.proofs.finishing.Runtime+J+C+G.finish_with_locals.Goals as goal
 
 pub whole_assembly-requires-clause-none : goal.whole_assembly-requires-clause-none
@@ -19,4 +19,4 @@ pub returns-in-Ok-clause-locals : goal.returns-in-Ok-clause-locals
 returns-in-Ok-clause-locals g c = c.in-Ok.ensures.locals
 
 pub returns-in-Err-clause-finishes : goal.returns-in-Err-clause-finishes
-returns-in-Err-clause-finishes g c = still_open g.J.Task.meaning _ _ c.args.self c.in-Err.error c.in-Err.ensures.still_open
+returns-in-Err-clause-finishes g c = open_still g.J.Task.meaning c.args.self c.in-Err.error c.in-Err.ensures.still_open
