@@ -1,7 +1,7 @@
 -- A loop that takes the first of several lists again and again.
 use Rattle.std.proofs.Common.{◌≡◌, ℕ, ◌<◌, replicate, List, [], ◌∷◌, ◌++◌, length, map, get_or, refl, sym, ◌∙◌, ap, subst, arith, append_assoc}
 use Rattle.std.specs.Prelude.{All, IfOk, Result, Ok, Err, Some, remove, slice_get}
-use Rattle.std.proofs.lemmas.List.{get_or-map, length-map, map-append}
+use Rattle.std.proofs.lemmas.List.{append-nil, get_or-map, length-map, map-append}
 use Rattle.rt_runtime_team.specs.Works.{Together}
 
 -- the first of a list, and the others
@@ -15,6 +15,11 @@ dealt_more f seats seat all xs rest was is =
     ap (λ front. front ++ rest) (map-append f seats (seat ∷ []))
     ∙ (append_assoc (map f seats) (f seat ∷ []) rest
     ∙ (ap (λ behind. map f seats ++ behind) (sym is) ∙ was))
+
+-- all have their places where none is left
+pub all_dealt : {A B : Type 0} (f : B → A) (seats : List B) (all rest : List A) → map f seats ++ rest ≡ all → length rest ≡ 0 → map f seats ≡ all
+all_dealt f seats all [] was none = sym (append-nil (map f seats)) ∙ was
+all_dealt f seats all (x ∷ rest) was none = absurd (omega (arith, none))
 
 -- what holds of each that a list was made of
 pub all_of_map : {A B : Type 0} (f : B → A) (P : A → Type 0) (seats : List B) → All P (map f seats) → All (λ seat. P (f seat)) seats

@@ -24,6 +24,7 @@ pub mod HandedOn
 pub mod Dealt
 pub mod Watched
 pub mod Started
+pub mod StartsTold
 pub mod Collected
 pub mod Sent
 mod Closing

@@ -22,10 +22,12 @@ use Rattle.rt_runtime_worker.specs.Opening.{IsWorkerOf}
 use Rattle.rt_runtime_worker.specs.OutsideSeats.{IsSeatedOutside}
 use Rattle.rt_runtime_worker.specs.Queues.{creations}
 use Rattle.rt_runtime_worker.specs.Together.{OutsideView, no_linked, worker_at}
+use Rattle.rt_runtime_worker.specs.Workers.{WorkerView}
 use Rattle.rt_runtime.specs.Rings.{RingsView}
 use Rattle.rt_watch.specs.declared.watcher.Watching.{Watching}
 use Rattle.rt_runtime.specs.Stored.{IsRuntime}
-use Rattle.rt_runtime.specs.Starting.{AreOpening, IsHouse, IsOpenedWith}
+use Rattle.rt_runtime.specs.Starting.{AreOpening, AreWired, IsHouse, IsOpenedWith, IsWiredWith}
+use Rattle.rt_runtime.proofs.Dealt.{same_maps, same_of_each}
 use Rattle.rt_runtime.proofs.Finished.{together_at}
 
 all_from : {A : Type 0} (P : A → Type 0) (xs : List A) (d : A) → ((i : ℕ) → i < length xs → P (get_or xs i d)) → All P xs
@@ -109,6 +111,20 @@ module _ {J T : Type 0} (cores cap burst room : ℕ) (queues : List Entry) where
       room_is = subst (λ (desk : DeskView J T). booked desk ≤ desk.journal.room) (sym opened) (omega (arith, none_due J T cores cap));
       places = subst (λ (desk : DeskView J T). least_room desk.cores desk.cap desk.burst ≤ places_of desk.journal) (sym opened) (omega (arith, enough));
       limits = subst (λ (desk : DeskView J T). IsWithinLimits desk.cores desk.cap desk.burst) (sym opened) limits;
+    }
+
+-- workers that were opened each at its seat are wired as the seats say
+pub wired_as : {J T C G S Seat : Type 0} (seats : List Seat) (workers : List (WorkerView J T C G S)) (opened : Seat → LinkedView J T → Type 0) (clock : Seat → C) (gate : Seat → G) (sink : Seat → S) (names : List ℕ) →
+    Together (λ seat worker. IsWiredWith (opened seat) (clock seat) (gate seat) (sink seat) names worker) seats workers → (cores : ℕ) → length seats ≡ cores →
+    (clocks : List C) (gates : List G) (sinks : List S) → map clock seats ≡ clocks → map gate seats ≡ gates → map sink seats ≡ sinks → AreWired cores clocks gates sinks names workers
+wired_as {J} {T} {C} {G} {S} {Seat} seats workers opened clock gate sink names both cores count clocks gates sinks clocks_are gates_are sinks_are =
+    let wired : Seat → WorkerView J T C G S → Type 0 = λ seat worker. IsWiredWith (opened seat) (clock seat) (gate seat) (sink seat) names worker in
+    record {
+      clocks_are = same_maps clock (λ (worker : WorkerView J T C G S). worker.clock) wired (λ seat worker is. is.clock_is) seats workers both ∙ clocks_are;
+      gates_are = same_maps gate (λ (worker : WorkerView J T C G S). worker.gate) wired (λ seat worker is. is.gate_is) seats workers both ∙ gates_are;
+      sinks_are = same_maps sink (λ (worker : WorkerView J T C G S). worker.sink) wired (λ seat worker is. is.sink_is) seats workers both ∙ sinks_are;
+      bells_are = same_maps (λ (seat : Seat). names) (λ (worker : WorkerView J T C G S). worker.bells) wired (λ seat worker is. is.bells_are) seats workers both ∙ same_of_each names seats cores count;
+      tries_are = same_maps (λ (seat : Seat). 1024) (λ (worker : WorkerView J T C G S). worker.tries) wired (λ seat worker is. is.tries_are) seats workers both ∙ same_of_each 1024 seats cores count;
     }
 
 -- what holds of all holds of the next one

@@ -1,5 +1,5 @@
 -- What is opened when a runtime is started.
-use Rattle.std.specs.Prelude.{◌≡◌, ℕ, ◌+◌, ◌<◌, ◌≤◌, List, [], ◌∷◌, ◌++◌, length, map}
+use Rattle.std.specs.Prelude.{◌≡◌, ℕ, ◌+◌, ◌<◌, ◌≤◌, List, [], ◌∷◌, ◌++◌, length, map, replicate}
 use Rattle.rt_runtime_config.specs.Configs.{Entry, least_room, queues_of}
 use Rattle.rt_ring_mesh.specs.Ends.{EndsView, AreFresh}
 use Rattle.rt_ring_mesh.specs.Grid.{IsGrid}
@@ -32,6 +32,15 @@ module _ {J T : Type 0} where
     pub sink_is : worker.sink ≡ sink
     pub bells_are : worker.bells ≡ names
     pub tries_are : worker.tries ≡ 1024
+
+  -- The workers of so many cores have these clocks, gates and sinks, each those of its place. All ring the bells of these names, and all try 1024 times before
+  -- they park.
+  pub record AreWired {C G S : Type 0} (cores : ℕ) (clocks : List C) (gates : List G) (sinks : List S) (names : List ℕ) (workers : List (WorkerView J T C G S)) : Type 0 where
+    pub clocks_are : map (λ worker. worker.clock) workers ≡ clocks
+    pub gates_are : map (λ worker. worker.gate) workers ≡ gates
+    pub sinks_are : map (λ worker. worker.sink) workers ≡ sinks
+    pub bells_are : map (λ worker. worker.bells) workers ≡ replicate cores names
+    pub tries_are : map (λ worker. worker.tries) workers ≡ replicate cores 1024
 
   -- the journal of each worker tells of the queues of its core and of nothing else
   abbrev pub HaveQueues : ℕ → List Entry → List (LinkedView J T) → Type 0

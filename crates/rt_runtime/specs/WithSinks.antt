@@ -6,6 +6,7 @@ use Rattle.rt_jobs.specs.Meanings.{Meaning}
 use Rattle.rt_journal_notes.specs.Passing.{IsAsked}
 use Rattle.rt_runtime_config.specs.Configs.{Entry, IsGood}
 use Rattle.rt_runtime_worker.specs.Rooms.{ActsByCommand, MayAct, least_free}
+use Rattle.rt_runtime_worker.specs.Workers.{WorkerView}
 use Rattle.rt_runtime.specs.declared.error.FinishError.{FinishError}
 use Rattle.rt_runtime.specs.declared.error.FinishError.TheVariants.{NotClosed}
 use Rattle.rt_runtime.specs.declared.error.StartError.{StartError}
@@ -28,6 +29,16 @@ pub record HasSinks {J T S : Type 0} (asks : S → Option ℕ) (mark : S → ℕ
   pub last : S
   pub split : sinks ≡ front ++ last ∷ []
   pub asks_are : view.asks ≡ asks last
+
+-- The workers of a runtime that was just started were given these clocks and gates, and all sinks but the last one, each worker those of its number.
+pub record HasGiven {J C G S : Type 0} (clocks : List C) (gates : List G) (sinks : List S) (workers : List (WorkerView J ℕ C G S)) (view : RuntimeView J ℕ) : Type 0 where
+  pub workers_are : view.workers ≡ map (λ worker. worker.linked) workers
+  pub bells_are : view.bells ≡ map (λ worker. worker.bells) workers
+  pub tries_are : view.tries ≡ map (λ worker. worker.tries) workers
+  pub clocks_are : map (λ worker. worker.clock) workers ≡ clocks
+  pub gates_are : map (λ worker. worker.gate) workers ≡ gates
+  pub last : S
+  pub sinks_are : sinks ≡ map (λ worker. worker.sink) workers ++ last ∷ []
 
 module _ {S : Type 0} (has : S → Journal ℕ) where
   -- all notes of an actor: those that are kept, behind those that its sink has

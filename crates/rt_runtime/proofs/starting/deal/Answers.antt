@@ -1,6 +1,6 @@
 use Rattle.std.proofs.Common.{◌∙◌, length, refl, sym, ap, arith}
 use Rattle.std.specs.Vec.Iter.{into_iter_items}
-use Rattle.rt_runtime.proofs.Dealt.{dealt_more, first_of}
+use Rattle.rt_runtime.proofs.Dealt.{all_dealt, dealt_more, first_of}
 use Rattle.rt_runtime.proofs.starting.deal.Goals as goal
 
 pub loop-ends-init : goal.loop-ends-init
@@ -39,3 +39,15 @@ loop-ends-preserved g c =
       some_sinks = omega (arith, loop.invariant.some_sinks, c.remove-sink.ensures.len, steps.1, loop.sinks.ok.0, c.remove-sink.new.self.ok.0);
       some_locals = omega (arith, loop.invariant.some_locals, c.remove-local.ensures.len, steps.1, loop.locals.ok.0, c.remove-local.new.self.ok.0);
     }
+
+pub returns-clause-clocks : goal.returns-clause-clocks
+returns-clause-clocks g c = all_dealt (λ seat. seat.clock) c.loop-ends.seats.items c.args.clocks.items c.loop-ends.clocks.items c.loop-ends.invariant.clocks (c.loop-ends.invariant.some_clocks ∙ c.in-None.ensures.steps.0)
+
+pub returns-clause-gates : goal.returns-clause-gates
+returns-clause-gates g c = all_dealt (λ seat. seat.gate) c.loop-ends.seats.items c.args.gates.items c.loop-ends.gates.items c.loop-ends.invariant.gates (c.loop-ends.invariant.some_gates ∙ c.in-None.ensures.steps.0)
+
+pub returns-clause-sinks : goal.returns-clause-sinks
+returns-clause-sinks g c = all_dealt (λ seat. seat.sink) c.loop-ends.seats.items c.args.sinks.items c.loop-ends.sinks.items c.loop-ends.invariant.sinks (c.loop-ends.invariant.some_sinks ∙ c.in-None.ensures.steps.0)
+
+pub returns-clause-locals : goal.returns-clause-locals
+returns-clause-locals g c = all_dealt (λ seat. seat.local) c.loop-ends.seats.items c.args.locals.items c.loop-ends.locals.items c.loop-ends.invariant.locals (c.loop-ends.invariant.some_locals ∙ c.in-None.ensures.steps.0)

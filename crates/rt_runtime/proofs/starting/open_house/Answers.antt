@@ -1,5 +1,4 @@
-use Rattle.std.proofs.Common.{◌∙◌, map}
-use Rattle.rt_runtime.proofs.Dealt.{same_of_each}
+use Rattle.std.proofs.Common.{map}
 use Rattle.rt_runtime.proofs.Started.{front_count, may_open, opened_house}
 use Rattle.rt_runtime.proofs.starting.open_house.Goals as goal
 
@@ -8,19 +7,26 @@ open_workers-requires-clause-each g c =
     may_open c.args.config.now.cores c.args.config.now.cap c.args.config.now.burst c.args.config.now.room c.args.config.now.queues.items c.in-Ok.all.items c.pop.new.self.items c.in-Some.outside c.in-Some.ensures.items c.in-Ok.ensures.grid c.in-Ok.ensures.fresh
     _ _ c.requires.good
 
+pub open_workers-requires-clause-count : goal.open_workers-requires-clause-count
+open_workers-requires-clause-count g c =
+    front_count c.args.config.now.cores c.args.config.now.cap c.args.config.now.burst c.args.config.now.room c.args.config.now.queues.items c.in-Ok.all.items c.pop.new.self.items c.in-Some.outside c.in-Some.ensures.items c.in-Ok.ensures.grid c.in-Ok.ensures.fresh
+
+pub open_workers-requires-clause-clocks : goal.open_workers-requires-clause-clocks
+open_workers-requires-clause-clocks g c = c.requires.good.clocks_are
+
+pub open_workers-requires-clause-gates : goal.open_workers-requires-clause-gates
+open_workers-requires-clause-gates g c = c.requires.good.gates_are
+
+pub open_workers-requires-clause-sinks : goal.open_workers-requires-clause-sinks
+open_workers-requires-clause-sinks g c = c.requires.sinks
+
+pub open_workers-requires-clause-locals : goal.open_workers-requires-clause-locals
+open_workers-requires-clause-locals g c = c.requires.locals
+
 pub returns-clause-house : goal.returns-clause-house
 returns-clause-house g c =
     opened_house c.args.config.now.cores c.args.config.now.cap c.args.config.now.burst c.args.config.now.room c.args.config.now.queues.items c.in-Ok.all.items c.pop.new.self.items c.in-Some.outside c.in-Some.ensures.items c.in-Ok.ensures.grid c.in-Ok.ensures.fresh
     (map (λ worker. worker.linked) c.in_ok-workers.workers.items) c.in_ok-workers.ensures.opened
 
-pub returns-clause-shared : goal.returns-clause-shared
-returns-clause-shared g c =
-    c.in_ok-workers.ensures.bells
-    ∙ same_of_each _ c.pop.new.self.items c.args.config.now.cores
-    (front_count c.args.config.now.cores c.args.config.now.cap c.args.config.now.burst c.args.config.now.room c.args.config.now.queues.items c.in-Ok.all.items c.pop.new.self.items c.in-Some.outside c.in-Some.ensures.items c.in-Ok.ensures.grid c.in-Ok.ensures.fresh)
-
-pub returns-clause-tries : goal.returns-clause-tries
-returns-clause-tries g c =
-    c.in_ok-workers.ensures.tries
-    ∙ same_of_each 1024 c.pop.new.self.items c.args.config.now.cores
-    (front_count c.args.config.now.cores c.args.config.now.cap c.args.config.now.burst c.args.config.now.room c.args.config.now.queues.items c.in-Ok.all.items c.pop.new.self.items c.in-Some.outside c.in-Some.ensures.items c.in-Ok.ensures.grid c.in-Ok.ensures.fresh)
+pub returns-clause-wired : goal.returns-clause-wired
+returns-clause-wired g c = c.in_ok-workers.ensures.wired

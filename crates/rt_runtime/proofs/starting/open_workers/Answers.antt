@@ -1,10 +1,23 @@
-use Rattle.std.proofs.Common.{◌≡◌, [], ◌∙◌, length, map, refl, sym, subst, ap}
+use Rattle.std.proofs.Common.{◌≡◌, [], ◌∙◌, length, map, sym, subst, ap}
 use Rattle.std.proofs.lemmas.List.{length-map}
 use Rattle.std.specs.Prelude.{All}
 use Rattle.rt_runtime_team.specs.Works.{Together}
 use Rattle.rt_runtime.specs.Starting.{AreOpening, IsOpenedWith}
-use Rattle.rt_runtime.proofs.Dealt.{all_of_map, if_ok, same_maps, same_of_each, together_maps}
+use Rattle.rt_runtime.proofs.Dealt.{all_of_map, if_ok, together_maps}
+use Rattle.rt_runtime.proofs.Started.{wired_as}
 use Rattle.rt_runtime.proofs.starting.open_workers.Goals as goal
+
+pub deal-requires-clause-clocks : goal.deal-requires-clause-clocks
+deal-requires-clause-clocks g c = c.requires.clocks ∙ sym c.requires.count
+
+pub deal-requires-clause-gates : goal.deal-requires-clause-gates
+deal-requires-clause-gates g c = c.requires.gates ∙ sym c.requires.count
+
+pub deal-requires-clause-sinks : goal.deal-requires-clause-sinks
+deal-requires-clause-sinks g c = c.requires.sinks ∙ sym c.requires.count
+
+pub deal-requires-clause-locals : goal.deal-requires-clause-locals
+deal-requires-clause-locals g c = c.requires.locals ∙ sym c.requires.count
 
 pub open_seats-requires-clause-each : goal.open_seats-requires-clause-each
 open_seats-requires-clause-each g c =
@@ -23,34 +36,11 @@ returns-clause-opened g c =
     (together_maps (λ seat. seat.ends) (λ worker. worker.linked) _ opened_with (λ seat worker wired. wired.linked) c.in_ok-seats.seats.items opened.0.items both))
     c.open_seats.result c.open_seats.ensures.workers
 
-pub returns-clause-clocks : goal.returns-clause-clocks
-returns-clause-clocks g c =
-    if_ok _ _ (λ opened both. same_maps (λ seat. seat.clock) (λ worker. worker.clock) _ (λ seat worker wired. wired.clock_is) c.in_ok-seats.seats.items opened.0.items both ∙ c.in_ok-seats.ensures.clocks)
-    c.open_seats.result c.open_seats.ensures.workers
-
-pub returns-clause-gates : goal.returns-clause-gates
-returns-clause-gates g c =
-    if_ok _ _ (λ opened both. same_maps (λ seat. seat.gate) (λ worker. worker.gate) _ (λ seat worker wired. wired.gate_is) c.in_ok-seats.seats.items opened.0.items both ∙ c.in_ok-seats.ensures.gates)
-    c.open_seats.result c.open_seats.ensures.workers
-
-pub returns-clause-sinks : goal.returns-clause-sinks
-returns-clause-sinks g c =
-    if_ok _ _ (λ opened both. same_maps (λ seat. seat.sink) (λ worker. worker.sink) _ (λ seat worker wired. wired.sink_is) c.in_ok-seats.seats.items opened.0.items both ∙ c.in_ok-seats.ensures.sinks)
-    c.open_seats.result c.open_seats.ensures.workers
-
-pub returns-clause-bells : goal.returns-clause-bells
-returns-clause-bells g c =
-    let names = c.args.bells.now.names in
+pub returns-clause-wired : goal.returns-clause-wired
+returns-clause-wired g c =
     let seats = c.in_ok-seats.seats.items in
-    let count : length seats ≡ length c.args.all.items = sym (length-map seats (λ seat. seat.ends)) ∙ ap length c.in_ok-seats.ensures.ends in
-    if_ok _ _ (λ opened both. same_maps (λ seat. names) (λ worker. worker.bells) _ (λ seat worker wired. wired.bells_are) seats opened.0.items both
-    ∙ (same_of_each names seats (length c.args.all.items) count ∙ sym (same_of_each names c.args.all.items (length c.args.all.items) refl)))
-    c.open_seats.result c.open_seats.ensures.workers
-
-pub returns-clause-tries : goal.returns-clause-tries
-returns-clause-tries g c =
-    let seats = c.in_ok-seats.seats.items in
-    let count : length seats ≡ length c.args.all.items = sym (length-map seats (λ seat. seat.ends)) ∙ ap length c.in_ok-seats.ensures.ends in
-    if_ok _ _ (λ opened both. same_maps (λ seat. 1024) (λ worker. worker.tries) _ (λ seat worker wired. wired.tries_are) seats opened.0.items both
-    ∙ (same_of_each 1024 seats (length c.args.all.items) count ∙ sym (same_of_each 1024 c.args.all.items (length c.args.all.items) refl)))
+    let dealt = c.in_ok-seats.ensures in
+    let count : length seats ≡ c.args.config.now.cores = sym (length-map seats (λ seat. seat.ends)) ∙ (ap length dealt.ends ∙ c.requires.count) in
+    if_ok _ _ (λ opened both. wired_as seats opened.0.items _ (λ seat. seat.clock) (λ seat. seat.gate) (λ seat. seat.sink) c.args.bells.now.names both
+    c.args.config.now.cores count c.args.clocks.items c.args.gates.items c.args.sinks.items dealt.clocks dealt.gates dealt.sinks)
     c.open_seats.result c.open_seats.ensures.workers

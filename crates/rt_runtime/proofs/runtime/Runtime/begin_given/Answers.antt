@@ -75,8 +75,8 @@ returns-in-Ok-start-clause-begins g c = record {
   desk = ap (λ outside. outside.desk) c.of-outside.ensures.is ∙ c.in-Ok-open_outside.ensures.desk;
   closing = c.in-Ok-open_outside.ensures.closing;
   rung = ap (λ rung. rung.times) c.of-bells.ensures ∙ c.in-Ok.ensures.bells;
-  bells = ap (λ workers. map (λ worker. worker.bells) workers) c.in-Ok-start.ensures.ok ∙ (c.in-Ok.ensures.shared ∙ ap (λ rung. replicate c.args.config.now.cores rung.names) (sym c.of-bells.ensures));
-  tries = ap (λ workers. map (λ worker. worker.tries) workers) c.in-Ok-start.ensures.ok ∙ c.in-Ok.ensures.tries;
+  bells = ap (λ workers. map (λ worker. worker.bells) workers) c.in-Ok-start.ensures.ok ∙ (c.in-Ok.ensures.wired.bells_are ∙ ap (λ rung. replicate c.args.config.now.cores rung.names) (sym c.of-bells.ensures));
+  tries = ap (λ workers. map (λ worker. worker.tries) workers) c.in-Ok-start.ensures.ok ∙ c.in-Ok.ensures.wired.tries_are;
   room_is = refl;
   count = ap (λ workers. length (map (λ worker. worker.linked) workers)) c.in-Ok-start.ensures.ok ∙ c.in-Ok.ensures.house.count;
   ends = ap (λ outside. length outside.ends.outs) c.of-outside.ensures.is ∙ c.in-Ok.ensures.house.outs;
@@ -95,15 +95,22 @@ pub returns-in-Ok-start-clause-dealt : goal.returns-in-Ok-start-clause-dealt
 returns-in-Ok-start-clause-dealt g c = record {
   marks_are =
       ap (λ workers. map (λ worker. g.S.Sink.mark worker.sink) workers ++ g.S.Sink.mark c.in-Some.sink ∷ []) c.in-Ok-start.ensures.ok
-      ∙ made_with_last g.S.Sink.mark (λ worker. worker.sink) c.in-Ok.workers.items c.pop.new.self.items c.args.sinks.items c.in-Some.sink c.in-Ok.ensures.sinks c.in-Some.ensures.items;
+      ∙ made_with_last g.S.Sink.mark (λ worker. worker.sink) c.in-Ok.workers.items c.pop.new.self.items c.args.sinks.items c.in-Some.sink c.in-Ok.ensures.wired.sinks_are c.in-Some.ensures.items;
   front = c.pop.new.self.items;
   last = c.in-Some.sink;
   split = c.in-Some.ensures.items;
   asks_are = refl;
 }
 
-pub returns-in-Ok-start-clause-sinks : goal.returns-in-Ok-start-clause-sinks
-returns-in-Ok-start-clause-sinks g c = (
-  c.in-Some.sink,
-  c.in-Some.ensures.items ∙ ap (λ front. front ++ c.in-Some.sink ∷ []) (sym (ap (λ vec. map (λ worker. worker.sink) vec.items) c.of-given.ensures ∙ c.in-Ok.ensures.sinks)),
-)
+pub returns-in-Ok-start-clause-given : goal.returns-in-Ok-start-clause-given
+returns-in-Ok-start-clause-given g c = record {
+  workers_are = ap (λ workers. map (λ worker. worker.linked) workers) c.in-Ok-start.ensures.ok ∙ sym (ap (λ vec. map (λ worker. worker.linked) vec.items) c.of-given.ensures);
+  bells_are = ap (λ workers. map (λ worker. worker.bells) workers) c.in-Ok-start.ensures.ok ∙ sym (ap (λ vec. map (λ worker. worker.bells) vec.items) c.of-given.ensures);
+  tries_are = ap (λ workers. map (λ worker. worker.tries) workers) c.in-Ok-start.ensures.ok ∙ sym (ap (λ vec. map (λ worker. worker.tries) vec.items) c.of-given.ensures);
+  clocks_are = ap (λ vec. map (λ worker. worker.clock) vec.items) c.of-given.ensures ∙ c.in-Ok.ensures.wired.clocks_are;
+  gates_are = ap (λ vec. map (λ worker. worker.gate) vec.items) c.of-given.ensures ∙ c.in-Ok.ensures.wired.gates_are;
+  last = c.in-Some.sink;
+  sinks_are =
+      c.in-Some.ensures.items
+      ∙ ap (λ front. front ++ c.in-Some.sink ∷ []) (sym (ap (λ vec. map (λ worker. worker.sink) vec.items) c.of-given.ensures ∙ c.in-Ok.ensures.wired.sinks_are));
+}
