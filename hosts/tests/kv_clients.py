@@ -148,7 +148,7 @@ def try_redis(program, check, skip):
 
 def try_python(program, check, skip):
     # Debian's packages are those of its own python.
-    sys.path.append("/usr/lib/python3/dist-packages")
+    sys.path.append(os.path.join("/", "usr", "lib", "python3", "dist-packages"))
     try:
         import redis
     except ImportError:
