@@ -1,5 +1,5 @@
-"""Tries the edits of crates/NAME/edits/, which the gate does not try: the prover must refuse each.
-Those that begin with a line 'tests: LAYER' are left to tests/tested-edits: a test must refuse them.
+"""Tries the edits of crates/NAME/edits.txt, which the gate does not try: the prover must refuse each.
+Those with a line 'tests: LAYER' are left to tests/tested-edits: a test must refuse them.
 
   tests/edits [--jobs N] [--gate] [--alone] [NAME..]
   tests/edits --look [NAME..]
@@ -19,6 +19,15 @@ Edits of one crate that change different functions are tried together: one check
 nothing else. An edit is refused if a goal of its own function is open. Whatever isn't refused so, or changes more than the bodies
 of functions, is tried alone by `rt must-fail`, which checks the whole crate. An edit with a line 'compiler: CODE' must be refused
 by the compiler with that error, before anything is proved. Any other that the compiler refuses is a BAD EDIT: it says nothing of a contract.
+
+An edit is a name, a file and pairs of lines: what goes, with '- ' before it, and what comes, with '+ '. Each text that goes stands once in its file.
+
+  first_job_is_lost: src/line.rt
+  - self.jobs.push(job)
+  + self.jobs.push(job); self.jobs.remove(0)
+
+'compiler: CODE' or 'tests: LAYER' is a line below the name. A line of a file alone says that the next pairs are of that file. '#' begins a
+comment. The edits of must-fail/, and any in edits/, are files NAME.edit, in the form of `rt must-fail`.
 
 Works on a copy. The libraries that were built on this machine are taken along, and the others are built.
 The last line counts the edits that were refused, those that still prove, and those that can't be applied.
@@ -48,31 +57,29 @@ BY_NAME = "only because a proof file names what the edit took away"
 class Edit:
     """An edit: the pairs of texts that it replaces, by file, and what was found out of it."""
 
-    def __init__(self, path):
+    def __init__(self, path, name):
         self.path = path
-        self.name = path.stem
+        self.name = name
         self.compiler = None
         self.tests = None
         self.pairs = []
+        self.fault = None
         self.functions = set()
         self.said = None
-        file, old = None, None
-        for line in path.read_text().split("\n"):
-            if line.startswith("file: "):
-                file = line[6:].strip()
-            elif line.startswith("tests: "):
-                self.tests = line[7:].strip()
-            elif line.startswith("compiler: "):
-                self.compiler = line[10:].strip()
-            elif line.startswith("old: "):
-                old = line[5:]
-            elif line.startswith("new:"):
-                self.pairs.append((file, old, line[4:].removeprefix(" ")))
+
+    def place(self):
+        """Where it stands."""
+        path = self.path.relative_to(ROOT)
+        return str(path) if path.suffix == ".edit" else f"{path}: {self.name}"
+
+    def text(self):
+        """Its text in the form of `rt must-fail`."""
+        return "".join(f"file: {file}\nold: {old}\nnew: {new}\n" for file, old, new in self.pairs)
 
     def apply(self, folder, texts):
         """Changes these texts by file, which are read from the crate's folder at need, or says why it can't."""
-        if not self.pairs:
-            return "it replaces nothing"
+        if self.fault or not self.pairs:
+            return self.fault or "it replaces nothing"
         for file, old, new in self.pairs:
             if not file or not old or not (folder / file).is_file():
                 return f"there is no file {file}"
@@ -84,8 +91,64 @@ class Edit:
         return None
 
 
+def edit_of(path):
+    """The edit of a file NAME.edit."""
+    edit, file, old = Edit(path, path.stem), None, None
+    for line in path.read_text().split("\n"):
+        if line.startswith("file: "):
+            file = line[6:].strip()
+        elif line.startswith("tests: "):
+            edit.tests = line[7:].strip()
+        elif line.startswith("compiler: "):
+            edit.compiler = line[10:].strip()
+        elif line.startswith("old: "):
+            old = line[5:]
+        elif line.startswith("new:"):
+            edit.pairs.append((file, old, line[4:].removeprefix(" ")))
+    return edit
+
+
+NAMED = re.compile(r"(\w+): (\S+)")
+OF_FILE = re.compile(r"(?:src|specs|proofs)/\S+")
+
+
+def edits_in(path):
+    """The edits of a list. One with a line that can't be read can't be applied."""
+    found, file, old = [], None, None
+    for number, line in enumerate([*path.read_text().split("\n"), ""] if path.is_file() else (), 1):
+        mark, text, head = line[:1], line[2:], NAMED.fullmatch(line.rstrip())
+        edit = found[-1] if found else Edit(path, "none")
+        if mark == "+" and old is not None:
+            edit.pairs.append((file, old, text))
+            old = None
+        elif old is not None:
+            edit.fault = f"line {number - 1} has no line '+ ' below it"
+            old = None
+        elif mark == "-" and found:
+            old = text
+        elif head and OF_FILE.fullmatch(head[2]):
+            found.append(Edit(path, head[1]))
+            file = head[2]
+        elif head and head[1] in ("compiler", "tests") and not edit.pairs:
+            setattr(edit, head[1], head[2])
+        elif OF_FILE.fullmatch(line.strip()):
+            file = line.strip()
+        elif line.strip() and mark != "#":
+            edit.fault = f"line {number} can't be read: {line[:60]}"
+            found = found or [edit]
+    return found
+
+
 def edits_of(crate, *kinds):
-    return [Edit(path) for kind in kinds for path in sorted((ROOT / "crates" / crate / kind).glob("*.edit"))]
+    folder = ROOT / "crates" / crate
+    found = [edit for kind in kinds for edit in map(edit_of, sorted((folder / kind).glob("*.edit")))]
+    found += edits_in(folder / "edits.txt") if "edits" in kinds else []
+    names = set()
+    for edit in found:
+        if edit.name in names:
+            edit.fault = "another edit has its name"
+        names.add(edit.name)
+    return found
 
 
 def look(crates):
@@ -95,7 +158,7 @@ def look(crates):
             why = edit.apply(ROOT / "crates" / crate, {})
             passed, failed = passed + (not why), failed + bool(why)
             if why:
-                print(f"{edit.path.relative_to(ROOT)}: {why}")
+                print(f"{edit.place()}: {why}")
     print(f"{passed} passed, {failed} failed")
     return 1 if failed else 0
 
@@ -167,7 +230,7 @@ class Copy:
     def __init__(self, crate, room):
         self.crate = crate
         self.top = room / crate
-        leave = shutil.ignore_patterns(".git", "out", "benches", "edits", "must-fail")
+        leave = shutil.ignore_patterns(".git", "out", "benches", "edits", "edits.txt", "must-fail")
         shutil.copytree(ROOT, self.top, ignore=leave)
         self.folder = self.top / "crates" / crate
 
@@ -197,10 +260,10 @@ class Copy:
         """Tries each edit alone, by `rt must-fail`."""
         (self.folder / "must-fail").mkdir(exist_ok=True)
         for edit in edits:
-            shutil.copy(edit.path, self.folder / "must-fail")
+            (self.folder / "must-fail" / f"{edit.name}.edit").write_text(edit.text())
         said = self.rt("must-fail", self.crate)
         for edit in edits:
-            mark = f"must-fail {self.crate}/{edit.path.name}: "
+            mark = f"must-fail {self.crate}/{edit.name}.edit: "
             edit.said = next((it.split(mark)[1] for it in said if mark in it), "NOT TRIED: " + " ".join(said[-4:]))
         shutil.rmtree(self.folder / "must-fail")
 
@@ -280,7 +343,7 @@ def compile_all(crates):
             by_compiler(copy, edits)
             bad = [it for it in edits if it.said and not it.said.startswith("refused")]
             for edit in bad:
-                print(f"{edit.path.relative_to(ROOT)}: {edit.said}", flush=True)
+                print(f"{edit.place()}: {edit.said}", flush=True)
             passed, failed = passed + len(edits) - len(bad), failed + len(bad)
             shutil.rmtree(copy.top, ignore_errors=True)
     print(f"{passed} passed, {failed} failed")

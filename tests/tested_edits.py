@@ -1,10 +1,10 @@
-"""Tries the edits of crates/NAME/edits/ that begin with a line 'tests: LAYER'. No contract refuses them: the tests of tests/units/LAYER must.
+"""Tries the edits of crates/NAME/edits.txt that have a line 'tests: LAYER'. No contract refuses them: the tests of tests/units/LAYER must.
 
   tests/tested-edits [--jobs N] [--minutes N] [NAME..]
 
 NAME..       the edits of these crates alone; without a name those of every crate
 --jobs N     this many side by side (1 if left out; each takes up to 2 GB)
---minutes N  begins no other edit once N minutes have passed, and names those that are left. One comes whose crate, tests or own text
+--minutes N  begins no other edit once N minutes have passed, and names those that are left. One comes whose crate, tests or edits
              changed last (what isn't committed, and then by the time of the commit), then one in turn, and so on. The turn goes
              through all edits, one further with each commit, so that over the commits each is tried
 
@@ -176,7 +176,7 @@ def main(words):
     tries = [Try(edit.tests, crate, edit) for crate in names or here for edit in edits_of(crate, "edits") if edit.tests]
     for it in tries:
         if it.tests not in layers():
-            stop(f"tests/tested-edits: {it.edit.path.relative_to(ROOT)}: no layer {it.tests}")
+            stop(f"tests/tested-edits: {it.edit.place()}: no layer {it.tests}")
     if minutes:
         tries = newest_and_in_turn(tries)
     left, untouched = with_untouched(tries)
@@ -186,7 +186,7 @@ def main(words):
         nonlocal passed, failed
         is_refused, text = one.judged(untouched[one.tests])
         passed, failed = passed + is_refused, failed + (not is_refused)
-        print(f"{one.crate}/{one.edit.path.name}: {text}", flush=True)
+        print(f"{one.crate}/{one.edit.name}: {text}", flush=True)
 
     telling = threading.Lock()
 
@@ -207,7 +207,7 @@ def main(words):
             for it in waiting:
                 tell(it)
     lanes.commands.end_as_told()
-    names_left = [f"{it.crate}/{it.edit.path.name}" for it in left if it.edit]
+    names_left = [f"{it.crate}/{it.edit.name}" for it in left if it.edit]
     if names_left:
         print(f"left, since the time was over: {' '.join(names_left)}")
     print(f"{passed} passed, {failed} failed")

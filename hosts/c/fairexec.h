@@ -510,7 +510,11 @@ uint32_t fx_seat_stats_of_queue(fx_seat *seat, uint32_t queue, fx_queue_stats *s
 /* A code in words. */
 static inline const char *fx_text(uint32_t code) {
     switch (code) {
+#ifdef FAIREXEC_UNPROVED /* The library is libfairexec_unproved.a, which tools/host-library --unproved makes. */
+    case FX_OK: return "ok, by a library that isn't proved";
+#else
     case FX_OK: return "ok";
+#endif
     case FX_START: return "run the job for the first time";
     case FX_RESUME: return "run the job again";
     case FX_DONE: return "the job is done";

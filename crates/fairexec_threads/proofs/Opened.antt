@@ -8,9 +8,10 @@ use Rattle.rt_runtime.specs.State.{RuntimeView}
 use Rattle.rt_runtime_config.specs.Configs.{Entry}
 use Rattle.fairexec_threads_script.specs.Orders.{Told}
 use Rattle.rt_runtime_worker.proofs.Openings.{opening_creations}
-use Rattle.rt_runtime_worker.specs.Linked.{LinkedView}
-use Rattle.rt_runtime_worker.specs.Queues.{creations, opening_of}
-use Rattle.rt_runtime_worker.specs.Together.{worker_at}
+use Rattle.actor_seat.specs.Linked.{LinkedView}
+use Rattle.rt_runtime_worker.specs.Queues.{creations}
+use Rattle.actor_seat.specs.Queues.{opening_of}
+use Rattle.actor_seat.specs.Together.{worker_at}
 use Rattle.fairexec_threads.specs.Offers.{OffersAll}
 use Rattle.fairexec_threads.specs.Rooms.{room_of}
 use Rattle.fairexec_threads.proofs.Sending.{grows}

@@ -19,7 +19,8 @@ use Rattle.fairexec_threads.specs.Offers.{OffersAll, closings}
 use Rattle.fairexec_threads.specs.Outcomes.{AreAnswered}
 use Rattle.fairexec_threads.specs.Polled.{ArePolledAsTold}
 use Rattle.fairexec_threads.specs.Rooms.{room_of}
-use Rattle.rt_runtime_worker.specs.Queues.{creations, opening_of}
+use Rattle.rt_runtime_worker.specs.Queues.{creations}
+use Rattle.actor_seat.specs.Queues.{opening_of}
 
 -- A runtime of these numbers and queues is started, the orders are sent, each core is closed from 0 upwards, and the runtime is finished. The
 -- journal of each core begins with the creation of its queues. Each order is accepted, unless its core has closed. What the journals tell of an

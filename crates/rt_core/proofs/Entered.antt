@@ -1,7 +1,9 @@
 -- What holds inside a core as a job enters a queue without work.
-use Rattle.std.proofs.Common.{◌≡◌, ℕ, ◌+◌, ◌<◌, Bool, true, false, List, [], ◌∷◌, ◌++◌, length, refl, ap, ◌∙◌, arith, length-set}
-use Rattle.std.specs.Prelude.{not, slice_set}
+use Rattle.std.proofs.Common.{◌≡◌, ℕ, ◌+◌, ◌<◌, Bool, true, false, cond, List, [], ◌∷◌, ◌++◌, length, refl, sym, ap, ◌∙◌, arith, length-set}
+use Rattle.std.specs.Prelude.{not, slice_index_or, slice_set}
+use Rattle.std.proofs.lemmas.List.{set-get_or}
 use Rattle.std.proofs.lemmas.List.Elements.{All-set}
+use Rattle.rt_shares.specs.Charge.{placed}
 use Rattle.rt_ids.specs.declared.names.JobId.{JobId}
 use Rattle.rt_ids.specs.declared.names.Key.{Key}
 use Rattle.rt_ids.specs.Names.{is_number}
@@ -9,16 +11,32 @@ use Rattle.rt_jobs.specs.Meanings.{Meaning}
 use Rattle.rt_jobs.specs.Ready.{IsReady}
 use Rattle.rt_taskqueue.specs.Queues.{Marks, QueuesView, waiting_of, queue_count, ChangesLine, IsWithinLimits}
 use Rattle.rt_core.specs.declared.tally.Tally.{Tally}
-use Rattle.rt_core.specs.State.{CoreView, is_any, is_working, queue_out}
+use Rattle.rt_core.specs.State.{CoreView, no_tally, is_any, is_working, queue_out, tally_of, entry_runtime}
 use Rattle.rt_core.specs.Bursts.{queue_open}
 use Rattle.rt_core.specs.Inside.{IsCore, FitsTurns, unsettled_count}
 use Rattle.rt_core.specs.Relisted.{keys_after, slips_after}
+use Rattle.rt_core.proofs.Charging.{tally_read}
 use Rattle.rt_core.proofs.Entries.{is_any-push, runtime_of-set_other, IsListed-held}
 use Rattle.rt_core.proofs.Held.{not_held}
 use Rattle.rt_core.proofs.Listed.{LacksQueue-from_none}
 use Rattle.rt_core.proofs.Parts.{both_false, idle_entry, KeepsCounts-enters, IsListed-activates, IsPollable-pushed}
 use Rattle.rt_core.proofs.SlipsKept.{KeepsSlips-same, KeepsSlips-inserted}
 use Rattle.rt_core.proofs.Turning.{KeepsTurn-same, held_in_turn}
+
+module _ {J : Type 0} where
+  -- the tallies as a job comes to a queue that has work
+  pub stays_placed : (old : CoreView J) (queue : ℕ) → is_working queue old ≡ true → slice_set old.tallies queue (record (tally_of queue old) { runtime = entry_runtime queue old }) ≡ old.tallies
+  stays_placed old queue work =
+      ap (λ test. slice_set old.tallies queue (record (tally_of queue old) { runtime = cond test (tally_of queue old).runtime (placed (tally_of queue old).runtime old.floor) })) work
+      ∙ set-get_or old.tallies queue no_tally
+
+  -- and as one comes to a queue without work, which is placed
+  pub is_placed : (old : CoreView J) (queue place : ℕ) (was tally : Tally) → is_working queue old ≡ false → place ≡ queue → place < length old.tallies → was ≡ slice_index_or old.tallies place was →
+      tally ≡ record was { runtime = placed was.runtime old.floor } → slice_set old.tallies place tally ≡ slice_set old.tallies queue (record (tally_of queue old) { runtime = entry_runtime queue old })
+  is_placed old queue place was tally idle at within read is =
+      ap (λ number. slice_set old.tallies number tally) at
+      ∙ ap (slice_set old.tallies queue) (is ∙ ap (λ (one : Tally). record one { runtime = placed one.runtime old.floor }) (tally_read old.tallies place queue was at within read))
+      ∙ sym (ap (λ test. slice_set old.tallies queue (record (tally_of queue old) { runtime = cond test (tally_of queue old).runtime (placed (tally_of queue old).runtime old.floor) })) idle)
 
 -- the queue is placed, and listed unless its turn is open
 pub IsCore-entered : {J T : Type 0} (meaning : Meaning J T) (old : CoreView J) (queues : QueuesView J) (delivered : List ℕ) (slips : List Bool) (keys : List Key) (inside room places : ℕ) → IsCore meaning old slips keys inside room places →

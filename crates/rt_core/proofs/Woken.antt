@@ -1,11 +1,11 @@
 -- What a wake came to, from what the queues did.
-use Rattle.std.proofs.Common.{◌≡◌, ℕ, ◌<◌, true, false, cond, List, [], ◌∷◌, ◌++◌, length, Option, Some, refl, sym, ap, ◌∙◌, subst, arith, length-append}
+use Rattle.std.proofs.Common.{◌≡◌, ℕ, ◌<◌, Bool, true, false, List, [], ◌∷◌, ◌++◌, length, Option, Some, refl, sym, ap, ◌∙◌, subst, arith, length-append}
 use Rattle.std.specs.Prelude.{◌||◌, nat_lt, All, slice_index_or, slice_set}
 use Rattle.std.proofs.lemmas.Bool.{lt-ltb, true≢false}
-use Rattle.std.proofs.lemmas.List.{set-get_or}
 use Rattle.std.proofs.lemmas.List.Elements.{All-push}
 use Rattle.rt_shares.specs.Charge.{placed}
 use Rattle.rt_ids.specs.declared.names.JobId.{JobId}
+use Rattle.rt_ids.specs.declared.names.Key.{Key}
 use Rattle.rt_ids.specs.Names.{is_name, is_number}
 use Rattle.rt_ids.proofs.NameLemmas.{one_name}
 use Rattle.rt_jobs.specs.Meanings.{Meaning}
@@ -14,10 +14,10 @@ use Rattle.rt_taskqueue.specs.Queues.{Line, Marks, Parks, QueuesView, waiting_of
 use Rattle.rt_taskqueue.specs.Waking.{WakesParked}
 use Rattle.rt_taskqueue.proofs.QueuesLemmas.{queue_exists_where_parked}
 use Rattle.rt_core.specs.declared.tally.Tally.{Tally}
-use Rattle.rt_core.specs.State.{CoreView, JobOut, no_tally, is_any, is_working, queue_out, tally_of, entry_runtime}
-use Rattle.rt_core.specs.Inside.{IsPollable}
+use Rattle.rt_core.specs.State.{CoreView, JobOut, is_any, is_working, queue_out}
+use Rattle.rt_core.specs.Inside.{IsCore, IsPollable}
 use Rattle.rt_core.specs.Waking.{name_out, is_out, EndsPark}
-use Rattle.rt_core.proofs.Charging.{tally_read}
+use Rattle.rt_core.proofs.Entered.{stays_placed, is_placed}
 use Rattle.rt_core.proofs.Moved.{is_any-middle, All-middle}
 
 -- whether there is more than the one that came last
@@ -29,6 +29,30 @@ module _ {J : Type 0} where
   -- the job that is out has this name
   pub name_if_out : (name : JobId) (view : CoreView J) (out : JobOut J) → view.out ≡ Some out → is_out name view ≡ true → name ≡ out.name
   name_if_out name view out was_out there = one_name name out.name (sym (ap (λ (held : Option (JobOut J)). is_name name (name_out held)) was_out) ∙ there)
+
+  -- the wake of the job that is out changes nothing of what holds inside
+  pub IsCore-out_woken : {T : Type 0} (meaning : Meaning J T) (old : CoreView J) (slips : List Bool) (keys : List Key) (inside room places : ℕ) (out : JobOut J) → old.out ≡ Some out →
+      IsCore meaning old slips keys inside room places → IsCore meaning (record old { out = Some (record out { woken = true }) }) slips keys inside room places
+  IsCore-out_woken {T} meaning old slips keys inside room places out is was = record {
+    counted = record {
+      limits = core.counted.limits;
+      tallies = core.counted.tallies;
+      senders = core.counted.senders;
+      all_inside = core.counted.all_inside;
+      within_room = core.counted.within_room;
+      same_room = core.counted.same_room;
+      reserved = core.counted.reserved;
+      out = core.counted.out;
+    };
+    listed = record { at = core.listed.at };
+    slipped = core.slipped;
+    pollable = record { at = core.pollable.at; parked = core.pollable.parked };
+    turns = record { tallies = core.turns.tallies; floor = core.turns.floor };
+    turning = record { single = core.turning.single; polled = core.turning.polled; exists = core.turning.exists };
+  }
+    where
+      core : IsCore meaning (record old { out = Some out }) slips keys inside room places
+      core = subst (λ (found : Option (JobOut J)). IsCore meaning (record old { out = found }) slips keys inside room places) is was
 
   -- whether a queue had work before a job came to its line
   pub had_work : (old : CoreView J) (queues : QueuesView J) (queue : ℕ) (last : JobId × Marks × J) → waiting_of queue queues ≡ waiting_of queue old.queues ++ last ∷ [] →
@@ -55,13 +79,8 @@ module _ {J : Type 0} where
     queue = queue;
     exists = woken_exists old queues queue name wakes;
     wakes = wakes;
-    rest = λ i. record old { queues = queues; tallies = sym same i };
+    rest = λ i. record old { queues = queues; tallies = sym (stays_placed old queue work) i };
   }
-    where
-      same : slice_set old.tallies queue (record (tally_of queue old) { runtime = entry_runtime queue old }) ≡ old.tallies
-      same =
-          ap (λ test. slice_set old.tallies queue (record (tally_of queue old) { runtime = cond test (tally_of queue old).runtime (placed (tally_of queue old).runtime old.floor) })) work
-          ∙ set-get_or old.tallies queue no_tally
 
   -- one of a queue without work is, and the queue is placed
   pub EndsPark-idle : (old : CoreView J) (queues : QueuesView J) (queue place : ℕ) (name : JobId) (was tally : Tally) → WakesParked old.queues queues name queue → is_working queue old ≡ false → place ≡ queue →
@@ -71,11 +90,5 @@ module _ {J : Type 0} where
     queue = queue;
     exists = woken_exists old queues queue name wakes;
     wakes = wakes;
-    rest = λ i. record old { queues = queues; tallies = same i };
+    rest = λ i. record old { queues = queues; tallies = is_placed old queue place was tally idle at within read is i };
   }
-    where
-      same : slice_set old.tallies place tally ≡ slice_set old.tallies queue (record (tally_of queue old) { runtime = entry_runtime queue old })
-      same =
-          ap (λ number. slice_set old.tallies number tally) at
-          ∙ ap (slice_set old.tallies queue) (is ∙ ap (λ (one : Tally). record one { runtime = placed one.runtime old.floor }) (tally_read old.tallies place queue was at within read))
-          ∙ sym (ap (λ test. slice_set old.tallies queue (record (tally_of queue old) { runtime = cond test (tally_of queue old).runtime (placed (tally_of queue old).runtime old.floor) })) idle)

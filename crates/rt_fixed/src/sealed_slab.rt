@@ -1,5 +1,5 @@
 //! A slab that asks for no memory any more.
-ghost use Rattle.std.specs.Prelude.{◌≡◌, ◌+◌, None, Some};
+ghost use Rattle.std.specs.Prelude.{◌≡◌, ◌+◌, ◌<◌, None, Some};
 ghost use Rattle.std.specs.Borrow.{sem};
 ghost use Rattle.slab.specs.Slab.{ContainsKey, HasRoomFor, Updates, get, slab_len};
 
@@ -45,6 +45,7 @@ impl<T, A: Allocator> SealedSlab<T, A> {
         ensures was_vacant { get self.old result ≡ None }
         ensures updates { Updates self.old self.new result (Some value) }
         ensures len { slab_len self.new ≡ slab_len self.old + 1 }
+        ensures key_in_range { result < self.new.capacity }
         ensures capacity { self.new.capacity ≡ self.old.capacity }
     {
         self.slab.insert_reserved(value)

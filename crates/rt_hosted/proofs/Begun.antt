@@ -4,9 +4,9 @@ use Rattle.std.specs.Prelude.{None, []}
 use Rattle.rt_journal.specs.Recorded.{RecordedView, IsRecorded}
 use Rattle.rt_journal.specs.Steps.{opened_beside}
 use Rattle.rt_ring_mesh.specs.Ends.{EndsView}
-use Rattle.rt_runtime_worker.specs.Opening.{AreEndsOf, CreatesSince, IsOpenedOver}
-use Rattle.rt_runtime_worker.specs.Seats.{IsSeated}
-use Rattle.rt_runtime_worker.proofs.Opened.{created_none, opened_linked, opened_over}
+use Rattle.actor_seat.specs.Opening.{AreEndsOf, CreatesSince, IsOpenedOver}
+use Rattle.actor_seat.specs.Seats.{IsSeated}
+use Rattle.actor_seat.proofs.Opened.{created_none, opened_linked, opened_over}
 use Rattle.rt_hosted.specs.declared.job.HostJob.{HostJob}
 use Rattle.rt_hosted.specs.Hosted.{HasRoom, IsHosted, IsRunOf}
 use Rattle.rt_hosted.specs.Jobs.{host_meaning}

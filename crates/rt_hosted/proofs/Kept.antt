@@ -10,8 +10,8 @@ use Rattle.rt_link.specs.declared.ends.Inward.{Inward}
 use Rattle.rt_journal.specs.Ends.{IsSameSeat}
 use Rattle.rt_journal.specs.Recorded.{IsRecorded, RecordedView}
 use Rattle.rt_journal.specs.Steps.{ClosesItself, Delivers, out_told}
-use Rattle.rt_runtime_worker.specs.Linked.{StaysLinked}
-use Rattle.rt_runtime_worker.specs.Seats.{IsSeated}
+use Rattle.actor_seat.specs.Linked.{StaysLinked}
+use Rattle.actor_seat.specs.Seats.{IsSeated}
 use Rattle.rt_hosted.specs.declared.job.HostJob.{HostJob}
 use Rattle.rt_hosted.specs.declared.turns.Run.{Run}
 use Rattle.rt_hosted.specs.Hosted.{HasRoom, HostedView, IsHosted, IsRunOf}

@@ -5,7 +5,7 @@ use Rattle.std.proofs.lemmas.List.{length-append}
 use Rattle.rt_ids.specs.Journal.{Journal}
 use Rattle.rt_journal_notes.specs.Journals.{JournalView, passed_all}
 use Rattle.rt_journal.specs.Recorded.{RecordedView}
-use Rattle.rt_runtime_worker.specs.Seats.{IsSeated}
+use Rattle.actor_seat.specs.Seats.{IsSeated}
 use Rattle.rt_hosted_parts.specs.declared.part.PassError.{PassError}
 use Rattle.rt_hosted_parts.specs.Parts.{IsPart, PassesPart}
 use Rattle.rt_hosted.specs.declared.job.HostJob.{HostJob}

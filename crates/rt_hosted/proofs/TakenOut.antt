@@ -12,8 +12,8 @@ use Rattle.rt_jobs.specs.Steps.{AfterPoll}
 use Rattle.rt_journal_notes.specs.Journals.{JournalView}
 use Rattle.rt_journal.specs.Recorded.{RecordedView}
 use Rattle.rt_journal.specs.Turns.{Settles}
-use Rattle.rt_runtime_worker.specs.Linked.{StaysLinked}
-use Rattle.rt_runtime_worker.specs.Seats.{IsSeated, taken_of}
+use Rattle.actor_seat.specs.Linked.{StaysLinked}
+use Rattle.actor_seat.specs.Seats.{IsSeated, taken_of}
 use Rattle.rt_hosted.specs.declared.job.HostJob.{HostJob}
 use Rattle.rt_hosted.specs.Hosted.{HasRoom, HostedView, IsHosted, IsRunOf}
 use Rattle.rt_hosted.specs.Jobs.{host_meaning}

@@ -2,7 +2,7 @@
 use Rattle.std.proofs.Common.{◌≡◌, ℕ, ◌+◌, ◌≤◌, inl, inr, length, ap, arith}
 use Rattle.std.specs.Prelude.{Some, Ok, Err}
 use Rattle.rt_journal.specs.Recorded.{RecordedView}
-use Rattle.rt_runtime_worker.proofs.AddedTurns.{adds_ended, adds_followed, adds_picked}
+use Rattle.actor_seat.proofs.AddedTurns.{adds_ended, adds_followed, adds_picked}
 use Rattle.rt_hosted.specs.declared.job.HostJob.{HostJob}
 use Rattle.rt_hosted.specs.Jobs.{host_meaning}
 use Rattle.rt_hosted.specs.Turns.{EndsIfOpen, GoesOn, Turned, TurnsTo}

@@ -5,7 +5,7 @@ use Rattle.rt_ids.specs.Work.{number_if}
 use Rattle.rt_core.specs.State.{JobOut}
 use Rattle.rt_journal.specs.Recorded.{RecordedView, IsRecorded}
 use Rattle.rt_link.specs.Fits.{Fits}
-use Rattle.rt_runtime_worker.specs.Linked.{LinkedView, AreBeside}
+use Rattle.actor_seat.specs.Linked.{LinkedView, AreBeside}
 use Rattle.rt_hosted.specs.declared.job.HostJob.{HostJob}
 use Rattle.rt_hosted.specs.declared.turns.Run.{Run}
 use Rattle.rt_hosted.specs.Jobs.{host_meaning}

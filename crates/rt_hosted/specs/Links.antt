@@ -3,7 +3,7 @@ use Rattle.std.specs.Prelude.{◌≡◌, ℕ, ◌<◌, ◌≤◌, Bool, None, Is
 use Rattle.rt_ids.specs.Closing.{core_mode, final_count}
 use Rattle.rt_ids.specs.declared.order.Mode.{Mode}
 use Rattle.rt_journal.specs.Steps.{ClosesItself}
-use Rattle.rt_runtime_worker.specs.Steps.{DeliversFrom, CollectsOf, ShutsGate}
+use Rattle.actor_seat.specs.Steps.{DeliversFrom, CollectsOf, ShutsGate}
 use Rattle.rt_hosted.specs.declared.answers.Refusal.{Refusal}
 use Rattle.rt_hosted.specs.declared.answers.Refusal.TheVariants as refusal
 use Rattle.rt_hosted.specs.Hosted.{HostedView, HasRoom}

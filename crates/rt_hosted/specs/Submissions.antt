@@ -15,7 +15,7 @@ use Rattle.rt_journal.specs.Recorded.{desk_of}
 use Rattle.rt_journal_desk.specs.Submissions.{Submits, numbered}
 use Rattle.rt_journal_desk.specs.Tickets.{RedeemsTicket, DetachesTicket}
 use Rattle.rt_ring_mesh.specs.Ends.{out_at}
-use Rattle.rt_runtime_worker.specs.Seats.{UsesOut}
+use Rattle.actor_seat.specs.Seats.{UsesOut}
 use Rattle.rt_hosted.specs.declared.answers.Refusal.{Refusal}
 use Rattle.rt_hosted.specs.declared.answers.Refusal.TheVariants as refusal
 use Rattle.rt_hosted.specs.declared.job.HostJob.{HostJob}

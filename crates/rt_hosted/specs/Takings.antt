@@ -2,8 +2,8 @@
 use Rattle.std.specs.Prelude.{Option, Some, None, Result, Ok, Err}
 use Rattle.rt_core.specs.declared.turn.PickError.{PickError}
 use Rattle.rt_core.specs.declared.turn.PickError.TheVariants as error
-use Rattle.rt_runtime_worker.specs.declared.seat.Taken.{Taken}
-use Rattle.rt_runtime_worker.specs.declared.seat.Taken.TheVariants as taken
+use Rattle.actor_seat.specs.declared.seat.Taken.{Taken}
+use Rattle.actor_seat.specs.declared.seat.Taken.TheVariants as taken
 use Rattle.rt_hosted.specs.declared.answers.Picked.{Picked}
 use Rattle.rt_hosted.specs.declared.answers.Picked.TheVariants as picked
 use Rattle.rt_hosted.specs.declared.answers.Refusal.{Refusal}

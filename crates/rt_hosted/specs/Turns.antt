@@ -9,8 +9,8 @@ use Rattle.rt_core.specs.declared.turn.Settled.{Settled}
 use Rattle.rt_core.specs.Answers.{IsReadyTurn}
 use Rattle.rt_journal.specs.Recorded.{RecordedView}
 use Rattle.rt_journal.specs.Turns.{EndsTurn, Follows, Picks, Settles}
-use Rattle.rt_runtime_worker.specs.Linked.{StaysLinked}
-use Rattle.rt_runtime_worker.specs.Seats.{IsSeated, taken_of}
+use Rattle.actor_seat.specs.Linked.{StaysLinked}
+use Rattle.actor_seat.specs.Seats.{IsSeated, taken_of}
 use Rattle.rt_hosted.specs.declared.answers.Picked.{Picked}
 use Rattle.rt_hosted.specs.declared.answers.Refusal.{Refusal}
 use Rattle.rt_hosted.specs.declared.answers.Refusal.TheVariants as refusal

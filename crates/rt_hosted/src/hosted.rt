@@ -4,8 +4,8 @@ ghost use Rattle.std.specs.Prelude.{◌≡◌, ◌≢◌, ◌+◌, ◌*◌, ◌^
 ghost use Rattle.arrayvec.specs.ArrayVec.{array_vec_len};
 ghost use Rattle.rt_ids.specs.Closing.{IsDrained};
 ghost use Rattle.rt_journal.specs.Stats.{TellsCore, TellsQueues};
-ghost use Rattle.rt_runtime_worker.specs.Linked.{StaysLinked};
-ghost use Rattle.rt_runtime_worker.specs.Opening.{AreEndsOf, IsOpenedOver};
+ghost use Rattle.actor_seat.specs.Linked.{StaysLinked};
+ghost use Rattle.actor_seat.specs.Opening.{AreEndsOf, IsOpenedOver};
 ghost use Rattle.rt_hosted.specs.Hosted.{HasRoom, IsAtRest, IsHosted};
 ghost use Rattle.rt_hosted.specs.Links.{Closes, Collects, Hears, Shuts};
 ghost use Rattle.rt_hosted.specs.Passing.{HandsOn};
@@ -18,6 +18,7 @@ use crate::passing::hand_on;
 use crate::told::{host_order, told_detached, told_redeemed, told_sent};
 use crate::turns::{Run, go_on};
 use crate::word::poll_told;
+use actor_seat::Seat;
 use arrayvec::ArrayVec;
 use rt_core::Settled;
 use rt_hosted_parts::PassError;
@@ -25,7 +26,6 @@ use rt_ids::{ActorNo, CoreNo, CoreStats, Mode, Order, Outcome, QueueStats, Ticke
 use rt_jobs::Step;
 use rt_journal::{Recorded, RunningJournal, told_stats};
 use rt_ring_mesh::Ends;
-use rt_runtime_worker::Seat;
 use rt_sinks::Discard;
 use std::alloc::{AllocError, Global};
 use std::marker::Model;

@@ -3,13 +3,13 @@
 ghost use Rattle.std.specs.Prelude.{◌≡◌};
 ghost use Rattle.rt_journal_notes.specs.Journals.{passed_all};
 ghost use Rattle.rt_hosted_parts.specs.Parts.{PassesPart};
-ghost use Rattle.rt_runtime_worker.specs.Seats.{IsSeated};
+ghost use Rattle.actor_seat.specs.Seats.{IsSeated};
 ghost use Rattle.rt_hosted.specs.Jobs.{host_meaning};
 
 use crate::job::HostJob;
+use actor_seat::Seat;
 use rt_hosted_parts::{PassError, copy_kept};
 use rt_ids::ActorNo;
-use rt_runtime_worker::Seat;
 use rt_sinks::Discard;
 use std::alloc::Global;
 

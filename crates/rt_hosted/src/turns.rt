@@ -3,8 +3,8 @@
 ghost use Rattle.std.specs.Prelude.{◌≡◌, ◌+◌, ◌<◌, ◌≤◌, None, Ok, Some, IfSome, length};
 ghost use Rattle.rt_core.specs.Answers.{IsReadyTurn};
 ghost use Rattle.rt_journal.specs.Turns.{Follows};
-ghost use Rattle.rt_runtime_worker.specs.Linked.{StaysLinked};
-ghost use Rattle.rt_runtime_worker.specs.Seats.{IsSeated};
+ghost use Rattle.actor_seat.specs.Linked.{StaysLinked};
+ghost use Rattle.actor_seat.specs.Seats.{IsSeated};
 ghost use Rattle.rt_hosted.specs.declared.answers.Picked.TheVariants.{Resume, Start};
 ghost use Rattle.rt_hosted.specs.Hosted.{IsHosted, IsRunOf};
 ghost use Rattle.rt_hosted.specs.Jobs.{host_meaning};
@@ -13,9 +13,9 @@ ghost use Rattle.rt_hosted.specs.Turns.{EndsIfOpen, Goes, TakesOut};
 
 use crate::answers::{Picked, Refusal};
 use crate::job::HostJob;
+use actor_seat::{Seat, Taken};
 use rt_core::{PickError, Turn};
 use rt_ids::{JobId, QueueNo};
-use rt_runtime_worker::{Seat, Taken};
 
 /// A job that the host runs, under its name.
 #[derive(Drop)]

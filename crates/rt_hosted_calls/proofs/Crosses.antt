@@ -16,8 +16,8 @@ use Rattle.rt_sinks.proofs.discard.Discard.TheSendSync as discard
 use Rattle.rt_core.specs.contracts.one_core.Core.{the_row as core}
 use Rattle.rt_journal_desk.specs.contracts.desk.RecordedDesk.{the_row as desk}
 use Rattle.rt_journal.specs.contracts.recorded.Recorded.{the_row as recorded}
-use Rattle.rt_runtime_worker.specs.contracts.seat.Seat.{the_row as seat}
-use Rattle.rt_runtime_worker.specs.contracts.outside_seat.OutsideSeat.{the_row as outside_seat}
+use Rattle.actor_seat.specs.contracts.seat.Seat.{the_row as seat}
+use Rattle.actor_seat.specs.contracts.outside_seat.OutsideSeat.{the_row as outside_seat}
 use Rattle.rt_hosted.specs.contracts.job.HostJob.{the_row as job}
 use Rattle.rt_hosted.specs.contracts.job.HostJobTask.TheImpl.{ghosts as task}
 use Rattle.rt_hosted.specs.contracts.hosted.Hosted.{the_row as hosted}

@@ -4,7 +4,7 @@ use Rattle.std.specs.Prelude.{[]}
 use Rattle.rt_ids.specs.Journal.{Journal}
 use Rattle.rt_link.specs.Fits.{Fits}
 use Rattle.rt_ring_mesh.proofs.Using.{ends_same}
-use Rattle.rt_runtime_worker.specs.OutsideSeats.{UsesOutside}
+use Rattle.actor_seat.specs.OutsideSeats.{UsesOutside}
 use Rattle.rt_hosted.specs.Jobs.{host_meaning}
 use Rattle.rt_hosted_house.specs.Outside.{CallerView, StaysOutside}
 

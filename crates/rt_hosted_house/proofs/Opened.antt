@@ -9,8 +9,8 @@ use Rattle.rt_ring_mesh.specs.Grid.{IsGrid, AreAllFresh, ends_at, no_ends}
 use Rattle.rt_ring_mesh.proofs.Parts.{at_end}
 use Rattle.rt_runtime_team.specs.Works.{Together}
 use Rattle.rt_runtime_team.proofs.Lists.{together_length}
-use Rattle.rt_runtime_worker.specs.Opening.{AreEndsOf, IsOpenedOver, IsWorkerOf}
-use Rattle.rt_runtime_worker.specs.Together.{no_linked, worker_at}
+use Rattle.actor_seat.specs.Opening.{AreEndsOf, IsOpenedOver, IsWorkerOf}
+use Rattle.actor_seat.specs.Together.{no_linked, worker_at}
 use Rattle.rt_hosted.specs.declared.job.HostJob.{HostJob}
 use Rattle.rt_hosted.specs.Hosted.{HostedView}
 use Rattle.rt_hosted_house.specs.Houses.{IsOpened}

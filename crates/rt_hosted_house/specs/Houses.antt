@@ -4,8 +4,8 @@ use Rattle.rt_ids.specs.Limits.{most_notes}
 use Rattle.rt_ids.specs.Spelled.{IsWithinLimits}
 use Rattle.rt_journal_desk.specs.Submissions.{opened_desk}
 use Rattle.rt_ring_mesh.specs.Grid.{IsGrid}
-use Rattle.rt_runtime_worker.specs.Opening.{IsWorkerOf}
-use Rattle.rt_runtime_worker.specs.Together.{worker_at}
+use Rattle.actor_seat.specs.Opening.{IsWorkerOf}
+use Rattle.actor_seat.specs.Together.{worker_at}
 use Rattle.rt_hosted.specs.Hosted.{HostedView}
 use Rattle.rt_hosted_house.specs.declared.house.OpenError.{OpenError}
 use Rattle.rt_hosted_house.specs.declared.house.OpenError.TheVariants.{BadConfig, Memory}

@@ -11,9 +11,9 @@ use Rattle.rt_link.specs.Fits.{Fits}
 use Rattle.rt_journal_desk.specs.Submissions.{Submits, numbered}
 use Rattle.rt_journal_desk.specs.Tickets.{CollectsFrom, DetachesTicket, GetsAll, RedeemsTicket}
 use Rattle.rt_ring_mesh.specs.Ends.{SameEnds, out_at}
-use Rattle.rt_runtime_worker.specs.Linked.{Grows}
-use Rattle.rt_runtime_worker.specs.Seats.{UsesOut}
-use Rattle.rt_runtime_worker.specs.Together.{OutsideView}
+use Rattle.actor_seat.specs.Linked.{Grows}
+use Rattle.actor_seat.specs.Seats.{UsesOut}
+use Rattle.actor_seat.specs.OutsideSeats.{OutsideView}
 use Rattle.rt_hosted.specs.declared.answers.Refusal.{Refusal}
 use Rattle.rt_hosted.specs.declared.answers.Refusal.TheVariants as refusal
 use Rattle.rt_hosted.specs.declared.job.HostJob.{HostJob}

@@ -2,7 +2,7 @@
 
 ghost use Rattle.std.specs.Prelude.{◌≡◌, ◌↔◌, All, IfOk, IsTrue, map};
 ghost use Rattle.rt_runtime_team.specs.Works.{Together};
-ghost use Rattle.rt_runtime_worker.specs.Opening.{AreEndsOf, IsOpenedOver};
+ghost use Rattle.actor_seat.specs.Opening.{AreEndsOf, IsOpenedOver};
 ghost use Rattle.rt_hosted_house.specs.Houses.{AreGood, IsOpened, OpensHouse};
 
 use crate::outside::Outside;

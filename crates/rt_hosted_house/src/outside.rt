@@ -8,6 +8,7 @@ ghost use Rattle.rt_hosted_house.specs.Outside.{Collects, Detaches, HasRoom, Pos
 ghost use Rattle.rt_hosted_house.specs.Passing.{HandsOn};
 
 use crate::passing::hand_on;
+use actor_seat::OutsideSeat;
 use rt_hosted::told::{host_order, told_detached, told_redeemed, told_sent};
 use rt_hosted::{HostJob, Refusal};
 use rt_hosted_parts::PassError;
@@ -15,7 +16,6 @@ use rt_ids::{ActorNo, CoreNo, Order, Outcome, Ticket};
 use rt_journal_desk::RecordedDesk;
 use rt_journal_notes::RunningJournal;
 use rt_ring_mesh::Ends;
-use rt_runtime_worker::OutsideSeat;
 use rt_sinks::Discard;
 use std::alloc::{AllocError, Global};
 use std::marker::Model;

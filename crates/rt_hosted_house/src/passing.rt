@@ -4,10 +4,10 @@ ghost use Rattle.std.specs.Prelude.{◌≡◌};
 ghost use Rattle.rt_journal_notes.specs.Journals.{passed_all};
 ghost use Rattle.rt_hosted_parts.specs.Parts.{PassesPart};
 
+use actor_seat::OutsideSeat;
 use rt_hosted::HostJob;
 use rt_hosted_parts::{PassError, copy_kept};
 use rt_ids::ActorNo;
-use rt_runtime_worker::OutsideSeat;
 use rt_sinks::Discard;
 use std::alloc::Global;
 

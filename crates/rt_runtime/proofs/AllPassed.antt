@@ -16,9 +16,10 @@ use Rattle.rt_ring_mesh.specs.Grid.{AreReunited}
 use Rattle.rt_runtime_team.specs.Works.{Together}
 use Rattle.rt_runtime_team.proofs.Lists.{together_length}
 use Rattle.rt_runtime_worker.specs.Ended.{EndedView, HasDrained, HasEnded}
-use Rattle.rt_runtime_worker.specs.Linked.{LinkedView, RunsOn}
+use Rattle.actor_seat.specs.Linked.{LinkedView, RunsOn}
 use Rattle.rt_runtime_worker.specs.Rooms.{ActsByCommand, MayAct, least_free}
-use Rattle.rt_runtime_worker.specs.Together.{EndedAreJoined, all_ends, no_linked, worker_at}
+use Rattle.rt_runtime_worker.specs.Together.{EndedAreJoined, all_ends}
+use Rattle.actor_seat.specs.Together.{no_linked, worker_at}
 use Rattle.rt_runtime_worker.specs.Workers.{KeepsOn, WorkerView}
 use Rattle.rt_runtime.specs.declared.passed.ActorNotes.{ActorNotes}
 use Rattle.rt_runtime.specs.declared.passed.Passed.{Passed}

@@ -14,8 +14,8 @@ use Rattle.rt_journal_desk.specs.Tickets.{AreCollected, CollectsFrom, GetsAll}
 use Rattle.rt_ids.specs.declared.order.Order.{Order}
 use Rattle.rt_ids.specs.declared.order.Outcome.{Outcome}
 use Rattle.rt_ring_mesh.specs.Ends.{out_at}
-use Rattle.rt_runtime_worker.specs.OutsideSeats.{UsesOutside}
-use Rattle.rt_runtime_worker.specs.Together.{OutsideView}
+use Rattle.actor_seat.specs.OutsideSeats.{UsesOutside}
+use Rattle.actor_seat.specs.OutsideSeats.{OutsideView}
 use Rattle.rt_runtime.specs.State.{RuntimeView, outside_of}
 use Rattle.rt_runtime.specs.Stored.{IsRuntime}
 use Rattle.rt_runtime.specs.Tickets.{CollectsHere}

@@ -19,9 +19,9 @@ use Rattle.rt_ring_mesh.proofs.ends.Ends.TheSendSync as ends
 use Rattle.rt_core.specs.contracts.one_core.Core.{the_row as core}
 use Rattle.rt_journal_desk.specs.contracts.desk.RecordedDesk.{the_row as desk}
 use Rattle.rt_journal.specs.contracts.recorded.Recorded.{the_row as recorded}
-use Rattle.rt_runtime_worker.proofs.bell.Bell.TheSendSync as bell
+use Rattle.actor_seat.proofs.bell.Bell.TheSendSync as bell
 use Rattle.rt_watch.proofs.publisher.Publisher.TheSendSync as publisher
-use Rattle.rt_runtime_worker.specs.contracts.seat.Seat.{the_row as seat}
+use Rattle.actor_seat.specs.contracts.seat.Seat.{the_row as seat}
 use Rattle.rt_runtime_worker.specs.contracts.linked.Linked.{the_row as linked}
 use Rattle.rt_runtime_worker.specs.contracts.ended.Ended.{the_row as ended}
 use Rattle.rt_runtime_worker.specs.contracts.worker.Worker.{the_row as worker}

@@ -19,11 +19,12 @@ use Rattle.rt_ring_mesh.specs.Laws.{GridIsKept}
 use Rattle.rt_ring_mesh.proofs.Using.{ends_same}
 use Rattle.rt_runtime_team.specs.Works.{Together}
 use Rattle.rt_runtime_team.proofs.Lists.{together_length}
-use Rattle.rt_runtime_worker.specs.Linked.{LinkedView, RunsOn}
+use Rattle.actor_seat.specs.Linked.{LinkedView, RunsOn}
 use Rattle.rt_runtime_worker.specs.Ended.{HasDrained}
-use Rattle.rt_runtime_worker.specs.Queues.{opening_of}
+use Rattle.actor_seat.specs.Queues.{opening_of}
 use Rattle.rt_runtime_worker.specs.Rooms.{least_free}
-use Rattle.rt_runtime_worker.specs.Together.{HaveEnded, EndedAreJoined, no_linked, worker_at, desk_among, all_ends}
+use Rattle.rt_runtime_worker.specs.Together.{HaveEnded, EndedAreJoined, desk_among, all_ends}
+use Rattle.actor_seat.specs.Together.{no_linked, worker_at}
 use Rattle.rt_runtime_worker.proofs.Ending.{before_last, at_last}
 use Rattle.rt_runtime.specs.State.{RuntimeView, outside_of, closing_at}
 use Rattle.rt_runtime.specs.Stored.{IsRuntime}

@@ -21,7 +21,7 @@ use Rattle.rt_ring.specs.declared.ring_out.Sending.{Sending}
 use Rattle.rt_ring.specs.declared.ring_in.Receiving.{Receiving}
 use Rattle.rt_ring_mesh.specs.Ends.{in_at}
 use Rattle.rt_ring_mesh.specs.Grid.{ends_at}
-use Rattle.rt_runtime_worker.specs.Linked.{LinkedView}
+use Rattle.actor_seat.specs.Linked.{LinkedView}
 use Rattle.rt_runtime_worker.specs.Together.{HaveEnded, all_ends, desk_among}
 use Rattle.rt_runtime_worker.proofs.Ending.{ended_together}
 use Rattle.rt_runtime.specs.Outcomes.{AllFitTheirOrders, FitsItsOrder, Orders}

@@ -12,8 +12,8 @@ use Rattle.rt_journal_desk.specs.Spending.{booked, due_of}
 use Rattle.rt_journal_desk.proofs.Passed.{passed_holds}
 use Rattle.rt_journal_desk.proofs.Spending.{within_room}
 use Rattle.rt_runtime_config.specs.Configs.{least_room}
-use Rattle.rt_runtime_worker.specs.OutsideSeats.{IsSeatedOutside}
-use Rattle.rt_runtime_worker.specs.Together.{OutsideView}
+use Rattle.actor_seat.specs.OutsideSeats.{IsSeatedOutside}
+use Rattle.actor_seat.specs.OutsideSeats.{OutsideView}
 use Rattle.rt_runtime.specs.Passing.{AsksOnce, PassesHere, passed_on, refused_of}
 use Rattle.rt_runtime.specs.Sends.{MakesRoom, outstanding_upto, room_left}
 use Rattle.rt_runtime.specs.State.{RuntimeView, outside_of}

@@ -11,7 +11,7 @@ use Rattle.rt_ids.specs.declared.note.Note.{Note}
 use Rattle.rt_journal_notes.specs.Journals.{JournalView}
 use Rattle.rt_journal_desk.specs.Submissions.{DeskView}
 use Rattle.rt_journal_desk.specs.Tickets.{RefusesTicket}
-use Rattle.rt_runtime_worker.specs.Linked.{Grows}
+use Rattle.actor_seat.specs.Linked.{Grows}
 use Rattle.rt_runtime.specs.State.{RuntimeView, StaysRunning, SubmitsNothing}
 use Rattle.rt_runtime.specs.Tickets.{RedeemsHere}
 use Rattle.rt_runtime.specs.Waiting.{AreAllPending}

@@ -16,8 +16,9 @@ use Rattle.rt_journal.specs.Together.{IsAssemblyOf}
 use Rattle.rt_ring.specs.declared.ring_out.Sending.{Sending}
 use Rattle.rt_ring_mesh.specs.Ends.{out_at}
 use Rattle.rt_ring_mesh.specs.Grid.{ends_at, no_ends}
-use Rattle.rt_runtime_worker.specs.Linked.{LinkedView}
-use Rattle.rt_runtime_worker.specs.Together.{HaveEnded, all_ends, desk_among, no_linked}
+use Rattle.actor_seat.specs.Linked.{LinkedView}
+use Rattle.rt_runtime_worker.specs.Together.{HaveEnded, all_ends, desk_among}
+use Rattle.actor_seat.specs.Together.{no_linked}
 use Rattle.rt_runtime_worker.proofs.Ending.{at_last, ended_together}
 use Rattle.rt_runtime.specs.Outcomes.{AreItsOrders, Orders}
 use Rattle.rt_runtime.specs.State.{RuntimeView, outside_of}

@@ -21,8 +21,9 @@ use Rattle.rt_journal_desk.specs.Ends.{name_of}
 use Rattle.rt_ring.specs.declared.ring_out.Sending.{Sending}
 use Rattle.rt_ring_mesh.specs.Ends.{EndsView, in_at, no_out, out_at}
 use Rattle.rt_ring_mesh.specs.Grid.{ends_at, no_ends}
-use Rattle.rt_runtime_worker.specs.Linked.{LinkedView}
-use Rattle.rt_runtime_worker.specs.Together.{HaveEnded, all_ends, desk_among, no_linked, worker_at}
+use Rattle.actor_seat.specs.Linked.{LinkedView}
+use Rattle.rt_runtime_worker.specs.Together.{HaveEnded, all_ends, desk_among}
+use Rattle.actor_seat.specs.Together.{no_linked, worker_at}
 use Rattle.rt_runtime_worker.proofs.Ending.{before_last, ended_together}
 use Rattle.rt_runtime.specs.Outcomes.{AllPollsAreOwed, seen_at_end}
 use Rattle.rt_runtime.specs.State.{RuntimeView, outside_of}

@@ -10,8 +10,8 @@ use Rattle.rt_desk.specs.Lanes.{FitsSent, IsGot}
 use Rattle.rt_desk.proofs.Taken.{taken-get}
 use Rattle.rt_journal_desk.specs.Tickets.{DetachesTicket, RedeemsTicket}
 use Rattle.rt_ring_mesh.specs.Ends.{out_at}
-use Rattle.rt_runtime_worker.specs.OutsideSeats.{UsesOutside}
-use Rattle.rt_runtime_worker.specs.Together.{OutsideView}
+use Rattle.actor_seat.specs.OutsideSeats.{UsesOutside}
+use Rattle.actor_seat.specs.OutsideSeats.{OutsideView}
 use Rattle.rt_runtime.specs.State.{RuntimeView, SubmitsNothing, outside_of, submitted}
 use Rattle.rt_runtime.specs.Stored.{IsRuntime}
 use Rattle.rt_runtime.specs.Tickets.{DetachesHere, FitsSubmitted, RedeemsHere}

@@ -21,11 +21,12 @@ use Rattle.rt_ring_mesh.proofs.Using.{all_same, one_more_same}
 use Rattle.rt_ring_mesh.proofs.Keeping.{grid_kept}
 use Rattle.rt_journal_notes.specs.Journals.{JournalView, places_of}
 use Rattle.rt_runtime_config.specs.Configs.{least_room}
-use Rattle.rt_runtime_worker.specs.Bells.{rung_at}
-use Rattle.rt_runtime_worker.specs.Linked.{LinkedView}
-use Rattle.rt_runtime_worker.specs.Opening.{IsWorkerOf}
-use Rattle.rt_runtime_worker.specs.OutsideSeats.{UsesOutside}
-use Rattle.rt_runtime_worker.specs.Together.{OutsideView, worker_at}
+use Rattle.actor_seat.specs.Bells.{rung_at}
+use Rattle.actor_seat.specs.Linked.{LinkedView}
+use Rattle.actor_seat.specs.Opening.{IsWorkerOf}
+use Rattle.actor_seat.specs.OutsideSeats.{UsesOutside}
+use Rattle.actor_seat.specs.OutsideSeats.{OutsideView}
+use Rattle.actor_seat.specs.Together.{worker_at}
 use Rattle.rt_ids.specs.Journal.{Journal}
 use Rattle.rt_ids.specs.Outstanding.{outstanding_count}
 use Rattle.rt_runtime.specs.Rings.{RingsView}

@@ -17,11 +17,12 @@ use Rattle.rt_journal_desk.specs.Spending.{booked, due_of}
 use Rattle.rt_ring_mesh.specs.Ends.{EndsView, AreFresh, out_at}
 use Rattle.rt_ring_mesh.specs.Grid.{IsGrid, AreAllFresh, ends_at, no_ends}
 use Rattle.rt_ring_mesh.proofs.Parts.{at_end}
-use Rattle.rt_runtime_worker.specs.Linked.{LinkedView}
-use Rattle.rt_runtime_worker.specs.Opening.{IsWorkerOf}
-use Rattle.rt_runtime_worker.specs.OutsideSeats.{IsSeatedOutside}
+use Rattle.actor_seat.specs.Linked.{LinkedView}
+use Rattle.actor_seat.specs.Opening.{IsWorkerOf}
+use Rattle.actor_seat.specs.OutsideSeats.{IsSeatedOutside}
 use Rattle.rt_runtime_worker.specs.Queues.{creations}
-use Rattle.rt_runtime_worker.specs.Together.{OutsideView, no_linked, worker_at}
+use Rattle.actor_seat.specs.OutsideSeats.{OutsideView}
+use Rattle.actor_seat.specs.Together.{no_linked, worker_at}
 use Rattle.rt_runtime.specs.Rings.{RingsView}
 use Rattle.rt_watch.specs.declared.watcher.Watching.{Watching}
 use Rattle.rt_runtime.specs.Stored.{IsRuntime}

@@ -10,9 +10,9 @@ use Rattle.rt_jobs.specs.Meanings.{Meaning}
 use Rattle.rt_link.specs.Fits.{Fits}
 use Rattle.rt_journal_desk.specs.Submissions.{opened_desk}
 use Rattle.rt_ring_mesh.specs.Ends.{AreFresh}
-use Rattle.rt_runtime_worker.specs.Queues.{opening_of}
+use Rattle.actor_seat.specs.Queues.{opening_of}
 use Rattle.rt_runtime_worker.specs.Rooms.{MayAct, least_free}
-use Rattle.rt_runtime_worker.specs.Together.{worker_at}
+use Rattle.actor_seat.specs.Together.{worker_at}
 use Rattle.rt_runtime.specs.declared.error.FinishError.{FinishError}
 use Rattle.rt_runtime.specs.declared.error.FinishError.TheVariants.{NotClosed}
 use Rattle.rt_runtime.specs.declared.error.StartError.{StartError}

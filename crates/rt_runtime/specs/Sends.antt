@@ -11,7 +11,7 @@ use Rattle.rt_link.specs.Calls as link
 use Rattle.rt_journal_notes.specs.Journals.{free_notes}
 use Rattle.rt_journal_desk.specs.Submissions.{Submits, numbered}
 use Rattle.rt_ring_mesh.specs.Ends.{out_at}
-use Rattle.rt_runtime_worker.specs.Bells.{rung_at}
+use Rattle.actor_seat.specs.Bells.{rung_at}
 use Rattle.rt_runtime.specs.declared.error.SubmitError.{SubmitError}
 use Rattle.rt_runtime.specs.declared.error.SubmitError.TheVariants.{JournalFull, Send}
 use Rattle.rt_runtime.specs.Passing.{AsksOnce, passed_on, refused_of}

@@ -3,10 +3,10 @@ use Rattle.std.specs.Prelude.{◌≡◌, ℕ, ◌+◌, ◌<◌, ◌≤◌, List,
 use Rattle.rt_runtime_config.specs.Configs.{Entry, least_room, queues_of}
 use Rattle.rt_ring_mesh.specs.Ends.{EndsView, AreFresh}
 use Rattle.rt_ring_mesh.specs.Grid.{IsGrid}
-use Rattle.rt_runtime_worker.specs.Linked.{LinkedView}
-use Rattle.rt_runtime_worker.specs.Opening.{AreEndsOf, IsOpenedOver, IsWorkerOf}
+use Rattle.actor_seat.specs.Linked.{LinkedView}
+use Rattle.actor_seat.specs.Opening.{AreEndsOf, IsOpenedOver, IsWorkerOf}
 use Rattle.rt_runtime_worker.specs.Queues.{creations}
-use Rattle.rt_runtime_worker.specs.Together.{worker_at}
+use Rattle.actor_seat.specs.Together.{worker_at}
 use Rattle.rt_runtime_worker.specs.Workers.{WorkerView}
 
 -- a journal has room for the queues that a core is to have, and for what a worker needs

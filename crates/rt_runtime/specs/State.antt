@@ -5,8 +5,8 @@ use Rattle.rt_ids.specs.declared.order.Order.{Order}
 use Rattle.rt_journal_notes.specs.Journals.{places_of}
 use Rattle.rt_journal_desk.specs.Submissions.{DeskView}
 use Rattle.rt_ring_mesh.specs.Ends.{EndsView, out_at}
-use Rattle.rt_runtime_worker.specs.Linked.{Grows, LinkedView}
-use Rattle.rt_runtime_worker.specs.Together.{OutsideView}
+use Rattle.actor_seat.specs.Linked.{Grows, LinkedView}
+use Rattle.actor_seat.specs.OutsideSeats.{OutsideView}
 use Rattle.rt_runtime.specs.Rings.{RingsView}
 use Rattle.rt_watch.specs.declared.watcher.Watching.{Watching}
 

@@ -10,8 +10,10 @@ use Rattle.rt_journal_desk.specs.Tickets.{HasLane}
 use Rattle.rt_ring_mesh.specs.Ends.{out_at}
 use Rattle.rt_ring_mesh.specs.Grid.{IsGrid}
 use Rattle.rt_runtime_config.specs.Configs.{least_room}
-use Rattle.rt_runtime_worker.specs.Opening.{IsWorkerOf}
-use Rattle.rt_runtime_worker.specs.Together.{IsOutside, OutsideView, worker_at, all_ends}
+use Rattle.actor_seat.specs.Opening.{IsWorkerOf}
+use Rattle.actor_seat.specs.OutsideSeats.{IsOutside, OutsideView}
+use Rattle.actor_seat.specs.Together.{worker_at}
+use Rattle.rt_runtime_worker.specs.Together.{all_ends}
 use Rattle.rt_runtime_worker.specs.Workers.{WorkerView}
 use Rattle.rt_runtime.specs.Rings.{RingsView}
 use Rattle.rt_runtime.specs.State.{RuntimeView, outside_of}

@@ -8,7 +8,7 @@ ghost use Rattle.rt_runtime.specs.Calls.{Finishes};
 ghost use Rattle.rt_runtime.specs.State.{closing_at};
 ghost use Rattle.rt_runtime.specs.Finishing.{IsFirstOpenOf, IsPart, Parts};
 ghost use Rattle.rt_runtime.specs.Watching.{watch_at};
-ghost use Rattle.rt_runtime_worker.specs.Together.{worker_at};
+ghost use Rattle.actor_seat.specs.Together.{worker_at};
 ghost use Rattle.rt_watch.specs.Growth.{Grows};
 ghost use Rattle.rt_runtime.specs.WithLocals.{without_locals};
 ghost use Rattle.rt_runtime.specs.WithSinks.{FinishesWithSinks, HasPassed, KeepsRefused, assembly_of, notes_of};

@@ -1,7 +1,7 @@
 //! The bells of all cores, and the caller's own, in the caller's hands.
 
 ghost use Rattle.std.specs.Prelude.{◌≡◌, ◌<◌, IfOk, length};
-ghost use Rattle.rt_runtime_worker.specs.Bells.{rung_at};
+ghost use Rattle.actor_seat.specs.Bells.{rung_at};
 ghost use Rattle.rt_runtime_worker.specs.Workers.{IsBellOf};
 
 use rt_ids::{ActorNo, CoreNo};

@@ -14,7 +14,7 @@ use Rattle.rt_journal_desk.specs.Posts.{ArePosts}
 use Rattle.rt_journal_desk.specs.Tickets.{AreCollected}
 use Rattle.rt_journal.specs.Ends.{IsSameSeat}
 use Rattle.rt_journal.specs.Recorded.{RecordedView}
-use Rattle.rt_runtime_worker.proofs.Along.{least_along}
+use Rattle.rt_runtime_worker.proofs.Spare.{least_along}
 use Rattle.rt_runtime_worker.specs.Rooms.{least_free, ActsAsItMay, ActsByCommand, IsPolling, MayAct}
 
 more_than_none : {A : Type 0} (items : List A) (item : A) → items ++ item ∷ [] ≢ []

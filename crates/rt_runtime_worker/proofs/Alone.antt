@@ -9,7 +9,7 @@ use Rattle.rt_journal.specs.Recorded.{RecordedView}
 use Rattle.rt_journal.specs.Steps.{ClosesItself}
 use Rattle.rt_watch.specs.Closed.{closed_by_itself}
 use Rattle.rt_watch.proofs.Closed.{stays-told}
-use Rattle.rt_runtime_worker.specs.Linked.{Grows}
+use Rattle.actor_seat.specs.Linked.{Grows}
 use Rattle.rt_runtime_worker.specs.Shown.{TellsAlone}
 
 -- nobody tells of it yet

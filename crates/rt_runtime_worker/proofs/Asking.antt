@@ -21,8 +21,8 @@ use Rattle.rt_journal_desk.specs.Tickets.{AreCollected}
 use Rattle.rt_journal_notes.specs.Journals.{JournalView}
 use Rattle.rt_runtime_worker.specs.Asks.{polls_of, NotesNoPoll, AsksFor, AsksSince}
 use Rattle.rt_runtime_worker.specs.Gates.{WritesShut, WritesReturn}
-use Rattle.rt_runtime_worker.specs.Linked.{LinkedView}
-use Rattle.rt_runtime_worker.specs.Steps.{DeliversFrom, CollectsOf}
+use Rattle.actor_seat.specs.Linked.{LinkedView}
+use Rattle.actor_seat.specs.Steps.{DeliversFrom, CollectsOf}
 
 module _ {T : Type 0} where
   pub posts_note_none : (notes before : Journal T) → ArePosts notes → NotesNoPoll before (notes ++ before)

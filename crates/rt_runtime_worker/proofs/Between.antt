@@ -9,7 +9,7 @@ use Rattle.rt_ids.specs.Commands.{IsOpening}
 use Rattle.rt_ids.specs.Journal.{Journal}
 use Rattle.rt_journal.specs.Recorded.{RecordedView}
 use Rattle.rt_runtime_worker.specs.Asks.{NotesNoPoll, name_polled, polls_of, with_poll}
-use Rattle.rt_runtime_worker.specs.Linked.{Grows, IsBetweenTurns, LinkedView, StaysLinked}
+use Rattle.actor_seat.specs.Linked.{Grows, IsBetweenTurns, LinkedView, StaysLinked}
 
 -- one poll more, or none
 no_fewer : (name : Option JobId) (polls : List JobId) → length polls ≤ length (with_poll name polls)

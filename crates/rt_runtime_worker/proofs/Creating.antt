@@ -10,9 +10,9 @@ use Rattle.rt_jobs.specs.Meanings.{Meaning}
 use Rattle.rt_runtime_config.specs.Configs.{Entry, queues_of}
 use Rattle.rt_runtime_config.proofs.Counts.{queues_here, queues_away, queues_none}
 use Rattle.rt_journal.specs.Recorded.{RecordedView, IsRecorded}
-use Rattle.rt_runtime_worker.specs.Opening.{CreatesSince}
+use Rattle.actor_seat.specs.Opening.{CreatesSince}
 use Rattle.rt_runtime_worker.specs.Queues.{behind_entry, behind_entries}
-use Rattle.rt_runtime_worker.proofs.Opened.{created_none, created_more}
+use Rattle.actor_seat.proofs.Opened.{created_none, created_more}
 
 module _ {T : Type 0} (queues : List Entry) (index : ℕ) (none : Entry) (low : index < length queues) (core : ℕ) where
   next_entry : (before : Journal T) → behind_entries core (drop index queues) before ≡ behind_entries core (drop (suc index) queues) (behind_entry core (get_or queues index none) before)

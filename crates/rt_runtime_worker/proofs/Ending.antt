@@ -15,8 +15,10 @@ use Rattle.rt_journal_desk.specs.Ends.{IsOutOf}
 use Rattle.rt_journal.specs.Together.{AreTogether, IsAssemblyOf}
 use Rattle.rt_ring_mesh.specs.Ends.{out_at, in_at, no_out}
 use Rattle.rt_ring_mesh.specs.Grid.{ends_at, no_ends}
-use Rattle.rt_runtime_worker.specs.Linked.{LinkedView}
-use Rattle.rt_runtime_worker.specs.Together.{OutsideView, HaveEnded, no_linked, worker_at, desk_among, all_ends}
+use Rattle.actor_seat.specs.Linked.{LinkedView}
+use Rattle.actor_seat.specs.OutsideSeats.{OutsideView}
+use Rattle.rt_runtime_worker.specs.Together.{HaveEnded, desk_among, all_ends}
+use Rattle.actor_seat.specs.Together.{no_linked, worker_at}
 
 module _ {A B : Type 0} (f : A → B) (xs : List A) (x none : B) (d : A) where
   -- an element before the last of a list that is made of others

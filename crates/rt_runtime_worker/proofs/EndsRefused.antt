@@ -7,7 +7,7 @@ use Rattle.rt_ids.specs.Journal.{Journal}
 use Rattle.rt_jobs.specs.Meanings.{Meaning}
 use Rattle.rt_journal.specs.Steps.{opened_beside}
 use Rattle.rt_runtime_worker.specs.Ended.{ActsUnlessRefused, EndedView, HasEnded}
-use Rattle.rt_runtime_worker.specs.Linked.{IsBetweenTurns}
+use Rattle.actor_seat.specs.Linked.{IsBetweenTurns}
 use Rattle.rt_runtime_worker.specs.Serves.{ServesToItsEnd}
 use Rattle.rt_runtime_worker.specs.Shown.{ShownView, Shows}
 use Rattle.rt_runtime_worker.specs.Workers.{KeepsOn, WorkerView}

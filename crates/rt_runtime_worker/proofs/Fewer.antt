@@ -1,24 +1,21 @@
 -- How many notes the steps of a worker write, one after another.
 use Rattle.std.proofs.Common.{◌≡◌, inl, inr, ℕ, ◌+◌, ◌*◌, ◌≤◌, length, refl, sym, ◌∙◌, ap, subst, arith}
 use Rattle.std.specs.Prelude.{◌||◌, Bool, true, false}
-use Rattle.std.proofs.lemmas.List.{length-append}
 use Rattle.std.proofs.Math.Nat.{add-mul, mul_left_comm}
 use Rattle.rt_ids.specs.declared.names.JobId.{JobId}
 use Rattle.rt_jobs.specs.Meanings.{Meaning}
 use Rattle.rt_journal.specs.Ends.{IsSameSeat}
 use Rattle.rt_journal.specs.Recorded.{RecordedView}
-use Rattle.rt_runtime_worker.specs.Linked.{LinkedView}
+use Rattle.actor_seat.specs.Linked.{LinkedView}
 use Rattle.rt_runtime_worker.specs.Ended.{ServedView}
 use Rattle.rt_runtime_worker.specs.Few.{RoundsFew, TurnsFew, WritesFew, most_of_turn}
 use Rattle.rt_runtime_worker.specs.Looks.{RoundView, TurnsAlone}
 use Rattle.rt_runtime_worker.specs.Readings.{TimesNext}
 use Rattle.rt_runtime_worker.specs.Rooms.{IsShort, least_free}
 use Rattle.rt_runtime_worker.specs.Rounds.{LooksAtRoom, StepsServed}
-use Rattle.rt_runtime_worker.specs.Steps.{CollectsOf, DeliversFrom}
 use Rattle.rt_runtime_worker.specs.Turns.{TakesTurn}
-use Rattle.rt_runtime_worker.proofs.Along.{least_along, seat_along}
-use Rattle.rt_runtime_worker.proofs.Noted.{delivery_short}
-use Rattle.rt_runtime_worker.proofs.Spare.{ends_once, places_all}
+use Rattle.rt_runtime_worker.proofs.Spare.{least_along, ends_once, places_all}
+use Rattle.actor_seat.proofs.Along.{seat_along}
 use Rattle.rt_runtime_worker.proofs.Telling.{same_between, steps_more}
 
 module _ {J T : Type 0} where
@@ -27,21 +24,6 @@ module _ {J T : Type 0} where
   most_along old new seat =
       ap (λ cores. most_of_turn cores new.cap new.core.bursts.burst) seat.cores
       ∙ (ap (λ cap. most_of_turn old.core.cores cap new.core.bursts.burst) seat.cap ∙ ap (λ burst. most_of_turn old.core.cores old.cap burst) seat.burst)
-
-  -- a delivery writes at most two notes
-  pub delivered_few : (sender : ℕ) (found : Bool) (old new : LinkedView J T) → DeliversFrom sender old found new → length new.recorded.journal.notes ≤ length old.recorded.journal.notes + 2
-  delivered_few sender true old new did =
-      let got = did.delivers.2 in
-      let short = delivery_short did.delivers.0.name old.recorded.journal.notes did.delivers.0.order got.notes got.delivery in
-      let longer : length new.recorded.journal.notes ≡ length got.notes + length old.recorded.journal.notes = ap (λ journal. length journal.notes) got.journal ∙ length-append got.notes old.recorded.journal.notes in
-      omega (arith, short, longer)
-  delivered_few sender false old new did = let same : length new.recorded.journal.notes ≡ length old.recorded.journal.notes = ap (λ view. length view.journal.notes) did.delivers.1 in omega (arith, same)
-
-  -- a collecting writes at most one note for each place of its link
-  pub collected_few : (core count : ℕ) (old new : LinkedView J T) → CollectsOf core old count new → length new.recorded.journal.notes ≤ length old.recorded.journal.notes + old.recorded.cap
-  collected_few core count old new did =
-      let longer : length new.recorded.journal.notes ≡ length did.collects.0 + length old.recorded.journal.notes = ap (λ journal. length journal.notes) did.collects.3 ∙ length-append did.collects.0 old.recorded.journal.notes in
-      omega (arith, longer, did.collects.2, did.few)
 
   -- nothing is done
   pub few_none : (count : ℕ) (view : ServedView J T) → WritesFew count view view

@@ -18,12 +18,12 @@ use Rattle.rt_journal_desk.specs.Ends.{name_of}
 use Rattle.rt_ring_mesh.specs.Ends.{in_at}
 use Rattle.rt_ids.specs.Outcomes.{outcome_note}
 use Rattle.rt_journal.specs.Steps.{ClosesItself}
-use Rattle.rt_runtime_worker.specs.Linked.{LinkedView, IsLinked, StaysLinked}
-use Rattle.rt_runtime_worker.specs.Steps.{ShutsGate}
+use Rattle.actor_seat.specs.Linked.{LinkedView, IsLinked, StaysLinked}
+use Rattle.actor_seat.specs.Steps.{ShutsGate}
 use Rattle.rt_runtime_worker.specs.Gates.{WritesShut, WritesReturn, IsShutWithin, LeavesShut, LeavesReturning, ShutsFirst, KeepsTaken}
 use Rattle.rt_runtime_worker.specs.Rooms.{last_through, least_free, MayAct, ActsAsItMay, ActsByCommand, HasSpare, IsShort, IsEnding}
 use Rattle.rt_runtime_worker.proofs.Acting.{acts_at, command_acts}
-use Rattle.rt_runtime_worker.proofs.Along.{seat_along, stays_along, stays_same}
+use Rattle.actor_seat.proofs.Along.{seat_along, stays_along, stays_same}
 use Rattle.rt_runtime_worker.proofs.Asking.{return_notes_none, shut_notes_none}
 use Rattle.rt_runtime_worker.specs.Asks.{NotesNoPoll}
 use Rattle.rt_runtime_worker.proofs.Spare.{sums_within, places_more}

@@ -9,13 +9,13 @@ use Rattle.rt_journal_notes.specs.Journals.{places_of}
 use Rattle.rt_runtime_config.specs.Configs.{least_room}
 use Rattle.rt_ring_mesh.specs.Ends.{EndsView}
 use Rattle.rt_runtime_worker.specs.Ended.{ActsUnlessRefused, HasEnded, IsServed, ServedView}
-use Rattle.rt_runtime_worker.specs.Linked.{IsBetweenTurns, IsLinked, LinkedView}
-use Rattle.rt_runtime_worker.specs.Opening.{IsOpenedOver}
+use Rattle.actor_seat.specs.Linked.{IsBetweenTurns, IsLinked, LinkedView}
+use Rattle.actor_seat.specs.Opening.{IsOpenedOver}
 use Rattle.rt_runtime_worker.specs.Passing.{HandsOn, PassesTo}
 use Rattle.rt_runtime_worker.specs.Rooms.{ActsAsItMay, ActsByCommand, MayAct, least_free}
 use Rattle.rt_runtime_worker.specs.Shown.{IsShownWhole, ShownView}
 use Rattle.rt_runtime_worker.proofs.Acting.{command_acts}
-use Rattle.rt_runtime_worker.proofs.Passed.{all_passed, has_passed}
+use Rattle.actor_seat.proofs.Passed.{all_passed, has_passed}
 use Rattle.rt_runtime_worker.proofs.Published.{whole_runs}
 use Rattle.rt_runtime_worker.proofs.Spare.{places_some}
 use Rattle.rt_runtime_worker.proofs.Supplied.{hands_least, hands_notes, hands_places, hands_runs}

@@ -6,10 +6,10 @@ use Rattle.rt_ids.specs.declared.order.Outcome.{Outcome}
 use Rattle.rt_link.specs.declared.ends.Inward.{Inward}
 use Rattle.rt_journal.specs.Ends.{Gives}
 use Rattle.rt_ring_mesh.specs.Ends.{in_at, out_at}
-use Rattle.rt_runtime_worker.specs.Linked.{LinkedView}
+use Rattle.actor_seat.specs.Linked.{LinkedView}
 use Rattle.rt_runtime_worker.specs.Ended.{ServedView}
 use Rattle.rt_runtime_worker.specs.Gates.{KeepsTaken}
-use Rattle.rt_runtime_worker.specs.Steps.{DeliversFrom, CollectsOf}
+use Rattle.actor_seat.specs.Steps.{DeliversFrom, CollectsOf}
 use Rattle.rt_runtime_worker.specs.Rounds.{IsAllTaken, IsAllGot, IsHeard, LooksAtRoom, StepsServed, HearsOne, HearsSome, HearsFirst, HearsAll, CollectsNext, CollectsFirst}
 use Rattle.rt_runtime_worker.proofs.Telling.{same_between, not_before}
 

@@ -5,7 +5,7 @@ use Rattle.rt_ids.specs.declared.order.Mode.TheVariants.{Return}
 use Rattle.rt_ids.specs.declared.order.Order.TheVariants.{CloseCore}
 use Rattle.rt_ids.specs.Journal.{Journal}
 use Rattle.rt_ring_mesh.specs.Ends.{no_in}
-use Rattle.rt_runtime_worker.specs.Linked.{Grows, LinkedView, StaysLinked}
+use Rattle.actor_seat.specs.Linked.{Grows, LinkedView, StaysLinked}
 use Rattle.rt_runtime_worker.specs.Rounds.{HearsOne, StepsServed}
 use Rattle.rt_runtime_worker.proofs.SmallWorkers.{linked_of, one_note}
 

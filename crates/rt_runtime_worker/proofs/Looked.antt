@@ -9,11 +9,11 @@ use Rattle.rt_jobs.specs.Meanings.{Meaning}
 use Rattle.rt_ring_mesh.specs.Ends.{in_at}
 use Rattle.rt_runtime_worker.specs.Ended.{ServedView}
 use Rattle.rt_runtime_worker.specs.Gates.{KeepsTaken}
-use Rattle.rt_runtime_worker.specs.Linked.{Grows, LinkedView, StaysLinked}
+use Rattle.actor_seat.specs.Linked.{Grows, LinkedView, StaysLinked}
 use Rattle.rt_runtime_worker.specs.Rounds.{HasShutGates, LooksAtRoom, ShutsClosed}
 use Rattle.rt_runtime_worker.specs.Readings.{WatchView, watch_view}
-use Rattle.rt_runtime_worker.specs.Bursts.{GoesThrough, MakesTurn, PollsOn, TurnView, turn_view}
-use Rattle.rt_runtime_worker.specs.Steps.{PollsOne}
+use Rattle.actor_seat.specs.Bursts.{GoesThrough, MakesTurn, PollsOn, TurnView, turn_view}
+use Rattle.actor_seat.specs.Steps.{PollsOne}
 use Rattle.rt_journal.specs.Turns.{IsFurther, IsPick}
 use Rattle.rt_journal.specs.Whole.{Begins}
 use Rattle.rt_runtime_worker.specs.Turns.{TakesTurn, TurnsWith}

@@ -1,5 +1,5 @@
 -- What the notes of a delivery tell: a core doesn't close by itself by them, and in a core that hands back each delivery has its outcome.
-use Rattle.std.proofs.Common.{◌≡◌, inl, ℕ, ◌+◌, ◌≤◌, true, false, cond, List, [], ◌∷◌, ◌++◌, length, refl, sym, subst, arith}
+use Rattle.std.proofs.Common.{◌≡◌, inl, ℕ, ◌+◌, true, false, cond, List, [], ◌∷◌, ◌++◌, length, refl, sym, subst, arith, inr}
 use Rattle.std.specs.Prelude.{◌==◌, Bool, Option, Some, None}
 use Rattle.std.proofs.lemmas.List.{length-append}
 use Rattle.rt_ids.specs.declared.names.JobId.{JobId}
@@ -20,7 +20,6 @@ use Rattle.rt_ids.proofs.Returning.{nobody_enters}
 use Rattle.rt_journal.specs.Deliveries.{IsDelivery, entry_note, with_effect}
 use Rattle.rt_journal.specs.Recorded.{given_count}
 use Rattle.rt_runtime_worker.specs.Rooms.{MayAct}
-use Rattle.std.proofs.Common.{inr}
 
 -- one more where the name is of this sender
 pub more_from : {A : Type 0} (items : List A) (sender : ℕ) (name : JobId) (item : A) → length (with_last items (if_from sender name item)) ≡ length items + number_if (name.from == sender)
@@ -31,14 +30,6 @@ more_from {A} items sender name item = by_test (name.from == sender)
     by_test false = omega arith
 
 module _ {T : Type 0} (name : JobId) (before : Journal T) where
-  -- one or two notes
-  effects_short : (order : Order (Unit {0})) (answer : Answer) → length (with_effect {T = T} (effect_note name.to order answer) (writes.Answered name answer ∷ [])) ≤ 2
-  effects_short order answer = by_effect (effect_note name.to order answer)
-    where
-      by_effect : (effect : Option (Note T)) → length (with_effect effect (writes.Answered name answer ∷ [])) ≤ 2
-      by_effect None = omega arith
-      by_effect (Some note) = omega arith
-
   -- a command's effect follows its answer
   effects_act : (least room : ℕ) (order : Order (Unit {0})) (answer : Answer) → EachNote (MayAct least room) before →
       EachNote (MayAct least room) (with_effect (effect_note name.to order answer) (writes.Answered name answer ∷ []) ++ before)
@@ -60,15 +51,6 @@ module _ {T : Type 0} (name : JobId) (before : Journal T) where
   effects_give _ _ sender = more_from (given_outcomes sender before) sender name _
 
   module _ {J : Type 0} where
-    -- at most two notes
-    pub delivery_short : (order : Order J) (notes : List (Note T)) → IsDelivery name order before notes → length notes ≤ 2
-    delivery_short (Job queue job) notes is = rw is (omega arith)
-    delivery_short (Create weight) notes is = rw is.2 (effects_short (Create weight) is.0)
-    delivery_short (SetShares queue weight) notes is = rw is.2 (effects_short (SetShares queue weight) is.0)
-    delivery_short (Close queue mode) notes is = rw is.2 (effects_short (Close queue mode) is.0)
-    delivery_short (CloseCore mode) notes is = rw is.2 (effects_short (CloseCore mode) is.0)
-    delivery_short (Wake actor number) notes is = rw is.2 (effects_short (Wake actor number) is.0)
-
     -- no core closes by itself by a delivery
     pub delivery_acts : (least room : ℕ) (order : Order J) (notes : List (Note T)) → IsDelivery name order before notes → EachNote (MayAct least room) before →
         EachNote (MayAct least room) (notes ++ before)

@@ -4,7 +4,7 @@ use Rattle.rt_ids.specs.declared.names.JobId.{JobId}
 use Rattle.rt_ids.specs.Journal.{Journal}
 use Rattle.rt_jobs.specs.Meanings.{Meaning}
 use Rattle.rt_runtime_worker.specs.Ended.{ServedView}
-use Rattle.rt_runtime_worker.specs.Linked.{Grows}
+use Rattle.actor_seat.specs.Linked.{Grows}
 use Rattle.rt_runtime_worker.specs.Looks.{LooksAtAll, LooksOrRests, MakesRound, RoundView, TurnsAlone}
 use Rattle.rt_runtime_worker.specs.Rounds.{StepsServed}
 use Rattle.rt_runtime_worker.specs.Serves.{CountsIdle, GoesOn, Rests, ServesOnce, ShowsNow, round_of}

@@ -9,7 +9,7 @@ use Rattle.rt_ids.specs.declared.order.Mode.TheVariants.{Finish, Return}
 use Rattle.rt_ids.specs.Journal.{Journal, with_last}
 use Rattle.rt_ids.specs.Picks.{turns}
 use Rattle.rt_ids.specs.Work.{has_work, number_if}
-use Rattle.rt_runtime_worker.specs.Steps.{HasNoTurn}
+use Rattle.actor_seat.specs.Steps.{HasNoTurn}
 
 -- a job from the outside actor to core 0, and the command that wakes it
 abbrev job : JobId

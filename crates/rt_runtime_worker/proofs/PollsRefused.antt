@@ -4,7 +4,7 @@ use Rattle.rt_ids.specs.declared.names.JobId.{JobId}
 use Rattle.rt_ids.specs.Journal.{Journal}
 use Rattle.rt_jobs.specs.Meanings.{Meaning}
 use Rattle.rt_runtime_worker.specs.Asks.{AsksFor, AsksSince, polls_of}
-use Rattle.rt_runtime_worker.specs.Bursts.{turn_view}
+use Rattle.actor_seat.specs.Bursts.{turn_view}
 use Rattle.rt_runtime_worker.specs.Looks.{LooksAtAll, RoundView}
 use Rattle.rt_runtime_worker.specs.Readings.{TimesNext}
 use Rattle.rt_runtime_worker.proofs.Asking.{asks_between}

@@ -16,11 +16,11 @@ use Rattle.rt_journal.proofs.StatsTold.{finished-within}
 use Rattle.rt_stats.specs.Stats.{stats_of}
 use Rattle.rt_watch.specs.Tells as board
 use Rattle.rt_watch.specs.declared.board.Terms.{Terms}
-use Rattle.rt_runtime_worker.specs.Linked.{LinkedView, RunsOn}
+use Rattle.actor_seat.specs.Linked.{LinkedView, RunsOn}
 use Rattle.rt_ring_mesh.specs.Ends.{EndsView}
-use Rattle.rt_runtime_worker.specs.Opening.{IsOpenedOver}
+use Rattle.actor_seat.specs.Opening.{IsOpenedOver}
 use Rattle.rt_runtime_worker.specs.Shown.{CantShow, IsShown, IsShownWhole, ShownView, Shows, most_places}
-use Rattle.rt_runtime_worker.proofs.Along.{grows_along}
+use Rattle.actor_seat.proofs.Along.{grows_along}
 
 module _ {J : Type 0} (view : RecordedView J ℕ) (shown : ShownView ℕ) (is : IsShown view shown) where
   -- the numbers of the core, as a publisher asks for them

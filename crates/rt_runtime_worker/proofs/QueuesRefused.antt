@@ -5,7 +5,8 @@ use Rattle.rt_ids.specs.declared.note.Note.TheVariants.{Created, Answered}
 use Rattle.rt_ids.specs.declared.order.Answer.TheVariants as answers
 use Rattle.rt_ids.specs.Journal.{Journal}
 use Rattle.rt_runtime_config.specs.Configs.{Entry}
-use Rattle.rt_runtime_worker.specs.Queues.{creations, opening_of}
+use Rattle.rt_runtime_worker.specs.Queues.{creations}
+use Rattle.actor_seat.specs.Queues.{opening_of}
 
 -- two queues of core 0, and one of core 1 between them
 abbrev some_queues : List Entry

@@ -5,14 +5,14 @@ use Rattle.rt_ids.specs.Journal.{Journal}
 use Rattle.rt_ids.specs.declared.names.JobId.{JobId}
 use Rattle.rt_jobs.specs.Meanings.{Meaning}
 use Rattle.rt_runtime_worker.specs.Asks.{AsksSince, polls_of}
-use Rattle.rt_runtime_worker.specs.Bells.{BellView}
-use Rattle.rt_runtime_worker.specs.Linked.{LinkedView, RunsOn, StaysLinked}
+use Rattle.actor_seat.specs.Bells.{BellView}
+use Rattle.actor_seat.specs.Linked.{LinkedView, RunsOn, StaysLinked}
 use Rattle.rt_runtime_worker.specs.Looks.{LooksAtAll, MakesRound}
 use Rattle.rt_runtime_worker.specs.Passing.{HandsOnWhere, IsDue, IsDueAtRest}
 use Rattle.rt_runtime_worker.specs.Serves.{CountsIdle, GoesOn, Rests, round_of}
 use Rattle.rt_runtime_worker.specs.Shown.{ShownView}
 use Rattle.rt_runtime_worker.specs.Workers.{IsBellOf, WorkerView, served_of}
-use Rattle.rt_runtime_worker.proofs.Along.{runs_along, runs_stays}
+use Rattle.actor_seat.proofs.Along.{runs_along, runs_stays}
 use Rattle.rt_runtime_worker.proofs.Asking.{asks_none, asks_then}
 use Rattle.rt_runtime_worker.proofs.Supplied.{where_gate, where_notes, where_runs}
 

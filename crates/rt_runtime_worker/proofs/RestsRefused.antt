@@ -1,7 +1,7 @@
 -- Counts of idle rounds, and names of bells, that are refused.
 use Rattle.std.proofs.Common.{[], ◌∷◌, refl, arith}
 use Rattle.std.specs.Prelude.{true, false}
-use Rattle.rt_runtime_worker.specs.Bells.{AreApart}
+use Rattle.actor_seat.specs.Bells.{AreApart}
 use Rattle.rt_runtime_worker.specs.Serves.{CountsIdle}
 
 -- a worker that tries two rounds more goes on behind the first idle round

@@ -17,9 +17,9 @@ use Rattle.rt_journal.specs.Ends.{IsSameSeat}
 use Rattle.rt_journal.specs.Steps.{Delivers, Receives}
 use Rattle.rt_journal.proofs.Sums.{sum_upto-same, sum_upto-one_more}
 use Rattle.rt_ring_mesh.specs.Ends.{in_at}
-use Rattle.rt_runtime_worker.specs.Bursts.{MakesTurn, turn_view}
-use Rattle.rt_runtime_worker.specs.Linked.{LinkedView, IsBetweenTurns, IsLinked}
-use Rattle.rt_runtime_worker.specs.Steps.{DeliversFrom, CollectsOf, HandsBack}
+use Rattle.actor_seat.specs.Bursts.{MakesTurn, turn_view}
+use Rattle.actor_seat.specs.Linked.{LinkedView, IsBetweenTurns, IsLinked}
+use Rattle.actor_seat.specs.Steps.{DeliversFrom, CollectsOf, HandsBack}
 use Rattle.rt_runtime_worker.specs.Gates.{ShutsFirst}
 use Rattle.rt_runtime_worker.specs.Ended.{IsServed}
 use Rattle.rt_runtime_worker.specs.Few.{most_of_turn}
@@ -28,7 +28,8 @@ use Rattle.rt_journal_turn.specs.declared.whole.Turned.{Turned}
 use Rattle.rt_journal_turn.specs.declared.whole.Turned.TheVariants as came
 use Rattle.rt_runtime_worker.proofs.Acting.{acts_here, collects_act}
 use Rattle.rt_runtime_worker.proofs.Between.{between_same}
-use Rattle.rt_runtime_worker.proofs.Noted.{more_from, delivery_short, delivery_acts, delivery_gives}
+use Rattle.rt_runtime_worker.proofs.Noted.{more_from, delivery_acts, delivery_gives}
+use Rattle.actor_seat.proofs.Fewer.{delivery_short}
 use Rattle.rt_runtime_worker.proofs.Spare.{ends_once, stays_returning, places_some, places_more, places_few, posts_few}
 use Rattle.rt_runtime_worker.proofs.TurnNotes.{turn_acts}
 use Rattle.rt_runtime_worker.proofs.TurnRoom.{turn_counts}

@@ -5,7 +5,7 @@ use Rattle.rt_ids.specs.Journal.{Journal}
 use Rattle.rt_ids.specs.declared.names.JobId.{JobId}
 use Rattle.rt_jobs.specs.Meanings.{Meaning}
 use Rattle.rt_runtime_worker.specs.Asks.{AsksSince}
-use Rattle.rt_runtime_worker.specs.Linked.{LinkedView, RunsOn}
+use Rattle.actor_seat.specs.Linked.{LinkedView, RunsOn}
 use Rattle.rt_runtime_worker.specs.Passing.{HandsOnWhere}
 use Rattle.rt_runtime_worker.specs.Serves.{GoesOn, Rests, Serves, ServesOnce, ShowsAgain, ShowsEnd, ShowsNow}
 use Rattle.rt_runtime_worker.specs.Shown.{ShownView, Shows}

@@ -4,7 +4,7 @@ use Rattle.rt_ids.specs.declared.note.Note.TheVariants.{Created}
 use Rattle.rt_ids.specs.Journal.{Journal}
 use Rattle.rt_journal.specs.Steps.{opened_beside}
 use Rattle.rt_ring_mesh.specs.Grid.{no_ends}
-use Rattle.rt_runtime_worker.specs.Linked.{LinkedView}
+use Rattle.actor_seat.specs.Linked.{LinkedView}
 use Rattle.rt_runtime_worker.specs.Shown.{ShownView}
 use Rattle.rt_runtime_worker.specs.Workers.{WorkerView}
 

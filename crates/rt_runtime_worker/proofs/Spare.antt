@@ -1,5 +1,5 @@
 -- Sums over senders, and the room that a worker keeps.
-use Rattle.std.proofs.Common.{◌≡◌, ℕ, zero, suc, ◌+◌, ◌*◌, ◌≤◌, [], ◌∷◌, ◌++◌, length, ap, subst, arith}
+use Rattle.std.proofs.Common.{◌≡◌, ℕ, zero, suc, ◌+◌, ◌*◌, ◌≤◌, [], ◌∷◌, ◌++◌, length, ◌∙◌, ap, subst, arith}
 use Rattle.std.proofs.Math.Nat.{add-mul, mul-add, suc-mul, mul_left_comm}
 use Rattle.std.specs.Prelude.{Some, unwrap_or, IsSome, Bool, true, false}
 use Rattle.rt_ids.specs.Terms.{Terms}
@@ -13,12 +13,12 @@ use Rattle.rt_ids.proofs.Returning.{core_stays_returning}
 use Rattle.rt_link.specs.declared.ends.Inward.{Inward}
 use Rattle.rt_link.specs.Calls.{final_of}
 use Rattle.rt_jobs.specs.Meanings.{Meaning}
-use Rattle.rt_journal.specs.Recorded.{sum_upto, given_count, delivered_count}
-use Rattle.rt_journal.specs.Ends.{IsInOf}
+use Rattle.rt_journal.specs.Recorded.{RecordedView, sum_upto, given_count, delivered_count}
+use Rattle.rt_journal.specs.Ends.{IsInOf, IsSameSeat}
 use Rattle.rt_ring_mesh.specs.Ends.{in_at}
-use Rattle.rt_runtime_worker.specs.Linked.{LinkedView, IsLinked}
+use Rattle.actor_seat.specs.Linked.{LinkedView, IsLinked}
 use Rattle.rt_journal_turn.specs.Rooms.{HasTurnRoom}
-use Rattle.rt_runtime_worker.specs.Rooms.{last_through, IsEnding, IsReady}
+use Rattle.rt_runtime_worker.specs.Rooms.{last_through, least_free, IsEnding, IsReady}
 
 -- each of them at most so much above the other, and so are the sums
 pub sums_within : (f g : ℕ → ℕ) (more last : ℕ) → ((s : ℕ) → s ≤ last → f s ≤ g s + more) → sum_upto f last ≤ sum_upto g last + (last + 1) * more
@@ -109,3 +109,10 @@ module _ {J T : Type 0} {meaning : Meaning J T} (view : LinkedView J T) (linked 
     back = omega (arith, ready, places_some view.recorded.core.cores view.recorded.cap);
     poll = λ goes_on. omega (arith, ready, posts_few view.recorded.core.cores view.recorded.cap, ends_once view.recorded.core.bursts.burst);
   }
+
+module _ {J T : Type 0} where
+  -- a journal is short with as few notes free as before
+  pub least_along : (old new : RecordedView J T) → IsSameSeat old new → least_free new.core.cores new.cap new.core.bursts.burst ≡ least_free old.core.cores old.cap old.core.bursts.burst
+  least_along old new seat =
+      ap (λ cores. least_free cores new.cap new.core.bursts.burst) seat.cores
+      ∙ (ap (λ cap. least_free old.core.cores cap new.core.bursts.burst) seat.cap ∙ ap (λ burst. least_free old.core.cores old.cap burst) seat.burst)

@@ -10,15 +10,16 @@ use Rattle.rt_ring_mesh.specs.Ends.{SameEnds}
 use Rattle.rt_ring_mesh.proofs.Using.{ends_same}
 use Rattle.rt_runtime_worker.specs.Ended.{IsServed, ServedView}
 use Rattle.rt_runtime_worker.specs.Few.{RoundsFew}
-use Rattle.rt_runtime_worker.specs.Linked.{IsBetweenTurns, IsLinked, LinkedView, RunsOn, SeesNoLess, StaysLinked}
+use Rattle.actor_seat.specs.Linked.{IsBetweenTurns, IsLinked, LinkedView, RunsOn, SeesNoLess, StaysLinked}
 use Rattle.rt_runtime_worker.specs.Passing.{HandsOn, HandsOnWhere, HasPlaces, IsDue, IsDueAtRest, IsSupplied, PassesTo}
-use Rattle.rt_runtime_worker.specs.Queues.{opening_of}
+use Rattle.actor_seat.specs.Queues.{opening_of}
 use Rattle.rt_runtime_worker.specs.Rooms.{ActsAsItMay, ActsByCommand, HasSpare, IsProvided, least_free}
 use Rattle.rt_runtime_worker.specs.Shown.{IsShown, ShownView}
 use Rattle.rt_runtime_worker.specs.Workers.{WorkerView}
-use Rattle.rt_runtime_worker.proofs.Along.{least_along, runs_same, sees_same}
+use Rattle.rt_runtime_worker.proofs.Spare.{least_along}
+use Rattle.actor_seat.proofs.Along.{runs_same, sees_same}
 use Rattle.rt_runtime_worker.proofs.Published.{shown_runs}
-use Rattle.rt_runtime_worker.proofs.Passed.{free_behind, has_passed, same_notes, same_places, still_free}
+use Rattle.actor_seat.proofs.Passed.{free_behind, has_passed, same_notes, same_places, still_free}
 
 module _ {J T S : Type 0} (has : S → Journal T) (refused : S → ℕ → Type 0) where
   module _ {asks : S → Option ℕ} (old new : LinkedView J T) (before after : S) (did : HandsOn has refused asks old before new after) where

@@ -12,13 +12,13 @@ use Rattle.rt_ids.specs.declared.order.Order.TheVariants.{Job, Create, SetShares
 use Rattle.rt_ids.specs.Commands.{effect_note}
 use Rattle.rt_ids.specs.Journal.{Journal}
 use Rattle.rt_journal.specs.Deliveries.{IsDelivery, with_effect}
-use Rattle.rt_runtime_worker.specs.Linked.{LinkedView, Grows, StaysLinked}
+use Rattle.actor_seat.specs.Linked.{LinkedView, Grows, StaysLinked}
 use Rattle.rt_runtime_worker.specs.Ended.{ServedView}
-use Rattle.rt_runtime_worker.specs.Steps.{DeliversFrom, CollectsOf}
+use Rattle.actor_seat.specs.Steps.{DeliversFrom, CollectsOf}
 use Rattle.rt_runtime_worker.specs.Rooms.{IsShort}
 use Rattle.rt_runtime_worker.specs.Rounds.{TellsNotes, LooksAtRoom, StepsServed}
-use Rattle.rt_runtime_worker.proofs.Along.{stays_along, stays_same}
-use Rattle.rt_runtime_worker.proofs.Growing.{no_shorter}
+use Rattle.actor_seat.proofs.Along.{stays_along, stays_same}
+use Rattle.actor_seat.proofs.Growing.{no_shorter}
 
 effects_some : (T : Type 0) (name : JobId) (order : Order (Unit {0})) (answer : Answer) → 0 < length (with_effect {T = T} (effect_note name.to order answer) (writes.Answered name answer ∷ []))
 effects_some T name order answer = by_effect (effect_note name.to order answer)

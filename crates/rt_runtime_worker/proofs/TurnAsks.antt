@@ -4,11 +4,12 @@ use Rattle.std.specs.Prelude.{Bool, true, false}
 use Rattle.rt_ids.specs.declared.names.JobId.{JobId}
 use Rattle.rt_jobs.specs.Meanings.{Meaning}
 use Rattle.rt_runtime_worker.specs.Asks.{AsksFor, AsksSince, polls_of}
-use Rattle.rt_runtime_worker.specs.Bursts.{GoesThrough, MakesTurn, PollsOn, TurnView}
+use Rattle.actor_seat.specs.Bursts.{GoesThrough, MakesTurn, PollsOn, TurnView}
 use Rattle.rt_journal_turn.specs.declared.whole.Turned.{Turned}
 use Rattle.rt_journal_turn.specs.declared.whole.Turned.TheVariants as came
 use Rattle.rt_runtime_worker.proofs.Asking.{asks_along, asks_none}
-use Rattle.rt_runtime_worker.proofs.PollNotes.{poll_told, writes_first, writes_further}
+use Rattle.rt_runtime_worker.proofs.PollNotes.{poll_told}
+use Rattle.actor_seat.proofs.PollNotes.{writes_first, writes_further}
 use Rattle.rt_runtime_worker.proofs.TurnNotes.{ended_notes, notes_at}
 
 module _ {J T M G : Type 0} (meaning : Meaning J T) (tells : M → ℕ → M → Type 0) (asked : G → ℕ → JobId → G → Type 0) where

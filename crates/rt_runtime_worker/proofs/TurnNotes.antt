@@ -5,16 +5,17 @@ use Rattle.rt_ids.specs.declared.names.JobId.{JobId}
 use Rattle.rt_ids.specs.declared.note.Note.TheVariants as writes
 use Rattle.rt_ids.specs.Journal.{Journal, EachNote}
 use Rattle.rt_jobs.specs.Meanings.{Meaning}
-use Rattle.rt_runtime_worker.specs.Bursts.{EndsOpenTurn, GoesThrough, MakesTurn, PollsOn, TurnView}
-use Rattle.rt_runtime_worker.specs.Linked.{Grows}
+use Rattle.actor_seat.specs.Bursts.{EndsOpenTurn, GoesThrough, MakesTurn, PollsOn, TurnView}
+use Rattle.actor_seat.specs.Linked.{Grows}
 use Rattle.rt_runtime_worker.specs.Rooms.{MayAct}
 use Rattle.rt_runtime_worker.specs.Rounds.{TellsNotes, is_turn}
-use Rattle.rt_runtime_worker.specs.Steps.{HandsBack}
+use Rattle.actor_seat.specs.Steps.{HandsBack}
 use Rattle.rt_journal_turn.specs.declared.whole.Turned.{Turned}
 use Rattle.rt_journal_turn.specs.declared.whole.Turned.TheVariants as came
-use Rattle.rt_runtime_worker.proofs.Along.{grows_along, grows_same}
-use Rattle.rt_runtime_worker.proofs.Growing.{no_shorter}
-use Rattle.rt_runtime_worker.proofs.PollNotes.{WritesPoll, poll_acts, poll_grows, poll_tells, writes_first, writes_further}
+use Rattle.actor_seat.proofs.Along.{grows_along, grows_same}
+use Rattle.actor_seat.proofs.Growing.{no_shorter}
+use Rattle.actor_seat.proofs.PollNotes.{WritesPoll, poll_grows, writes_first, writes_further}
+use Rattle.rt_runtime_worker.proofs.PollNotes.{poll_acts, poll_tells}
 
 -- the notes that stand behind a turn or in it
 abbrev pub notes_at : {J T M G : Type 0} → TurnView J T M G → Journal T

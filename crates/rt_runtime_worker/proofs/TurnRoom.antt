@@ -8,11 +8,11 @@ use Rattle.rt_jobs.specs.Meanings.{Meaning}
 use Rattle.rt_journal.specs.Ends.{IsSameSeat}
 use Rattle.rt_journal.specs.Recorded.{RecordedView}
 use Rattle.rt_journal_desk.specs.Spending.{left_of}
-use Rattle.rt_runtime_worker.specs.Bursts.{GoesThrough, MakesTurn, PollsOn, TurnView}
+use Rattle.actor_seat.specs.Bursts.{GoesThrough, MakesTurn, PollsOn, TurnView}
 use Rattle.rt_runtime_worker.specs.Few.{most_of_turn}
 use Rattle.rt_journal_turn.specs.declared.whole.Turned.{Turned}
 use Rattle.rt_journal_turn.specs.declared.whole.Turned.TheVariants as came
-use Rattle.rt_runtime_worker.proofs.Along.{seat_along, seat_same}
+use Rattle.actor_seat.proofs.Along.{seat_along, seat_same}
 use Rattle.rt_runtime_worker.proofs.TurnNotes.{ended_notes, notes_at}
 
 module _ {J T M G : Type 0} (meaning : Meaning J T) (tells : M → ℕ → M → Type 0) (asked : G → ℕ → JobId → G → Type 0) where

@@ -5,7 +5,7 @@ use Rattle.rt_ids.specs.Journal.{Journal, EachNote}
 use Rattle.rt_jobs.specs.Meanings.{Meaning}
 use Rattle.rt_journal.specs.Recorded.{RecordedView}
 use Rattle.rt_journal_notes.specs.Journals.{places_of}
-use Rattle.rt_runtime_worker.specs.Linked.{LinkedView, IsBetweenTurns, IsLinked}
+use Rattle.actor_seat.specs.Linked.{LinkedView, IsBetweenTurns, IsLinked}
 use Rattle.rt_runtime_worker.specs.Rooms.{least_free, ActsAsItMay, ActsByCommand, IsProvided, MayAct}
 use Rattle.rt_runtime_worker.specs.Shown.{IsShownWhole, ShownView}
 

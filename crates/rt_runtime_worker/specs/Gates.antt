@@ -9,7 +9,7 @@ use Rattle.rt_journal.specs.Recorded.{RecordedView, given_count}
 use Rattle.rt_journal.specs.Steps.{with_notes}
 use Rattle.rt_ring_mesh.specs.Ends.{in_at}
 use Rattle.rt_runtime_worker.specs.Asks.{NotesNoPoll}
-use Rattle.rt_runtime_worker.specs.Linked.{LinkedView, StaysLinked}
+use Rattle.actor_seat.specs.Linked.{LinkedView, StaysLinked}
 use Rattle.rt_runtime_worker.specs.Rooms.{last_through, MayAct}
 
 module _ {T : Type 0} where

@@ -1,14 +1,9 @@
 pub mod Queues
-pub mod Linked
-pub mod Seats
-pub mod Steps
-pub mod Bursts
 pub mod Rooms
 pub mod Shown
 pub mod Gates
 pub mod Ended
 pub mod Few
-pub mod Bells
 pub mod Workers
 pub mod Passing
 pub mod Rounds
@@ -16,7 +11,5 @@ pub mod Turns
 pub mod Asks
 pub mod Looks
 pub mod Serves
-pub mod Opening
 pub mod Together
-pub mod OutsideSeats
 pub mod Readings

@@ -7,7 +7,7 @@ use Rattle.rt_runtime_worker.specs.Asks.{NotesNoPoll}
 use Rattle.rt_runtime_worker.specs.Ended.{ServedView, IsServed}
 use Rattle.rt_runtime_worker.specs.Readings.{WatchView, watch_view}
 use Rattle.rt_runtime_worker.specs.Rounds.{CollectsFirst, HearsAll, ShutsClosed, StepsServed}
-use Rattle.rt_runtime_worker.specs.Steps.{HasNoTurn}
+use Rattle.actor_seat.specs.Steps.{HasNoTurn}
 use Rattle.rt_runtime_worker.specs.Turns.{TurnsWith}
 
 -- Without a look at the links a turn is made exactly if one is left and polls took little time since the last look, and it counts as one of those that are

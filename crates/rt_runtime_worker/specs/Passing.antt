@@ -6,7 +6,7 @@ use Rattle.rt_journal_notes.specs.Journals.{JournalView, free_notes, places_of}
 use Rattle.rt_journal_notes.specs.Passing.{IsAsked, KeepsRefusals, PassesOn}
 use Rattle.rt_journal_notes.specs.declared.sink.Refused.{Refused}
 use Rattle.rt_runtime_worker.specs.Ended.{ServedView}
-use Rattle.rt_runtime_worker.specs.Linked.{LinkedView}
+use Rattle.actor_seat.specs.Linked.{LinkedView}
 use Rattle.rt_runtime_worker.specs.Rooms.{least_free}
 use Rattle.rt_runtime_worker.specs.Workers.{WorkerView}
 

@@ -1,5 +1,5 @@
 -- The queues of a configuration in the journal of their core.
-use Rattle.std.specs.Prelude.{◌==◌, ℕ, ◌+◌, Bool, true, false, if◌then◌else◌, List, [], ◌∷◌}
+use Rattle.std.specs.Prelude.{◌==◌, ℕ, ◌+◌, if◌then◌else◌, List, [], ◌∷◌}
 use Rattle.rt_ids.specs.declared.note.Note.TheVariants.{Created}
 use Rattle.rt_ids.specs.Journal.{Journal}
 use Rattle.rt_ids.specs.Commands.{created_count}
@@ -18,14 +18,3 @@ module _ {T : Type 0} where
   -- the journal of a core that was opened with its queues among these
   abbrev pub creations : ℕ → List Entry → Journal T
   creations core entries = behind_entries core entries []
-
-  -- whether nothing but creations was noted
-  abbrev pub is_opening : Journal T → Bool
-  is_opening [] = true
-  is_opening (Created queue weight ∷ before) = is_opening before
-  is_opening (_ ∷ before) = false
-
-  -- the creations at the opening: the notes before the first that is none
-  abbrev pub opening_of : Journal T → Journal T
-  opening_of [] = []
-  opening_of (note ∷ before) = if is_opening (note ∷ before) then note ∷ before else opening_of before

@@ -3,7 +3,8 @@ use Rattle.std.specs.Prelude.{◌≡◌, ◌≢◌, ◌⊎◌, ℕ, ◌+◌, ◌
 use Rattle.rt_ids.specs.Journal.{Journal}
 use Rattle.rt_ids.specs.Closing.{core_mode, final_count}
 use Rattle.rt_ring_mesh.specs.Ends.{in_at, out_at}
-use Rattle.rt_runtime_worker.specs.Linked.{LinkedView, StaysLinked}
+use Rattle.actor_seat.specs.Bells.{BellsView, HasRung}
+use Rattle.actor_seat.specs.Linked.{LinkedView, StaysLinked}
 use Rattle.rt_runtime_worker.specs.Ended.{ServedView}
 use Rattle.rt_runtime_worker.specs.Rooms.{IsShort}
 use Rattle.rt_journal_turn.specs.declared.whole.Turned.{Turned}
@@ -20,6 +21,10 @@ is_turn Polled = true
 is_turn Returned = true
 is_turn Idle = false
 is_turn Spent = false
+
+-- the bells were rung for each note of the worker's journal, and for nothing else
+abbrev pub AreRung : {J T : Type 0} → ServedView J T → BellsView → Type 0
+AreRung served bells = HasRung served.linked.recorded.core.cores served.linked.recorded.journal.notes bells.rings
 
 module _ {J T : Type 0} where
   -- every order of this sender that its end has seen was delivered

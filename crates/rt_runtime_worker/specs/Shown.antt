@@ -2,7 +2,7 @@
 use Rattle.std.specs.Prelude.{◌≡◌, ◌⊎◌, ℕ, ◌+◌, ◌-◌, ◌^◌, ◌≤◌, Bool, true, List, length}
 use Rattle.rt_ids.specs.Journal.{Journal}
 use Rattle.rt_journal.specs.Recorded.{RecordedView}
-use Rattle.rt_runtime_worker.specs.Linked.{Grows}
+use Rattle.actor_seat.specs.Linked.{Grows}
 use Rattle.rt_watch.specs.Closed.{closed_by_itself}
 use Rattle.rt_watch.specs.declared.board.Terms.{Terms}
 use Rattle.rt_watch.specs.declared.publisher.Publishing.{Publishing}

@@ -4,30 +4,18 @@ use Rattle.rt_ids.specs.Assembly.{Assembly, journal_of}
 use Rattle.rt_ids.specs.Closing.{IsDrained}
 use Rattle.rt_ids.specs.Joining.{AreJoined}
 use Rattle.rt_jobs.specs.Meanings.{Meaning}
-use Rattle.rt_journal_desk.specs.Submissions.{DeskView, IsWritten, terms_of_desk}
+use Rattle.rt_journal_desk.specs.Submissions.{DeskView, terms_of_desk}
 use Rattle.rt_journal.specs.Recorded.{desk_of, terms_at}
-use Rattle.rt_journal_desk.specs.Ends.{IsOutOf}
-use Rattle.rt_journal.specs.Steps.{opened_beside}
 use Rattle.rt_journal.specs.Together.{IsAssemblyOf}
-use Rattle.rt_ring_mesh.specs.Ends.{EndsView, out_at}
-use Rattle.rt_ring_mesh.specs.Grid.{AreReunited, no_ends}
-use Rattle.rt_runtime_worker.specs.Linked.{LinkedView}
+use Rattle.rt_ring_mesh.specs.Ends.{EndsView}
+use Rattle.rt_ring_mesh.specs.Grid.{AreReunited}
+use Rattle.actor_seat.specs.Linked.{LinkedView}
+use Rattle.actor_seat.specs.OutsideSeats.{IsOutside, OutsideView}
+use Rattle.actor_seat.specs.Together.{worker_at}
 use Rattle.rt_runtime_worker.specs.Ended.{HasDrained}
 use Rattle.rt_link.specs.Fits.{Fits}
 
--- the outside actor: its journal and its ends
-pub record OutsideView (J T : Type 0) : Type 0 where
-  pub desk : DeskView J T
-  pub ends : EndsView J T
-
 module _ {J T : Type 0} where
-  abbrev pub no_linked : LinkedView J T
-  no_linked = record { recorded = opened_beside 0 0 0 0 1; ends = no_ends }
-
-  -- the worker of a core
-  abbrev pub worker_at : ℕ → List (LinkedView J T) → LinkedView J T
-  worker_at core workers = slice_index_or workers core no_linked
-
   -- what an actor says of its submissions: the last one is the outside actor
   abbrev pub desk_among : List (LinkedView J T) → OutsideView J T → ℕ → DeskView J T
   desk_among workers outside actor = slice_index_or (map (λ worker. desk_of worker.recorded) workers ++ outside.desk ∷ []) actor outside.desk
@@ -35,12 +23,6 @@ module _ {J T : Type 0} where
   -- the ends of all actors
   abbrev pub all_ends : List (LinkedView J T) → OutsideView J T → List (EndsView J T)
   all_ends workers outside = map (λ worker. worker.ends) workers ++ outside.ends ∷ []
-
-  -- the outside actor's journal is written by the rules, and it sends on an end to each core
-  pub record IsOutside (view : OutsideView J T) : Type 0 where
-    pub outs_are : length view.ends.outs ≡ view.desk.cores
-    pub written : IsWritten (terms_of_desk view.desk) view.desk.journal.notes
-    pub outs : (core : ℕ) → core < view.desk.cores → IsOutOf core view.desk (out_at core view.ends).out (out_at core view.ends).credited
 
 module _ {J T : Type 0} (meaning : Meaning J T) where
   -- each core of the house is drained, the outside actor is there, and the links are reunited

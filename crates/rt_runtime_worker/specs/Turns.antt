@@ -3,8 +3,8 @@ use Rattle.std.specs.Prelude.{◌≡◌, ℕ, Bool}
 use Rattle.rt_ids.specs.declared.names.JobId.{JobId}
 use Rattle.rt_jobs.specs.Meanings.{Meaning}
 use Rattle.rt_runtime_worker.specs.Asks.{NotesNoPoll}
-use Rattle.rt_runtime_worker.specs.Bursts.{MakesTurn, turn_view}
-use Rattle.rt_runtime_worker.specs.Linked.{StaysLinked}
+use Rattle.actor_seat.specs.Bursts.{MakesTurn, turn_view}
+use Rattle.actor_seat.specs.Linked.{StaysLinked}
 use Rattle.rt_runtime_worker.specs.Ended.{ServedView}
 use Rattle.rt_runtime_worker.specs.Readings.{TimesNext, WatchView}
 use Rattle.rt_runtime_worker.specs.Rooms.{IsReady}

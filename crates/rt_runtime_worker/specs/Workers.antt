@@ -1,8 +1,8 @@
 -- What is seen of a worker.
 use Rattle.std.specs.Prelude.{◌≡◌, ℕ, Bool, false, List, slice_index_or}
-use Rattle.rt_runtime_worker.specs.Bells.{BellView}
+use Rattle.actor_seat.specs.Bells.{BellView}
 use Rattle.rt_runtime_worker.specs.Ended.{EndedView, ServedView}
-use Rattle.rt_runtime_worker.specs.Linked.{LinkedView, RunsOn}
+use Rattle.actor_seat.specs.Linked.{LinkedView, RunsOn}
 use Rattle.rt_runtime_worker.specs.Shown.{ShownView}
 
 -- A core beside its journal and ends, with a clock and a gate of its own, and whether the worker is at its end. How long polls took since its last look at

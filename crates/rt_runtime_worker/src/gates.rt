@@ -3,7 +3,7 @@
 ghost use Rattle.std.specs.Prelude.{◌≡◌, ◌+◌, ◌<◌, ◌≤◌, IsSome, length, true};
 ghost use Rattle.rt_ids.specs.Closing.{core_mode};
 ghost use Rattle.rt_runtime_worker.specs.Asks.{NotesNoPoll};
-ghost use Rattle.rt_runtime_worker.specs.Linked.{IsBetweenTurns, IsLinked, StaysLinked};
+ghost use Rattle.actor_seat.specs.Linked.{IsBetweenTurns, IsLinked, StaysLinked};
 ghost use Rattle.rt_runtime_worker.specs.Gates.{LeavesShut, LeavesReturning, ShutsFirst};
 ghost use Rattle.rt_runtime_worker.specs.Rooms.{ActsAsItMay, ActsByCommand, HasSpare, IsEnding, IsShort};
 ghost use Rattle.rt_runtime_worker.specs.Rounds.{TellsNotes};

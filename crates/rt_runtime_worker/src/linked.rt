@@ -2,12 +2,12 @@
 
 ghost use Rattle.std.specs.Prelude.{◌≡◌, ◌+◌, ◌*◌, ◌^◌, ◌<◌, ◌≤◌, ◌↔◌, IsSome, IsTrue, None, false, length, is_some, true};
 ghost use Rattle.rt_ids.specs.Closing.{IsDrained, core_mode, final_count};
-ghost use Rattle.rt_runtime_worker.specs.Linked.{IsBetweenTurns, IsLinked};
+ghost use Rattle.actor_seat.specs.Linked.{IsBetweenTurns, IsLinked};
 ghost use Rattle.rt_runtime_worker.specs.Passing.{HandsOn, IsLow};
 ghost use Rattle.rt_runtime_worker.specs.Rooms.{IsShort, least_free};
-ghost use Rattle.rt_runtime_worker.specs.Steps.{ShutsGate, DeliversFrom, CollectsOf, HasNoTurn};
+ghost use Rattle.actor_seat.specs.Steps.{ShutsGate, DeliversFrom, CollectsOf, HasNoTurn};
 
-use crate::seat::Seat;
+use actor_seat::Seat;
 use rt_core::{Ahead, PickError};
 use rt_ids::{ActorNo, CoreNo};
 use rt_jobs::{CoreState, Task};
@@ -27,12 +27,12 @@ pub struct Linked<J: Task<Out = u64>> {
 
 impl<J: Task<Out = u64>> Model for Linked<J> {
     ghost use Rattle.std.specs.Prelude.{ℕ};
-    ghost use Rattle.rt_runtime_worker.specs.Linked.{LinkedView};
+    ghost use Rattle.actor_seat.specs.Linked.{LinkedView};
 
     ghost Value = { LinkedView J ℕ };
 
     ghost use Rattle.std.specs.Prelude.{◌≡◌};
-    ghost use Rattle.rt_runtime_worker.specs.Linked.{IsBetweenTurns, IsLinked};
+    ghost use Rattle.actor_seat.specs.Linked.{IsBetweenTurns, IsLinked};
     ghost use Rattle.rt_runtime_worker.specs.Rooms.{least_free};
 
     ghost view = { λ l. l.seat };

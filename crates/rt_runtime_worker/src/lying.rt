@@ -3,14 +3,15 @@
 
 ghost use Rattle.std.specs.Prelude.{◌≡◌, IfSome, IfNone, false, is_none, true};
 ghost use Rattle.rt_runtime_worker.specs.Asks.{AsksSince};
-ghost use Rattle.rt_runtime_worker.specs.Bells.{AreRung, once_more};
+ghost use Rattle.rt_runtime_worker.specs.Rounds.{AreRung};
+ghost use Rattle.actor_seat.specs.Bells.{once_more};
 ghost use Rattle.rt_runtime_worker.specs.Few.{RoundsFew};
-ghost use Rattle.rt_runtime_worker.specs.Linked.{StaysLinked};
+ghost use Rattle.actor_seat.specs.Linked.{StaysLinked};
 ghost use Rattle.rt_runtime_worker.specs.Looks.{LooksAtAll, round_view};
 ghost use Rattle.rt_runtime_worker.specs.Rounds.{StepsServed};
 
-use crate::bell::{Bell, Key, MaySleep, Woken, sleep};
 use crate::rounds::Rounds;
+use actor_seat::{Bell, Key, MaySleep, Woken, sleep};
 use rt_jobs::{Job, Task};
 use rt_runtime_config::{Clock, Gate};
 use std::sync::Wait;
@@ -54,7 +55,7 @@ pub(crate) fn lie_down<'a, J: Task<Out = u64>, C: Drop, G: Drop>(
 {
     Lain {
         key: own.lie_down(),
-        looks: rounds.looks(),
+        looks: rounds.looks,
     }
 }
 

@@ -6,15 +6,15 @@ ghost use Rattle.rt_ids.specs.Commands.{IsOpening, created_count};
 ghost use Rattle.rt_runtime_config.specs.Configs.{least_room, queues_of};
 ghost use Rattle.rt_journal.specs.Recorded.{IsRecorded};
 ghost use Rattle.rt_journal.specs.Steps.{opened_beside};
-ghost use Rattle.rt_runtime_worker.specs.Opening.{AreEndsOf, CreatesSince, IsOpenedOver};
+ghost use Rattle.actor_seat.specs.Opening.{AreEndsOf, CreatesSince, IsOpenedOver};
 ghost use Rattle.rt_runtime_worker.specs.Queues.{behind_entries, creations};
 ghost use Rattle.rt_runtime_worker.specs.Workers.{HasNotBegun};
 
-use crate::bells::Bells;
 use crate::linked::Linked;
 use crate::served::Served;
 use crate::showing::PLACES;
 use crate::worker::Worker;
+use actor_seat::Bells;
 use rt_ids::{ActorNo, CoreNo};
 use rt_jobs::Task;
 use rt_journal::Recorded;
@@ -140,7 +140,6 @@ impl<J: Task<Out = u64>, C: Drop, G: Drop, S: Sink> Worker<J, C, G, S> {
         ensures watches { IfOk result (λ opened. opened.1 ≡ record { board = opened.0.shown.board; terms = opened.0.shown.terms; notes = []; count = 0; closed = false }) }
     {
         let number = ends.number;
-        let served = serve_core(alloc, config, ends)?;
         let own = bells.bell_of(ActorNo(number.0))?;
         let all = bells.again(alloc)?;
         let terms = Terms {
@@ -149,6 +148,8 @@ impl<J: Task<Out = u64>, C: Drop, G: Drop, S: Sink> Worker<J, C, G, S> {
             places: PLACES,
         };
         let (publisher, watcher) = rt_watch::open(alloc, terms)?;
+        // The core is opened last: so nothing that drops it stands behind it.
+        let served = serve_core(alloc, config, ends)?;
         let worker = Worker::of(served, clock, gate, own, all, sink, local, publisher);
         Ok((worker, watcher))
     }

@@ -2,15 +2,16 @@
 
 ghost use Rattle.std.specs.Prelude.{◌≡◌, IfSome, is_none, true};
 ghost use Rattle.rt_runtime_worker.specs.Asks.{AsksSince};
-ghost use Rattle.rt_runtime_worker.specs.Bells.{AreRung, once_more};
+ghost use Rattle.rt_runtime_worker.specs.Rounds.{AreRung};
+ghost use Rattle.actor_seat.specs.Bells.{once_more};
 ghost use Rattle.rt_runtime_worker.specs.Few.{RoundsFew};
-ghost use Rattle.rt_runtime_worker.specs.Linked.{StaysLinked};
+ghost use Rattle.actor_seat.specs.Linked.{StaysLinked};
 ghost use Rattle.rt_runtime_worker.specs.Looks.{LooksAtAll, round_view};
 ghost use Rattle.rt_runtime_worker.specs.Workers.{IsBellOf};
 
-use crate::bell::Bell;
 use crate::lying::{Slept, lie_down, look_again};
 use crate::rounds::Rounds;
+use actor_seat::Bell;
 use rt_jobs::{Job, Task};
 use rt_runtime_config::{Clock, Gate};
 use std::sync::Wait;

@@ -1,26 +1,23 @@
 //! What a worker does round by round. Each step rings the bells of those who have something from its notes.
 
-ghost use Rattle.std.specs.Prelude.{◌≡◌, ◌||◌, ◌+◌, ◌*◌, ◌≤◌, ◌↔◌, IsTrue, drop, false, length, reverse, true};
-ghost use Rattle.rt_ids.specs.Closing.{IsDrained};
-ghost use Rattle.rt_journal.specs.Recorded.{IsRecorded};
-ghost use Rattle.rt_runtime_worker.specs.Bells.{AreRung, once_more, rung_for};
+ghost use Rattle.std.specs.Prelude.{◌≡◌, ◌||◌, ◌+◌, ◌*◌, ◌≤◌, drop, false, length, reverse, true};
+ghost use Rattle.rt_runtime_worker.specs.Rounds.{AreRung};
+ghost use Rattle.actor_seat.specs.Bells.{once_more, rung_for};
 ghost use Rattle.rt_runtime_worker.specs.Asks.{AsksSince, NotesNoPoll};
 ghost use Rattle.rt_runtime_worker.specs.Ended.{IsServed};
 ghost use Rattle.rt_runtime_worker.specs.Few.{RoundsFew, TurnsFew, WritesFew};
 ghost use Rattle.rt_runtime_worker.specs.Looks.{LooksAtAll, MakesRound, PassesLinks, TurnsAlone, leaves_turns, round_view, turns_after};
-ghost use Rattle.rt_runtime_worker.specs.Passing.{HandsOn, HasPlaces, IsDue, IsDueAtRest};
+ghost use Rattle.rt_runtime_worker.specs.Passing.{HandsOn, HasPlaces};
 ghost use Rattle.rt_runtime_worker.specs.Readings.{watch_view};
 ghost use Rattle.rt_runtime_worker.specs.Rounds.{CollectsFirst, HearsAll, ShutsClosed, StepsServed};
-ghost use Rattle.rt_runtime_worker.specs.Shown.{TellsAlone};
-ghost use Rattle.rt_runtime_worker.specs.Steps.{HasNoTurn};
+ghost use Rattle.actor_seat.specs.Steps.{HasNoTurn};
 ghost use Rattle.rt_runtime_worker.specs.Turns.{TurnsWith};
 
-use crate::bells::Bells;
 use crate::linked::Linked;
 use crate::served::Served;
 use crate::stopwatch::Stopwatch;
+use actor_seat::Bells;
 use rt_jobs::{Job, Task};
-use rt_journal::Recorded;
 use rt_journal_notes::{RunningJournal, Sink};
 use rt_runtime_config::{Clock, Gate};
 
@@ -56,14 +53,14 @@ fn ring_since(bells: &mut Bells, journal: &RunningJournal<u64>, count: usize)
 /// A core beside its journal, over its actor's ends of the links, with a clock and a gate of its own, and the bells of all cores.
 #[derive(Drop)]
 pub(crate) struct Rounds<J: Task<Out = u64>, C: Drop, G: Drop> {
-    served: Served<J>,
+    pub(crate) served: Served<J>,
     watch: Stopwatch<C>,
     gate: G,
     bells: Bells,
     /// How many turns may be made before the next look at the links.
     turns: u32,
     /// How many looks at the links were made.
-    looks: u64,
+    pub(crate) looks: u64,
 }
 
 impl<J: Task<Out = u64>, C: Drop, G: Drop> Rounds<J, C, G> {
@@ -86,39 +83,6 @@ impl<J: Task<Out = u64>, C: Drop, G: Drop> Rounds<J, C, G> {
         }
     }
 
-    /// Writes to the memory of all notes that there may be. Nothing is noted.
-    pub(crate) fn prefault(&mut self)
-        ensures { self.new ≡ self.old }
-    {
-        self.served.prefault();
-    }
-
-    /// Makes what is still to be made of what the jobs of the core share.
-    pub(crate) fn begin(&self, local: &mut J::Local) {
-        self.served.begin(local);
-    }
-
-    /// Whether every gate is shut, all behind it was delivered, no queue has work, and no job is parked.
-    pub(crate) fn is_drained(&self) -> bool
-        ensures { IsTrue result ↔ IsDrained self.now.served.linked.recorded.core.cores self.now.served.linked.recorded.journal.notes }
-    {
-        self.served.is_drained()
-    }
-
-    /// Whether the worker is at its end.
-    pub(crate) fn is_ending(&self) -> bool
-        ensures { result ≡ self.now.served.ending }
-    {
-        self.served.is_ending()
-    }
-
-    /// Whether the core closed by itself at its end. No clause says that it didn't where the answer is false.
-    pub(crate) fn closed_alone(&self) -> bool
-        ensures { TellsAlone result self.now.served.linked.recorded.journal.notes }
-    {
-        self.served.closed_alone()
-    }
-
     /// The linked core.
     pub(crate) fn into_linked(self) -> Linked<J>
         ensures same { result ≡ self.served.linked }
@@ -126,28 +90,6 @@ impl<J: Task<Out = u64>, C: Drop, G: Drop> Rounds<J, C, G> {
     {
         let Rounds { served, .. } = self;
         served.into_linked()
-    }
-
-    /// The core beside its journal.
-    pub(crate) fn recorded(&self) -> &Recorded<J>
-        ensures recorded { result.now ≡ self.now.served.linked.recorded }
-        ensures sound { IsRecorded J.meaning self.now.served.linked.recorded }
-    {
-        self.served.recorded()
-    }
-
-    /// Whether notes are due to be passed on before a round.
-    pub(crate) fn is_due(&self) -> bool
-        ensures { IsTrue result ↔ IsDue self.now.served }
-    {
-        self.served.is_due()
-    }
-
-    /// Whether notes are due to be passed on before a rest.
-    pub(crate) fn is_due_at_rest(&self) -> bool
-        ensures { IsTrue result ↔ IsDueAtRest self.now.served }
-    {
-        self.served.is_due_at_rest()
     }
 
     /// Hands all notes that are kept to the sink, if the worker isn't at its end.
@@ -172,13 +114,6 @@ impl<J: Task<Out = u64>, C: Drop, G: Drop> Rounds<J, C, G> {
         self.looks = self.looks.saturating_add(1);
         self.watch.forget();
         self.turns = if leaves { MOST_TURNS } else { 0 };
-    }
-
-    /// How many looks at the links were made.
-    pub(crate) fn looks(&self) -> u64
-        ensures { result ≡ self.now.looks }
-    {
-        self.looks
     }
 
     /// Whether no turn is to be made and no link shows anything, behind a round in which nothing was done.

@@ -6,12 +6,12 @@ ghost use Rattle.rt_journal.specs.Recorded.{IsRecorded};
 ghost use Rattle.rt_runtime_worker.specs.Asks.{AsksSince, NotesNoPoll};
 ghost use Rattle.rt_runtime_worker.specs.Ended.{IsServed};
 ghost use Rattle.rt_runtime_worker.specs.Few.{TurnsFew, WritesFew};
-ghost use Rattle.rt_runtime_worker.specs.Linked.{StaysLinked};
+ghost use Rattle.actor_seat.specs.Linked.{StaysLinked};
 ghost use Rattle.rt_runtime_worker.specs.Gates.{KeepsTaken};
 ghost use Rattle.rt_runtime_worker.specs.Passing.{HandsOn, HasPlaces, IsDue, IsDueAtRest};
 ghost use Rattle.rt_runtime_worker.specs.Rooms.{ActsByCommand, HasSpare, IsReady};
 ghost use Rattle.rt_runtime_worker.specs.Rounds.{CollectsFirst, CollectsNext, HasShutGates, HearsFirst, HearsOne, HearsSome, LooksAtRoom, StepsServed, is_turn};
-ghost use Rattle.rt_runtime_worker.specs.Steps.{HasNoTurn};
+ghost use Rattle.actor_seat.specs.Steps.{HasNoTurn};
 ghost use Rattle.rt_runtime_worker.specs.Shown.{TellsAlone};
 ghost use Rattle.rt_runtime_worker.specs.Turns.{TakesTurn};
 

@@ -3,20 +3,19 @@
 ghost use Rattle.std.specs.Prelude.{◌≡◌, false};
 ghost use Rattle.rt_ids.specs.Closing.{IsDrained};
 ghost use Rattle.rt_runtime_worker.specs.Asks.{AsksSince};
-ghost use Rattle.rt_runtime_worker.specs.Bells.{AreRung};
-ghost use Rattle.rt_runtime_worker.specs.Linked.{RunsOn};
+ghost use Rattle.rt_runtime_worker.specs.Rounds.{AreRung};
+ghost use Rattle.actor_seat.specs.Linked.{RunsOn};
 ghost use Rattle.rt_runtime_worker.specs.Shown.{IsShown, Shows, shown_of};
 ghost use Rattle.rt_runtime_worker.specs.Passing.{HandsOn, HandsOnWhere, IsDue, IsDueAtRest, IsSupplied, PassesTo};
 ghost use Rattle.rt_runtime_worker.specs.Serves.{GoesOn, Rests, Serves, ServesOnce, ServesToItsEnd, ShowsAgain, ShowsEnd, ShowsNow};
 ghost use Rattle.rt_runtime_worker.specs.Workers.{HasNotBegun, IsBellOf, KeepsOn, served_of};
 
-use crate::bell::Bell;
-use crate::bells::Bells;
 use crate::ended::Ended;
 use crate::quiet::rest;
 use crate::rounds::Rounds;
 use crate::served::Served;
 use crate::showing::{SHOWN_EACH, show_on};
+use actor_seat::{Bell, Bells};
 use rt_jobs::{Job, Task};
 use rt_journal_notes::{Sink, Whole};
 use rt_runtime_config::{Clock, Gate};
@@ -55,7 +54,7 @@ impl<J: Task<Out = u64>, C: Drop, G: Drop, S: Sink> Model for Worker<J, C, G, S>
 
     ghost Value = { WorkerView J ℕ C G S };
 
-    ghost use Rattle.rt_runtime_worker.specs.Bells.{AreRung};
+    ghost use Rattle.rt_runtime_worker.specs.Rounds.{AreRung};
     ghost use Rattle.rt_runtime_worker.specs.Passing.{PassesTo};
     ghost use Rattle.rt_runtime_worker.specs.Shown.{IsShown, shown_of};
     ghost use Rattle.rt_runtime_worker.specs.Workers.{IsBellOf};
@@ -135,7 +134,7 @@ impl<J: Task<Out = u64>, C: Drop, G: Drop, S: Sink> Worker<J, C, G, S> {
         ensures supplied { IsSupplied S.has S.refused (served_of self.new) self.new.sink }
         ensures marked { S.mark self.new.sink ≡ S.mark self.old.sink }
     {
-        if self.rounds.is_due() {
+        if self.rounds.served.is_due() {
             self.rounds.hand_on(&mut self.sink);
         }
     }
@@ -146,7 +145,7 @@ impl<J: Task<Out = u64>, C: Drop, G: Drop, S: Sink> Worker<J, C, G, S> {
         ensures supplied { IsSupplied S.has S.refused (served_of self.new) self.new.sink }
         ensures marked { S.mark self.new.sink ≡ S.mark self.old.sink }
     {
-        if self.rounds.is_due_at_rest() {
+        if self.rounds.served.is_due_at_rest() {
             self.rounds.hand_on(&mut self.sink);
         }
     }
@@ -155,8 +154,8 @@ impl<J: Task<Out = u64>, C: Drop, G: Drop, S: Sink> Worker<J, C, G, S> {
     fn show(&mut self)
         ensures { ShowsNow self.old self.new }
     {
-        let alone = self.rounds.closed_alone();
-        show_on(self.rounds.recorded(), alone, &mut self.publisher);
+        let alone = self.rounds.served.closed_alone();
+        show_on(self.rounds.served.recorded(), alone, &mut self.publisher);
         self.since = 0;
     }
 
@@ -175,7 +174,7 @@ impl<J: Task<Out = u64>, C: Drop, G: Drop, S: Sink> Worker<J, C, G, S> {
     fn is_ending(&self) -> bool
         ensures { result ≡ self.now.ending }
     {
-        self.rounds.is_ending()
+        self.rounds.served.is_ending()
     }
 
     /// Publishes where the worker is at its end, and wasn't before.
@@ -205,8 +204,8 @@ impl<J: Task<Out = u64>, C: Drop, G: Drop, S: Sink> Worker<J, C, G, S> {
             ..
         } = self;
         let (mut sink, mut publisher) = (sink, publisher);
-        let alone = rounds.closed_alone();
-        show_on(rounds.recorded(), alone, &mut publisher);
+        let alone = rounds.served.closed_alone();
+        show_on(rounds.served.recorded(), alone, &mut publisher);
         let mut linked = rounds.into_linked();
         let _answer = linked.hand_on(&mut sink);
         Ended::of(linked, sink, local, publisher)
@@ -295,11 +294,11 @@ impl<J: Job + Task<Out = u64>, C: Clock + Drop, G: Gate + Drop, S: Sink> Work
     {
         let mut worker = self;
         // On the thread that writes the notes, so that their pages come from memory that is near to it.
-        worker.rounds.prefault();
+        worker.rounds.served.prefault();
         // On the thread that polls the jobs, and before each of their polls.
-        worker.rounds.begin(&mut worker.local);
+        worker.rounds.served.begin(&mut worker.local);
         for _ in rt.forever() {
-            if worker.rounds.is_drained() {
+            if worker.rounds.served.is_drained() {
                 return worker.into_ended();
             }
             worker.serve(rt);

@@ -112,7 +112,7 @@ sides one other waiting parked false = waiting
 sides one other waiting parked true = parked
 
 -- one queue gets shares or a mode, and keeps its lines
-lines-weighed : (queues : List Queue) (queue : ℕ) (now : Queue) → queue < length queues → now.waiting ≡ (queue_at queues queue).waiting → now.parked ≡ (queue_at queues queue).parked → (spot : Spot) → line_at (set queues queue now) spot ≡ line_at queues spot
+pub lines-weighed : (queues : List Queue) (queue : ℕ) (now : Queue) → queue < length queues → now.waiting ≡ (queue_at queues queue).waiting → now.parked ≡ (queue_at queues queue).parked → (spot : Spot) → line_at (set queues queue now) spot ≡ line_at queues spot
 lines-weighed queues queue now within waiting parked spot =
     read-set (side spot.is_parked) queues queue now within (sides now (queue_at queues queue) waiting parked spot.is_parked) spot.queue
 
@@ -121,7 +121,7 @@ pub says-weighed : {J : Type 0} (jobs : Slab (Waiting J)) (queues : List Queue) 
 says-weighed jobs queues queue now within waiting parked spot = ap (λ (l : Line). chain (get jobs) l.head l.count) (lines-weighed queues queue now within waiting parked spot)
 
 -- one more queue has empty lines
-lines-created : (queues : List Queue) (last : Queue) → last.waiting ≡ no_line → last.parked ≡ no_line → (spot : Spot) → line_at (queues ++ last ∷ []) spot ≡ line_at queues spot
+pub lines-created : (queues : List Queue) (last : Queue) → last.waiting ≡ no_line → last.parked ≡ no_line → (spot : Spot) → line_at (queues ++ last ∷ []) spot ≡ line_at queues spot
 lines-created queues last waiting parked spot = read-push (side spot.is_parked) queues last (sides last no_queue waiting parked spot.is_parked) spot.queue
 
 pub says-created : {J : Type 0} (jobs : Slab (Waiting J)) (queues : List Queue) (last : Queue) → last.waiting ≡ no_line → last.parked ≡ no_line → (spot : Spot) → line_says jobs (queues ++ last ∷ []) spot ≡ line_says jobs queues spot

@@ -72,13 +72,13 @@ module _ {J : Type 0} (entry : ℕ → Option (Waiting J)) (old new : Spot → L
           ap (λ (l : Line). l.tail) same ∙ linked.tails one last before ∙ ap (λ (l : Line). key_at entry l.head last) (sym same)
 
   -- where a place of the lines was before one lost its head
-  record WasAt (one : Spot) (here : ℕ) : Type 0 where
-    place : ℕ
-    within : place < (old one).count
-    key : key_at entry (new one).head here ≡ key_at entry (old one).head place
-    moved : ((one ≡ spot) × (place ≡ suc here)) ⊎ ((one ≡ spot → ⊥) × (place ≡ here))
+  pub record WasAt (one : Spot) (here : ℕ) : Type 0 where
+    pub place : ℕ
+    pub within : place < (old one).count
+    pub key : key_at entry (new one).head here ≡ key_at entry (old one).head place
+    pub moved : ((one ≡ spot) × (place ≡ suc here)) ⊎ ((one ≡ spot → ⊥) × (place ≡ here))
 
-  places_shrunk : ChangesOne old new spot line → Shrinks entry (old spot) line → (one : Spot) (here : ℕ) → here < (new one).count → WasAt one here
+  pub places_shrunk : ChangesOne old new spot line → Shrinks entry (old spot) line → (one : Spot) (here : ℕ) → here < (new one).count → WasAt one here
   places_shrunk changes shrinks one here within = by_queue (cases_spot one spot)
     where
       by_queue : (one ≡ spot) ⊎ (one ≡ spot → ⊥) → WasAt one here

@@ -39,7 +39,7 @@ module _ {J : Type 0} where
   there : (jobs : Slab (Waiting J)) (key : ℕ) (front : Waiting J) → get jobs key ≡ Some front → ContainsKey jobs key
   there jobs key front at = ap is_some at
 
-  removes : (jobs : Slab (Waiting J)) (key : ℕ) (front : Waiting J) → get jobs key ≡ Some front → Updates jobs (removed jobs key) key None
+  pub removes : (jobs : Slab (Waiting J)) (key : ℕ) (front : Waiting J) → get jobs key ≡ Some front → Updates jobs (removed jobs key) key None
   removes jobs key front at = Updates-set jobs (removed jobs key) key None (ContainsKey-within jobs key (there jobs key front at)) refl
 
   pub removed-len : (jobs : Slab (Waiting J)) (key : ℕ) (front : Waiting J) → get jobs key ≡ Some front → slab_len (removed jobs key) + 1 ≡ slab_len jobs

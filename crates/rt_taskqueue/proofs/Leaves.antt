@@ -24,7 +24,7 @@ pub record Leaves {J : Type 0} (old : Slab (Waiting J)) (line : Line) (front : W
   pub tail : rest.tail ≡ line.tail
   pub count : rest.count ≡ line.count - 1
 
-shrinks : {J : Type 0} (old new : Slab (Waiting J)) (line : Line) (front : Waiting J) (rest : Line) → Leaves old line front new rest → Shrinks (get old) line rest
+pub shrinks : {J : Type 0} (old new : Slab (Waiting J)) (line : Line) (front : Waiting J) (rest : Line) → Leaves old line front new rest → Shrinks (get old) line rest
 shrinks old new line front rest leaves = record {
   count = omega (arith, leaves.some, leaves.count);
   head = leaves.head ∙ sym (ap next_of leaves.first);
@@ -32,7 +32,7 @@ shrinks old new line front rest leaves = record {
 }
 
 module _ {J : Type 0} {room line_places : ℕ} {old new : Slab (Waiting J)} {queues : List Queue} where
-  keeps : (spot : Spot) (front : Waiting J) (rest : Line) → IsKept room line_places old queues → Leaves old (line_at queues spot) front new rest → spot.queue < length queues → KeepsLines (get old) (get new) (line_at (placed queues spot rest))
+  pub keeps : (spot : Spot) (front : Waiting J) (rest : Line) → IsKept room line_places old queues → Leaves old (line_at queues spot) front new rest → spot.queue < length queues → KeepsLines (get old) (get new) (line_at (placed queues spot rest))
   keeps spot front rest kept leaves within =
       KeepsLines-take (get old) (line_at queues) (line_at (placed queues spot rest)) spot rest (get new) (ChangesOne-placed queues spot rest within) (shrinks old new (line_at queues spot) front rest leaves) kept.linked leaves.updates.others
 

@@ -16,6 +16,13 @@ pub mod Places
 pub mod Middle
 pub mod Unparks
 pub mod Takes
+pub mod Outs
+pub mod Names
+pub mod Seated
+pub mod SeatWrites
+pub mod Parked
+pub mod Finds
+pub mod Everywhere
 pub mod Named
 pub mod Marked
 pub mod Wakes

@@ -59,13 +59,13 @@ module _ {J : Type 0} (old new : ℕ → Option (Waiting J)) (lines after : Spot
       sym (key_at-add new (lines spot).head (suc index) place) ∙ ap (λ k. key_at new k place) key_next ∙ rest_keys place within ∙ key_at-add old (lines spot).head (suc (suc index)) place
 
   -- where a place was before
-  record WasBeside (other : Spot) (here : ℕ) : Type 0 where
-    place : ℕ
-    within : place < (lines other).count
-    key_is : key_at new (after other).head here ≡ key_at old (lines other).head place
-    moved : ((other ≡ spot → here < suc index) × (place ≡ here)) ⊎ ((other ≡ spot) × (index < here) × (place ≡ suc here))
+  pub record WasBeside (other : Spot) (here : ℕ) : Type 0 where
+    pub place : ℕ
+    pub within : place < (lines other).count
+    pub key_is : key_at new (after other).head here ≡ key_at old (lines other).head place
+    pub moved : ((other ≡ spot → here < suc index) × (place ≡ here)) ⊎ ((other ≡ spot) × (index < here) × (place ≡ suc here))
 
-  was_beside : ChangesOne lines after spot shorter → (other : Spot) (here : ℕ) → here < (after other).count → WasBeside other here
+  pub was_beside : ChangesOne lines after spot shorter → (other : Spot) (here : ℕ) → here < (after other).count → WasBeside other here
   was_beside changes other here within = by_spot (cases_spot other spot)
     where
       by_place : other ≡ spot → (here < suc index) ⊎ (suc index ≤ here) → WasBeside other here

@@ -1,43 +1,30 @@
--- A job that is looked for by its name in the lines.
-use Rattle.std.proofs.Common.{◌≡◌, ℕ, zero, suc, ◌+◌, ◌<◌, ◌≤◌, ◌||◌, Bool, true, false, List, [], ◌∷◌, ◌++◌, map, length, Option, Some, None, refl, sym, ap, ◌∙◌, ⊎_elim, subst, arith}
-use Rattle.std.proofs.lemmas.Bool.{cases_lt}
-use Rattle.std.proofs.lemmas.List.{get_or_past}
+-- A name that no entry has stands in no line.
+use Rattle.std.proofs.Common.{◌≡◌, ℕ, zero, suc, ◌<◌, ◌||◌, Bool, true, false, List, [], ◌∷◌, ◌++◌, map, Option, Some, None, refl, sym, ap, ◌∙◌, arith}
 use Rattle.slab.specs.Slab.{Slab, get}
 use Rattle.rt_ids.specs.declared.names.JobId.{JobId}
 use Rattle.rt_ids.specs.Names.{same_name, among}
+use Rattle.rt_ids.proofs.NameLemmas.{one_name}
 use Rattle.rt_taskqueue.specs.declared.waiting.Waiting.{Waiting}
 use Rattle.rt_taskqueue.specs.declared.line.Line.{Line}
 use Rattle.rt_taskqueue.specs.declared.line.Queue.{Queue}
 use Rattle.rt_taskqueue.specs.View.{Line as Says}
-use Rattle.rt_taskqueue.specs.Linked.{Spot, no_queue, side, queue_at, line_at, key_at, chain, shown, shown_parked}
+use Rattle.rt_taskqueue.specs.Linked.{Spot, line_at, key_at, chain, shown, shown_parked}
 use Rattle.rt_taskqueue.specs.Waking.{HoldsNone}
-use Rattle.rt_taskqueue.specs.Found.{NotAmong, StandsNowhere}
 use Rattle.rt_taskqueue.proofs.Spots.{waits, parks}
 use Rattle.rt_taskqueue.proofs.Views.{alone, line_says, waiting_of-view, parked_of-view}
 
 module _ {J : Type 0} where
-  -- one more entry was looked at, and doesn't have the name
-  pub NotAmong-next : (jobs : Slab (Waiting J)) (line : Line) (name : JobId) (index key : ℕ) (seen : Waiting J) → NotAmong jobs line name index → key ≡ key_at (get jobs) line.head index → get jobs key ≡ Some seen → same_name name seen.name ≡ false
-      → NotAmong jobs line name (index + 1)
-  NotAmong-next jobs line name index key seen none here at differs place within waiting there =
-      ⊎_elim
-      (λ before. none place before waiting there)
-      (λ past.
-      let same : place ≡ index = omega arith in
-      let both : Some seen ≡ Some waiting = sym at ∙ ap (get jobs) (here ∙ ap (key_at (get jobs) line.head) (sym same)) ∙ there in
-      let one : seen ≡ waiting = cc in
-      ap (λ (entry : Waiting J). same_name name entry.name) (sym one) ∙ differs)
-      (cases_lt place index)
+  -- none of the first entries of a line has this name
+  abbrev pub NotAmong : Slab (Waiting J) → Line → JobId → ℕ → Type 0
+  NotAmong jobs line name count = (place : ℕ) → place < count → (waiting : Waiting J) → get jobs (key_at (get jobs) line.head place) ≡ Some waiting → same_name name waiting.name ≡ false
 
-  -- no queue past the last has a line
-  pub StandsNowhere-past : (jobs : Slab (Waiting J)) (queues : List Queue) (name : JobId) (spot : Spot) → length queues ≤ spot.queue → StandsNowhere jobs (line_at queues spot) name
-  StandsNowhere-past jobs queues name spot past place within waiting there =
-      let none : (line_at queues spot).count ≡ 0 = ap (λ (q : Queue). (side spot.is_parked q).count) (get_or_past queues spot.queue no_queue past) ∙ by_side spot.is_parked in
-      absurd (omega arith)
+  -- where no entry has it, no place of a line does
+  pub nowhere : (jobs : Slab (Waiting J)) (line : Line) (name : JobId) (count : ℕ) → ((key : ℕ) (waiting : Waiting J) → get jobs key ≡ Some waiting → waiting.name ≡ name → ⊥) → NotAmong jobs line name count
+  nowhere jobs line name count none place within waiting there = by_test (same_name name waiting.name) refl
     where
-      by_side : (is_parked : Bool) → (side is_parked no_queue).count ≡ 0
-      by_side false = refl
-      by_side true = refl
+      by_test : (test : Bool) → same_name name waiting.name ≡ test → test ≡ false
+      by_test false is = refl
+      by_test true is = absurd (none (key_at (get jobs) line.head place) waiting there (sym (one_name name waiting.name is)))
 
   -- the names of what a chain shows
   abbrev names : Says J → List JobId
@@ -69,29 +56,12 @@ module _ {J : Type 0} where
   names-parked (one ∷ says) = ap (λ rest. one.0 ∷ rest) (names-parked says)
 
   -- a caller sees that no queue holds the name
-  pub HoldsNone-nowhere : (room : ℕ) (jobs : Slab (Waiting J)) (queues : List Queue) (name : JobId) → ((spot : Spot) → StandsNowhere jobs (line_at queues spot) name) → HoldsNone (alone room jobs queues) name
-  HoldsNone-nowhere room jobs queues name nowhere = record {
-    waits = λ queue. ap (λ line. among name (names line)) (waiting_of-view room jobs queues queue) ∙ among-chain jobs (line_at queues (waits queue)) name (line_at queues (waits queue)).count (nowhere (waits queue));
-    parks = λ queue.
-        ap (λ line. among name (map (λ entry. entry.0) line)) (parked_of-view room jobs queues queue)
-        ∙ ap (among name) (names-parked (line_says jobs queues (parks queue))) ∙ among-chain jobs (line_at queues (parks queue)) name (line_at queues (parks queue)).count (nowhere (parks queue));
-  }
-
-  -- one more queue was looked at, and neither of its lines has the name
-  pub StandsNowhere-next : (jobs : Slab (Waiting J)) (queues : List Queue) (name : JobId) (place : ℕ) (was : Queue) → ((spot : Spot) → spot.queue < place → StandsNowhere jobs (line_at queues spot) name) → queue_at queues place ≡ was
-      → StandsNowhere jobs was.parked name → StandsNowhere jobs was.waiting name → (spot : Spot) → spot.queue < place + 1 → StandsNowhere jobs (line_at queues spot) name
-  StandsNowhere-next jobs queues name place was earlier read parked waiting spot within =
-      ⊎_elim
-      (λ before. earlier spot before)
-      (λ past.
-      let same : spot.queue ≡ place = omega arith in
-      subst (λ (q : Queue). StandsNowhere jobs (side spot.is_parked q) name) (sym (ap (queue_at queues) same ∙ read)) (by_side spot.is_parked))
-      (cases_lt spot.queue place)
-    where
-      by_side : (is_parked : Bool) → StandsNowhere jobs (side is_parked was) name
-      by_side false = waiting
-      by_side true = parked
-
-  -- where the lines of all queues don't have it, no line does
-  pub StandsNowhere-all : (jobs : Slab (Waiting J)) (queues : List Queue) (name : JobId) (place : ℕ) → length queues ≤ place → ((spot : Spot) → spot.queue < place → StandsNowhere jobs (line_at queues spot) name) → (spot : Spot) → StandsNowhere jobs (line_at queues spot) name
-  StandsNowhere-all jobs queues name place all earlier spot = ⊎_elim (λ before. earlier spot before) (λ past. StandsNowhere-past jobs queues name spot (omega arith)) (cases_lt spot.queue place)
+  pub HoldsNone-nowhere : (room : ℕ) (jobs : Slab (Waiting J)) (queues : List Queue) (name : JobId) → ((key : ℕ) (waiting : Waiting J) → get jobs key ≡ Some waiting → waiting.name ≡ name → ⊥) → HoldsNone (alone room jobs queues) name
+  HoldsNone-nowhere room jobs queues name none =
+      let among_line : (spot : Spot) → among name (names (line_says jobs queues spot)) ≡ false = λ spot. among-chain jobs (line_at queues spot) name (line_at queues spot).count (nowhere jobs (line_at queues spot) name (line_at queues spot).count none) in
+      record {
+        waits = λ queue. ap (λ line. among name (names line)) (waiting_of-view room jobs queues queue) ∙ among_line (waits queue);
+        parks = λ queue.
+            ap (λ line. among name (map (λ entry. entry.0) line)) (parked_of-view room jobs queues queue)
+            ∙ ap (among name) (names-parked (line_says jobs queues (parks queue))) ∙ among_line (parks queue);
+      }

@@ -32,7 +32,7 @@ module _ {J : Type 0} where
       keys : (spot : Spot) (place : ℕ) → key_at new (line spot).head place ≡ key_at old (line spot).head place
       keys spot place = key_at-same old new (line spot).head place (λ before h. nexts (key_at old (line spot).head before))
 
-  next_renewed : (old new : Slab (Waiting J)) (key : ℕ) (was now : Waiting J) → Rewrites old key was now new → (other : ℕ) → next_of (get new other) ≡ next_of (get old other)
+  pub next_renewed : (old new : Slab (Waiting J)) (key : ℕ) (was now : Waiting J) → Rewrites old key was now new → (other : ℕ) → next_of (get new other) ≡ next_of (get old other)
   next_renewed old new key was now renews other = by_key (cases_eq other key)
     where
       by_key : (other ≡ key) ⊎ (other ≡ key → ⊥) → next_of (get new other) ≡ next_of (get old other)

@@ -18,16 +18,16 @@ use Rattle.rt_taskqueue.proofs.Rests.{false_true, IsAtRest-append, AreAtRest-wri
 use Rattle.rt_taskqueue.proofs.Views.{line_says, alone, IsWithinLimits-view}
 
 -- the queues once a head stands behind its line again
-turned_queues : (queues : List Queue) (queue : ℕ) (rest turned : Line) → queue < length queues → placed (placed queues (waits queue) rest) (waits queue) turned ≡ placed queues (waits queue) turned
+pub turned_queues : (queues : List Queue) (queue : ℕ) (rest turned : Line) → queue < length queues → placed (placed queues (waits queue) rest) (waits queue) turned ≡ placed queues (waits queue) turned
 turned_queues queues queue rest turned within = placed-set queues queue (record (queue_at queues queue) { waiting = rest }) false turned within
 
 -- both lines of the queue are written
-parked_queues : (queues : List Queue) (queue : ℕ) (rest longer : Line) → queue < length queues → placed (placed queues (waits queue) rest) (parks queue) longer ≡ set queues queue (record (queue_at queues queue) { waiting = rest; parked = longer })
+pub parked_queues : (queues : List Queue) (queue : ℕ) (rest longer : Line) → queue < length queues → placed (placed queues (waits queue) rest) (parks queue) longer ≡ set queues queue (record (queue_at queues queue) { waiting = rest; parked = longer })
 parked_queues queues queue rest longer within = placed-set queues queue (record (queue_at queues queue) { waiting = rest }) true longer within
 
 module _ {J : Type 0} where
   -- the head goes behind the tail of the line that it left
-  joins_again : (old new : Slab (Waiting J)) (queues : List Queue) (queue : ℕ) (turned : Line) (woken : Bool) (requeues : Requeues old (line_at queues (waits queue)) woken new turned) → queue < length queues → 0 < (line_at queues (waits queue)).count →
+  pub joins_again : (old new : Slab (Waiting J)) (queues : List Queue) (queue : ℕ) (turned : Line) (woken : Bool) (requeues : Requeues old (line_at queues (waits queue)) woken new turned) → queue < length queues → 0 < (line_at queues (waits queue)).count →
       Appends (removed old (line_at queues (waits queue)).head) (line_at (placed queues (waits queue) (rest_of (line_at queues (waits queue)) requeues.front)) (waits queue)) (marked requeues.front woken) new turned
   joins_again old new queues queue turned woken requeues within some =
       let line = line_at queues (waits queue) in
@@ -36,7 +36,7 @@ module _ {J : Type 0} where
       (Appends-requeued old new line turned woken requeues some)
 
   -- the head goes behind the tail of the parked jobs
-  joins_parked : (old new : Slab (Waiting J)) (queues : List Queue) (queue : ℕ) (shorter longer : Line) (moves : MovesHead old (line_at queues (waits queue)) (line_at queues (parks queue)) new shorter longer) → queue < length queues →
+  pub joins_parked : (old new : Slab (Waiting J)) (queues : List Queue) (queue : ℕ) (shorter longer : Line) (moves : MovesHead old (line_at queues (waits queue)) (line_at queues (parks queue)) new shorter longer) → queue < length queues →
       Appends (removed old (line_at queues (waits queue)).head) (line_at (placed queues (waits queue) (rest_of (line_at queues (waits queue)) moves.front)) (parks queue)) (marked moves.front false) new longer
   joins_parked old new queues queue shorter longer moves within =
       let from = line_at queues (waits queue) in
@@ -54,12 +54,12 @@ module _ {J : Type 0} where
 
 module _ {J : Type 0} {room line_places : ℕ} {old : Slab (Waiting J)} {queues : List Queue} where
   -- what is kept once the head has left
-  IsKept-behind : (queue : ℕ) (front : Waiting J) → IsKept room line_places old queues → get old (line_at queues (waits queue)).head ≡ Some front → queue < length queues → 0 < (line_at queues (waits queue)).count
+  pub IsKept-behind : (queue : ℕ) (front : Waiting J) → IsKept room line_places old queues → get old (line_at queues (waits queue)).head ≡ Some front → queue < length queues → 0 < (line_at queues (waits queue)).count
       → IsKept room line_places (removed old (line_at queues (waits queue)).head) (placed queues (waits queue) (rest_of (line_at queues (waits queue)) front))
   IsKept-behind queue front kept at within some =
       IsKept-left (waits queue) front (rest_of (line_at queues (waits queue)) front) kept (Leaves-removed old (line_at queues (waits queue)) front some at) within
 
-  fits_again : (queue : ℕ) (front : Waiting J) → IsKept room line_places old queues → get old (line_at queues (waits queue)).head ≡ Some front → slab_len (removed old (line_at queues (waits queue)).head) < room
+  pub fits_again : (queue : ℕ) (front : Waiting J) → IsKept room line_places old queues → get old (line_at queues (waits queue)).head ≡ Some front → slab_len (removed old (line_at queues (waits queue)).head) < room
   fits_again queue front kept at = omega (arith, removed-len old (line_at queues (waits queue)).head front at, kept.within_room)
 
 module _ {J : Type 0} {room line_places : ℕ} {old new : Slab (Waiting J)} {queues : List Queue} where

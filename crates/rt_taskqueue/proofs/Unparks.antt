@@ -12,7 +12,7 @@ use Rattle.rt_taskqueue.specs.Queues.{ChangesLine}
 use Rattle.rt_taskqueue.specs.Parks.{ChangesParks, Moves}
 use Rattle.rt_taskqueue.specs.Linked.{Spot, next_of, no_line, no_queue, queue_at, line_at, key_at, chain, shown_parked, IsLinked, IsKept}
 use Rattle.rt_taskqueue.specs.Rests.{IsAtRest, AreAtRest}
-use Rattle.rt_taskqueue.specs.Found.{JoinsLines}
+use Rattle.rt_taskqueue.specs.Lines.{JoinsLines}
 use Rattle.rt_taskqueue.specs.Entries.{Relinks}
 use Rattle.rt_taskqueue.proofs.Chains.{key_at-add}
 use Rattle.rt_taskqueue.proofs.Spots.{waits, parks, other_side, placed, ChangesOne-placed, job_count-placed, shares-placed, mode-placed, length-placed, placed-set}
@@ -109,12 +109,12 @@ module _ {J : Type 0} where
       subst (λ (l : Line). Both old new lines queue l) (sym third.2) (both_linked old new lines queue last.0 behind.0 linked last.1 behind.1 third.3)
 
 -- which lines the queues have once the parked jobs of one have come to its line
-record Lines (queues : List Queue) (queue : ℕ) (both : Line) (after : List Queue) : Type 0 where
-  first : line_at after (waits queue) ≡ both
-  second : line_at after (parks queue) ≡ no_line
-  others : (other : Spot) → (other ≡ waits queue → ⊥) → (other ≡ parks queue → ⊥) → line_at after other ≡ line_at queues other
+pub record Lines (queues : List Queue) (queue : ℕ) (both : Line) (after : List Queue) : Type 0 where
+  pub first : line_at after (waits queue) ≡ both
+  pub second : line_at after (parks queue) ≡ no_line
+  pub others : (other : Spot) → (other ≡ waits queue → ⊥) → (other ≡ parks queue → ⊥) → line_at after other ≡ line_at queues other
 
-lines_of : (queues : List Queue) (queue : ℕ) (both : Line) → queue < length queues → Lines queues queue both (placed (placed queues (waits queue) both) (parks queue) no_line)
+pub lines_of : (queues : List Queue) (queue : ℕ) (both : Line) → queue < length queues → Lines queues queue both (placed (placed queues (waits queue) both) (parks queue) no_line)
 lines_of queues queue both within =
     let one = ChangesOne-placed queues (waits queue) both within in
     let two = ChangesOne-placed (placed queues (waits queue) both) (parks queue) no_line (omega (arith, within, length-placed queues (waits queue) both)) in

@@ -1,10 +1,13 @@
 -- What a wake does: a parked job that was found comes to the line of its queue, and of one that waits the wake is kept.
-use Rattle.std.proofs.Common.{◌≡◌, ℕ, suc, ◌+◌, ◌-◌, ◌<◌, true, List, [], ◌∷◌, ◌++◌, length, map, Some, refl, ap, ◌∙◌, subst, arith}
-use Rattle.std.proofs.lemmas.List.{map-append}
-use Rattle.slab.specs.Slab.{Slab, get}
+use Rattle.std.proofs.Common.{◌≡◌, ◌⊎◌, ℕ, suc, ◌+◌, ◌-◌, ◌<◌, ◌≤◌, Bool, true, false, List, [], ◌∷◌, ◌++◌, length, map, set, inl, inr, Some, refl, sym, ap, ◌∙◌, subst, arith}
+use Rattle.std.specs.Prelude.{is_some}
+use Rattle.std.proofs.lemmas.Bool.{cases_lt}
+use Rattle.std.proofs.lemmas.List.{map-append, get_or_past}
+use Rattle.slab.specs.Slab.{Slab, get, slab_len}
 use Rattle.rt_ids.specs.declared.names.JobId.{JobId}
+use Rattle.rt_taskqueue_index.specs.Buckets.{Names, name_at}
 use Rattle.rt_taskqueue.specs.declared.waiting.Waiting.{Waiting}
-use Rattle.rt_taskqueue.specs.declared.parks.Found.{Found}
+use Rattle.rt_taskqueue.specs.declared.seats.Seat.{Seat}
 use Rattle.rt_taskqueue.specs.declared.line.Line.{Line}
 use Rattle.rt_taskqueue.specs.declared.line.Queue.{Queue}
 use Rattle.rt_taskqueue.specs.View.{QueuesView, waiting_of, held_count, awake}
@@ -12,15 +15,25 @@ use Rattle.rt_taskqueue.specs.View.{Line as Says, Parks as Parked}
 use Rattle.rt_taskqueue.specs.Queues.{ChangesLine}
 use Rattle.rt_taskqueue.specs.Parks.{ChangesParks}
 use Rattle.rt_taskqueue.specs.Waking.{WakesParked, KeepsWake}
-use Rattle.rt_taskqueue.specs.Linked.{line_at, shown, shown_parked, IsKept}
+use Rattle.rt_taskqueue.specs.Linked.{no_queue, queue_at, line_at, key_at, shown, shown_parked, IsKept}
+use Rattle.rt_taskqueue.specs.Entries.{Appends}
 use Rattle.rt_taskqueue.specs.Rests.{IsAtRest, AreAtRest}
-use Rattle.rt_taskqueue.specs.Found.{FindsAt, TakesOut, KeepsWakeOf}
+use Rattle.rt_taskqueue.specs.Lines.{MovesOut, KeepsWakeOf}
+use Rattle.rt_taskqueue.specs.Seats.{seat_at, parked_counts, parked_keys, AreFound, LeavesSeat}
 use Rattle.rt_taskqueue.proofs.Marked.{one_entry}
-use Rattle.rt_taskqueue.proofs.Spots.{waits, parks, placed}
+use Rattle.rt_taskqueue.proofs.Spots.{waits, parks, other_side, placed, ChangesOne-placed, length-placed, placed-set}
 use Rattle.rt_taskqueue.proofs.Changes.{ChangesLine-of, ChangesParks-of}
 use Rattle.rt_taskqueue.proofs.Renewals.{Rewrites, before_place, behind_place, says-at, IsKept-renewed, Writes-renewed}
 use Rattle.rt_taskqueue.proofs.Rests.{false_true, IsAtRest-append, IsAtRest-front, IsAtRest-behind, AreAtRest-writes}
-use Rattle.rt_taskqueue.proofs.Takes.{TookOut, took_out}
+use Rattle.rt_taskqueue.proofs.Joins.{joined, IsKept-joined, Writes-joined, ChangesLine-joined, held_count-joined}
+use Rattle.rt_taskqueue.proofs.Fronts.{removed, marked}
+use Rattle.rt_taskqueue.proofs.Takes.{Found, FindsAt, TakesOut, TookOut, not_first, before_apart, took_out}
+use Rattle.rt_taskqueue.proofs.Outs.{TakesOut-moved, Appends-out}
+use Rattle.rt_taskqueue.proofs.Names.{SameNames-out, SameNames-written, Named-same, entry_of}
+use Rattle.rt_taskqueue.proofs.Seated.{AreSeated-same}
+use Rattle.rt_taskqueue.proofs.Parked.{SameParks-joined, SameParks-renewed}
+use Rattle.rt_taskqueue.proofs.Finds.{AreFound-same, AreSeated-took}
+use Rattle.rt_taskqueue.proofs.Everywhere.{StandsSomewhere, everywhere}
 use Rattle.rt_taskqueue.proofs.Unparks.{Moves-of}
 use Rattle.rt_taskqueue.proofs.Views.{alone, waiting_of-view, parked_of-view, held_count-view}
 
@@ -33,12 +46,19 @@ module _ {J : Type 0} where
   pub Rewrites-wake : (old new : Slab (Waiting J)) (key : ℕ) (keeps : KeepsWakeOf old key new) → Rewrites old key keeps.waiting (record keeps.waiting { woken = true }) new
   Rewrites-wake old new key keeps = record { at = keeps.at; updates = keeps.updates; next = refl; len = keeps.len; capacity = keeps.capacity }
 
+module _ {J : Type 0} {old new : Slab (Waiting J)} {queues : List Queue} where
+  -- and the same name
+  pub AreFound-woken : (names : Names) (seats : List Seat) (key : ℕ) → KeepsWakeOf old key new → AreFound old queues names seats → AreFound new queues names seats
+  AreFound-woken names seats key keeps found =
+      let rewrites = Rewrites-wake old new key keeps in
+      AreFound-same old new queues queues names seats (SameParks-renewed key keeps.waiting (record keeps.waiting { woken = true }) rewrites) (SameNames-written old new key keeps.waiting (record keeps.waiting { woken = true }) keeps.at keeps.updates refl) keeps.capacity found
+
 module _ {J : Type 0} {room line_places : ℕ} {old new : Slab (Waiting J)} {queues : List Queue} where
   -- the jobs that stay parked stay at rest
   pub AreAtRest-taken : (queue : ℕ) (found : Found) (gone : Waiting J) (shorter : Line) (name : JobId) → IsKept room line_places old queues → queue < length queues → FindsAt old (line_at queues (parks queue)) name found
-      → TakesOut old (line_at queues (parks queue)) found gone new shorter → AreAtRest old queues → AreAtRest new (placed queues (parks queue) shorter)
+      → TakesOut old (line_at queues (parks queue)) found.key found.before gone new shorter → AreAtRest old queues → AreAtRest new (placed queues (parks queue) shorter)
   AreAtRest-taken queue found gone shorter name kept within finds takes rests =
-      let took : TookOut room line_places old new queues (parks queue) gone (placed queues (parks queue) shorter) = took_out (parks queue) found gone shorter kept within finds.stands takes in
+      let took : TookOut room line_places old new queues (parks queue) found.index gone (placed queues (parks queue) shorter) = took_out (parks queue) found gone shorter kept within finds.stands takes in
       let all = subst (λ (says : Says J). IsAtRest says) took.was (rests queue) in
       let rest = IsAtRest-behind (shown (Some gone)) took.behind (IsAtRest-behind took.before (shown (Some gone) ++ took.behind) all) in
       AreAtRest-writes old new queues (placed queues (parks queue) shorter) (parks queue) (took.before ++ took.behind) rests took.writes
@@ -46,11 +66,11 @@ module _ {J : Type 0} {room line_places : ℕ} {old new : Slab (Waiting J)} {que
 
   -- a caller sees that the job leaves the parked ones and comes to the tail of its queue
   pub WakesParked-taken : (queue : ℕ) (found : Found) (gone : Waiting J) (shorter : Line) (name : JobId) (after : QueuesView J) → IsKept room line_places old queues → queue < length queues → FindsAt old (line_at queues (parks queue)) name found
-      → TakesOut old (line_at queues (parks queue)) found gone new shorter
+      → TakesOut old (line_at queues (parks queue)) found.key found.before gone new shorter
       → ChangesLine (alone room new (placed queues (parks queue) shorter)) after queue (waiting_of queue (alone room new (placed queues (parks queue) shorter)) ++ awake (gone.name, gone.job) ∷ [])
       → held_count after ≡ held_count (alone room new (placed queues (parks queue) shorter)) + 1 → WakesParked (alone room old queues) after name queue
   WakesParked-taken queue found gone shorter name after kept within finds takes joins one_more =
-      let took : TookOut room line_places old new queues (parks queue) gone (placed queues (parks queue) shorter) = took_out (parks queue) found gone shorter kept within finds.stands takes in
+      let took : TookOut room line_places old new queues (parks queue) found.index gone (placed queues (parks queue) shorter) = took_out (parks queue) found gone shorter kept within finds.stands takes in
       let between = alone room new (placed queues (parks queue) shorter) in
       let before = map shown_parked took.before in
       let behind = map shown_parked took.behind in
@@ -99,3 +119,115 @@ module _ {J : Type 0} {room line_places : ℕ} {old new : Slab (Waiting J)} {que
             ∙ ap (λ n. before ++ (n, record { started = was.started; woken = was.woken }, was.job) ∷ behind) named;
         line = subst (λ (n : JobId). ChangesLine (alone room old queues) (alone room new queues) queue (before ++ (n, record { started = was.started; woken = true }, was.job) ∷ behind)) named changes;
       }
+
+-- what a parked job that was woken comes to
+pub record WokenFrom {J : Type 0} (room line_places : ℕ) (old new : Slab (Waiting J)) (queues : List Queue) (names : Names) (told : List Seat) (name : JobId) (queue : ℕ) (after : List Queue) : Type 0 where
+  pub kept : IsKept room line_places new after
+  pub rests : AreAtRest new after
+  pub found : AreFound new after names told
+  pub wakes : WakesParked (alone room old queues) (alone room new after) name queue
+
+module _ {J : Type 0} {room line_places : ℕ} {old new : Slab (Waiting J)} {queues : List Queue} where
+  -- a parked job that was found goes to the tail of its queue
+  pub woken_from : (names : Names) (seats told : List Seat) (queue : ℕ) (at : Found) (name : JobId) (next : ℕ) (shorter longer : Line) → IsKept room line_places old queues → queue < length queues → FindsAt old (line_at queues (parks queue)) name at
+      → MovesOut old (line_at queues (parks queue)) at.key at.before (line_at queues (waits queue)) new next shorter longer → LeavesSeat seats (line_at queues (parks queue)) at.key next told → AreAtRest old queues → AreFound old queues names seats
+      → WokenFrom room line_places old new queues names told name queue (set queues queue (record (queue_at queues queue) { waiting = longer; parked = shorter }))
+  woken_from names seats told queue at name next shorter longer kept within finds moves leaves rests found =
+      let from = line_at queues (parks queue) in
+      let to = line_at queues (waits queue) in
+      let apart : (from.head ≡ at.key → ⊥) → at.before ≡ at.key → ⊥ = λ not_head. before_apart (parks queue) at kept finds.stands (not_first from at finds.stands not_head) in
+      let middle = removed moves.between at.key in
+      let gone = moves.gone in
+      let last = marked gone false in
+      let left = placed queues (parks queue) shorter in
+      let takes = TakesOut-moved old new from to at.key at.before next shorter longer moves apart in
+      let took = took_out (parks queue) at gone shorter kept within finds.stands takes in
+      let beside = (ChangesOne-placed queues (parks queue) shorter within).others (waits queue) (other_side queue queue) in
+      let joins = subst (λ (l : Line). Appends middle l last new longer) (sym beside) (Appends-out old new from to at.key at.before next shorter longer moves apart) in
+      let short : queue < length left = omega (arith, within, length-placed queues (parks queue) shorter) in
+      let fits : slab_len middle < room = omega (arith, took.len, kept.within_room) in
+      let count : suc shorter.count ≡ from.count = omega (arith, moves.skips.count, finds.stands.within) in
+      let join = joined middle new (line_at left) (waits queue) last longer took.kept.linked joins in
+      let same = SameParks-joined queue last longer took.kept joins short in
+      let seated = AreSeated-took names seats queue at gone shorter next told kept within finds.stands moves.starts.at moves.next_is count took leaves found in
+      let after = placed left (waits queue) longer in
+      subst (λ (queues_then : List Queue). WokenFrom room line_places old new queues names told name queue queues_then) (placed-set queues queue (record (queue_at queues queue) { parked = shorter }) false longer within)
+      (record {
+        kept = IsKept-joined (waits queue) last longer took.kept joins short fits;
+        rests = AreAtRest-writes middle new left after (waits queue) _ (AreAtRest-taken queue at gone shorter name kept within finds takes rests) (Writes-joined (waits queue) last longer took.kept joins short) (λ is. absurd (false_true is));
+        found = record {
+          named = Named-same old new names (SameNames-out old new from to at.key at.before next shorter longer moves) found.named;
+          seated = AreSeated-same (parked_counts left) (parked_counts after) (parked_keys middle left) (parked_keys new after) told same.counts same.keys seated;
+          names_size = found.names_size ∙ sym took.capacity ∙ sym join.capacity;
+          seats_size = leaves.size ∙ found.seats_size ∙ sym took.capacity ∙ sym join.capacity;
+        };
+        wakes = WakesParked-taken queue at gone shorter name (alone room new after) kept within finds takes (ChangesLine-joined queue last longer took.kept joins short fits) (held_count-joined (waits queue) last longer took.kept joins short fits);
+      })
+
+module _ {J : Type 0} {room line_places : ℕ} {old : Slab (Waiting J)} {queues : List Queue} where
+  -- where a parked job of this name stands
+  pub finds_parked : (names : Names) (seats : List Seat) (name : JobId) (key : ℕ) → IsKept room line_places old queues → AreFound old queues names seats → name_at names key ≡ Some name → (seat_at seats key).parked ≡ true
+      → (index : ℕ) × ((seat_at seats key).queue < length queues) × FindsAt old (line_at queues (parks (seat_at seats key).queue)) name (record { key = key; index = index; before = (seat_at seats key).before })
+  finds_parked names seats name key kept found is parked =
+      let queue = (seat_at seats key).queue in
+      let place = found.seated.only key parked in
+      let entry = entry_of old names name key found.named is in (
+        place.0,
+        by_size (cases_lt queue (length queues)) place.1,
+        record {
+          stands = record {
+            within = place.1;
+            at = sym place.2;
+            before = λ earlier at.
+                let next : place.0 ≡ suc earlier = omega (arith, at) in
+                ap (λ k. (seat_at seats k).before) (sym place.2 ∙ ap (parked_keys old queues queue) next) ∙ found.seated.behind queue earlier (omega (arith, place.1, next));
+          };
+          waiting = entry.0;
+          there = entry.1;
+          named = entry.2;
+        },
+      )
+    where
+      by_size : ((seat_at seats key).queue < length queues) ⊎ (length queues ≤ (seat_at seats key).queue) → {place : ℕ} → place < (line_at queues (parks (seat_at seats key).queue)).count → (seat_at seats key).queue < length queues
+      by_size (inl within) {place} some = within
+      by_size (inr past) {place} some = let none : (line_at queues (parks (seat_at seats key).queue)).count ≡ 0 = ap (λ (q : Queue). q.parked.count) (get_or_past queues (seat_at seats key).queue no_queue past) in absurd (omega (arith, some, none))
+
+  -- where a job of this name stands that isn't parked
+  pub finds_waiting : (names : Names) (seats : List Seat) (name : JobId) (key : ℕ) → IsKept room line_places old queues → AreFound old queues names seats → name_at names key ≡ Some name → (seat_at seats key).parked ≡ false
+      → (queue : ℕ) × (index : ℕ) × (before : ℕ) × FindsAt old (line_at queues (waits queue)) name (record { key = key; index = index; before = before })
+  finds_waiting names seats name key kept found is asleep =
+      let entry = entry_of old names name key found.named is in
+      by_spot entry.0 entry.1 entry.2 (everywhere old queues kept.linked kept.counted key (ap is_some entry.1))
+    where
+      by_side : (waiting : Waiting J) → get old key ≡ Some waiting → waiting.name ≡ name → (queue place : ℕ) (is_parked : Bool) → place < (line_at queues (record { queue = queue; is_parked = is_parked })).count
+          → key_at (get old) (line_at queues (record { queue = queue; is_parked = is_parked })).head place ≡ key → (queue : ℕ) × (index : ℕ) × (before : ℕ) × FindsAt old (line_at queues (waits queue)) name (record { key = key; index = index; before = before })
+      by_side waiting there named queue place true within at =
+          let seat = found.seated.stands queue place within in
+          absurd (false_true (sym asleep ∙ ap (λ k. (seat_at seats k).parked) (sym at) ∙ seat.0))
+      by_side waiting there named queue place false within at = (
+        queue,
+        place,
+        key_at (get old) (line_at queues (waits queue)).head (place - 1),
+        record {
+          stands = record {
+            within = within;
+            at = sym at;
+            before = λ earlier last. let same : place - 1 ≡ earlier = omega (arith, last) in ap (key_at (get old) (line_at queues (waits queue)).head) same;
+          };
+          waiting = waiting;
+          there = there;
+          named = named;
+        },
+      )
+
+      by_spot : (waiting : Waiting J) → get old key ≡ Some waiting → waiting.name ≡ name → StandsSomewhere old queues key → (queue : ℕ) × (index : ℕ) × (before : ℕ) × FindsAt old (line_at queues (waits queue)) name (record { key = key; index = index; before = before })
+      by_spot waiting there named stands = by_side waiting there named stands.spot.queue stands.place stands.spot.is_parked stands.within stands.at
+
+  -- the same of what its seat told
+  pub finds_seat : (names : Names) (seats : List Seat) (name : JobId) (key queue before : ℕ) → IsKept room line_places old queues → AreFound old queues names seats → name_at names key ≡ Some name
+      → ((seat_at seats key).parked ≡ true) × ((seat_at seats key).queue ≡ queue) × ((seat_at seats key).before ≡ before)
+      → (index : ℕ) × (queue < length queues) × FindsAt old (line_at queues (parks queue)) name (record { key = key; index = index; before = before })
+  finds_seat names seats name key queue before kept found is told =
+      subst (λ b. (index : ℕ) × (queue < length queues) × FindsAt old (line_at queues (parks queue)) name (record { key = key; index = index; before = b })) told.2
+      (subst (λ q. (index : ℕ) × (q < length queues) × FindsAt old (line_at queues (parks q)) name (record { key = key; index = index; before = (seat_at seats key).before })) told.1
+      (finds_parked names seats name key kept found is told.0))

@@ -5,6 +5,7 @@ pub mod Slips
 pub mod Linked
 pub mod Rests
 pub mod Entries
-pub mod Found
+pub mod Lines
+pub mod Seats
 pub mod Fronts
 pub mod Waking

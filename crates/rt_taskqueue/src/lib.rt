@@ -10,6 +10,8 @@ mod meter;
 pub mod parks;
 mod queues;
 #[doc(hidden)]
+pub mod seats;
+#[doc(hidden)]
 pub mod slips;
 #[doc(hidden)]
 pub mod waiting;

@@ -6,11 +6,13 @@ ghost use Rattle.rt_ids.specs.Limits.{most_queues};
 
 use crate::closing::closes;
 use crate::line::{Line, Queue};
+use crate::seats::{Seat, open_seats};
 use crate::slips::Slips;
 use crate::waiting::{Waiting, append};
 use rt_fixed::{SealedSlab, SealedVec};
 use rt_ids::{JobId, MOST_QUEUES, Mode, QueueNo};
 use rt_shares::Shares;
+use rt_taskqueue_index::Index;
 use rt_timeline::Slip;
 use slab::Slab;
 use std::alloc::{AllocError, Allocator};
@@ -43,7 +45,14 @@ pub struct Queues<J, A: Allocator> {
     lines: SealedVec<Queue, A>,
     slips: Slips<A>,
     room: usize,
+    // From a name to the key of its job.
+    names: Index<A>,
+    // For each key where its job is parked, if it is.
+    seats: SealedVec<Seat, A>,
 }
+
+// The index takes fewer keys than this.
+const MOST_PLACES: usize = 1 << 31;
 
 impl<J, A: Allocator> Model for Queues<J, A> {
     ghost use Rattle.rt_taskqueue.specs.Slips.{SlippedView};
@@ -53,13 +62,15 @@ impl<J, A: Allocator> Model for Queues<J, A> {
     ghost use Rattle.std.specs.Prelude.{length};
     ghost use Rattle.rt_taskqueue.specs.Linked.{linked_view, IsKept, HasOwnSlips};
     ghost use Rattle.rt_taskqueue.specs.Rests.{AreAtRest};
+    ghost use Rattle.rt_taskqueue.specs.Seats.{AreFound};
 
     ghost view = { λ q. linked_view q.room q.jobs q.lines.items q.slips.at.items };
 
     ghost invariant = { λ q.
         IsKept q.room q.lines.cap q.jobs q.lines.items
         × HasOwnSlips (length q.lines.items) q.slips.at.cap q.slips.at.items
-        × AreAtRest q.jobs q.lines.items };
+        × AreAtRest q.jobs q.lines.items
+        × AreFound q.jobs q.lines.items q.names q.seats.items };
 }
 
 impl<J: Drop, A: Allocator + Clone> Queues<J, A> {
@@ -70,6 +81,12 @@ impl<J: Drop, A: Allocator + Clone> Queues<J, A> {
         let mut lines = Vec::with_capacity(alloc.clone()?, MOST_QUEUES)?;
         lines.push_reserved(Queue::empty(Shares::default()));
         let jobs = Slab::with_capacity(alloc.clone()?, room)?;
+        let places = jobs.capacity();
+        if places >= MOST_PLACES {
+            return Err(AllocError);
+        }
+        let names = Index::open(alloc.clone()?, places)?;
+        let seats = open_seats(alloc.clone()?, places)?;
         let mut slips = Slips::open(alloc, MOST_QUEUES)?;
         slips.add(QueueNo(0))?;
         Ok(Queues {
@@ -77,6 +94,8 @@ impl<J: Drop, A: Allocator + Clone> Queues<J, A> {
             lines: SealedVec::sealed(lines),
             slips,
             room,
+            names,
+            seats,
         })
     }
 
@@ -148,6 +167,7 @@ impl<J: Drop, A: Allocator + Clone> Queues<J, A> {
             return None;
         }
         let front = self.jobs.remove(line.head);
+        self.names.remove(line.head);
         self.lines[place].waiting = Line {
             head: front.next,
             tail: line.tail,
@@ -276,6 +296,8 @@ impl<J: Drop, A: Allocator + Clone> Queues<J, A> {
             started,
             woken,
         };
-        self.lines[place].waiting = append(&mut self.jobs, line, last);
+        let longer = append(&mut self.jobs, line, last);
+        self.names.insert(&name, longer.tail);
+        self.lines[place].waiting = longer;
     }
 }

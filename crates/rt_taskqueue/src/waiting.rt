@@ -46,7 +46,8 @@ pub fn append<J, A: Allocator>(
     requires room { HasRoomFor jobs.old 1 }
     requires tail { 0 < line.count → ContainsKey jobs.old line.tail }
     requires short { line.count + 1 < 2 ^ 64 }
-    ensures { Appends jobs.old line last jobs.new result }
+    ensures appends { Appends jobs.old line last jobs.new result }
+    ensures within { result.tail < jobs.new.capacity }
 {
     let key = jobs.insert_reserved(last);
     let mut longer = line;

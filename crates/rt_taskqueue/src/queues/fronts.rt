@@ -6,6 +6,7 @@ ghost use Rattle.rt_taskqueue.specs.Fronts.{HasFront, IsFrontReady, MakesCalls, 
 use super::Queues;
 use crate::line::Queue;
 use crate::meter::Meter;
+use crate::seats::Seat;
 use crate::waiting::{move_head, poll_at, requeue};
 use rt_ids::{JobId, QueueNo};
 use rt_jobs::{Job, Post, Step};
@@ -63,6 +64,11 @@ impl<J: Drop, A: Allocator + Clone> Queues<J, A> {
             parked: longer,
             shares: was.shares,
             mode: was.mode,
+        };
+        self.seats[was.waiting.head] = Seat {
+            before: was.parked.tail,
+            queue,
+            parked: true,
         };
     }
 }

@@ -6,7 +6,8 @@ ghost use Rattle.rt_taskqueue.specs.Waking.{Wakes};
 
 use super::Queues;
 use crate::line::{Line, Queue};
-use crate::parks::{Seat, join_lines, keep_wake, look_up, take_out};
+use crate::parks::{join_lines, keep_wake, move_out};
+use crate::seats::{Seat, Stands, leave, read_seat, vacate};
 use crate::waiting::{Waiting, append};
 use rt_ids::{JobId, QueueNo};
 use std::alloc::Allocator;
@@ -41,7 +42,14 @@ impl<J: Drop, A: Allocator + Clone> Queues<J, A> {
             started: true,
             woken: false,
         };
-        self.lines[place].parked = append(&mut self.jobs, line, last);
+        let longer = append(&mut self.jobs, line, last);
+        self.names.insert(&name, longer.tail);
+        self.lines[place].parked = longer;
+        self.seats[longer.tail] = Seat {
+            before: line.tail,
+            queue,
+            parked: true,
+        };
     }
 
     /// All parked jobs of this queue join the tail of its line, in the order in which they were parked.
@@ -53,6 +61,7 @@ impl<J: Drop, A: Allocator + Clone> Queues<J, A> {
     {
         let place = queue.0 as usize;
         let was = self.lines[place];
+        vacate(&self.jobs, &mut self.seats, was.parked);
         self.lines[place] = Queue {
             waiting: join_lines(&mut self.jobs, was.waiting, was.parked),
             parked: Line::EMPTY,
@@ -67,20 +76,33 @@ impl<J: Drop, A: Allocator + Clone> Queues<J, A> {
         ensures slips { self.new.slips ≡ self.old.slips }
         ensures limits { IsWithinLimits self.new }
     {
-        match look_up(&self.jobs, &self.lines, &name) {
-            Seat::Parked(queue, found) => {
+        let Some(key) = self.names.find(&name) else {
+            return Woke::Absent;
+        };
+        match read_seat(&self.seats, key) {
+            Stands::Parked(queue, before) => {
                 let place = queue.0 as usize;
-                let parked = self.lines[place].parked;
-                let (gone, shorter) = take_out(&mut self.jobs, parked, found);
-                self.lines[place].parked = shorter;
-                self.join(queue, gone.name, true, false, gone.job);
+                let was = self.lines[place];
+                let (next, left, longer) = move_out(
+                    &mut self.jobs,
+                    was.parked,
+                    key,
+                    before,
+                    was.waiting,
+                );
+                leave(&mut self.seats, was.parked, key, next);
+                self.lines[place] = Queue {
+                    waiting: longer,
+                    parked: left,
+                    shares: was.shares,
+                    mode: was.mode,
+                };
                 Woke::Moved(queue)
             }
-            Seat::Waits(_, found) => {
-                keep_wake(&mut self.jobs, found.key);
+            Stands::Waits => {
+                keep_wake(&mut self.jobs, key);
                 Woke::Kept
             }
-            Seat::Nowhere => Woke::Absent,
         }
     }
 }

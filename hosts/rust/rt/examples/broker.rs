@@ -1,6 +1,6 @@
 //! A broker of messages: topics with groups, at least once. A message that a consumer took and doesn't acknowledge comes again when its lease is over.
 //!
-//!     broker [--port 7071] [--cores 2] [--lease MILLISECONDS]
+//!     broker [--port 7071] [--cores 2] [--lease MILLISECONDS] [--dir FOLDER]
 //!
 //! A client sends lines, and each is answered by one line:
 //!
@@ -12,17 +12,20 @@
 //! | `ACK topic group number` | `OK`, or `GONE` if the lease was over |
 //! | `LEFT topic group` | `OK waiting held` |
 //!
-//! A topic belongs to one core. It keeps nothing on a disk. At SIGTERM it accepts no more clients, and those that are connected have
-//! as long as a lease to acknowledge what they hold.
+//! A topic belongs to one core. At SIGTERM there are no more clients and messages, and those that are connected have as long as a lease to
+//! acknowledge what they hold. Then what nobody acknowledged goes to the folder, and is there at the next start. Until then nothing is on a disk.
 
+use fairexec_rt::fs::unblock;
 use fairexec_rt::net::{TcpListener, TcpStream};
-use fairexec_rt::{sleep, spawn_local, stopping, submit, CallError, Executor, Here, Queue};
-use futures_lite::{future, io::BufReader, AsyncBufReadExt, AsyncReadExt, AsyncWriteExt};
+use fairexec_rt::{sleep, spawn_local, stop, submit, CallError, Executor, Here, Queue};
+use futures_lite::{io::BufReader, AsyncBufReadExt, AsyncReadExt, AsyncWriteExt};
 use std::cell::RefCell;
 use std::collections::{BTreeMap, HashMap, VecDeque};
 use std::future::poll_fn;
-use std::io;
+use std::io::{self, Write};
+use std::path::PathBuf;
 use std::rc::Rc;
+use std::sync::atomic::{AtomicBool, AtomicU32, Ordering::SeqCst};
 use std::task::{Poll, Waker};
 use std::time::{Duration, Instant};
 
@@ -53,6 +56,11 @@ struct Topic {
     groups: HashMap<String, Group>,
 }
 
+/// Whether the broker stops: no message comes in, and none goes out.
+static STOPS: AtomicBool = AtomicBool::new(false);
+/// Cores that have kept what they have.
+static KEPT: AtomicU32 = AtomicU32::new(0);
+
 thread_local!(static TOPICS: RefCell<HashMap<String, Topic>> = RefCell::default());
 
 fn topic<R>(name: &str, call: impl FnOnce(&mut Topic) -> R) -> R {
@@ -65,6 +73,10 @@ fn topic<R>(name: &str, call: impl FnOnce(&mut Topic) -> R) -> R {
 }
 
 fn publish(name: &str, text: &str) -> String {
+    // What comes behind this look isn't kept.
+    if STOPS.load(SeqCst) {
+        return "ERR the broker stops".to_owned();
+    }
     topic(name, |it| {
         it.last += 1;
         if !it.groups.is_empty() {
@@ -82,7 +94,7 @@ fn publish(name: &str, text: &str) -> String {
 async fn take(name: String, group: String, lease: Duration) -> String {
     let (number, text) = poll_fn(|cx| {
         topic(&name, |it| {
-            let Some(group) = it.groups.get_mut(&group) else { return Poll::Ready((0, "".into())) };
+            let Some(group) = it.groups.get_mut(&group).filter(|_| !STOPS.load(SeqCst)) else { return Poll::Ready((0, "".into())) };
             match group.waiting.pop_front() {
                 Some(number) => {
                     group.held.insert(number, Instant::now() + lease);
@@ -97,7 +109,7 @@ async fn take(name: String, group: String, lease: Duration) -> String {
     })
     .await;
     if number == 0 {
-        return "ERR no such group".to_owned();
+        return "ERR there is no such group, or the broker stops".to_owned();
     }
     spawn_local(MESSAGES, async move {
         sleep(lease).await;
@@ -182,40 +194,96 @@ async fn serve(here: Here, stream: TcpStream, lease: Duration) -> io::Result<()>
     }
 }
 
-async fn begin(here: Here, port: u16, lease: Duration) {
-    let listener = TcpListener::reuse_port(("127.0.0.1", port)).unwrap_or_else(|error| panic!("port {port}: {error}"));
-    let accepts = async {
-        loop {
-            match listener.accept().await {
-                Ok((stream, _)) => drop(spawn_local(MESSAGES, serve(here.clone(), stream, lease))),
-                Err(_) => sleep(Duration::from_millis(20)).await,
+/// What this core has, as lines that `read` knows.
+fn written() -> String {
+    TOPICS.with_borrow(|topics| {
+        let mut text = String::new();
+        for (name, topic) in topics {
+            text += &format!("TOPIC {name} {}\n", topic.last);
+            topic.texts.iter().for_each(|(number, (it, _))| text += &format!("TEXT {name} {number} {it}\n"));
+            for (group, it) in &topic.groups {
+                text += &format!("JOIN {name} {group}\n");
+                let left = it.held.keys().chain(&it.waiting);
+                left.for_each(|number| text += &format!("WAITS {name} {number} {group}\n"));
             }
         }
-    };
-    future::or(accepts, stopping()).await;
+        text
+    })
+}
+
+fn read(text: &str) {
+    for line in text.lines() {
+        let words: Vec<&str> = line.splitn(4, ' ').collect();
+        let [kind, name, rest @ ..] = words.as_slice() else { continue };
+        topic(name, |it| match (*kind, rest) {
+            ("TOPIC", [last]) => it.last = last.parse().unwrap_or(0),
+            ("TEXT", [number, text]) => drop(it.texts.insert(number.parse().unwrap_or(0), ((*text).into(), 0))),
+            ("JOIN", [group]) => _ = it.groups.entry((*group).to_owned()).or_default(),
+            ("WAITS", [number, group]) => {
+                let number = number.parse().unwrap_or(0);
+                it.groups.entry((*group).to_owned()).or_default().waiting.push_back(number);
+                it.texts.entry(number).and_modify(|(_, left)| *left += 1);
+            }
+            _ => {}
+        });
+    }
+}
+
+/// Puts what this core has to a file, which is whole or not there.
+async fn keep(path: PathBuf) -> io::Result<()> {
+    let text = written();
+    unblock(move || {
+        let new = path.with_extension("new");
+        let mut file = std::fs::File::create(&new)?;
+        file.write_all(text.as_bytes())?;
+        file.sync_all()?;
+        std::fs::rename(new, path)
+    })
+    .await
+}
+
+async fn begin(here: Here, port: u16, lease: Duration, folder: Option<PathBuf>) {
+    let path = folder.map(|it| it.join(format!("topics-{}-of-{}", here.core(), here.cores())));
+    if let Some(path) = path.clone().filter(|it| it.exists()) {
+        read(&std::fs::read_to_string(&path).unwrap_or_else(|error| panic!("{}: {error}", path.display())));
+    }
+    let listener = TcpListener::reuse_port(("127.0.0.1", port)).unwrap_or_else(|error| panic!("port {port}: {error}"));
+    while let Some(stream) = listener.accept_until_stop().await {
+        drop(spawn_local(MESSAGES, serve(here.clone(), stream, lease)));
+    }
+    STOPS.store(true, SeqCst);
     while holds_some() {
         sleep(Duration::from_millis(5)).await;
+    }
+    if let Some(path) = path {
+        keep(path.clone()).await.unwrap_or_else(|error| eprintln!("broker: {}: {error}", path.display()));
+    }
+    // Nobody holds a message, so no client has a reason to stay.
+    if KEPT.fetch_add(1, SeqCst) + 1 == here.cores() {
+        stop(Duration::ZERO);
     }
 }
 
 fn main() {
     let mut words = std::env::args().skip(1);
-    let (mut port, mut cores, mut lease) = (7071, 2, 5000);
+    let (mut port, mut cores, mut lease, mut folder) = (7071, 2, 5000, None);
     while let (Some(word), value) = (words.next(), words.next()) {
-        let value = value.and_then(|it| it.parse::<u32>().ok());
-        match (word.as_str(), value) {
-            ("--port", Some(it)) => port = it as u16,
-            ("--cores", Some(it)) => cores = it,
-            ("--lease", Some(it)) => lease = it,
+        let number = value.as_ref().and_then(|it| it.parse::<u32>().ok());
+        match (word.as_str(), number, value) {
+            ("--port", Some(it), _) => port = it as u16,
+            ("--cores", Some(it), _) => cores = it,
+            ("--lease", Some(it), _) => lease = it,
+            ("--dir", _, Some(it)) => folder = Some(PathBuf::from(it)),
             _ => {
-                eprintln!("broker: [--port N] [--cores N] [--lease MILLISECONDS]");
+                eprintln!("broker: [--port N] [--cores N] [--lease MILLISECONDS] [--dir FOLDER]");
                 std::process::exit(2);
             }
         }
     }
     let lease = Duration::from_millis(lease.into());
-    let ran = Executor::builder().cores(cores).queue("messages", 1000).stop_on_signals(lease).run(|here| begin(here, port, lease));
-    if let Err(error) = ran {
+    // A lease that is taken just before the stop is over before the grace is.
+    let server = Executor::builder().cores(cores).queue("messages", 1000).stop_on_signals(2 * lease + Duration::from_secs(5));
+    if let Err(error) = server.run(|here| begin(here, port, lease, folder.clone())) {
         eprintln!("broker: {error}");
         std::process::exit(1);
     }

@@ -1,19 +1,19 @@
 //! How an executor is made, runs and ends.
 
 use crate::drive::Driver;
-use crate::journal::{judge, keep, pass_on_rest, Journal, Passed};
+use crate::journal::{judge, Journal, Notes, Taker};
 use crate::local::{on_core, Job, Local};
 use crate::reactor::Reactor;
 use crate::report::{CoreStats, Report};
 use crate::shared::{lock, Handle, Port, Queue, QueueSetup, Shared};
+use crate::signal::Stops;
 use crate::stop::Ending;
 use crate::{task, Error};
 use fairexec::linked::{Answer, Config, Core, House, Outcome, Outside, Ticket};
 use fairexec::Mode;
-use polling::Poller;
 use std::future::Future;
 use std::panic::resume_unwind;
-use std::sync::{Arc, Mutex};
+use std::sync::Arc;
 use std::time::Duration;
 
 /// An executor. It is made by [`Executor::builder`], and lives as long as [`Builder::run`] goes on.
@@ -58,7 +58,8 @@ type Tells = Box<dyn Fn(SlowPoll) + Send + Sync>;
 pub(crate) struct Setup {
     pub(crate) reactor_every: Duration,
     pub(crate) slow_poll: Option<(Duration, Tells)>,
-    pub(crate) passed: Vec<Passed>,
+    /// By the actor.
+    pub(crate) takers: Vec<Option<Taker>>,
     round: Duration,
     journal: Journal,
     pin: Pin,
@@ -80,7 +81,7 @@ impl Default for Builder {
         let setup = Setup {
             reactor_every: Duration::from_micros(50),
             slow_poll: None,
-            passed: Vec::new(),
+            takers: Vec::new(),
             round: Duration::from_micros(10),
             journal: Journal::default(),
             pin: Pin::No,
@@ -122,7 +123,7 @@ impl Builder {
         self
     }
 
-    /// What becomes of the journals. At first they are passed on and dropped.
+    /// What becomes of the journals. At first they go nowhere.
     pub fn journal(mut self, journal: Journal) -> Builder {
         self.setup.journal = journal;
         self
@@ -190,24 +191,25 @@ impl Builder {
         self.check()?;
         let notes = self.notes.unwrap_or(if journal == Journal::Keep { 1 << 20 } else { 4 * self.places.max(64) });
         let (house, mut cores, mut outside) = House::open(&Config { cores: self.cores, places: self.places, burst: self.burst, notes })?;
-        let pollers = (0..self.cores).map(|_| Poller::new().map(Arc::new)).collect::<Result<Vec<_>, _>>()?;
-        for (core, poller) in cores.iter_mut().zip(&pollers) {
-            let poller = Arc::clone(poller);
-            // A ring that fails has no end of the wait, and nobody else to tell. An eventfd fails if the process has closed it.
-            core.set_bell(move || poller.notify().expect("an eventfd takes a ring"));
-        }
-        self.setup.passed = (0..=self.cores).map(|_| Passed::default()).collect();
+        self.setup.takers = (0..=self.cores).map(|it| Taker::new(&journal, it)).collect::<Result<_, _>>()?;
+        outside.keep(&self.setup.takers[self.cores as usize]);
         let ports = cores.iter().map(|it| Port::new(it.ringer(), CoreStats { core: it.number(), ..CoreStats::default() })).collect();
-        let (ending, parts) = (Ending::new(self.cores), Mutex::default());
-        let shared = Arc::new(Shared { ports, queues: std::mem::take(&mut self.queues), places: self.places, ending, parts });
-        keep(&journal, self.cores, &mut outside, &shared, &self.setup.passed[self.cores as usize])?;
-        let (setup, signals) = (&self.setup, self.signals);
+        let (queues, ending) = (std::mem::take(&mut self.queues), Ending::new(self.cores));
+        let shared = Arc::new(Shared { ports, queues, places: self.places, ending });
+        // Before a core runs, since it may call the others at once.
+        for core in &mut cores {
+            core.keep(&self.setup.takers[core.number() as usize]);
+            make_queues(core, &shared.queues)?;
+        }
+        let mut stops = self.signals.map(Stops::new).transpose()?;
+        let setup = &self.setup;
         let cores = std::thread::scope(|scope| {
-            let threads = cores.into_iter().zip(pollers).map(|(core, poller)| {
-                let (shared, begin) = (Arc::clone(&shared), &begin);
+            let threads = cores.into_iter().map(|core| {
+                // The first core watches for signals.
+                let (shared, begin, stops) = (Arc::clone(&shared), &begin, stops.take());
                 let name = format!("core {}", core.number());
                 let fails = Arc::clone(&shared);
-                let thread = std::thread::Builder::new().name(name).spawn_scoped(scope, move || serve(core, poller, shared, setup, signals, begin));
+                let thread = std::thread::Builder::new().name(name).spawn_scoped(scope, move || serve(core, shared, setup, stops, begin));
                 thread.inspect_err(|_| fails.ending.fail())
             });
             let threads: Vec<_> = threads.collect();
@@ -223,13 +225,11 @@ impl Builder {
     }
 
     fn end(&self, house: House<Job>, cores: Vec<Core<Job>>, mut outside: Outside<Job>, shared: &Shared, journal: &Journal) -> Result<Report, Error> {
-        pass_on_rest(journal, self.cores, &mut outside)?;
+        outside.hand_on(&self.setup.takers[self.cores as usize], &mut Vec::new())?;
         let journals = house.end(cores, outside).map_err(|(error, ..)| error)?;
         let (audit, text) = judge(journal, journals)?;
-        if let Some(error) = lock(&shared.parts).take() {
-            return Err(error.into());
-        }
-        Ok(Report { cores: shared.ports.iter().map(|it| lock(&it.stats).clone()).collect(), audit, journal: text })
+        let newest = self.setup.takers.iter().flatten().map(Taker::end).collect::<Result<Vec<_>, _>>()?.into_iter().flatten().collect();
+        Ok(Report { cores: shared.ports.iter().map(|it| lock(&it.stats).clone()).collect(), audit, journal: text, newest })
     }
 
     /// What the library would refuse later, and with fewer words.
@@ -294,15 +294,14 @@ fn order(core: &mut Core<Job>, make: impl FnOnce(&mut Core<Job>) -> Result<Ticke
     }
 }
 
+fn make_queues(core: &mut Core<Job>, queues: &[QueueSetup]) -> Result<(), Error> {
+    let number = core.number();
+    order(core, |it| it.set_shares(number, 0, queues[0].shares))?;
+    queues[1..].iter().try_for_each(|queue| order(core, |it| it.create(number, queue.shares)))
+}
+
 /// The thread of a core. One that fails ends the others.
-fn serve<F, Fut>(
-    mut core: Core<Job>,
-    poller: Arc<Poller>,
-    shared: Arc<Shared>,
-    setup: &Setup,
-    signals: Option<Duration>,
-    begin: &F,
-) -> Result<Core<Job>, Error>
+fn serve<F, Fut>(mut core: Core<Job>, shared: Arc<Shared>, setup: &Setup, stops: Option<Stops>, begin: &F) -> Result<Core<Job>, Error>
 where
     F: Fn(Here) -> Fut,
     Fut: Future<Output = ()> + 'static,
@@ -318,13 +317,11 @@ where
     let mut failing = Failing(Some(Arc::clone(&shared)));
     let number = core.number();
     pin(&setup.pin, number)?;
+    let (reactor, bell) = Reactor::new()?;
+    // A ring that fails has no end of the wait, and nobody else to tell. An eventfd fails if the process has closed it.
+    core.set_bell(move || bell.wake().expect("an eventfd takes a ring"));
     core.set_round_time(setup.round.as_nanos() as u64);
-    keep(&setup.journal, number, &mut core, &shared, &setup.passed[number as usize])?;
-    order(&mut core, |it| it.set_shares(number, 0, shared.queues[0].shares))?;
-    for queue in &shared.queues[1..] {
-        order(&mut core, |it| it.create(number, queue.shares))?;
-    }
-    on_core(Local::new(number, Arc::clone(&shared), Reactor::new(poller)), |local| {
+    on_core(Local::new(number, Arc::clone(&shared), reactor), |local| {
         let mut driver = Driver::new(local, &mut core, setup);
         let here = Here { core: number, shared: Arc::clone(&shared) };
         let (root, ends) = (begin(here), Rooted(Arc::clone(&shared)));
@@ -333,12 +330,12 @@ where
             root.await;
         })
         .detach();
-        if let (0, Some(grace)) = (number, signals) {
-            crate::signal::stop_on_signals(grace)?;
+        if let Some(stops) = stops {
+            stops.watch()?;
         }
         driver.run()
     })?;
-    pass_on_rest(&setup.journal, number, &mut core)?;
+    core.hand_on(&setup.takers[number as usize], &mut Vec::new())?;
     failing.0 = None;
     Ok(core)
 }

@@ -173,6 +173,17 @@ impl<M> std::error::Error for Full<M> {}
 /// # Panics
 ///
 /// Outside a task, and if there is no such core or queue. Other threads have [`Handle::submit`](crate::Handle::submit).
+///
+/// ```
+/// use fairexec_rt::{submit, Executor, Queue};
+/// use std::rc::Rc;
+///
+/// Executor::builder().cores(2).run(|here| async move {
+///     let call = submit((here.core() + 1) % 2, Queue::FIRST, || async { *Rc::new(42) });
+///     assert_eq!(call.await, Ok(42));
+/// })?;
+/// # Ok::<(), fairexec_rt::Error>(())
+/// ```
 pub fn submit<F, T>(core: u32, queue: Queue, make: impl FnOnce() -> F + Send + 'static) -> Call<T>
 where
     F: Future<Output = T> + 'static,
@@ -195,6 +206,20 @@ where
 /// # Panics
 ///
 /// As `submit`.
+///
+/// ```
+/// use fairexec_rt::{try_submit, Executor, Queue};
+///
+/// Executor::builder().cores(2).places(2).run(|here| async move {
+///     let other = (here.core() + 1) % 2;
+///     let calls: Vec<_> = (0..2).map(|it| try_submit(other, Queue::FIRST, move || async move { it }).unwrap()).collect();
+///     assert!(try_submit(other, Queue::FIRST, || async { 2 }).is_err());
+///     for (it, call) in calls.into_iter().enumerate() {
+///         assert_eq!(call.await, Ok(it));
+///     }
+/// })?;
+/// # Ok::<(), fairexec_rt::Error>(())
+/// ```
 pub fn try_submit<F, T, M>(core: u32, queue: Queue, make: M) -> Result<Call<T>, Full<M>>
 where
     F: Future<Output = T> + 'static,

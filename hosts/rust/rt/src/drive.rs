@@ -1,6 +1,7 @@
 //! The loop of a core: what was woken goes into its queues, the library tells what runs, and a core that has nothing to do sleeps.
 
 use crate::builder::Setup;
+use crate::journal::{Notes, Taker};
 use crate::local::{Job, Local, Sending};
 use crate::report::{CoreStats, QueueStats};
 use crate::shared::lock;
@@ -8,11 +9,23 @@ use crate::Error;
 use fairexec::linked::{Answer, Core, Cx, Outcome, Step, Ticket};
 use fairexec::wall_clock;
 use std::collections::VecDeque;
-use std::sync::atomic::Ordering;
 use std::time::Duration;
 
 /// The statistics for other threads are made after so many nanoseconds.
 const SHOWN_EVERY: u64 = 20_000_000;
+
+/// Behind so many runs a journal that isn't kept is handed on: that takes some 50 µs, in which nothing else goes on.
+const HANDED_EVERY: u32 = 32;
+
+/// How long a core sleeps if the library allows so much. Under `--cfg long_sleep`, by which `tests/rt` compiles, it is longer than any test waits,
+/// so that a ring that is lost shows. The library rings for no answer of an order, which a core finds as it looks again.
+fn longest_sleep(local: &Local, allowed: Duration) -> Duration {
+    let awaits_order = || local.sent.iter().any(|it| !it.borrow().shares.is_empty());
+    if cfg!(long_sleep) && !allowed.is_zero() && !awaits_order() {
+        return Duration::from_secs(3600);
+    }
+    allowed
+}
 
 /// The core's submissions to itself: each is a run of a task. Their numbers follow each other.
 struct Own {
@@ -76,6 +89,8 @@ pub(crate) struct Driver<'a> {
     core: &'a mut Core<Job>,
     setup: &'a Setup,
     own: Own,
+    // Room for the text of notes.
+    text: Vec<u8>,
 }
 
 /// One run of a job.
@@ -93,9 +108,7 @@ fn run(local: &Local, job: &mut Job, cx: &mut Cx<'_, Job>, ended: &mut Vec<u64>,
         }
         Job::Call(start) => {
             // Before the caller can see that it ended.
-            if local.is_quiet.replace(false) {
-                local.shared.ending.set_quiet(local.number, false);
-            }
+            local.tell_busy();
             if let Some(start) = start.take() {
                 start.start(cx.queue());
             }
@@ -120,12 +133,12 @@ fn tell_slow(local: &Local, queue: u32, setup: &Setup) {
 impl<'a> Driver<'a> {
     pub(crate) fn new(local: &'a Local, core: &'a mut Core<Job>, setup: &'a Setup) -> Driver<'a> {
         let own = Own::new(local.ready.len(), local.shared.places);
-        Driver { local, core, setup, own }
+        Driver { local, core, setup, own, text: Vec::new() }
     }
 
     /// Runs tasks until the executor closes.
     pub(crate) fn run(&mut self) -> Result<(), Error> {
-        let (mut polled, mut shown, mut has_told) = (0, 0, false);
+        let (mut polled, mut shown, mut is_shown, mut has_told) = (0, 0, false, false);
         let reactor_every = self.setup.reactor_every.as_nanos() as u64;
         while !self.local.shared.ending.is_closing() {
             if !has_told && self.local.shared.ending.is_stopping() {
@@ -135,20 +148,22 @@ impl<'a> Driver<'a> {
             let did = self.step()?;
             let now = wall_clock();
             if now - shown >= SHOWN_EVERY {
-                shown = now;
+                (shown, is_shown) = (now, !did);
                 self.show();
             }
+            is_shown &= !did;
             if did && now - polled < reactor_every {
                 continue;
             }
             if did {
-                self.local.reactor.wait(Duration::ZERO)?;
+                self.local.reactor.wait(Duration::ZERO, Duration::MAX)?;
             } else {
                 self.tell_quiet(has_told);
-                self.sleep(now)?;
+                // What it did since it told its statistics is told once it is time.
+                self.sleep(now, has_told, if is_shown { Duration::MAX } else { Duration::from_nanos(shown + SHOWN_EVERY - now) })?;
             }
             polled = wall_clock();
-            self.local.reactor.wake()?;
+            self.local.reactor.wake();
         }
         self.close()
     }
@@ -164,6 +179,10 @@ impl<'a> Driver<'a> {
         did |= self.core.round(|job, cx| run(local, job, cx, ended, setup))?;
         self.redeem_own()?;
         did |= self.redeem_sent()?;
+        if local.runs.get() >= HANDED_EVERY {
+            local.runs.set(0);
+            self.core.hand_on(&setup.takers[local.number as usize], &mut self.text)?;
+        }
         Ok(did)
     }
 
@@ -171,13 +190,12 @@ impl<'a> Driver<'a> {
     ///
     /// Behind a round that did nothing the core has no task that could run, since each that became ready was submitted before that round, and no
     /// room for what is to be sent. So what may come is mail, a link that shows something, and the end.
-    fn sleep(&mut self, now: u64) -> Result<(), Error> {
+    fn sleep(&mut self, now: u64, has_told: bool, longest: Duration) -> Result<(), Error> {
         let local = self.local;
         let (port, ending) = (&local.shared.ports[local.number as usize], &local.shared.ending);
-        let next = local.timers.next_after(now).unwrap_or(Duration::MAX);
-        let was_stopping = ending.is_stopping();
-        let looks = || port.has_mail() || ending.is_closing() || ending.is_stopping() != was_stopping;
-        self.core.wait_by(looks, |longest| local.reactor.wait(longest.min(next)))?;
+        let next = local.timers.next_after(now).unwrap_or(Duration::MAX).min(longest);
+        let looks = || port.has_mail() || ending.is_closing() || ending.is_stopping() != has_told;
+        self.core.wait_by(looks, |longest| local.reactor.wait(longest_sleep(local, longest), next))?;
         Ok(())
     }
 
@@ -328,7 +346,8 @@ impl<'a> Driver<'a> {
                 break;
             }
             if !did {
-                self.core.wait_by(|| false, |longest| local.reactor.wait(longest))?;
+                let port = &local.shared.ports[local.number as usize];
+                self.core.wait_by(|| port.has_mail(), |longest| local.reactor.wait(longest_sleep(local, longest), Duration::MAX))?;
             }
         }
         self.show();
@@ -353,7 +372,7 @@ impl<'a> Driver<'a> {
         });
         let queues = queues.collect();
         let turns = self.core.stats().turns;
-        let journal_bytes = self.setup.passed[local.number as usize].load(Ordering::Relaxed);
+        let journal_bytes = self.setup.takers[local.number as usize].as_ref().map_or(0, Taker::bytes);
         *lock(&port.stats) = CoreStats { core: local.number, turns, tasks, queues, journal_bytes };
     }
 }

@@ -2,20 +2,49 @@
 //! reactor, and `from_std` puts it into that of another core.
 
 use crate::reactor::{Registered, Side};
+use crate::{sleep, stopping, Sleep, Stopping};
 use futures_io::{AsyncRead, AsyncWrite};
+use futures_lite::future;
 use socket2::{Domain, Protocol, SockAddr, Socket, Type};
-use std::future::poll_fn;
+use std::cell::RefCell;
+use std::future::{poll_fn, Future};
 use std::io::{self, IoSlice, Read, Write};
 use std::net::{Shutdown, SocketAddr, ToSocketAddrs};
 use std::os::unix::net as unix;
 use std::path::Path;
 use std::pin::Pin;
 use std::task::{Context, Poll};
+use std::time::{Duration, Instant};
 
 /// Connections that wait to be accepted.
 const BACKLOG: i32 = 1024;
 
 /// A socket that accepts TCP connections.
+///
+/// ```
+/// use fairexec_rt::net::{TcpListener, TcpStream};
+/// use fairexec_rt::{spawn_local, stop, Executor, Queue};
+/// use futures_lite::{io, AsyncReadExt, AsyncWriteExt};
+/// use std::time::Duration;
+///
+/// Executor::builder().run(|_| async {
+///     let listener = TcpListener::bind("127.0.0.1:0").unwrap();
+///     let address = listener.local_addr().unwrap();
+///     let accepts = spawn_local(Queue::FIRST, async move {
+///         while let Some(stream) = listener.accept_until_stop().await {
+///             spawn_local(Queue::FIRST, async move { io::copy(&stream, &mut &stream).await });
+///         }
+///     });
+///     let (mut client, mut text) = (TcpStream::connect(address).await.unwrap(), String::new());
+///     client.write_all(b"echo").await.unwrap();
+///     client.close().await.unwrap();
+///     client.read_to_string(&mut text).await.unwrap();
+///     assert_eq!(text, "echo");
+///     stop(Duration::from_secs(1));
+///     accepts.await.unwrap();
+/// })?;
+/// # Ok::<(), fairexec_rt::Error>(())
+/// ```
 pub struct TcpListener(Registered<std::net::TcpListener>);
 
 impl TcpListener {
@@ -60,6 +89,24 @@ impl TcpListener {
         Ok((stream, address))
     }
 
+    /// The next connection, or none once the executor [stops](crate::stop()). If the system has none to give, as when the process has no file left,
+    /// it is asked again a little later.
+    pub async fn accept_until_stop(&self) -> Option<TcpStream> {
+        let accepted = async {
+            loop {
+                match self.accept().await {
+                    Ok((stream, _)) => return Some(stream),
+                    Err(_) => sleep(Duration::from_millis(20)).await,
+                }
+            }
+        };
+        let stops = async {
+            stopping().await;
+            None
+        };
+        future::or(stops, accepted).await
+    }
+
     /// Where it listens.
     ///
     /// # Errors
@@ -82,10 +129,7 @@ fn listen_at(address: SocketAddr, is_shared: bool) -> io::Result<Socket> {
 /// A socket whose connection is being made ends with what became of it.
 async fn connected<T: std::os::fd::AsRawFd>(socket: &Registered<T>, error: impl Fn(&T) -> io::Result<Option<io::Error>>) -> io::Result<()> {
     let mut has_waited = false;
-    poll_fn(|cx| {
-        socket.poll_with(cx, Side::Write, |_| if std::mem::replace(&mut has_waited, true) { Ok(()) } else { Err(io::ErrorKind::WouldBlock.into()) })
-    })
-    .await?;
+    poll_fn(|cx| socket.poll_writable(cx, &mut has_waited)).await?;
     match error(socket.get())? {
         Some(error) => Err(error),
         None => Ok(()),
@@ -227,6 +271,65 @@ impl TcpStream {
     /// As the system answers.
     pub fn peer_addr(&self) -> io::Result<SocketAddr> {
         self.0.get().peer_addr()
+    }
+}
+
+thread_local!(static ROOM: RefCell<Vec<u8>> = RefCell::new(vec![0; 1 << 16]));
+
+/// The reads of a server's connection. They end when nothing came for a time, and once the executor stops.
+pub struct Reads {
+    stop: Stopping,
+    // When something came last, and what ends the wait.
+    idle: Option<(Duration, Instant, Sleep)>,
+}
+
+impl Reads {
+    /// Reads that end when nothing came for so long, if that is given.
+    pub fn new(idle: Option<Duration>) -> Reads {
+        Reads { stop: stopping(), idle: idle.map(|it| (it, Instant::now(), sleep(it))) }
+    }
+
+    /// Puts what comes next behind these bytes. False at the end of the connection, of the time or of the executor.
+    ///
+    /// # Errors
+    ///
+    /// As the system answers.
+    pub async fn read<S>(&mut self, stream: &S, bytes: &mut Vec<u8>) -> io::Result<bool>
+    where
+        for<'a> &'a S: AsyncRead,
+    {
+        poll_fn(|cx| {
+            let mut stream = stream;
+            let count = ROOM.with_borrow_mut(|room| {
+                let count = Pin::new(&mut stream).poll_read(cx, room);
+                if let Poll::Ready(Ok(count)) = count {
+                    bytes.extend_from_slice(&room[..count]);
+                }
+                count
+            });
+            match count {
+                Poll::Ready(told) => {
+                    self.idle.iter_mut().for_each(|it| it.1 = Instant::now());
+                    Poll::Ready(told.map(|count| count > 0))
+                }
+                Poll::Pending if Pin::new(&mut self.stop).poll(cx).is_ready() || self.is_over(cx) => Poll::Ready(Ok(false)),
+                Poll::Pending => Poll::Pending,
+            }
+        })
+        .await
+    }
+
+    /// Whether nothing came for so long. A timer that is due because something came meanwhile is set anew, so a read sets none.
+    fn is_over(&mut self, cx: &mut Context<'_>) -> bool {
+        let Some((longest, last, sleep)) = &mut self.idle else { return false };
+        while Pin::new(&mut *sleep).poll(cx).is_ready() {
+            let left = longest.saturating_sub(last.elapsed());
+            if left.is_zero() {
+                return true;
+            }
+            sleep.reset(left);
+        }
+        false
     }
 }
 

@@ -42,6 +42,9 @@ pub struct Report {
     pub audit: Option<Verdict>,
     /// The text of the journals, if they were kept.
     pub journal: Option<String>,
+    /// The newest notes of each core, and behind them those of the outside actor, if these were asked for
+    /// ([`Journal::Last`](crate::Journal::Last)).
+    pub newest: Vec<String>,
 }
 
 impl Report {

@@ -5,7 +5,6 @@ use crate::report::CoreStats;
 use crate::stop::Ending;
 use crate::task::Turn;
 use fairexec::linked::Ringer;
-use std::io;
 use std::sync::atomic::{AtomicBool, Ordering};
 use std::sync::{Arc, Mutex, MutexGuard, PoisonError};
 use std::time::Duration;
@@ -96,8 +95,6 @@ pub(crate) struct Shared {
     /// Submissions that may be outstanding on a link.
     pub(crate) places: u32,
     pub(crate) ending: Ending,
-    /// Why a part of a journal couldn't be written, if one couldn't.
-    pub(crate) parts: Mutex<Option<io::Error>>,
 }
 
 impl Shared {

@@ -12,8 +12,9 @@ use std::time::Duration;
 ///
 /// The first one that asks takes the place of what the signal did before, such as to end the process, and it stays so when this is dropped.
 pub struct Signals {
+    // It is dropped before the pipe that it writes to.
+    _caught: Caught,
     pipe: UnixStream,
-    id: signal_hook::SigId,
 }
 
 /// The signals of this number, as `libc::SIGHUP`.
@@ -26,13 +27,31 @@ pub struct Signals {
 ///
 /// Outside a task, and for SIGKILL, SIGSTOP, SIGILL, SIGFPE and SIGSEGV.
 pub fn signals(number: i32) -> io::Result<Signals> {
+    Signals::of(caught(number)?)
+}
+
+/// A signal that is caught as long as this stands.
+struct Caught(signal_hook::SigId);
+
+impl Drop for Caught {
+    fn drop(&mut self) {
+        signal_hook::low_level::unregister(self.0);
+    }
+}
+
+/// Catches a signal, on any thread. Each is told by this end of a pipe.
+fn caught(number: i32) -> io::Result<(Caught, net::UnixStream)> {
     let (pipe, end) = net::UnixStream::pair()?;
     end.set_nonblocking(true)?;
     let id = signal_hook::low_level::pipe::register(number, end)?;
-    Ok(Signals { pipe: UnixStream::from_std(pipe)?, id })
+    Ok((Caught(id), pipe))
 }
 
 impl Signals {
+    fn of((caught, pipe): (Caught, net::UnixStream)) -> io::Result<Signals> {
+        Ok(Signals { _caught: caught, pipe: UnixStream::from_std(pipe)? })
+    }
+
     /// The next signal. Several that come at once may be one.
     ///
     /// # Errors
@@ -47,26 +66,33 @@ impl Signals {
     }
 }
 
-impl Drop for Signals {
-    fn drop(&mut self) {
-        signal_hook::low_level::unregister(self.id);
-    }
+/// SIGTERM and SIGINT, caught before a core runs: then none of them ends the process while the executor starts.
+pub(crate) struct Stops {
+    caught: [(Caught, net::UnixStream); 2],
+    grace: Duration,
 }
 
-/// Stops the executor at the first SIGTERM or SIGINT.
-pub(crate) fn stop_on_signals(grace: Duration) -> io::Result<()> {
-    let (mut terminated, mut interrupted) = (signals(SIGTERM)?, signals(SIGINT)?);
-    spawn_local(Queue::FIRST, async move {
-        let told = future::or(terminated.next(), interrupted.next());
-        if future::or(async { told.await.is_ok() }, async {
-            stopping().await;
-            false
+impl Stops {
+    pub(crate) fn new(grace: Duration) -> io::Result<Stops> {
+        Ok(Stops { caught: [caught(SIGTERM)?, caught(SIGINT)?], grace })
+    }
+
+    /// Stops the executor of this core at the first one.
+    pub(crate) fn watch(self) -> io::Result<()> {
+        let [terminated, interrupted] = self.caught.map(Signals::of);
+        let (mut terminated, mut interrupted) = (terminated?, interrupted?);
+        spawn_local(Queue::FIRST, async move {
+            let told = future::or(terminated.next(), interrupted.next());
+            if future::or(async { told.await.is_ok() }, async {
+                stopping().await;
+                false
+            })
+            .await
+            {
+                stop(self.grace);
+            }
         })
-        .await
-        {
-            stop(grace);
-        }
-    })
-    .detach();
-    Ok(())
+        .detach();
+        Ok(())
+    }
 }

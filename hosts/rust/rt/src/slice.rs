@@ -35,6 +35,20 @@ pub fn ran_for() -> Duration {
 /// # Panics
 ///
 /// Outside a task.
+///
+/// ```
+/// use fairexec_rt::{ran_for, yield_if_needed, Executor};
+/// use std::time::Duration;
+///
+/// Executor::builder().queue("background", 100).slice(Duration::from_micros(5)).run(|_| async {
+///     for _ in 0..1000 {
+///         // A part of what it computes.
+///         yield_if_needed().await;
+///     }
+///     println!("this run took {:?} so far", ran_for());
+/// })?;
+/// # Ok::<(), fairexec_rt::Error>(())
+/// ```
 pub async fn yield_if_needed() {
     let is_over = here(|it| wall_clock().saturating_sub(it.began.get()) >= it.slice.get());
     if is_over {

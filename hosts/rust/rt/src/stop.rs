@@ -98,6 +98,23 @@ impl Ending {
 /// # Panics
 ///
 /// Outside a task. Other threads have [`Handle::stop`](crate::Handle::stop).
+///
+/// ```
+/// use fairexec_rt::{sleep, spawn_local, stop, stopping, Executor, Queue};
+/// use std::time::Duration;
+///
+/// Executor::builder().cores(2).run(|here| async move {
+///     spawn_local(Queue::FIRST, async {
+///         stopping().await;
+///         // It has a second to tidy up.
+///         sleep(Duration::from_millis(1)).await;
+///     });
+///     if here.core() == 0 {
+///         stop(Duration::from_secs(1));
+///     }
+/// })?;
+/// # Ok::<(), fairexec_rt::Error>(())
+/// ```
 pub fn stop(grace: Duration) {
     here(|it| {
         it.shared.ending.stop(grace);
@@ -154,6 +171,16 @@ impl Drop for Stopping {
 /// # Panics
 ///
 /// Outside a task, and if there is no such core or queue or the shares are out of their range.
+///
+/// ```
+/// use fairexec_rt::{set_shares, stats, Executor, Queue};
+///
+/// Executor::builder().cores(2).queue("requests", 1000).queue("background", 100).run(|here| async move {
+///     set_shares(here.core(), Queue::new(1), 300).await.unwrap();
+///     assert_eq!(stats().len(), 2);
+/// })?;
+/// # Ok::<(), fairexec_rt::Error>(())
+/// ```
 pub fn set_shares(core: u32, queue: Queue, shares: u32) -> Call<()> {
     assert!((1..=10_000).contains(&shares), "shares are 1 to 10000, and not {shares}");
     here(|it| {

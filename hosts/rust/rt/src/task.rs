@@ -164,6 +164,21 @@ fn make<T: 'static>(local: &Local, queue: u32, future: impl Future<Output = T> +
 /// # Panics
 ///
 /// Outside a task, and if there is no such queue.
+///
+/// ```
+/// use fairexec_rt::{spawn_local, yield_now, Executor, Queue};
+///
+/// Executor::builder().run(|_| async {
+///     let ends = spawn_local(Queue::FIRST, async { 6 * 7 });
+///     let panics = spawn_local(Queue::FIRST, async { panic!("it ends alone") });
+///     let waits = spawn_local(Queue::FIRST, std::future::pending::<()>());
+///     assert_eq!(ends.await.unwrap(), 42);
+///     assert!(panics.await.unwrap_err().is_panic());
+///     waits.abort();
+///     yield_now().await;
+/// })?;
+/// # Ok::<(), fairexec_rt::Error>(())
+/// ```
 pub fn spawn_local<T: 'static>(queue: Queue, future: impl Future<Output = T> + 'static) -> JoinHandle<T> {
     here(|it| {
         it.check(it.number, queue);

@@ -134,6 +134,17 @@ impl From<Elapsed> for std::io::Error {
 /// # Errors
 ///
 /// `Elapsed`.
+///
+/// ```
+/// use fairexec_rt::{timeout, Elapsed, Executor};
+/// use std::time::Duration;
+///
+/// Executor::builder().run(|_| async {
+///     assert_eq!(timeout(Duration::from_secs(9), async { 42 }).await, Ok(42));
+///     assert_eq!(timeout(Duration::from_millis(1), std::future::pending::<()>()).await, Err(Elapsed));
+/// })?;
+/// # Ok::<(), fairexec_rt::Error>(())
+/// ```
 pub async fn timeout<F: Future>(time: Duration, future: F) -> Result<F::Output, Elapsed> {
     let mut sleep = sleep(time);
     let mut future = pin!(future);
@@ -156,6 +167,20 @@ pub struct Interval {
 /// # Panics
 ///
 /// If the time is 0.
+///
+/// ```
+/// use fairexec_rt::{interval, Executor};
+/// use std::time::{Duration, Instant};
+///
+/// Executor::builder().run(|_| async {
+///     let (began, mut ticks) = (Instant::now(), interval(Duration::from_millis(2)));
+///     for _ in 0..3 {
+///         ticks.tick().await;
+///     }
+///     assert!(began.elapsed() >= Duration::from_millis(5));
+/// })?;
+/// # Ok::<(), fairexec_rt::Error>(())
+/// ```
 pub fn interval(every: Duration) -> Interval {
     assert!(!every.is_zero(), "an interval has a length");
     Interval { every: u64::try_from(every.as_nanos()).unwrap_or(u64::MAX), sleep: sleep(every) }

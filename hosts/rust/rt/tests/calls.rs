@@ -126,7 +126,9 @@ fn a_stop_leaves_tasks_their_grace() {
         })
         .unwrap();
     assert_eq!(ended.load(Ordering::SeqCst), 2);
-    assert!(began.elapsed() >= Duration::from_millis(300) && began.elapsed() < Duration::from_secs(3));
+    // Far less than the hour, also where much else runs.
+    let took = began.elapsed();
+    assert!((Duration::from_millis(300)..Duration::from_secs(60)).contains(&took), "{took:?}");
     assert!(report.is_sound());
 }
 

@@ -197,3 +197,39 @@ fn a_journal_that_is_kept_and_full_ends_the_run() {
     });
     assert_eq!(told.unwrap_err().to_string(), format!("the library: {}", fairexec::Error::JournalFull));
 }
+
+#[test]
+fn the_newest_notes_are_told() {
+    let run = |journal| {
+        let report = Executor::builder().cores(2).places(8).journal(journal).run(|_| async {
+            for _ in 0..500 {
+                yield_now().await;
+            }
+        });
+        report.unwrap()
+    };
+    assert!(run(Journal::Off).newest.is_empty());
+    let newest = run(Journal::Last(100)).newest;
+    assert_eq!(newest.iter().map(|it| it.lines().count()).collect::<Vec<_>>()[..2], [100, 100]);
+    let all = run(Journal::Last(usize::MAX)).newest;
+    assert_eq!(all.len(), 3);
+    assert!(all[0].lines().count() > 1500 && all[0].lines().all(|it| it.starts_with("0 ")), "{}", all[0]);
+}
+
+#[test]
+fn parts_have_every_note() {
+    let folder = std::env::temp_dir().join(format!("fairexec-rt-parts-{}", std::process::id()));
+    let report = Executor::builder().cores(2).journal(Journal::Parts(folder.clone())).run(|_| async {
+        for _ in 0..500 {
+            yield_now().await;
+        }
+    });
+    let report = report.unwrap();
+    for part in 0..2 {
+        let text = std::fs::read_to_string(folder.join(format!("part{part}"))).unwrap();
+        assert!(text.ends_with('\n') && text.lines().count() > 1500);
+        assert!(report.cores[part].journal_bytes <= text.len() as u64);
+    }
+    assert_eq!(std::fs::read_to_string(folder.join("rest")).unwrap().lines().count(), 3);
+    std::fs::remove_dir_all(folder).unwrap();
+}

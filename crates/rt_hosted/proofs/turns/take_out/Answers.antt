@@ -1,7 +1,7 @@
 use Rattle.std.proofs.Common.{inl, inr, refl}
 use Rattle.std.specs.Prelude.{Ok}
 use Rattle.rt_core.specs.declared.turn.Turn.TheVariants.{Start, Resume}
-use Rattle.rt_runtime_worker.proofs.Along.{stays_along}
+use Rattle.actor_seat.proofs.Along.{stays_along}
 use Rattle.rt_hosted.proofs.turns.take_out.Goals as goal
 
 -- the open turn goes on

@@ -1,7 +1,7 @@
 use Rattle.std.proofs.Common.{◌≡◌, [], ◌∙◌, subst, arith}
 use Rattle.std.specs.Vec.Iter.{into_iter_items, into_iter_len}
 use Rattle.rt_runtime_team.proofs.Lists.{IsMade, made_all, made_first, made_more}
-use Rattle.rt_runtime_worker.specs.Opening.{AreEndsOf, IsOpenedOver}
+use Rattle.actor_seat.specs.Opening.{AreEndsOf, IsOpenedOver}
 use Rattle.rt_hosted_house.proofs.Opened.{holds_next}
 use Rattle.rt_hosted_house.proofs.house.open_cores.Goals as goal
 

@@ -1,7 +1,7 @@
 use Rattle.std.proofs.Common.{◌≤◌, length, vec_capacity}
 use Rattle.std.specs.Vec.Iter.{into_iter_items, into_iter_len}
 use Rattle.rt_runtime_team.proofs.Lists.{IsMade}
-use Rattle.rt_runtime_worker.specs.Opening.{IsOpenedOver}
+use Rattle.actor_seat.specs.Opening.{IsOpenedOver}
 use Rattle.rt_hosted_house.proofs.house.open_cores.Given as goal
 
 abbrev pub invariant-loop-ends : goal.invariant-loop-ends

@@ -1,5 +1,6 @@
 use Rattle.rt_runtime_worker.proofs.Ending.{ended_together, ended_drained}
-use Rattle.rt_runtime_worker.specs.Together.{desk_among, all_ends, worker_at}
+use Rattle.rt_runtime_worker.specs.Together.{desk_among, all_ends}
+use Rattle.actor_seat.specs.Together.{worker_at}
 use Rattle.rt_ring_mesh.specs.Ends.{out_at, in_at}
 use Rattle.rt_ring_mesh.specs.Grid.{ends_at}
 use Rattle.rt_runtime_worker.proofs.laws.ended_are_joined.Goals as goal

@@ -1,7 +1,7 @@
 use Rattle.std.proofs.Common.{◌+◌, ◌∙◌, ◌≤◌, sym, ap, subst, arith, length}
 use Rattle.rt_ids.specs.Commands.{IsOpening}
 use Rattle.rt_runtime_config.specs.Configs.{queues_of}
-use Rattle.rt_runtime_worker.specs.Opening.{CreatesSince}
+use Rattle.actor_seat.specs.Opening.{CreatesSince}
 use Rattle.rt_runtime_worker.specs.Queues.{behind_entries}
 use Rattle.rt_runtime_worker.proofs.opening.open_core.Goals as goal
 

@@ -1,7 +1,8 @@
 use Rattle.std.proofs.Common.{◌∙◌, sym, subst, ap}
 use Rattle.rt_runtime_worker.specs.Queues.{creations}
 use Rattle.rt_runtime_worker.specs.Rooms.{ActsByCommand}
-use Rattle.rt_runtime_worker.proofs.Opened.{opened_linked, opened_between, opened_acts}
+use Rattle.actor_seat.proofs.Opened.{opened_linked}
+use Rattle.rt_runtime_worker.proofs.Opened.{opened_between, opened_acts}
 use Rattle.rt_runtime_worker.proofs.opening.serve_core.Goals as goal
 
 pub of-requires-clause-linked : goal.of-requires-clause-linked
@@ -10,12 +11,12 @@ of-requires-clause-linked g c =
 
 pub of-requires-clause-between : goal.of-requires-clause-between
 of-requires-clause-between g c =
-    opened_between _ _ _ _ _ _ c.in_ok-recorded.recorded c.args.ends c.in_ok-recorded.ensures.since c.requires.ends (ap (λ ends. ends.number) (sym c.ends.view_is) ∙ sym c.number.view_is)
+    opened_between _ _ _ _ _ _ c.in_ok-recorded.recorded c.in_ok-recorded.ensures.since
 
 pub of-requires-2-clause-acts : goal.of-requires-2-clause-acts
 of-requires-2-clause-acts g c =
     subst (λ linked. ActsByCommand linked.recorded.journal.notes) (sym c.of.ensures)
-    (opened_acts _ _ _ _ _ _ c.in_ok-recorded.recorded c.args.ends c.in_ok-recorded.ensures.since c.requires.ends (ap (λ ends. ends.number) (sym c.ends.view_is) ∙ sym c.number.view_is))
+    (opened_acts _ _ _ _ _ _ c.in_ok-recorded.recorded c.in_ok-recorded.ensures.since)
 
 pub returns-clause-queues : goal.returns-clause-queues
 returns-clause-queues g c =

@@ -1,16 +1,16 @@
 //! The log of one core. Each record tells what one key has from then on. Its form: the bytes and the sum of what follows, each in 4 bytes; when the
 //! key is gone in 8 (all ones: the key was deleted, or all keys if it is empty); the length of the key in 4; key and value.
 
-use crate::shard::{now, Entry, Shard};
+use crate::shard::{now, Answer, Entry, Shard};
 use crate::{shard, COMPACTION};
 use fairexec_rt::fs::{unblock, File};
-use fairexec_rt::{sleep, spawn_local, timeout, yield_if_needed};
+use fairexec_rt::{sleep, spawn_local, timeout, yield_if_needed, JoinHandle};
 use futures_lite::future;
 use std::future::poll_fn;
-use std::io;
 use std::path::{Path, PathBuf};
 use std::task::{Poll, Waker};
 use std::time::{Duration, Instant};
+use std::{fs, io};
 
 #[derive(Clone, Copy, PartialEq)]
 pub enum Fsync {
@@ -32,9 +32,8 @@ const SPARE: u64 = 4 << 20;
 pub struct Log {
     fsync: Fsync,
     path: PathBuf,
-    // Records that aren't written yet.
+    // Records that aren't written yet, and those since a compaction began.
     pending: Vec<u8>,
-    // The same since a compaction began.
     copy: Option<Vec<u8>>,
     // Bytes that were appended since the start, and those of them that are as safe as `fsync` says.
     appended: u64,
@@ -59,74 +58,95 @@ fn record(out: &mut Vec<u8>, expires: u64, key: &[u8], value: &[u8]) {
 }
 
 impl Log {
-    pub fn position(&self) -> u64 {
-        if self.fsync == Fsync::Always {
-            self.appended
-        } else {
-            0
-        }
-    }
-
     pub fn append(&mut self, key: &[u8], entry: Option<&Entry>) {
         let from = self.pending.len();
-        match entry {
-            Some(entry) => record(&mut self.pending, entry.expires, key, &entry.value),
-            None => record(&mut self.pending, GONE, key, b""),
-        }
+        let (expires, value) = entry.map_or((GONE, [].as_slice()), |it| (it.expires, it.value.as_slice()));
+        record(&mut self.pending, expires, key, value);
         self.appended += (self.pending.len() - from) as u64;
         if let Some(copy) = &mut self.copy {
             copy.extend_from_slice(&self.pending[from..]);
         }
-        if let Some(writer) = self.writer.take() {
-            writer.wake();
-        }
+        self.writer.take().into_iter().for_each(Waker::wake);
+    }
+
+    /// Everything that was appended until then is as safe as it has to be, in so many bytes.
+    fn tell_safe(&mut self, appended: u64, length: u64) {
+        (self.safe, self.length) = (appended, length);
+        self.waiting.drain(..).for_each(Waker::wake);
     }
 }
 
-/// Reads a shard from its log. What is behind the last whole record is cut off.
-pub async fn open(folder: &Path, core: u32, cores: u32, fsync: Fsync) -> io::Result<Shard> {
+/// What an operation answers, and up to where the log has to be safe before that is told.
+pub fn applied(shard: &mut Shard, does: impl FnOnce(&mut Shard) -> Answer) -> (Answer, u64) {
+    let appended = |shard: &Shard| shard.log.as_ref().filter(|it| it.fsync == Fsync::Always).map_or(0, |it| it.appended);
+    let before = appended(shard);
+    let answer = does(shard);
+    let behind = appended(shard);
+    (answer, if behind > before { behind } else { 0 })
+}
+
+fn log<R>(call: impl FnOnce(&mut Log) -> R) -> Option<R> {
+    shard(|it| it.log.as_mut().map(call))
+}
+
+/// Waits until the log is safe up to a position.
+pub async fn synced(position: u64) {
+    if position == 0 {
+        return;
+    }
+    poll_fn(|cx| {
+        let is_safe = log(|it| {
+            it.safe >= position || {
+                it.waiting.push(cx.waker().clone());
+                false
+            }
+        });
+        if is_safe.unwrap_or(true) {
+            Poll::Ready(())
+        } else {
+            Poll::Pending
+        }
+    })
+    .await;
+}
+
+async fn open_to_write(path: &Path) -> io::Result<File> {
+    let mut options = fs::OpenOptions::new();
+    options.write(true).create(true).truncate(false);
+    File::open_with(options, path).await
+}
+
+/// Reads a shard from its log. What is behind the last whole record is cut off. Without a folder there is no log.
+pub async fn open(folder: Option<String>, core: u32, cores: u32, fsync: Fsync) -> io::Result<Shard> {
+    let (mut shard, mut at) = (Shard::default(), 0);
+    let Some(folder) = folder.map(PathBuf::from) else { return Ok(shard) };
     let path = folder.join(format!("shard-{core}-of-{cores}"));
-    let (from, folder) = (path.clone(), folder.to_owned());
-    let read = unblock(move || {
-        std::fs::create_dir_all(&folder)?;
+    let from = path.clone();
+    let bytes = unblock(move || {
+        fs::create_dir_all(&folder)?;
         let is_other = |name: &str| name.starts_with("shard-") && !name.ends_with(&format!("-of-{cores}")) && !name.ends_with(".new");
-        if let Some(other) = std::fs::read_dir(&folder)?.flatten().find(|it| it.file_name().to_str().is_some_and(is_other)) {
+        if let Some(other) = fs::read_dir(&folder)?.flatten().find(|it| it.file_name().to_str().is_some_and(is_other)) {
             return Err(io::Error::other(format!("{} is of another number of cores", other.path().display())));
         }
-        match std::fs::read(from) {
-            Err(error) if error.kind() == io::ErrorKind::NotFound => Ok(Vec::new()),
-            told => told,
+        if from.exists() {
+            fs::read(from)
+        } else {
+            Ok(Vec::new())
         }
     });
-    let bytes = read.await?;
-    let (mut shard, mut at) = (Shard::default(), 0);
+    let bytes = bytes.await?;
     while let Some(next) = replay(&mut shard, &bytes[at..]) {
         at += next;
         yield_if_needed().await;
     }
-    let mut options = std::fs::OpenOptions::new();
-    options.write(true).create(true).truncate(false);
-    let file = File::open_with(options, &path).await?;
+    let (file, length) = (open_to_write(&path).await?, at as u64);
     if at < bytes.len() {
         eprintln!("kv: core {core}: a torn tail of {} bytes is cut off behind {at}", bytes.len() - at);
-        file.set_len(at as u64).await?;
+        file.set_len(length).await?;
         file.sync_data().await?;
     }
-    let (length, writer) = (at as u64, None);
-    let log = Log {
-        fsync,
-        path,
-        pending: Vec::new(),
-        copy: None,
-        appended: 0,
-        safe: 0,
-        length,
-        compacted: length,
-        has_ended: false,
-        waiting: Vec::new(),
-        writer,
-    };
-    shard.log = Some(log);
+    let (pending, copy, waiting, writer) = (Vec::new(), None, Vec::new(), None);
+    shard.log = Some(Log { fsync, path, pending, copy, appended: 0, safe: 0, length, compacted: length, has_ended: false, waiting, writer });
     Ok(shard)
 }
 
@@ -144,31 +164,9 @@ fn replay(shard: &mut Shard, bytes: &[u8]) -> Option<usize> {
         GONE if key.is_empty() => shard.clear(),
         GONE => drop(shard.remove(key)),
         _ if expires != 0 && expires <= now() => drop(shard.remove(key)),
-        _ => shard.set(key, value.to_vec(), expires),
+        _ => shard.put(key, value.to_vec(), expires),
     }
     Some(8 + length)
-}
-
-fn log<R>(call: impl FnOnce(&mut Log) -> R) -> Option<R> {
-    shard(|it| it.log.as_mut().map(call))
-}
-
-/// Waits until the log is safe up to a position.
-pub async fn synced(position: u64) {
-    if position == 0 {
-        return;
-    }
-    poll_fn(|cx| {
-        log(|it| {
-            if it.safe >= position {
-                return Poll::Ready(());
-            }
-            it.waiting.push(cx.waker().clone());
-            Poll::Pending
-        })
-        .unwrap_or(Poll::Ready(()))
-    })
-    .await;
 }
 
 /// Ends the writer once all is safe.
@@ -188,86 +186,77 @@ pub async fn write() {
 }
 
 async fn try_write() -> io::Result<()> {
-    let Some((fsync, path, mut length)) = log(|it| (it.fsync, it.path.clone(), it.length)) else { return Ok(()) };
-    let mut options = std::fs::OpenOptions::new();
-    options.write(true);
-    let mut file = File::open_with(options, &path).await?;
-    let (mut synced, mut is_dirty, mut compaction) = (Instant::now(), false, None);
+    let Some((fsync, path)) = log(|it| (it.fsync, it.path.clone())) else { return Ok(()) };
+    let (mut file, mut compaction) = (open_to_write(&path).await?, None);
+    let (mut synced, mut is_dirty) = (Instant::now(), false);
     loop {
         // What is appended while this writes goes out together, next time.
         let pending = poll_fn(|cx| {
-            shard(|it| {
-                let log = it.log.as_mut().expect("it was opened");
-                if log.pending.is_empty() && !log.has_ended {
-                    log.writer = Some(cx.waker().clone());
-                    return Poll::Pending;
-                }
-                Poll::Ready((std::mem::take(&mut log.pending), log.appended, log.has_ended))
-            })
+            let told = log(|it| {
+                let is_due = !it.pending.is_empty() || it.has_ended;
+                it.writer = (!is_due).then(|| cx.waker().clone());
+                is_due.then(|| (std::mem::take(&mut it.pending), it.appended, it.length, it.has_ended))
+            });
+            told.flatten().map_or(Poll::Pending, Poll::Ready)
         });
         let longest = if is_dirty { Duration::from_secs(1) } else { Duration::MAX };
-        let Ok((pending, appended, has_ended)) = timeout(longest, pending).await else {
+        let Ok((pending, appended, at, has_ended)) = timeout(longest, pending).await else {
             file.sync_data().await?;
             is_dirty = false;
             continue;
         };
-        let count = pending.len() as u64;
-        file.write_all_at(pending, length).await?;
-        length += count;
-        if fsync == Fsync::Always || has_ended || (fsync == Fsync::EverySecond && synced.elapsed() >= Duration::from_secs(1)) {
+        let length = at + pending.len() as u64;
+        file.write_all_at(pending, at).await?;
+        is_dirty = fsync == Fsync::EverySecond;
+        if fsync == Fsync::Always || has_ended || (is_dirty && synced.elapsed() >= Duration::from_secs(1)) {
             file.sync_data().await?;
             (synced, is_dirty) = (Instant::now(), false);
-        } else {
-            is_dirty = fsync == Fsync::EverySecond;
         }
-        let waiting = log(|it| {
-            (it.safe, it.length) = (appended, length);
-            std::mem::take(&mut it.waiting)
-        });
-        waiting.into_iter().flatten().for_each(Waker::wake);
+        log(|it| it.tell_safe(appended, length));
         if has_ended {
             return Ok(());
         }
         if fsync == Fsync::EverySecond {
             sleep(Duration::from_millis(5)).await;
         }
-        let pays = log(|it| it.length > 2 * it.compacted + SPARE) == Some(true);
-        if pays && compaction.is_none() {
+        if compaction.is_none() && log(|it| it.length > 2 * it.compacted + SPARE) == Some(true) {
             compaction = Some(spawn_local(COMPACTION, compact(path.with_extension("new"))));
         }
-        let is_over = match &mut compaction {
-            Some(it) => future::poll_once(it).await,
-            None => None,
-        };
-        if let Some(told) = is_over {
-            compaction = None;
-            let (new, at) = told.map_err(io::Error::other)??;
-            // Records since the compaction began, those that are pending among them.
-            let (rest, appended) = log(|it| {
-                it.pending.clear();
-                (it.copy.take().unwrap_or_default(), it.appended)
-            })
-            .unwrap_or_default();
-            length = at + rest.len() as u64;
-            new.write_all_at(rest, at).await?;
-            new.sync_data().await?;
-            let to = path.clone();
-            unblock(move || {
-                std::fs::rename(to.with_extension("new"), &to)?;
-                std::fs::File::open(to.parent().expect("a folder"))?.sync_all()
-            })
-            .await?;
+        if let Some(new) = compacted(&mut compaction, &path).await? {
             file = new;
-            let waiting = log(|it| {
-                (it.safe, it.length, it.compacted) = (appended, length, length);
-                std::mem::take(&mut it.waiting)
-            });
-            waiting.into_iter().flatten().for_each(Waker::wake);
         }
     }
 }
 
-/// Writes what each key has to a new file, in the background. Where the rest belongs: records that are appended from now on.
+/// Puts a compacted log in the place of the log, if there is one now: behind it come the records since the compaction began, those that are pending
+/// among them.
+async fn compacted(compaction: &mut Option<JoinHandle<io::Result<(File, u64)>>>, path: &Path) -> io::Result<Option<File>> {
+    let Some(running) = compaction else { return Ok(None) };
+    let Some(told) = future::poll_once(running).await else { return Ok(None) };
+    *compaction = None;
+    let (new, at) = told.map_err(io::Error::other)??;
+    let taken = log(|it| {
+        it.pending.clear();
+        (it.copy.take().unwrap_or_default(), it.appended)
+    });
+    let (rest, appended) = taken.unwrap_or_default();
+    let length = at + rest.len() as u64;
+    new.write_all_at(rest, at).await?;
+    new.sync_data().await?;
+    let to = path.to_owned();
+    unblock(move || {
+        fs::rename(to.with_extension("new"), &to)?;
+        fs::File::open(to.parent().expect("a folder"))?.sync_all()
+    })
+    .await?;
+    log(|it| {
+        it.compacted = length;
+        it.tell_safe(appended, length);
+    });
+    Ok(Some(new))
+}
+
+/// Writes what each key has to a new file, in the background, and tells where the rest belongs: records that are appended from now on.
 async fn compact(path: PathBuf) -> io::Result<(File, u64)> {
     log(|it| it.copy = Some(Vec::new()));
     let file = File::create(&path).await?;

@@ -1,5 +1,6 @@
-use Rattle.std.proofs.Common.{◌≡◌, ◌<◌, ◌≤◌, false, None, refl, sym, ◌∙◌, ap, subst, arith, length, length-set}
-use Rattle.std.specs.Prelude.{Bool, List, slice_index_or}
+use Rattle.std.proofs.Common.{◌≡◌, ℕ, ◌<◌, ◌≤◌, false, None, refl, sym, ◌∙◌, ap, subst, arith, length, length-set}
+use Rattle.std.specs.Prelude.{Bool, List, slice_index_or, slice_set}
+use Rattle.std.proofs.lemmas.List.Elements.{All-set}
 use Rattle.rt_ids.specs.declared.names.JobId.{JobId}
 use Rattle.rt_taskqueue.specs.Queues.{queue_count, mode_of}
 use Rattle.rt_core.specs.declared.tally.Tally.{Tally}
@@ -9,8 +10,8 @@ use Rattle.rt_core.specs.Bursts.{queue_open}
 use Rattle.rt_ids.specs.Names.{is_number}
 use Rattle.rt_core.specs.Inside.{core_view, job_out, unsettled_count, FitsTurns}
 use Rattle.rt_core.proofs.Listed.{LacksQueue-from_none}
-use Rattle.rt_core.proofs.Fits.{placed_fits}
-use Rattle.rt_core.proofs.Entered.{IsCore-entered}
+use Rattle.rt_core.proofs.Fits.{placed_fits, IsBounded-from_turns}
+use Rattle.rt_core.proofs.Entered.{is_placed, IsCore-entered}
 use Rattle.rt_core.proofs.Parts.{idle_entry}
 use Rattle.rt_core.proofs.SlipsKept.{slip_there}
 use Rattle.rt_core.proofs.one_core.Core.activate.Goals as goal
@@ -77,3 +78,43 @@ pub index_mut-tally-requires : goal.index_mut-tally-requires
 index_mut-tally-requires g c =
     let exists = subst (λ (view : CoreView g.row.J.Denot). c.args.queue < queue_count view.queues) (sym c.self.view_is) c.requires.exists in
     omega (arith, c.self.invariant.counted.tallies, exists, c.place.ensures)
+
+pub returns-clause-enters : goal.returns-clause-enters
+returns-clause-enters g c =
+    let inside = c.self.inside in
+    let back = sym c.self.view_is in
+    let old = core_view inside.core inside.cores (queues_alone inside.queues) inside.tallies.items inside.floor inside.turns (job_out inside.out) inside.senders inside.mode inside.bursts in
+    let idle = subst (λ (view : CoreView g.row.J.Denot). is_working c.args.queue view ≡ false) back c.requires.idle in
+    let exists = subst (λ (view : CoreView g.row.J.Denot). c.args.queue < queue_count view.queues) back c.requires.exists in
+    let there : c.place.result < length inside.tallies.items = omega (arith, c.place.ensures, c.self.invariant.counted.tallies, exists) in
+    let was = c.index_mut-tally.result.now in
+    let tally : Tally = record was { runtime = c.placed-vr.result } in
+    let placed = is_placed old c.args.queue c.place.result was tally idle c.place.ensures there c.index_mut-tally.ensures.value (ap (λ (runtime : ℕ). record was { runtime = runtime }) c.placed-vr.ensures) in
+    let from = c.from.ensures ∙ ap (λ (name : JobId). name.from) c.name.view_is in
+    let number = ap (λ (name : JobId). name.number) c.name.view_is in
+    let senders : c.count.new.self ≡ record (inside.senders) { delivered = slice_set inside.senders.delivered c.args.name.from c.args.name.number } =
+    c.count.ensures ∙ (λ i. record (inside.senders) { delivered = slice_set inside.senders.delivered (from i) (number i) }) in
+    rw (← c.self.view_is, c.enter_placed.ensures.given) (record {
+      exists = exists;
+      line = c.admit.ensures.joins.queues;
+      rest = λ i. core_view inside.core inside.cores (queues_alone c.admit.new.self) (placed i) inside.floor inside.turns (job_out inside.out) (senders i) inside.mode inside.bursts;
+    })
+
+pub returns-clause-bounded : goal.returns-clause-bounded
+returns-clause-bounded g c =
+    let inside = c.self.inside in
+    let core = c.self.invariant in
+    let old = core_view inside.core inside.cores (queues_alone inside.queues) inside.tallies.items inside.floor inside.turns (job_out inside.out) inside.senders inside.mode inside.bursts in
+    let polls = unsettled_count old in
+    let exists = subst (λ (view : CoreView g.row.J.Denot). c.args.queue < queue_count view.queues) (sym c.self.view_is) c.requires.exists in
+    let there : c.place.result < length inside.tallies.items = omega (arith, c.place.ensures, core.counted.tallies, exists) in
+    let was = c.index_mut-tally.result.now in
+    let tally : Tally = record was { runtime = c.placed-vr.result } in
+    let before : FitsTurns inside.turns polls was =
+    subst (FitsTurns inside.turns polls) (sym c.index_mut-tally.ensures.value) (core.turns.tallies c.place.result was there) in
+    let fits : FitsTurns inside.turns polls tally =
+    subst (λ runtime. FitsTurns inside.turns polls (record was { runtime = runtime })) (sym c.placed-vr.ensures) (placed_fits inside.turns polls inside.floor was false before core.turns.floor) in
+    IsBounded-from_turns (core_view inside.core inside.cores (queues_alone c.admit.new.self) (slice_set inside.tallies.items c.place.result tally) inside.floor inside.turns (job_out inside.out) inside.senders inside.mode inside.bursts) (record {
+      tallies = All-set (FitsTurns inside.turns polls) inside.tallies.items c.place.result tally fits core.turns.tallies;
+      floor = core.turns.floor;
+    })

@@ -1,4 +1,5 @@
-use Rattle.std.proofs.Common.{◌<◌, ◌≤◌, refl, sym, ◌∙◌, ap, subst, arith, rules, length-set}
+use Rattle.std.proofs.Common.{◌<◌, ◌≤◌, refl, sym, ◌∙◌, ap, subst, arith, length-set}
+use Rattle.std.specs.Prelude.{slice_set}
 use Rattle.rt_taskqueue.specs.Queues.{queue_count}
 use Rattle.rt_taskqueue.specs.Slips.{queues_alone}
 use Rattle.rt_ids.specs.declared.names.JobId.{JobId}
@@ -32,6 +33,8 @@ returns-clause-delivers g c =
     let exists : c.args.queue < queue_count (queues_alone inside.queues) =
     subst (λ (view : CoreView g.row.J.Denot). c.args.queue < queue_count view.queues) (sym c.self.view_is) (c.has_queue.ensures.0 c.if-not-has_queue.false) in
     let gates = ap (λ (senders : SendersView). senders.gates) c.count-2.ensures in
+    let from = c.from.ensures ∙ ap (λ (name : JobId). name.from) c.name.view_is in
+    let number = ap (λ (name : JobId). name.number) c.name.view_is in
     rw (← c.self.view_is) (
       record {
         exists = exists;
@@ -39,7 +42,7 @@ returns-clause-delivers g c =
         rest = λ i. core_view inside.core inside.cores (queues_alone c.set_shares.new.self) inside.tallies.items inside.floor inside.turns (job_out inside.out)
             (record { delivered = c.count-2.new.self.delivered; gates = gates i }) inside.mode inside.bursts;
       },
-      (let v = c.name.view_is in let counted = ap (λ (senders : SendersView). senders.delivered) c.count-2.ensures in search rules),
+      ap (λ (senders : SendersView). senders.delivered) c.count-2.ensures ∙ (λ i. slice_set inside.senders.delivered (from i) (number i)),
       c.two_notes.ensures,
     )
 

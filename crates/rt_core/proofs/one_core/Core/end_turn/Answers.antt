@@ -1,13 +1,14 @@
 use Rattle.std.proofs.Common.{◌≡◌, ℕ, ◌<◌, true, false, length, Option, None, refl, sym, ◌∙◌, ap, subst, arith}
 use Rattle.std.proofs.lemmas.Bool.{true≢false}
-use Rattle.std.specs.Prelude.{IfSome, slice_index_or, slice_set}
+use Rattle.std.specs.Prelude.{IfSome, is_some, slice_index_or, slice_set}
+use Rattle.rt_ids.specs.Work.{number_if}
 use Rattle.rt_taskqueue.specs.Queues.{queue_count}
 use Rattle.rt_taskqueue.specs.Slips.{queues_alone}
 use Rattle.rt_core.specs.declared.bursts.OpenTurn.{OpenTurn}
 use Rattle.rt_core.specs.declared.tally.Tally.{Tally}
 use Rattle.rt_core.specs.State.{CoreView, tally_of}
 use Rattle.rt_core.specs.Bursts.{may_go_on}
-use Rattle.rt_core.specs.Inside.{core_view, job_out, runtime_listed}
+use Rattle.rt_core.specs.Inside.{core_view, job_out, runtime_listed, unsettled_count, FitsTurns}
 use Rattle.rt_core.proofs.Charging.{tally_read}
 use Rattle.rt_core.proofs.Fits.{IsBounded-from_turns}
 use Rattle.rt_core.proofs.FurtherTurn.{turn_exists}
@@ -45,6 +46,37 @@ read : (g : Over) (c : In-Some g) (place : ℕ) → place ≡ c.in-Some.turn.que
 read g c place at was found =
     let within : place < length c.self.inside.tallies.items = omega (arith, at, c.self.invariant.counted.tallies, exists g c) in
     tally_read c.self.inside.tallies.items place c.in-Some.turn.queue was at within found
+
+-- it fits the turns but the one that is open
+before : (g : Over) (c : In-Some g) (place : ℕ) → place ≡ c.in-Some.turn.queue → (was : Tally) → was ≡ slice_index_or c.self.inside.tallies.items place was → FitsTurns c.self.inside.turns 1 was
+before g c place at was found =
+    let core = c.self.invariant in
+    let within : place < length c.self.inside.tallies.items = omega (arith, at, core.counted.tallies, exists g c) in
+    let one : unsettled_count (old_of g c) ≡ 1 = ap (λ (held : Option ℕ). number_if (is_some held)) (held_turn (old_of g c) c.in-Some.turn (free g c) c.in-Some.is) in
+    subst (FitsTurns c.self.inside.turns 1) (sym found) (subst (λ polls. FitsTurns c.self.inside.turns polls (slice_index_or c.self.inside.tallies.items place was)) one (core.turns.tallies place was within))
+
+pub shares-shares-requires : goal.shares-shares-requires
+shares-shares-requires g c = record { exists = exists g (goal.at.shares-shares-requires g c).In-Some }
+
+pub index-requires : goal.index-requires
+index-requires g c = omega (arith, c.self.invariant.counted.tallies, exists g (goal.at.index-requires g c).In-Some, c.place.ensures)
+
+pub index_mut-requires : goal.index_mut-requires
+index_mut-requires g c = omega (arith, c.self.invariant.counted.tallies, exists g (goal.at.index_mut-requires g c).In-Some, c.place-2.ensures)
+
+pub costing-tally-requires : goal.costing-tally-requires
+costing-tally-requires g c =
+    let fits = before g (goal.at.costing-tally-requires g c).In-Some c.place.result c.place.ensures c.index.result.now c.index.ensures in
+    record {
+      runtime = omega (arith, fits.runtime, c.self.ranges);
+      time = omega (arith, fits.time, c.self.ranges);
+    }
+
+pub take_slip-requires : goal.take_slip-requires
+take_slip-requires g c = record { exists = exists g (goal.at.take_slip-requires g c).In-Some }
+
+pub one_note-requires : goal.one_note-requires
+one_note-requires g c = assumption
 
 pub unreachable-requires-in_default-take_slip : goal.unreachable-requires-in_default-take_slip
 unreachable-requires-in_default-take_slip g c =

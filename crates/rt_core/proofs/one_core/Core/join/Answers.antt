@@ -1,9 +1,11 @@
 use Rattle.std.proofs.Common.{◌≡◌, ◌<◌, ◌≤◌, true, false, None, refl, sym, ◌∙◌, ap, subst, arith, length-set}
+use Rattle.std.specs.Prelude.{slice_set}
 use Rattle.rt_ids.specs.declared.names.JobId.{JobId}
 use Rattle.rt_taskqueue.specs.Queues.{queue_count, mode_of}
 use Rattle.rt_taskqueue.specs.Slips.{queues_alone}
 use Rattle.rt_core.specs.State.{CoreView, inside_count, is_any, is_working}
 use Rattle.rt_core.specs.Inside.{core_view, job_out}
+use Rattle.rt_core.proofs.Entered.{stays_placed}
 use Rattle.rt_core.proofs.Entries.{is_any-push}
 use Rattle.rt_core.proofs.Fits.{IsBounded-from_turns}
 use Rattle.rt_core.proofs.Parts.{KeepsCounts-enters, IsListed-joins, IsPollable-pushed}
@@ -56,4 +58,21 @@ returns-clause-bounded g c =
     IsBounded-from_turns (core_view inside.core inside.cores (queues_alone c.admit.new.self) inside.tallies.items inside.floor inside.turns (job_out inside.out) c.count.new.self inside.mode inside.bursts) (record {
       tallies = core.turns.tallies;
       floor = core.turns.floor;
+    })
+
+pub returns-clause-enters : goal.returns-clause-enters
+returns-clause-enters g c =
+    let inside = c.self.inside in
+    let back = sym c.self.view_is in
+    let old = core_view inside.core inside.cores (queues_alone inside.queues) inside.tallies.items inside.floor inside.turns (job_out inside.out) inside.senders inside.mode inside.bursts in
+    let work = subst (λ (view : CoreView g.row.J.Denot). is_working c.args.queue view ≡ true) back c.requires.work in
+    let exists = subst (λ (view : CoreView g.row.J.Denot). c.args.queue < queue_count view.queues) back c.requires.exists in
+    let from = c.from.ensures ∙ ap (λ (name : JobId). name.from) c.name.view_is in
+    let number = ap (λ (name : JobId). name.number) c.name.view_is in
+    let senders : c.count.new.self ≡ record (inside.senders) { delivered = slice_set inside.senders.delivered c.args.name.from c.args.name.number } =
+    c.count.ensures ∙ (λ i. record (inside.senders) { delivered = slice_set inside.senders.delivered (from i) (number i) }) in
+    rw (← c.self.view_is) (record {
+      exists = exists;
+      line = c.admit.ensures.joins.queues;
+      rest = λ i. core_view inside.core inside.cores (queues_alone c.admit.new.self) (sym (stays_placed old c.args.queue work) i) inside.floor inside.turns (job_out inside.out) (senders i) inside.mode inside.bursts;
     })

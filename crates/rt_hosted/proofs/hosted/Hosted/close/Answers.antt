@@ -1,6 +1,6 @@
 use Rattle.std.proofs.Common.{sym, subst}
-use Rattle.rt_runtime_worker.specs.Linked.{StaysLinked}
-use Rattle.rt_runtime_worker.proofs.AddedTurns.{adds_closing}
+use Rattle.actor_seat.specs.Linked.{StaysLinked}
+use Rattle.actor_seat.proofs.AddedTurns.{adds_closing}
 use Rattle.rt_hosted.specs.Hosted.{HasRoom, HostedView}
 use Rattle.rt_hosted.proofs.Kept.{Leaves, closed_run, holds_after, hosted_after}
 use Rattle.rt_hosted.proofs.hosted.Hosted.close.Goals as goal

@@ -1,7 +1,7 @@
 use Rattle.std.proofs.Common.{sym, subst, ◌∙◌, ap}
-use Rattle.rt_runtime_worker.specs.Linked.{StaysLinked}
-use Rattle.rt_runtime_worker.specs.Steps.{CollectsOf}
-use Rattle.rt_runtime_worker.proofs.Fewer.{collected_few}
+use Rattle.actor_seat.specs.Linked.{StaysLinked}
+use Rattle.actor_seat.specs.Steps.{CollectsOf}
+use Rattle.actor_seat.proofs.Fewer.{collected_few}
 use Rattle.rt_hosted.specs.Hosted.{HasRoom, HostedView}
 use Rattle.rt_hosted.proofs.Kept.{Leaves, holds_after, hosted_after, rest_run}
 use Rattle.rt_hosted.proofs.hosted.Hosted.collect.Goals as goal

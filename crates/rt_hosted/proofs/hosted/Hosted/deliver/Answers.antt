@@ -1,7 +1,7 @@
 use Rattle.std.proofs.Common.{sym, subst}
-use Rattle.rt_runtime_worker.specs.Linked.{StaysLinked}
-use Rattle.rt_runtime_worker.specs.Steps.{DeliversFrom}
-use Rattle.rt_runtime_worker.proofs.Fewer.{delivered_few}
+use Rattle.actor_seat.specs.Linked.{StaysLinked}
+use Rattle.actor_seat.specs.Steps.{DeliversFrom}
+use Rattle.actor_seat.proofs.Fewer.{delivered_few}
 use Rattle.rt_hosted.specs.Hosted.{HasRoom, HostedView}
 use Rattle.rt_hosted.proofs.Kept.{Leaves, delivered_run, holds_after, hosted_after}
 use Rattle.rt_hosted.proofs.hosted.Hosted.deliver.Goals as goal

@@ -1,6 +1,6 @@
 use Rattle.std.proofs.Common.{inr, sym, subst}
-use Rattle.rt_runtime_worker.specs.Linked.{StaysLinked}
-use Rattle.rt_runtime_worker.proofs.Adding.{detaches_add}
+use Rattle.actor_seat.specs.Linked.{StaysLinked}
+use Rattle.actor_seat.proofs.Adding.{detaches_add}
 use Rattle.rt_hosted.specs.Hosted.{HasRoom, HostedView}
 use Rattle.rt_hosted.specs.Submissions.{Detaches}
 use Rattle.rt_hosted.proofs.Kept.{Leaves, holds_after, hosted_after, rest_run}

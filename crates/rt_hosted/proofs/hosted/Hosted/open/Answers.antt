@@ -1,6 +1,6 @@
 use Rattle.std.proofs.Common.{◌≡◌, sym, ◌∙◌, ap, subst}
 use Rattle.std.specs.Prelude.{None}
-use Rattle.rt_runtime_worker.specs.Opening.{IsOpenedOver}
+use Rattle.actor_seat.specs.Opening.{IsOpenedOver}
 use Rattle.rt_hosted.specs.Hosted.{HostedView, IsHosted, IsRunOf}
 use Rattle.rt_hosted.proofs.Begun.{Begins, begins_again, begun_cores, begun_hosted, begun_over, begun_passed, begun_runs, begun_seated}
 use Rattle.rt_hosted.proofs.hosted.Hosted.open.Goals as goal

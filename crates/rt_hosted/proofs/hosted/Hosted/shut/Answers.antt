@@ -1,6 +1,6 @@
 use Rattle.std.proofs.Common.{◌≡◌, ◌+◌, ap, length, sym, subst, ◌∙◌, arith}
-use Rattle.rt_runtime_worker.specs.Linked.{StaysLinked}
-use Rattle.rt_runtime_worker.specs.Steps.{ShutsGate}
+use Rattle.actor_seat.specs.Linked.{StaysLinked}
+use Rattle.actor_seat.specs.Steps.{ShutsGate}
 use Rattle.rt_hosted.specs.Hosted.{HasRoom, HostedView}
 use Rattle.rt_hosted.proofs.Kept.{Leaves, holds_after, hosted_after, same_run}
 use Rattle.rt_hosted.proofs.hosted.Hosted.shut.Goals as goal

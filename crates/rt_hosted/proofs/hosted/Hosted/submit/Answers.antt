@@ -1,6 +1,6 @@
 use Rattle.std.proofs.Common.{inr, sym, subst, arith}
-use Rattle.rt_runtime_worker.specs.Linked.{StaysLinked}
-use Rattle.rt_runtime_worker.proofs.Adding.{submits_add}
+use Rattle.actor_seat.specs.Linked.{StaysLinked}
+use Rattle.actor_seat.proofs.Adding.{submits_add}
 use Rattle.rt_hosted.specs.Hosted.{HasRoom, HostedView}
 use Rattle.rt_hosted.specs.Submissions.{Posts, SubmitsTo, order_of_host}
 use Rattle.rt_hosted.proofs.Kept.{Leaves, holds_after, hosted_after, rest_run}

@@ -1,5 +1,5 @@
 use Rattle.std.proofs.Common.{◌<◌, sym, subst, arith}
-use Rattle.rt_runtime_worker.proofs.OutsideSeats.{room_for_link}
+use Rattle.actor_seat.proofs.OutsideSeats.{room_for_link}
 use Rattle.rt_hosted_house.specs.Outside.{CallerView, CollectsOf, HasRoom, StaysOutside}
 use Rattle.rt_hosted_house.proofs.Kept.{holds_after, stays_after}
 use Rattle.rt_hosted_house.proofs.outside.Outside.collect.Goals as goal

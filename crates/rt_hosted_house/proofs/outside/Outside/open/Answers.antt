@@ -1,7 +1,7 @@
 use Rattle.std.proofs.Common.{subst, sym, ap, ◌∙◌}
 use Rattle.rt_journal_desk.specs.Submissions.{IsWritten, terms_of_desk}
 use Rattle.rt_link.specs.Fits.{Fits}
-use Rattle.rt_runtime_worker.proofs.OutsideSeats.{seated_fresh}
+use Rattle.actor_seat.proofs.OutsideSeats.{seated_fresh}
 use Rattle.rt_hosted.specs.Jobs.{host_meaning}
 use Rattle.rt_hosted_house.proofs.outside.Outside.open.Goals as goal
 

@@ -9,7 +9,7 @@ use Rattle.rt_ring_mesh.specs.Ends.{AreFresh, out_at}
 use Rattle.rt_runtime.specs.Starting.{HaveQueues, IsHouse}
 use Rattle.std.proofs.lemmas.List.{length-map}
 use Rattle.rt_runtime_team.proofs.Lists.{together_length}
-use Rattle.rt_runtime_worker.proofs.OutsideSeats.{seated_fresh}
+use Rattle.actor_seat.proofs.OutsideSeats.{seated_fresh}
 use Rattle.rt_runtime.specs.Watching.{IsUnseen, IsWatcherOf}
 use Rattle.rt_runtime.proofs.AllPassed.{together_all}
 use Rattle.rt_runtime.proofs.Dealt.{made_with_last, same_maps}

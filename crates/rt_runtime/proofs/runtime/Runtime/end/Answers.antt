@@ -6,7 +6,7 @@ use Rattle.rt_runtime.specs.State.{closing_at}
 use Rattle.rt_runtime.specs.WithSinks.{HasPassed}
 use Rattle.rt_runtime.specs.Watching.{watch_at}
 use Rattle.rt_runtime_team.specs.Works.{Together}
-use Rattle.rt_runtime_worker.specs.Together.{worker_at}
+use Rattle.actor_seat.specs.Together.{worker_at}
 use Rattle.rt_runtime_worker.specs.Workers.{KeepsOn}
 use Rattle.rt_watch.specs.Growth.{Grows}
 use Rattle.rt_runtime.proofs.AllPassed.{all_boards, all_ended, all_marks, all_run_on, ends_together, has_passed, part_counts}

@@ -3,7 +3,7 @@ use Rattle.rt_watch.specs.Growth.{Grows}
 use Rattle.rt_watch.specs.declared.publisher.Publishing.{Publishing}
 use Rattle.rt_runtime_worker.specs.Ended.{EndedView, HasEnded}
 use Rattle.rt_runtime_worker.specs.Shown.{shown_of}
-use Rattle.rt_runtime_worker.proofs.Along.{grows_along}
+use Rattle.actor_seat.proofs.Along.{grows_along}
 use Rattle.rt_runtime_worker.proofs.ended.Ended.compare.Goals as goal
 
 pub compare-requires : goal.compare-requires

@@ -1,7 +1,7 @@
 use Rattle.std.proofs.Common.{◌∙◌, sym, subst}
 use Rattle.rt_runtime_worker.specs.Gates.{LeavesReturning}
 use Rattle.rt_runtime_worker.proofs.Alone.{alone_now}
-use Rattle.rt_runtime_worker.proofs.Along.{least_along}
+use Rattle.rt_runtime_worker.proofs.Spare.{least_along}
 use Rattle.rt_runtime_worker.proofs.Asking.{return_notes_none}
 use Rattle.rt_runtime_worker.proofs.Between.{between_behind}
 use Rattle.rt_runtime_worker.proofs.Gated.{returned_leaves}

@@ -1,7 +1,7 @@
 use Rattle.std.proofs.Common.{sym, ◌∙◌, subst}
-use Rattle.rt_runtime_worker.specs.Steps.{CollectsOf}
+use Rattle.actor_seat.specs.Steps.{CollectsOf}
 use Rattle.rt_runtime_worker.proofs.Asking.{collects_note_none}
-use Rattle.rt_runtime_worker.proofs.Along.{least_along}
+use Rattle.rt_runtime_worker.proofs.Spare.{least_along}
 use Rattle.rt_runtime_worker.proofs.Between.{between_behind}
 use Rattle.rt_runtime_worker.proofs.linked.Linked.collect_from.Goals as goal
 

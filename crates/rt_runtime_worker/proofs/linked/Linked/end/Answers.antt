@@ -1,8 +1,8 @@
 use Rattle.std.proofs.Common.{subst}
-use Rattle.rt_runtime_worker.specs.Linked.{IsLinked}
+use Rattle.actor_seat.specs.Linked.{IsLinked}
 use Rattle.rt_runtime_worker.proofs.Alone.{alone_grows}
 use Rattle.rt_runtime_worker.proofs.Gated.{ending_now, ending_acts, ending_notes_none}
-use Rattle.rt_runtime_worker.proofs.Along.{stays_along}
+use Rattle.actor_seat.proofs.Along.{stays_along}
 use Rattle.rt_runtime_worker.proofs.linked.Linked.end.Goals as goal
 
 pub returns-clause-ending : goal.returns-clause-ending

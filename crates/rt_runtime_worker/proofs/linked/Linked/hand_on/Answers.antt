@@ -1,9 +1,9 @@
 use Rattle.std.proofs.Common.{◌∙◌, ap, subst, sym}
-use Rattle.rt_runtime_worker.specs.Linked.{IsBetweenTurns}
+use Rattle.actor_seat.specs.Linked.{IsBetweenTurns}
 use Rattle.rt_runtime_worker.specs.Passing.{HandsOn}
 use Rattle.rt_runtime_worker.specs.Rooms.{least_free}
 use Rattle.rt_runtime_worker.proofs.Between.{between_notes}
-use Rattle.rt_runtime_worker.proofs.Passed.{same_notes}
+use Rattle.actor_seat.proofs.Passed.{same_notes}
 use Rattle.rt_runtime_worker.proofs.linked.Linked.hand_on.Given.{Over}
 use Rattle.rt_runtime_worker.proofs.linked.Linked.hand_on.Goals as goal
 use Rattle.rt_runtime_worker.proofs.linked.Linked.hand_on.Goals.{After-pass_on}

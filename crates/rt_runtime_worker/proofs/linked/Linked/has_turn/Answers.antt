@@ -11,8 +11,8 @@ use Rattle.rt_taskqueue.specs.Queues.{waiting_of}
 use Rattle.rt_journal.proofs.Ahead.{idle, all_used, works}
 use Rattle.rt_journal.specs.Recorded.{IsRecorded, RecordedView}
 use Rattle.rt_jobs.specs.Meanings.{Meaning}
-use Rattle.rt_runtime_worker.specs.Steps.{HasNoTurn}
-use Rattle.rt_runtime_worker.specs.Linked.{LinkedView}
+use Rattle.actor_seat.specs.Steps.{HasNoTurn}
+use Rattle.actor_seat.specs.Linked.{LinkedView}
 use Rattle.rt_runtime_worker.proofs.linked.Linked.has_turn.Goals as goal
 
 -- where a job waits and a turn is left, a turn is to be made

@@ -1,5 +1,5 @@
 use Rattle.std.proofs.Common.{subst}
-use Rattle.rt_runtime_worker.specs.Linked.{IsBetweenTurns, IsLinked, LinkedView}
+use Rattle.actor_seat.specs.Linked.{IsBetweenTurns, IsLinked, LinkedView}
 use Rattle.rt_runtime_worker.proofs.linked.Linked.into_parts.Goals as goal
 
 pub returns-clause-linked : goal.returns-clause-linked

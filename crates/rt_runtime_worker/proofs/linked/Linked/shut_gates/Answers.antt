@@ -1,6 +1,6 @@
 use Rattle.std.proofs.Common.{refl, sym, subst, ap, arith}
 use Rattle.std.specs.Prelude.{IsSome}
-use Rattle.rt_runtime_worker.specs.Linked.{IsBetweenTurns, IsLinked, LinkedView}
+use Rattle.actor_seat.specs.Linked.{IsBetweenTurns, IsLinked, LinkedView}
 use Rattle.rt_runtime_worker.proofs.Gated.{shuts_none, shuts_more}
 use Rattle.rt_runtime_worker.specs.Rounds.{TellsNotes}
 use Rattle.rt_runtime_worker.proofs.Telling.{tells_true, tells_false}

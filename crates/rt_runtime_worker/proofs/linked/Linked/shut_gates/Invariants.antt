@@ -1,5 +1,5 @@
 use Rattle.std.proofs.Common.{◌≡◌, ◌+◌}
-use Rattle.rt_runtime_worker.specs.Linked.{IsBetweenTurns, IsLinked}
+use Rattle.actor_seat.specs.Linked.{IsBetweenTurns, IsLinked}
 use Rattle.rt_runtime_worker.specs.Gates.{ShutsFirst}
 use Rattle.rt_runtime_worker.specs.Rounds.{TellsNotes}
 use Rattle.rt_runtime_worker.proofs.linked.Linked.shut_gates.Given as goal

@@ -1,5 +1,5 @@
 use Rattle.std.proofs.Common.{sym, subst, ◌∙◌}
-use Rattle.rt_runtime_worker.specs.Linked.{IsBetweenTurns, IsLinked, LinkedView}
+use Rattle.actor_seat.specs.Linked.{IsBetweenTurns, IsLinked, LinkedView}
 use Rattle.rt_runtime_worker.proofs.Gated.{leaves_then, leaves_else}
 use Rattle.rt_runtime_worker.proofs.linked.Linked.shut_if_open.Goals.{then-not-shut, else-not-shut}
 use Rattle.rt_runtime_worker.proofs.linked.Linked.shut_if_open.Goals as goal

@@ -1,7 +1,7 @@
 use Rattle.std.proofs.Common.{sym, ◌∙◌, subst}
-use Rattle.rt_runtime_worker.specs.Steps.{ShutsGate}
+use Rattle.actor_seat.specs.Steps.{ShutsGate}
 use Rattle.rt_runtime_worker.proofs.Asking.{shut_notes_none}
-use Rattle.rt_runtime_worker.proofs.Along.{least_along}
+use Rattle.rt_runtime_worker.proofs.Spare.{least_along}
 use Rattle.rt_runtime_worker.proofs.Between.{between_behind}
 use Rattle.rt_runtime_worker.proofs.Gated.{shut_now}
 use Rattle.rt_runtime_worker.proofs.linked.Linked.shut_one.Goals as goal

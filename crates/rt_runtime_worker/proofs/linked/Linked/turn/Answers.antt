@@ -1,7 +1,7 @@
 use Rattle.std.proofs.Common.{sym, ◌∙◌, subst}
-use Rattle.rt_runtime_worker.specs.Bursts.{MakesTurn, turn_view}
-use Rattle.rt_runtime_worker.specs.Linked.{LinkedView, StaysLinked}
-use Rattle.rt_runtime_worker.proofs.Along.{least_along}
+use Rattle.actor_seat.specs.Bursts.{MakesTurn, turn_view}
+use Rattle.actor_seat.specs.Linked.{LinkedView, StaysLinked}
+use Rattle.rt_runtime_worker.proofs.Spare.{least_along}
 use Rattle.rt_runtime_worker.proofs.linked.Linked.turn.Goals as goal
 
 pub invariant_of-self : goal.invariant_of-self

@@ -1,5 +1,5 @@
 use Rattle.std.proofs.Common.{ap}
-use Rattle.rt_runtime_worker.specs.Bells.{BellsView}
+use Rattle.actor_seat.specs.Bells.{BellsView}
 use Rattle.rt_runtime_worker.proofs.Rung.{since_rung, since_within}
 use Rattle.rt_runtime_worker.proofs.rounds.Rounds.gather.Goals as goal
 

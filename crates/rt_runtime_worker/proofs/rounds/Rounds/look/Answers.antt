@@ -2,7 +2,8 @@ use Rattle.std.proofs.Common.{sym, ◌∙◌, subst, ap}
 use Rattle.std.specs.Prelude.{◌||◌, is_some}
 use Rattle.rt_ids.specs.Closing.{core_mode}
 use Rattle.rt_runtime_worker.specs.Rounds.{CollectsFirst, StepsServed}
-use Rattle.rt_runtime_worker.specs.Bells.{AreRung, once_more}
+use Rattle.rt_runtime_worker.specs.Rounds.{AreRung}
+use Rattle.actor_seat.specs.Bells.{once_more}
 use Rattle.rt_runtime_worker.specs.Asks.{polls_of}
 use Rattle.rt_runtime_worker.specs.Few.{RoundsFew}
 use Rattle.rt_runtime_worker.specs.Readings.{watch_view}

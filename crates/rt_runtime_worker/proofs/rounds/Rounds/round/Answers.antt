@@ -3,7 +3,7 @@ use Rattle.std.specs.Prelude.{false}
 use Rattle.rt_runtime_worker.specs.Looks.{TurnsAlone, round_view}
 use Rattle.rt_runtime_worker.specs.Rounds.{StepsServed}
 use Rattle.rt_runtime_worker.proofs.Asking.{asks_then}
-use Rattle.rt_runtime_worker.proofs.Along.{least_along}
+use Rattle.rt_runtime_worker.proofs.Spare.{least_along}
 use Rattle.rt_runtime_worker.proofs.Fewer.{alone_none, few_along, few_more, turn_few}
 use Rattle.rt_runtime_worker.proofs.Telling.{steps_more}
 use Rattle.rt_runtime_worker.proofs.rounds.Rounds.round.Goals as goal

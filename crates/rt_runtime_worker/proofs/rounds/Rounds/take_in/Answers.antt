@@ -1,5 +1,5 @@
 use Rattle.std.proofs.Common.{◌≡◌, ◌+◌, ◌*◌, sym, ◌∙◌, ap, subst, arith}
-use Rattle.rt_runtime_worker.specs.Bells.{BellsView}
+use Rattle.actor_seat.specs.Bells.{BellsView}
 use Rattle.rt_runtime_worker.specs.Rounds.{StepsServed}
 use Rattle.rt_runtime_worker.proofs.Fewer.{few_along}
 use Rattle.rt_runtime_worker.proofs.Heard.{heard_behind}

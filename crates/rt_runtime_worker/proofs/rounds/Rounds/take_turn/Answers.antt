@@ -1,5 +1,5 @@
 use Rattle.std.proofs.Common.{ap}
-use Rattle.rt_runtime_worker.specs.Bells.{BellsView}
+use Rattle.actor_seat.specs.Bells.{BellsView}
 use Rattle.rt_runtime_worker.specs.Readings.{TimesNext}
 use Rattle.rt_runtime_worker.proofs.Looked.{turns_seen, watch_of}
 use Rattle.rt_runtime_worker.proofs.Rung.{since_rung, since_within}

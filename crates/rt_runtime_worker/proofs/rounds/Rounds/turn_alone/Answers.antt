@@ -2,7 +2,7 @@ use Rattle.std.proofs.Common.{inl, inr, refl, sym, ◌∙◌, subst, ap}
 use Rattle.std.specs.Prelude.{false, true}
 use Rattle.rt_runtime_worker.specs.Looks.{PassesLinks, round_view}
 use Rattle.rt_runtime_worker.specs.Rounds.{StepsServed}
-use Rattle.rt_runtime_worker.specs.Bells.{AreRung}
+use Rattle.rt_runtime_worker.specs.Rounds.{AreRung}
 use Rattle.rt_runtime_worker.specs.Asks.{polls_of}
 use Rattle.rt_runtime_worker.specs.Turns.{TurnsWith}
 use Rattle.rt_runtime_worker.proofs.Asking.{asks_between, asks_none}

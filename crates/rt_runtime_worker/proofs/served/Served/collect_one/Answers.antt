@@ -6,7 +6,8 @@ use Rattle.rt_runtime_worker.specs.Ended.{IsServed}
 use Rattle.rt_runtime_worker.proofs.Spare.{places_few}
 use Rattle.rt_runtime_worker.proofs.Serving.{collects_served}
 use Rattle.rt_runtime_worker.proofs.Telling.{looked_steps, looked_alone, collected_tells}
-use Rattle.rt_runtime_worker.proofs.Fewer.{collected_few, looked_few, looked_none}
+use Rattle.actor_seat.proofs.Fewer.{collected_few}
+use Rattle.rt_runtime_worker.proofs.Fewer.{looked_few, looked_none}
 use Rattle.rt_runtime_worker.proofs.Heard.{looked_collects, ended_collects}
 use Rattle.rt_runtime_worker.proofs.Asking.{collects_note_none}
 use Rattle.rt_runtime_worker.specs.Asks.{polls_of}

@@ -4,7 +4,8 @@ use Rattle.rt_runtime_worker.specs.Rooms.{IsReady}
 use Rattle.rt_runtime_worker.proofs.Spare.{ready_room}
 use Rattle.rt_runtime_worker.proofs.Serving.{delivers_served}
 use Rattle.rt_runtime_worker.proofs.Telling.{looked_steps, delivered_tells}
-use Rattle.rt_runtime_worker.proofs.Fewer.{delivered_few, looked_few}
+use Rattle.actor_seat.proofs.Fewer.{delivered_few}
+use Rattle.rt_runtime_worker.proofs.Fewer.{looked_few}
 use Rattle.rt_runtime_worker.proofs.Heard.{looked_hears}
 use Rattle.rt_runtime_worker.proofs.Asking.{delivered_notes_none}
 use Rattle.rt_runtime_worker.specs.Asks.{polls_of}

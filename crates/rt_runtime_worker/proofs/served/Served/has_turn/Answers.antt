@@ -1,6 +1,6 @@
 use Rattle.std.proofs.Common.{subst}
 use Rattle.rt_runtime_worker.specs.Ended.{ServedView}
-use Rattle.rt_runtime_worker.specs.Steps.{HasNoTurn}
+use Rattle.actor_seat.specs.Steps.{HasNoTurn}
 use Rattle.rt_runtime_worker.proofs.served.Served.has_turn.Goals as goal
 
 pub returns-clause-rightly : goal.returns-clause-rightly

@@ -4,7 +4,7 @@ use Rattle.rt_runtime_worker.specs.Rooms.{IsReady}
 use Rattle.rt_runtime_worker.proofs.Spare.{turn_room}
 use Rattle.rt_runtime_worker.proofs.Serving.{turned_served}
 use Rattle.rt_runtime_worker.specs.Ended.{ServedView}
-use Rattle.rt_runtime_worker.specs.Bursts.{MakesTurn, turn_view}
+use Rattle.actor_seat.specs.Bursts.{MakesTurn, turn_view}
 use Rattle.rt_runtime_worker.specs.Rounds.{StepsServed, is_turn}
 use Rattle.rt_runtime_worker.proofs.Telling.{looked_steps}
 use Rattle.rt_runtime_worker.proofs.Asking.{asks_between}

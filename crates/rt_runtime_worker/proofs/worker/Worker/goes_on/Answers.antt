@@ -2,7 +2,7 @@ use Rattle.std.proofs.Common.{refl, sym, ◌∙◌, ap, subst, arith}
 use Rattle.std.specs.Prelude.{false, true}
 use Rattle.rt_runtime_worker.specs.Passing.{IsSupplied}
 use Rattle.rt_runtime_worker.specs.Workers.{WorkerView, served_of}
-use Rattle.rt_runtime_worker.proofs.Along.{runs_stays}
+use Rattle.actor_seat.proofs.Along.{runs_stays}
 use Rattle.rt_runtime_worker.proofs.Published.{shown_runs}
 use Rattle.rt_runtime_worker.proofs.Resting.{behind_asks, behind_runs, bell_still, goes}
 use Rattle.rt_runtime_worker.proofs.Supplied.{round_passes}

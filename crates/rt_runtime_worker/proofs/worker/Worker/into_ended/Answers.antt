@@ -1,7 +1,9 @@
-use Rattle.std.proofs.Common.{sym, subst}
+use Rattle.std.proofs.Common.{◌∙◌, ap, sym, subst}
 use Rattle.rt_ids.specs.Closing.{IsDrained}
 use Rattle.rt_runtime_worker.specs.Passing.{HandsOn}
+use Rattle.rt_journal.specs.Recorded.{IsRecorded}
 use Rattle.rt_runtime_worker.specs.Shown.{IsShown, Shows, TellsAlone, shown_of}
+use Rattle.rt_runtime_worker.specs.Workers.{WorkerView}
 use Rattle.rt_runtime_worker.proofs.GivenBack.{given_back}
 use Rattle.rt_runtime_worker.proofs.Published.{shown_now}
 use Rattle.rt_runtime_worker.proofs.worker.Worker.into_ended.Goals as goal
@@ -19,3 +21,25 @@ show_on-requires-clause-shown g c = subst (λ view. IsShown view (shown_of c.sel
 
 pub show_on-requires-clause-alone : goal.show_on-requires-clause-alone
 show_on-requires-clause-alone g c = subst (λ view. TellsAlone c.closed_alone-alone.result view.journal.notes) (sym c.recorded.ensures.recorded) c.closed_alone-alone.ensures
+
+pub show_on-requires-clause-sound : goal.show_on-requires-clause-sound
+show_on-requires-clause-sound g c = subst (IsRecorded g.J.Task.meaning) (sym c.recorded.ensures.recorded) c.recorded.ensures.sound
+
+pub hand_on-answer-requires : goal.hand_on-answer-requires
+hand_on-answer-requires g c = c.self.invariant.2.passed ∙ sym (ap (λ linked. linked.recorded.journal.passed) c.into_linked-linked.ensures.same)
+
+pub returns-clause-hands : goal.returns-clause-hands
+returns-clause-hands g c =
+    subst (λ ended. HandsOn g.S.Sink.has g.S.Sink.refused g.S.Sink.asks c.args.self.linked c.args.self.sink ended.linked ended.sink) (sym c.of.ensures)
+    (subst (λ (worker : WorkerView _ _ _ _ _). HandsOn g.S.Sink.has g.S.Sink.refused g.S.Sink.asks worker.linked worker.sink c.hand_on-answer.new.self c.hand_on-answer.new.sink) c.self.view_is
+    (subst (λ linked. HandsOn g.S.Sink.has g.S.Sink.refused g.S.Sink.asks linked c.self.inside.sink c.hand_on-answer.new.self c.hand_on-answer.new.sink) c.into_linked-linked.ensures.same c.hand_on-answer.ensures.hands))
+
+pub returns-clause-marked : goal.returns-clause-marked
+returns-clause-marked g c =
+    ap (λ ended. g.S.Sink.mark ended.sink) c.of.ensures ∙ (c.hand_on-answer.ensures.marked ∙ ap (λ (worker : WorkerView _ _ _ _ _). g.S.Sink.mark worker.sink) c.self.view_is)
+
+pub returns-clause-shows : goal.returns-clause-shows
+returns-clause-shows g c =
+    subst (λ ended. Shows c.args.self.linked.recorded.journal.notes c.args.self.shown ended.shown) (sym c.of.ensures)
+    (subst (λ (worker : WorkerView _ _ _ _ _). Shows worker.linked.recorded.journal.notes worker.shown (shown_of c.show_on.new.publisher)) c.self.view_is
+    (subst (λ view. Shows view.journal.notes (shown_of c.self.inside.publisher) (shown_of c.show_on.new.publisher)) c.recorded.ensures.recorded c.show_on.ensures))

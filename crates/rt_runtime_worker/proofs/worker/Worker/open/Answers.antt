@@ -1,8 +1,11 @@
-use Rattle.std.proofs.Common.{◌≡◌, false, [], length, sym, ◌∙◌, ap, arith}
+use Rattle.std.proofs.Common.{◌≡◌, false, [], length, sym, ◌∙◌, ap, subst, arith}
+use Rattle.std.proofs.lemmas.Bool.{false≢true}
 use Rattle.std.specs.Prelude.{slice_index_or}
-use Rattle.rt_runtime_worker.specs.Bells.{BellView}
+use Rattle.actor_seat.specs.Bells.{BellView}
 use Rattle.rt_watch.specs.declared.publisher.Publishing.{Publishing}
 use Rattle.rt_runtime_worker.specs.Shown.{shown_of}
+use Rattle.actor_seat.specs.Opening.{IsOpenedOver}
+use Rattle.rt_runtime_worker.proofs.Opened.{opened_places}
 use Rattle.rt_runtime_worker.proofs.Published.{opened_shown}
 use Rattle.rt_runtime_worker.proofs.Rung.{opened_rung}
 use Rattle.rt_runtime_worker.proofs.worker.Worker.open.Goals as goal
@@ -31,6 +34,38 @@ pub of-worker-requires-clause-shown : goal.of-worker-requires-clause-shown
 of-worker-requires-clause-shown g c =
     opened_shown c.args.config.now.cores c.args.config.now.cap c.args.config.now.burst c.args.config.now.room c.args.ends c.in_ok-served.served.linked (shown_of c.in_ok-publisher.publisher) c.in_ok-served.ensures.over
     (ap (λ (publisher : Publishing). publisher.terms) c.in_ok-publisher.ensures.publisher) (ap (λ (publisher : Publishing). publisher.notes) c.in_ok-publisher.ensures.publisher)
+
+pub of-worker-requires-clause-ending : goal.of-worker-requires-clause-ending
+of-worker-requires-clause-ending g c = c.in_ok-served.ensures.ending
+
+pub of-worker-requires-clause-passes : goal.of-worker-requires-clause-passes
+of-worker-requires-clause-passes g c = record {
+  passed = c.requires.none ∙ sym c.in_ok-served.ensures.over.of.none_passed;
+  places = opened_places c.args.config.now.cores c.args.config.now.cap c.args.config.now.burst c.args.config.now.room _ c.args.ends c.in_ok-served.served.linked c.in_ok-served.ensures.over c.requires.room;
+  refuses = λ ending. absurd (false≢true (sym c.in_ok-served.ensures.ending ∙ ending));
+}
+
+pub returns-clause-over : goal.returns-clause-over
+returns-clause-over g c =
+    subst (IsOpenedOver c.args.config.now.cores c.args.config.now.cap c.args.config.now.burst c.args.config.now.room c.args.ends) (sym c.of-worker.ensures.linked) c.in_ok-served.ensures.over
+
+pub returns-clause-clock : goal.returns-clause-clock
+returns-clause-clock g c = c.of-worker.ensures.clock
+
+pub returns-clause-gate : goal.returns-clause-gate
+returns-clause-gate g c = c.of-worker.ensures.gate
+
+pub returns-clause-sink : goal.returns-clause-sink
+returns-clause-sink g c = c.of-worker.ensures.sink
+
+pub returns-clause-bells : goal.returns-clause-bells
+returns-clause-bells g c = c.of-worker.ensures.bells ∙ c.in_ok-all.ensures.names
+
+pub returns-clause-begins : goal.returns-clause-begins
+returns-clause-begins g c = (c.of-worker.ensures.begins, c.of-worker.ensures.tries)
+
+pub returns-clause-queues : goal.returns-clause-queues
+returns-clause-queues g c = ap (λ linked. linked.recorded.journal.notes) c.of-worker.ensures.linked ∙ c.in_ok-served.ensures.queues
 
 pub returns-clause-shown : goal.returns-clause-shown
 returns-clause-shown g c = (

@@ -1,7 +1,7 @@
 use Rattle.std.proofs.Common.{inl, inr, ◌∙◌, ap, subst}
 use Rattle.rt_runtime_worker.specs.Serves.{GoesOn}
 use Rattle.rt_runtime_worker.proofs.Asking.{asks_then}
-use Rattle.rt_runtime_worker.proofs.Along.{runs_along}
+use Rattle.actor_seat.proofs.Along.{runs_along}
 use Rattle.rt_runtime_worker.proofs.ShownAgain.{asks_from, now_same, runs_from}
 use Rattle.rt_runtime_worker.proofs.worker.Worker.serve_once.Goals as goal
 

@@ -1,8 +1,8 @@
 use Rattle.std.proofs.Common.{[], ◌∷◌, sym, ◌∙◌, ap, subst}
 use Rattle.rt_runtime_worker.specs.Asks.{AsksSince, polls_of}
-use Rattle.rt_runtime_worker.specs.Linked.{RunsOn}
+use Rattle.actor_seat.specs.Linked.{RunsOn}
 use Rattle.rt_runtime_worker.specs.Workers.{WorkerView}
-use Rattle.rt_runtime_worker.proofs.Along.{runs_along, runs_same}
+use Rattle.actor_seat.proofs.Along.{runs_along, runs_same}
 use Rattle.rt_runtime_worker.proofs.Asking.{asks_none, asks_then}
 use Rattle.rt_runtime_worker.proofs.Resting.{worker_of}
 use Rattle.rt_runtime_worker.specs.Shown.{shown_of}
@@ -16,13 +16,14 @@ loop-init g c = (
   tt,
   (
     [],
-    ap (λ rounds. worker_of rounds.served.linked rounds.served.ending rounds.watch.clock rounds.gate rounds.watch.taken rounds.turns c.worker.inside.tries c.worker.inside.idle rounds.bells.names c.worker.inside.sink (shown_of c.worker.inside.publisher) c.worker.inside.since) c.prefault.ensures
+    ap (λ served. worker_of served.linked served.ending c.worker.inside.rounds.watch.clock c.worker.inside.rounds.gate c.worker.inside.rounds.watch.taken c.worker.inside.rounds.turns c.worker.inside.tries c.worker.inside.idle
+        c.worker.inside.rounds.bells.names c.worker.inside.sink (shown_of c.worker.inside.publisher) c.worker.inside.since) c.prefault.ensures
         ∙ c.worker.view_is,
   ),
-  subst (λ rounds. RunsOn c.args.self.linked rounds.served.linked) (sym c.prefault.ensures)
+  subst (λ served. RunsOn c.args.self.linked served.linked) (sym c.prefault.ensures)
       (subst (λ (old : WorkerView _ _ _ _ _). RunsOn old.linked c.worker.inside.rounds.served.linked) c.worker.view_is (runs_same c.worker.inside.rounds.served.linked)),
-  asks_none g.G.Gate.Asked _ _ _ _ _ (ap (λ rounds. polls_of rounds.served.linked.recorded.journal.notes) c.prefault.ensures ∙ ap (λ (worker : WorkerView _ _ _ _ _). polls_of worker.linked.recorded.journal.notes) c.worker.view_is)
-      (ap (λ rounds. rounds.gate) c.prefault.ensures ∙ ap (λ (worker : WorkerView _ _ _ _ _). worker.gate) c.worker.view_is),
+  asks_none g.G.Gate.Asked _ _ _ _ _ (ap (λ served. polls_of served.linked.recorded.journal.notes) c.prefault.ensures ∙ ap (λ (worker : WorkerView _ _ _ _ _). polls_of worker.linked.recorded.journal.notes) c.worker.view_is)
+      (ap (λ (worker : WorkerView _ _ _ _ _). worker.gate) c.worker.view_is),
   ap (λ (worker : WorkerView _ _ _ _ _). worker.shown.board) c.worker.view_is,
   ap (λ (worker : WorkerView _ _ _ _ _). g.S.Sink.mark worker.sink) c.worker.view_is,
 )

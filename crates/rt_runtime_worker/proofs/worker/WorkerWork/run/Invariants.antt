@@ -1,6 +1,6 @@
 use Rattle.std.proofs.Common.{◌≡◌}
 use Rattle.rt_runtime_worker.specs.Asks.{AsksSince}
-use Rattle.rt_runtime_worker.specs.Linked.{RunsOn}
+use Rattle.actor_seat.specs.Linked.{RunsOn}
 use Rattle.rt_runtime_worker.specs.Serves.{ServesOn}
 use Rattle.rt_runtime_worker.proofs.worker.WorkerWork.run.Given as goal
 

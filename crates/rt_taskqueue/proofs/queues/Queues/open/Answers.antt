@@ -1,8 +1,10 @@
-use Rattle.std.proofs.Common.{ap, arith}
+use Rattle.std.proofs.Common.{None, replicate, ap, ◌∙◌, arith}
+use Rattle.rt_taskqueue.specs.Seats.{no_seat}
 use Rattle.rt_taskqueue.specs.declared.line.Queue.{Queue}
 use Rattle.rt_taskqueue.proofs.Changes.{IsKept-opened}
 use Rattle.rt_taskqueue.proofs.OwnSlips.{HasOwnSlips-one}
 use Rattle.rt_taskqueue.proofs.Rests.{AreAtRest-opened}
+use Rattle.rt_taskqueue.proofs.Finds.{AreFound-opened}
 use Rattle.rt_taskqueue.proofs.queues.Queues.open.Goals as goal
 
 pub invariant_of-result : goal.invariant_of-result
@@ -12,4 +14,6 @@ invariant_of-result g c =
           (omega (arith, c.in_ok-jobs.ensures.capacity)) (omega (arith, c.in_ok-lines.ensures.capacity)),
       HasOwnSlips-one _ (omega (arith, c.in_ok-slips.ensures.room)),
       AreAtRest-opened c.in_ok-jobs.jobs c.empty.result (ap (λ (q : Queue). q.parked.count) c.empty.ensures),
+      AreFound-opened c.in_ok-jobs.jobs c.empty.result c.in_ok-names.names c.in_ok-seats.seats.items c.in_ok-jobs.ensures.empty (ap (λ (q : Queue). q.parked.count) c.empty.ensures)
+          (c.in_ok-names.ensures ∙ ap (λ n. replicate n None) c.capacity-places.ensures.value) (c.in_ok-seats.ensures ∙ ap (λ n. replicate n no_seat) c.capacity-places.ensures.value),
     )

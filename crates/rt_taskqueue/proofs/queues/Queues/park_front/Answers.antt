@@ -8,6 +8,8 @@ use Rattle.rt_taskqueue.specs.Entries.{Requeues, MovesHead}
 use Rattle.rt_taskqueue.specs.View.{QueuesView, waiting_of}
 use Rattle.rt_taskqueue.specs.Slips.{queues_alone}
 use Rattle.rt_taskqueue.proofs.Fronts.{some_waiting}
+use Rattle.rt_taskqueue.proofs.Finds.{AreFound-requeued, AreFound-moved}
+use Rattle.rt_taskqueue.proofs.Names.{key_within}
 use Rattle.rt_taskqueue.proofs.Marked.{one_entry}
 use Rattle.rt_taskqueue.proofs.Spots.{waits, parks, queue_read}
 use Rattle.rt_taskqueue.proofs.Turns.{IsKept-requeued, AreAtRest-requeued, RestsFront-requeued, IsKept-moved, AreAtRest-moved, RestsFront-moved}
@@ -55,6 +57,7 @@ invariant_of-self g c =
       IsKept-requeued c.args.queue c.requeue.result false c.self.invariant.0 requeues exists some,
       subst (λ count. HasOwnSlips count inside.slips.at.cap inside.slips.at.items) (sym (length-set lines c.args.queue _)) c.self.invariant.1,
       AreAtRest-requeued c.args.queue c.requeue.result false c.self.invariant.0 requeues exists some c.self.invariant.2,
+      AreFound-requeued inside.names inside.seats.items c.args.queue c.requeue.result false c.self.invariant.0 requeues exists some c.self.invariant.3,
     )
 
 pub returns-then-index-clause-rests : goal.returns-then-index-clause-rests
@@ -109,6 +112,7 @@ invariant_of-self-2 g c =
       IsKept-moved c.args.queue c.move_head.result.0 c.move_head.result.1 c.self.invariant.0 moves exists some,
       subst (λ count. HasOwnSlips count inside.slips.at.cap inside.slips.at.items) (sym (length-set lines c.args.queue _)) c.self.invariant.1,
       AreAtRest-moved c.args.queue c.move_head.result.0 c.move_head.result.1 c.self.invariant.0 moves exists some c.self.invariant.2,
+      AreFound-moved inside.names inside.seats.items c.args.queue c.move_head.result.0 c.move_head.result.1 c.self.invariant.0 moves exists some c.self.invariant.3,
     )
 
 pub returns-clause-rests : goal.returns-clause-rests
@@ -135,3 +139,16 @@ returns-clause-limits g c =
     let some = some_waiting c.self.invariant.0 c.args.queue waits_some in
     let moves = subst (λ (q : Queue). MovesHead inside.jobs q.waiting q.parked c.move_head.new.jobs c.move_head.result.0 c.move_head.result.1) (sym read) c.move_head.ensures in
     rw (c.queue.view_is, ← read) (IsWithinLimits-view (IsKept-moved c.args.queue c.move_head.result.0 c.move_head.result.1 c.self.invariant.0 moves exists some))
+
+pub index_mut-requires-3 : goal.index_mut-requires-3
+index_mut-requires-3 g c =
+    let inside = c.self.inside in
+    let lines = inside.lines.items in
+    let was = c.index-was.result.now in
+    let exists = exists-view inside.room inside.jobs lines (ap queues_alone c.self.view_is) c.requires.exists in
+    let read = queue_read lines c.queue.inside.0 c.args.queue was (omega (arith, exists, c.queue.view_is)) c.index-was.ensures c.queue.view_is in
+    let waits_some = subst (λ (view : QueuesView g.row.J.Denot). waiting_of c.args.queue view ≡ [] → ⊥) (sym (ap queues_alone c.self.view_is)) c.requires.some in
+    let some = some_waiting c.self.invariant.0 c.args.queue waits_some in
+    let here = ap (λ (q : Queue). q.waiting) read in
+    let counted : 0 < was.waiting.count = omega (arith, some, ap (λ (l : Line). l.count) here) in
+    omega (arith, key_within inside.jobs inside.names was.waiting.head c.self.invariant.3.named (head_filled c.self.invariant.0 (waits c.args.queue) was.waiting here counted), c.self.invariant.3.names_size, c.self.invariant.3.seats_size)

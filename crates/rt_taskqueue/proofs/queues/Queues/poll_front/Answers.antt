@@ -10,6 +10,7 @@ use Rattle.rt_taskqueue.specs.Queues.{QueuesView, waiting_of}
 use Rattle.rt_taskqueue.specs.Slips.{queues_alone}
 use Rattle.rt_taskqueue.proofs.Fronts.{some_ready, some_waiting, head_ready, Rewrites-job, front_renewed, front_rests}
 use Rattle.rt_taskqueue.proofs.Renewals.{IsKept-renewed}
+use Rattle.rt_taskqueue.proofs.Finds.{AreFound-renewed}
 use Rattle.rt_taskqueue.proofs.Spots.{waits, queue_read}
 use Rattle.rt_taskqueue.proofs.Views.{alone, exists-view, head_filled, IsWithinLimits-view}
 use Rattle.rt_taskqueue.proofs.queues.Queues.poll_front.Goals as goal
@@ -54,6 +55,7 @@ invariant_of-self g c =
       IsKept-renewed c.index.result.now.waiting.head polls.front (record polls.front { job = polls.job }) c.self.invariant.0 (Rewrites-job _ _ _ polls.front polls.job polls.renews),
       c.self.invariant.1,
       front_rests c.args.queue polls.front (record polls.front { job = polls.job }) c.self.invariant.0 (Rewrites-job _ _ _ polls.front polls.job renews) some c.self.invariant.2,
+      AreFound-renewed inside.names inside.seats.items c.index.result.now.waiting.head polls.front polls.job polls.renews c.self.invariant.3,
     )
 
 pub returns-clause-polls : goal.returns-clause-polls

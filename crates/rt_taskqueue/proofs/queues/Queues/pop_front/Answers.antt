@@ -1,11 +1,15 @@
-use Rattle.std.proofs.Common.{◌≡◌, ℕ, ◌-◌, ◌<◌, drop, sym, ap, subst, refl, arith, length-set}
+use Rattle.std.proofs.Common.{◌≡◌, ℕ, ◌-◌, ◌<◌, drop, set, None, sym, ap, subst, refl, arith, length-set}
+use Rattle.std.specs.Prelude.{is_some}
 use Rattle.rt_taskqueue.specs.declared.line.Line.{Line}
 use Rattle.rt_taskqueue.specs.declared.line.Queue.{Queue}
 use Rattle.rt_taskqueue.specs.Queues.{ChangesLine}
 use Rattle.rt_taskqueue.specs.Slips.{queues_alone}
 use Rattle.rt_taskqueue.specs.Linked.{HasOwnSlips}
 use Rattle.rt_taskqueue.proofs.Leaves.{Leaves, IsKept-left, waiting_of-left, ChangesLine-left, held_count-left, Writes-left}
-use Rattle.rt_taskqueue.proofs.Spots.{waits, queue_read}
+use Rattle.rt_taskqueue.specs.Seats.{AreFound}
+use Rattle.rt_taskqueue.proofs.Spots.{waits, placed, queue_read}
+use Rattle.rt_taskqueue.proofs.Finds.{AreFound-left}
+use Rattle.rt_taskqueue.proofs.Names.{has_name}
 use Rattle.rt_taskqueue.proofs.Views.{exists-view, head_filled, held_count-view, IsWithinLimits-view}
 use Rattle.rt_taskqueue.proofs.Rests.{false_true, AreAtRest-writes}
 use Rattle.rt_taskqueue.proofs.queues.Queues.pop_front.Goals as goal
@@ -46,10 +50,12 @@ invariant_of-self g c =
       count = refl;
     } in
     let leaves = subst (λ (q : Queue). Leaves inside.jobs q.waiting front c.remove-front.new.self rest) (sym read) leaves_line in
-    rw (c.queue.view_is, ← wrote) (
+    rw (c.remove.ensures, c.queue.view_is, ← wrote) (
       IsKept-left (waits c.args.queue) front rest c.self.invariant.0 leaves exists,
       subst (λ count. HasOwnSlips count inside.slips.at.cap inside.slips.at.items) (sym (length-set lines c.args.queue _)) c.self.invariant.1,
       AreAtRest-writes inside.jobs c.remove-front.new.self lines _ (waits c.args.queue) _ c.self.invariant.2 (Writes-left (waits c.args.queue) front rest c.self.invariant.0 leaves exists) (λ is. absurd (false_true is)),
+      subst (λ (q : Queue). AreFound c.remove-front.new.self (placed lines (waits c.args.queue) rest) (set inside.names q.waiting.head None) inside.seats.items) read
+          (AreFound-left inside.names inside.seats.items c.args.queue front rest c.self.invariant.0 leaves exists c.self.invariant.3),
     )
 
 pub returns : goal.returns
@@ -94,3 +100,6 @@ pub index_mut-requires : goal.index_mut-requires
 index_mut-requires g c =
     let exists = exists-view c.self.inside.room c.self.inside.jobs c.self.inside.lines.items (ap queues_alone c.self.view_is) c.requires.exists in
     omega (arith, exists, c.queue.view_is)
+
+pub remove-requires : goal.remove-requires
+remove-requires g c = has_name c.self.inside.jobs c.self.inside.names c.index.result.now.waiting.head c.self.invariant.3.named (ap is_some c.remove-front.ensures.value)

@@ -11,7 +11,7 @@ index_mut-requires g c =
 pub invariant_of-self : goal.invariant_of-self
 invariant_of-self g c =
     let within = exists-view c.self.inside.room c.self.inside.jobs c.self.inside.lines.items (ap queues_alone c.self.view_is) c.requires.exists in
-    (c.self.invariant.0, HasOwnSlips-set _ _ c.place.inside.0 _ c.self.inside.slips.at.items (omega (arith, within, c.place.view_is, c.queue.ensures)) (sym c.queue.ensures ∙ sym c.place.view_is) c.self.invariant.1, c.self.invariant.2)
+    (c.self.invariant.0, HasOwnSlips-set _ _ c.place.inside.0 _ c.self.inside.slips.at.items (omega (arith, within, c.place.view_is, c.queue.ensures)) (sym c.queue.ensures ∙ sym c.place.view_is) c.self.invariant.1, c.self.invariant.2, c.self.invariant.3)
 
 pub returns : goal.returns
 returns g c =

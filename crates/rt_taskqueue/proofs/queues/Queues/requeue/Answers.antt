@@ -8,6 +8,7 @@ use Rattle.rt_taskqueue.specs.Entries.{Requeues}
 use Rattle.rt_taskqueue.specs.Queues.{QueuesView, waiting_of}
 use Rattle.rt_taskqueue.specs.Slips.{queues_alone}
 use Rattle.rt_taskqueue.proofs.Fronts.{some_waiting}
+use Rattle.rt_taskqueue.proofs.Finds.{AreFound-requeued}
 use Rattle.rt_taskqueue.proofs.Marked.{one_entry}
 use Rattle.rt_taskqueue.proofs.Spots.{waits, queue_read}
 use Rattle.rt_taskqueue.proofs.Turns.{IsKept-requeued, AreAtRest-requeued, TurnsLine-requeued}
@@ -60,6 +61,7 @@ invariant_of-self g c =
       IsKept-requeued c.args.queue c.requeue.result c.index-2.result.now.woken c.self.invariant.0 requeues exists some,
       subst (λ count. HasOwnSlips count inside.slips.at.cap inside.slips.at.items) (sym (length-set lines c.args.queue _)) c.self.invariant.1,
       AreAtRest-requeued c.args.queue c.requeue.result c.index-2.result.now.woken c.self.invariant.0 requeues exists some c.self.invariant.2,
+      AreFound-requeued inside.names inside.seats.items c.args.queue c.requeue.result c.index-2.result.now.woken c.self.invariant.0 requeues exists some c.self.invariant.3,
     )
 
 pub returns : goal.returns

@@ -2,8 +2,10 @@ use Rattle.std.proofs.Common.{sym, ap, subst, refl, arith, length-set}
 use Rattle.rt_taskqueue.specs.declared.line.Queue.{Queue}
 use Rattle.rt_taskqueue.specs.Slips.{queues_alone}
 use Rattle.rt_taskqueue.specs.Linked.{HasOwnSlips}
-use Rattle.rt_taskqueue.proofs.Changes.{says-weighed, IsKept-weighed, ChangesShares-weighed}
+use Rattle.rt_taskqueue.proofs.Changes.{lines-weighed, says-weighed, IsKept-weighed, ChangesShares-weighed}
 use Rattle.rt_taskqueue.proofs.Rests.{AreAtRest-same}
+use Rattle.rt_taskqueue.proofs.Parked.{SameParks-lines}
+use Rattle.rt_taskqueue.proofs.Finds.{AreFound-same}
 use Rattle.rt_taskqueue.proofs.Spots.{queue_read}
 use Rattle.rt_taskqueue.proofs.Views.{exists-view, IsWithinLimits-view}
 use Rattle.rt_taskqueue.proofs.queues.Queues.set_shares.Goals as goal
@@ -28,6 +30,7 @@ invariant_of-self g c =
       IsKept-weighed c.args.queue now c.self.invariant.0 exists waiting parked,
       subst (λ places. HasOwnSlips places inside.slips.at.cap inside.slips.at.items) (sym (length-set lines c.args.queue now)) c.self.invariant.1,
       AreAtRest-same inside.jobs inside.jobs lines _ (says-weighed inside.jobs lines c.args.queue now exists waiting parked) c.self.invariant.2,
+      AreFound-same inside.jobs inside.jobs lines _ inside.names inside.seats.items (SameParks-lines inside.jobs lines _ (lines-weighed lines c.args.queue now exists waiting parked)) (λ key. refl) refl c.self.invariant.3,
     )
 
 pub returns : goal.returns

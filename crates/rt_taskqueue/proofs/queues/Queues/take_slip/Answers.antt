@@ -12,7 +12,7 @@ index_mut-requires g c =
 pub invariant_of-self : goal.invariant_of-self
 invariant_of-self g c =
     let within = exists-view c.self.inside.room c.self.inside.jobs c.self.inside.lines.items (ap queues_alone c.self.view_is) c.requires.exists in
-    (c.self.invariant.0, rw c.take.ensures.after (HasOwnSlips-set _ _ c.queue.inside.0 _ c.self.inside.slips.at.items (omega (arith, within, c.queue.view_is)) tt c.self.invariant.1), c.self.invariant.2)
+    (c.self.invariant.0, rw c.take.ensures.after (HasOwnSlips-set _ _ c.queue.inside.0 _ c.self.inside.slips.at.items (omega (arith, within, c.queue.view_is)) tt c.self.invariant.1), c.self.invariant.2, c.self.invariant.3)
 
 pub returns-clause-there : goal.returns-clause-there
 returns-clause-there g c =

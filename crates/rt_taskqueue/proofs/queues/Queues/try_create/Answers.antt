@@ -4,8 +4,10 @@ use Rattle.rt_taskqueue.specs.declared.line.Queue.{Queue}
 use Rattle.rt_taskqueue.specs.Queues.{AddsQueue}
 use Rattle.rt_taskqueue.specs.Linked.{HasOwnSlips}
 use Rattle.rt_taskqueue.proofs.Views.{alone, IsWithinLimits-view, queue_count-view}
-use Rattle.rt_taskqueue.proofs.Changes.{IsKept-created, AddsQueue-created, says-created}
+use Rattle.rt_taskqueue.proofs.Changes.{IsKept-created, AddsQueue-created, lines-created, says-created}
 use Rattle.rt_taskqueue.proofs.Rests.{AreAtRest-same}
+use Rattle.rt_taskqueue.proofs.Parked.{SameParks-lines}
+use Rattle.rt_taskqueue.proofs.Finds.{AreFound-same}
 use Rattle.rt_taskqueue.proofs.OwnSlips.{HasOwnSlips-push, map_is_some-push}
 use Rattle.rt_taskqueue.proofs.queues.Queues.try_create.Goals as goal
 
@@ -28,8 +30,12 @@ invariant_of-self g c =
     let slips = c.self.inside.slips.at.items in
     let of_number : HasOwnSlips (length (lines ++ c.empty.result ∷ [])) c.self.inside.slips.at.cap (slips ++ Some c.len-count.result ∷ []) =
     rw (length_push, c.len-count.ensures) (HasOwnSlips-push (length lines) c.self.inside.slips.at.cap slips c.self.invariant.1) in
-    rw (c.push_reserved.ensures.items, c.push_reserved.ensures.capacity, c.in-Ok.ensures.added, c.add.ensures.capacity)
-    (IsKept-created c.empty.result c.self.invariant.0 (λ e. c.if-count-eq-MOST_QUEUES.false (c.len-count.ensures ∙ e)) waiting parked, of_number, AreAtRest-same c.self.inside.jobs c.self.inside.jobs lines _ (says-created c.self.inside.jobs lines c.empty.result waiting parked) c.self.invariant.2)
+    rw (c.push_reserved.ensures.items, c.push_reserved.ensures.capacity, c.in-Ok.ensures.added, c.add.ensures.capacity) (
+      IsKept-created c.empty.result c.self.invariant.0 (λ e. c.if-count-eq-MOST_QUEUES.false (c.len-count.ensures ∙ e)) waiting parked,
+      of_number,
+      AreAtRest-same c.self.inside.jobs c.self.inside.jobs lines _ (says-created c.self.inside.jobs lines c.empty.result waiting parked) c.self.invariant.2,
+      AreFound-same c.self.inside.jobs c.self.inside.jobs lines _ c.self.inside.names c.self.inside.seats.items (SameParks-lines c.self.inside.jobs lines _ (lines-created lines c.empty.result waiting parked)) (λ key. refl) refl c.self.invariant.3,
+    )
 
 pub invariant_of-self-in-Err : goal.invariant_of-self-in-Err
 invariant_of-self-in-Err g c = rw c.in-Err.ensures.refused c.self.invariant

@@ -1,9 +1,14 @@
-use Rattle.std.proofs.Common.{sym, ap, refl, subst, arith, length-set}
+use Rattle.std.proofs.Common.{◌<◌, ℕ, length, sym, ap, refl, subst, arith, length-set}
 use Rattle.rt_taskqueue.specs.declared.line.Queue.{Queue}
 use Rattle.rt_taskqueue.specs.Linked.{HasOwnSlips}
-use Rattle.rt_taskqueue.specs.Found.{JoinsLines}
+use Rattle.rt_taskqueue.specs.Lines.{JoinsLines}
 use Rattle.rt_taskqueue.specs.Slips.{queues_alone}
-use Rattle.rt_taskqueue.proofs.Spots.{waits, queue_read}
+use Rattle.slab.specs.Slab.{get}
+use Rattle.rt_taskqueue.specs.Linked.{key_at}
+use Rattle.rt_taskqueue.specs.Lines.{IsChain}
+use Rattle.rt_taskqueue.specs.Seats.{Vacates}
+use Rattle.rt_taskqueue.proofs.Finds.{AreFound-unparked, found_within}
+use Rattle.rt_taskqueue.proofs.Spots.{waits, parks, queue_read}
 use Rattle.rt_taskqueue.proofs.Unparks.{unparked_queues, both-le-len, IsKept-unparked, AreAtRest-unparked, Moves-unparked}
 use Rattle.rt_taskqueue.proofs.Views.{exists-view, tail_filled, IsWithinLimits-view}
 use Rattle.rt_taskqueue.proofs.queues.Queues.unpark_all.Goals as goal
@@ -39,10 +44,12 @@ invariant_of-self g c =
     let exists = exists-view inside.room inside.jobs lines (ap queues_alone c.self.view_is) c.requires.exists in
     let read = queue_read lines c.queue.inside.0 c.args.queue was (omega (arith, exists, c.queue.view_is)) c.index-was.ensures c.queue.view_is in
     let joins = subst (λ (q : Queue). JoinsLines inside.jobs q.waiting q.parked c.join_lines.new.jobs c.join_lines.result) (sym read) c.join_lines.ensures in
+    let gone = subst (λ (q : Queue). Vacates (key_at (get inside.jobs) q.parked.head) q.parked.count inside.seats.items c.vacate.new.seats.items) (sym read) c.vacate.ensures in
     rw (c.queue.view_is, ← read, ← unparked_queues lines c.args.queue c.join_lines.result exists) (
       IsKept-unparked c.args.queue c.join_lines.result c.self.invariant.0 joins exists,
       rw (unparked_queues lines c.args.queue c.join_lines.result exists) (subst (λ count. HasOwnSlips count inside.slips.at.cap inside.slips.at.items) (sym (length-set lines c.args.queue _)) c.self.invariant.1),
       AreAtRest-unparked c.args.queue c.join_lines.result c.self.invariant.0 joins exists c.self.invariant.2,
+      AreFound-unparked inside.names inside.seats.items c.args.queue c.join_lines.result c.vacate.new.seats.items c.self.invariant.0 joins exists gone c.self.invariant.3,
     )
 
 pub returns : goal.returns
@@ -58,3 +65,16 @@ returns g c =
       slips = refl;
       limits = IsWithinLimits-view (IsKept-unparked c.args.queue c.join_lines.result c.self.invariant.0 joins exists);
     })
+
+pub vacate-requires : goal.vacate-requires
+vacate-requires g c =
+    let inside = c.self.inside in
+    let lines = inside.lines.items in
+    let was = c.index-was.result.now in
+    let exists = exists-view inside.room inside.jobs lines (ap queues_alone c.self.view_is) c.requires.exists in
+    let read = queue_read lines c.queue.inside.0 c.args.queue was (omega (arith, exists, c.queue.view_is)) c.index-was.ensures c.queue.view_is in
+    record {
+      chain = subst (λ (q : Queue). IsChain inside.jobs q.parked) read (c.self.invariant.0.linked.filled (parks c.args.queue));
+      within = subst (λ (q : Queue). (place : ℕ) → place < q.parked.count → key_at (get inside.jobs) q.parked.head place < length inside.seats.items) read
+          (λ place. found_within inside.names inside.seats.items (parks c.args.queue) place c.self.invariant.0 c.self.invariant.3);
+    }

@@ -1,0 +1,155 @@
+-- The end to one core, as it is lent, and what a call on it leaves.
+use Rattle.std.proofs.Common.{◌≡◌, inl, inr, ℕ, ◌+◌, ◌<◌, ◌≤◌, List, length, set, get_or-set_same, get_or-set_other, length-set, refl, sym, ◌∙◌, ap, subst, arith}
+use Rattle.std.specs.Prelude.{Some, Result, Ok, Err, IfOk, slice_get}
+use Rattle.std.proofs.lemmas.Bool.Decides.{eqb_tells}
+use Rattle.std.proofs.lemmas.List.{length-append}
+use Rattle.std.proofs.lemmas.Option.{slice_get-get_or}
+use Rattle.rt_ids.specs.declared.order.Order.{Order}
+use Rattle.rt_ids.specs.declared.order.SendError.{SendError}
+use Rattle.rt_ids.specs.declared.order.SendError.TheVariants.{Closed, Full, Spent, NoCore}
+use Rattle.rt_desk.proofs.Cores.{changed, unchanged}
+use Rattle.rt_jobs.specs.Meanings.{Meaning}
+use Rattle.rt_link.specs.declared.ends.Outward.{Outward}
+use Rattle.rt_link.specs.Calls.{Sends}
+use Rattle.rt_link.specs.Fits.{Fits}
+use Rattle.rt_ring.specs.declared.ring_out.Sending.{Sending}
+use Rattle.rt_journal.specs.Recorded.{RecordedView, IsRecorded, desk_of}
+use Rattle.rt_journal.specs.Ends.{IsSameSeat, KeepsIn}
+use Rattle.rt_journal.specs.OwedPolls.{seen_by}
+use Rattle.rt_journal.proofs.OwedSteps.{collects_keep, sees_more_owed}
+use Rattle.rt_journal.proofs.OwedTurns.{seen_got}
+use Rattle.rt_journal_desk.specs.Ends.{IsOutOf}
+use Rattle.rt_journal_desk.specs.Posts.{AreOutsOf}
+use Rattle.rt_journal_desk.specs.Submissions.{DeskView}
+use Rattle.rt_journal_desk.specs.Tickets.{CollectsFrom, GetsAll, HasLane, StaysBeside}
+use Rattle.rt_ring_mesh.specs.Ends.{EndsView, out_at, no_out, SameEnds}
+use Rattle.rt_ring_mesh.specs.Lending.{with_out}
+use Rattle.rt_ring_mesh.proofs.Using.{out_used}
+use Rattle.actor_seat.specs.Linked.{AreBeside, IsLinked, SeesNoLess, StaysLinked}
+use Rattle.actor_seat.specs.Seats.{IsSeated, UsesOut}
+use Rattle.actor_seat.specs.Steps.{CollectsOf}
+use Rattle.actor_seat.proofs.Adding.{Adds, collects_add}
+use Rattle.actor_seat.proofs.Posted.{resent_beside}
+use Rattle.actor_seat.proofs.Seen.{out_put_sees, prefix_shorter}
+
+module _ {J T : Type 0} (meaning : Meaning J T) where
+  -- an end to each core, beside the desk and the lane of that core
+  abbrev pub AreOuts : DeskView J T → List (Sending J T) → Type 0
+  AreOuts desk outs = AreOutsOf (Fits meaning) (λ (end : Sending J T). end.out) (λ (end : Sending J T). end.credited) desk outs
+
+  -- the end to a core as it is lent
+  pub record LendsOut (core : ℕ) (desk : DeskView J T) (ends : EndsView J T) (before : Sending J T) : Type 0 where
+    pub known : core < desk.cores
+    pub is : before ≡ out_at core ends
+    pub outs : AreOuts desk ends.outs
+
+module _ {J T : Type 0} where
+  -- a send sees no more than before
+  pub sends_seen : (old : Outward J T) (credited : ℕ) (order : Order J) (new : Outward J T) (answer : Result ℕ (SendError J)) → Sends old credited order new answer → new.seen ≡ old.seen
+  sends_seen old credited order new (Ok number) sends = ap (λ out. out.seen) sends.4
+  sends_seen old credited order new (Err (Closed back final)) sends = ap (λ out. out.seen) sends.2
+  sends_seen old credited order new (Err (Full back)) sends = ap (λ out. out.seen) sends.3
+  sends_seen old credited order new (Err (Spent back)) sends = ap (λ out. out.seen) sends.4
+  sends_seen old credited order new (Err (NoCore back)) sends = absurd sends
+
+module _ {J T : Type 0} {meaning : Meaning J T} {core : ℕ} {desk : DeskView J T} {ends : EndsView J T} {before : Sending J T} (lent : LendsOut meaning core desk ends before) where
+  in_place : core < length ends.outs
+  in_place = omega (arith, lent.known, lent.outs.count)
+
+  out_there : slice_get ends.outs core ≡ Some before
+  out_there = subst (λ end. slice_get ends.outs core ≡ Some end) (sym lent.is) (slice_get-get_or ends.outs core no_out in_place)
+
+  -- what was sent on this end was sent on that to the core
+  pub out_fits : {A E : Type 0} (answer : Result A E) (fact : Outward J T → A → Type 0) → IfOk answer (fact before.out) → IfOk answer (fact (out_at core ends).out)
+  out_fits answer fact holds = subst (λ (end : Sending J T). IfOk answer (fact end.out)) lent.is holds
+
+  pub out_beside : IsOutOf core desk before.out before.credited
+  out_beside = lent.outs.beside core before out_there
+
+  pub out_lane : HasLane (Fits meaning) core desk before.out before.credited
+  out_lane = lent.outs.lanes core before out_there
+
+  -- there is room to note all outcomes that the link holds, if there is room for as many as it may hold
+  pub out_room : length desk.journal.notes + desk.cap ≤ desk.journal.room → length desk.journal.notes + length before.out.sent ≤ desk.journal.room + before.out.got
+  out_room room = omega (arith, room, out_lane.lane_of.sound.room, out_lane.lane_of.sound.credits, out_beside.capacity)
+
+  module _ (after : Sending J T) where
+    out_now : out_at core (with_out core after ends) ≡ after
+    out_now = get_or-set_same ends.outs core after no_out in_place
+
+    -- what is done on this end is done on that to the core
+    pub out_sends : (order : Order J) (answer : Result ℕ (SendError J)) → Sends before.out before.credited order after.out answer →
+        Sends (out_at core ends).out (out_at core ends).credited order (out_at core (with_out core after ends)).out answer
+    out_sends order answer sends =
+        subst (λ (end : Sending J T). Sends end.out end.credited order (out_at core (with_out core after ends)).out answer) lent.is
+        (subst (λ (end : Sending J T). Sends before.out before.credited order end.out answer) (sym out_now) sends)
+
+    pub out_gets : GetsAll before.out after.out → GetsAll (out_at core ends).out (out_at core (with_out core after ends)).out
+    out_gets gets =
+        subst (λ (end : Sending J T). GetsAll end.out (out_at core (with_out core after ends)).out) lent.is
+        (subst (λ (end : Sending J T). GetsAll before.out end.out) (sym out_now) gets)
+
+    -- no other end changes
+    pub out_uses : UsesOut core ends (with_out core after ends)
+    out_uses = record { others = λ other away. get_or-set_other ends.outs core other after no_out away; rest = refl }
+
+    pub out_ends : after.link ≡ before.link → SameEnds ends (with_out core after ends)
+    out_ends link = out_used ends core after in_place (link ∙ ap (λ (end : Sending J T). end.link) lent.is)
+
+    pub out_sees : length before.out.seen ≤ length after.out.seen → SeesNoLess ends (with_out core after ends)
+    out_sees longer =
+        let same : length before.out.seen ≡ length (out_at core ends).out.seen = ap (λ (end : Sending J T). length end.out.seen) lent.is in
+        out_put_sees core ends after in_place (omega (arith, longer, same))
+
+    module _ {now : DeskView J T} (stays : StaysBeside (Fits meaning) core desk now after.out after.credited) where
+      pub outs_now : AreOuts meaning now (set ends.outs core after)
+      outs_now = record {
+        count = length-set ends.outs core after ∙ (lent.outs.count ∙ ap (λ desk. desk.cores) (sym stays.rest));
+        beside = λ other its at. elim (eqb_tells other core) [
+          | inl one ↦ subst (λ (end : Sending J T). IsOutOf other now end.out end.credited) (sym (changed ends.outs core other after its at one.1)) (subst (λ core. IsOutOf core now after.out after.credited) (sym one.1) stays.beside)
+          | inr away ↦ (stays.others other away.1).each its.out its.credited (lent.outs.beside other its (unchanged ends.outs core other after its at away.1))
+        ];
+        lanes = λ other its at. elim (eqb_tells other core) [
+          | inl one ↦
+              subst (λ (end : Sending J T). HasLane (Fits meaning) other now end.out end.credited) (sym (changed ends.outs core other after its at one.1))
+              (subst (λ core. HasLane (Fits meaning) core now after.out after.credited) (sym one.1) stays.lane)
+          | inr away ↦
+              let had = lent.outs.lanes other its (unchanged ends.outs core other after its at away.1) in
+              record { lane = had.lane; is = stays.lanes other away.1 ∙ had.is; lane_of = had.lane_of }
+        ];
+      }
+
+-- the same of a core, whose other ends stay
+module _ {J T : Type 0} {meaning : Meaning J T} {recorded : RecordedView J T} {ends : EndsView J T} (beside : AreBeside (Fits meaning) recorded ends) {core : ℕ} {before : Sending J T}
+    (lent : LendsOut meaning core (desk_of recorded) ends before) (now : RecordedView J T) (after : Sending J T) where
+  pub out_stays : {count : ℕ} → IsSameSeat recorded now → after.link ≡ before.link → length before.out.seen ≤ length after.out.seen → Adds count recorded.journal.notes now.journal.notes →
+      StaysLinked (record { recorded = recorded; ends = ends }) (record { recorded = now; ends = with_out core after ends })
+  out_stays seat link longer adds = record { seat = seat; sees = out_sees lent after longer; ends = out_ends lent after link; opening = adds.opening; grows = adds.grows }
+
+  pub out_seated : StaysBeside (Fits meaning) core (desk_of recorded) (desk_of now) after.out after.credited → ((sender : ℕ) → KeepsIn sender recorded now) → IsSameSeat recorded now → IsRecorded meaning now →
+      IsSeated meaning (record { recorded = now; ends = with_out core after ends })
+  out_seated stays ins seat sound = record { recorded = sound; beside = resent_beside recorded now ends ends refl (set ends.outs core after) beside ins seat (outs_now lent after stays) }
+
+  -- all outcomes are collected that the end shows
+  module _ (count : ℕ) (collects : CollectsFrom core (desk_of recorded) count (desk_of now)) (all : GetsAll before.out after.out) (rest : now ≡ record recorded { journal = now.journal; lanes = now.lanes }) where
+    pub collected_does : IsSameSeat recorded now → after.link ≡ before.link → length now.journal.notes ≤ length recorded.journal.notes + recorded.cap →
+        CollectsOf core (record { recorded = recorded; ends = ends }) count (record { recorded = now; ends = with_out core after ends })
+    collected_does seat link few = record {
+      collects = collects;
+      all = out_gets lent after all;
+      others = (out_uses lent after).others;
+      few = omega (arith, few, collects.2, ap (λ journal. length journal.notes) collects.3, length-append collects.0 recorded.journal.notes);
+      rest = rest;
+      stays = out_stays seat link (prefix_shorter before.out.seen after.out.seen all.1) (collects_add core (desk_of recorded) count (desk_of now) collects);
+    }
+
+    -- each poll is owed as before, where an end has seen more
+    pub collected_linked : IsSeated meaning (record { recorded = now; ends = with_out core after ends }) → IsLinked meaning (record { recorded = recorded; ends = ends }) → IsLinked meaning (record { recorded = now; ends = with_out core after ends })
+    collected_linked seated linked = record {
+      recorded = seated.recorded;
+      at_rest = ap (λ view. view.core.out) rest ∙ linked.at_rest;
+      beside = seated.beside;
+      owed =
+          sees_more_owed meaning (seen_by (λ (end : Sending J T). end.out) ends.outs) (seen_by (λ (end : Sending J T). end.out) (set ends.outs core after)) (seen_got (λ (end : Sending J T). end.out) ends.outs core before after (out_there lent) all) now
+          (collects_keep meaning (seen_by (λ (end : Sending J T). end.out) ends.outs) recorded now rest core count collects linked.owed);
+    }

@@ -1,0 +1,21 @@
+pub mod Along
+pub mod Growing
+pub mod Openings
+pub mod Seen
+pub mod Stepping
+pub mod Adding
+pub mod AddedTurns
+pub mod Posted
+pub mod Kept
+pub mod HandedBack
+pub mod Picked
+pub mod LentIn
+pub mod LentOut
+pub mod Passed
+pub mod PollNotes
+pub mod TurnOfEnds
+pub mod Opened
+pub mod OutsideSeats
+pub mod Fewer
+pub mod Rung
+mod BellsRefused

@@ -1,0 +1,161 @@
+-- A core that was just opened, over ends of links that were just opened.
+use Rattle.std.proofs.Common.{◌≡◌, ℕ, ◌+◌, ◌<◌, ◌≤◌, [], ◌∷◌, length, refl, sym, ◌∙◌, ap, subst, arith}
+use Rattle.std.specs.Prelude.{Ok, Option, Some, slice_get}
+use Rattle.std.proofs.lemmas.Option.{slice_get_within, get_or_from_slice_get}
+use Rattle.rt_ids.specs.Terms.{Terms}
+use Rattle.rt_ids.specs.declared.names.JobId.{JobId}
+use Rattle.rt_ids.specs.declared.order.Outcome.{Outcome}
+use Rattle.rt_ids.specs.declared.order.Order.{Order}
+use Rattle.rt_ids.specs.declared.note.Note.TheVariants.{Created}
+use Rattle.rt_ids.specs.Commands.{IsOpening}
+use Rattle.rt_ids.specs.Journal.{Journal}
+use Rattle.rt_jobs.specs.Meanings.{Meaning}
+use Rattle.rt_desk.specs.Lanes.{IsLaneOf, IsUnused}
+use Rattle.rt_desk.proofs.Cores.{IsUnused-fresh}
+use Rattle.rt_ring.specs.declared.ring_out.Sending.{Sending}
+use Rattle.rt_link.specs.Fits.{Fits}
+use Rattle.rt_link.specs.Whole.{fresh, out_of, inward_of}
+use Rattle.rt_journal.specs.OwedPolls.{PollsAreOwed, seen_by}
+use Rattle.rt_journal.specs.RightAnswers.{Seen}
+use Rattle.rt_journal.specs.Recorded.{RecordedView, IsRecorded, desk_of, order_taken, terms_at}
+use Rattle.rt_journal.specs.Ends.{IsInOf, IsSameSeat, KeepsIn}
+use Rattle.rt_journal_desk.specs.Ends.{IsOutOf, KeepsOuts}
+use Rattle.rt_journal.specs.Steps.{opened_beside, CreatesQueue}
+use Rattle.rt_journal_desk.specs.Submissions.{opened_desk}
+use Rattle.rt_journal_desk.specs.Tickets.{HasLane}
+use Rattle.rt_journal_desk.proofs.LaneEnds.{fresh_has_lane}
+use Rattle.rt_ring_mesh.specs.Ends.{EndsView, IsFreshOut, in_at, no_out}
+use Rattle.actor_seat.specs.Linked.{IsLinked}
+use Rattle.actor_seat.specs.Opening.{AreEndsOf, IsOpenedOver, CreatesSince}
+use Rattle.actor_seat.proofs.Along.{ins_along, outs_along, seat_along, seat_same}
+
+module _ {J T : Type 0} (meaning : Meaning J T) (terms : Terms) (seen : Seen J) (under : JobId → Option (Order J)) where
+  -- a creation settles no poll
+  opening_owed : (notes : Journal T) → IsOpening notes → PollsAreOwed meaning terms seen under notes
+  opening_owed [] opening = tt
+  opening_owed (Created queue weight ∷ before) opening = (tt, opening_owed before opening)
+  opening_owed (_ ∷ before) opening = absurd opening
+
+module _ {J T : Type 0} where
+  -- a fresh end to a core, and one from an actor
+  pub fresh_out : (actor core cores cap room burst : ℕ) → core < cores → IsOutOf {J = J} {T = T} core (opened_desk actor cores cap room burst) (out_of (fresh actor core cap 0)) 0
+  fresh_out actor core cores cap room burst low = record {
+    known = low;
+    from = refl;
+    to = refl;
+    base = refl;
+    capacity = refl;
+    accepted = refl;
+    outstanding = refl;
+    behind = omega arith;
+    collected = refl;
+  }
+
+  fresh_in : (sender core cores cap room burst : ℕ) → sender ≤ cores → IsInOf {J = J} {T = T} sender (opened_beside core cores cap room burst) (inward_of (fresh sender core cap 0))
+  fresh_in sender core cores cap room burst known = record {
+    known = known;
+    from = refl;
+    to = refl;
+    base = refl;
+    capacity = refl;
+    gate = refl;
+    taken = refl;
+    behind = omega arith;
+    given = refl;
+    ungiven = tt;
+    orders = λ name order from took. cc;
+  }
+
+  module _ {meaning : Meaning J T} where
+    -- one creation
+    pub created_one : (weight : ℕ) (old new : RecordedView J T) (queue : ℕ) → IsOpening old.journal.notes → CreatesQueue weight old (Ok queue) new → ((sender : ℕ) → KeepsIn sender old new) →
+        KeepsOuts (desk_of old) (desk_of new) → new.lanes ≡ old.lanes → IsSameSeat old new → IsRecorded meaning new → CreatesSince meaning 1 old new
+    created_one weight old new queue opening creates ins outs lanes seat sound = record {
+      opening = subst (λ journal. IsOpening journal.notes) (sym creates.2) opening;
+      few = omega (arith, ap (λ journal. length journal.notes) creates.2);
+      seat = seat;
+      ins = ins;
+      outs = outs;
+      lanes = lanes;
+      out = creates.3;
+      sound = sound;
+    }
+
+    pub created_none : (view : RecordedView J T) (count : ℕ) → IsOpening view.journal.notes → IsRecorded meaning view → CreatesSince meaning count view view
+    created_none view count opening sound = record {
+      opening = opening;
+      few = omega arith;
+      seat = seat_same view;
+      ins = λ sender. record { each = λ inward is. is };
+      outs = λ core. record { each = λ out credited is. is };
+      lanes = refl;
+      out = refl;
+      sound = sound;
+    }
+
+    pub created_more : (one two count : ℕ) (old middle new : RecordedView J T) → one + two ≤ count → CreatesSince meaning one old middle → CreatesSince meaning two middle new →
+        CreatesSince meaning count old new
+    created_more one two count old middle new within first next = record {
+      opening = next.opening;
+      few = omega (arith, first.few, next.few, within);
+      seat = seat_along old middle new first.seat next.seat;
+      ins = λ sender. ins_along old middle new sender (first.ins sender) (next.ins sender);
+      outs = outs_along (desk_of old) (desk_of middle) (desk_of new) first.outs next.outs;
+      lanes = next.lanes ∙ first.lanes;
+      out = next.out ∙ first.out;
+      sound = next.sound;
+    }
+
+    module _ (core cores cap burst room count : ℕ) (recorded : RecordedView J T) (ends : EndsView J T) (created : CreatesSince meaning count (opened_beside core cores cap room burst) recorded)
+        (are : AreEndsOf cores cap ends) (number : ends.number ≡ core) where
+      opened_end : (to : ℕ) (end : Sending J T) → slice_get ends.outs to ≡ Some end → IsFreshOut ends.number to cap end × (to < cores)
+      opened_end to end there =
+          let low = slice_get_within ends.outs to end there in
+          (subst (IsFreshOut ends.number to cap) (get_or_from_slice_get ends.outs to end no_out there) (are.fresh.outs to low), omega (arith, low, are.outs))
+
+      opened_lane : (fits : Order J → Outcome J T → Type 0) (to : ℕ) (end : Sending J T) → slice_get ends.outs to ≡ Some end → HasLane fits to (desk_of recorded) end.out end.credited
+      opened_lane fits to end there =
+          let is = opened_end to end there in
+          let unused : IsUnused cap end.out end.credited = IsUnused-fresh (λ (end : Sending J T). end.out) (λ end. end.credited) ends.number to cap 0 end (omega arith) is.0.out is.0.credited in
+          let has : HasLane fits to (opened_desk core cores cap room burst) end.out 0 = fresh_has_lane fits to core cores cap room burst end.out is.1 (subst (IsUnused cap end.out) is.0.credited unused) in
+          record { lane = has.lane; is = ap (λ lanes. slice_get lanes to) created.lanes ∙ has.is; lane_of = subst (IsLaneOf fits has.lane end.out) (sym is.0.credited) has.lane_of }
+
+      opened_out : (to : ℕ) (end : Sending J T) → slice_get ends.outs to ≡ Some end → IsOutOf to (desk_of recorded) end.out end.credited
+      opened_out to end there =
+          let is = opened_end to end there in
+          (created.outs to).each _ _
+          (subst (λ out. IsOutOf to (opened_desk core cores cap room burst) out end.credited) (sym (is.0.out ∙ ap (λ number. out_of (fresh number to cap 0)) number))
+          (subst (IsOutOf to (opened_desk core cores cap room burst) (out_of (fresh core to cap 0))) (sym is.0.credited) (fresh_out core to cores cap room burst is.1)))
+
+      opened_in : (sender : ℕ) → sender ≤ recorded.core.cores → IsInOf sender recorded (in_at sender ends).inward
+      opened_in sender known =
+          let there : sender ≤ cores = omega (arith, known, created.seat.cores) in
+          let is = are.fresh.ins sender (omega (arith, there, are.ins)) in
+          (created.ins sender).each _
+          (subst (IsInOf sender (opened_beside core cores cap room burst)) (sym (is.inward ∙ ap (λ number. inward_of (fresh sender number cap 0)) number)) (fresh_in sender core cores cap room burst there))
+
+      pub opened_linked : IsLinked meaning (record { recorded = recorded; ends = ends })
+      opened_linked = record {
+        recorded = created.sound;
+        at_rest = created.out;
+        beside = record {
+          number = number ∙ sym created.seat.number;
+          ins_are = are.ins ∙ ap (λ cores. cores + 1) (sym created.seat.cores);
+          outs = record { count = are.outs ∙ sym created.seat.cores; beside = opened_out; lanes = opened_lane (Fits meaning) };
+          ins = opened_in;
+        };
+        owed = opening_owed meaning (terms_at recorded) (seen_by (λ (end : Sending J T). end.out) ends.outs) (order_taken recorded.took) recorded.journal.notes created.opening;
+      }
+
+      pub opened_terms : terms_at recorded ≡ record { actor = core; cores = cores; cap = cap; burst = burst }
+      opened_terms = λ i. record { actor = created.seat.number i; cores = created.seat.cores i; cap = created.seat.cap i; burst = created.seat.burst i }
+
+      pub opened_over : IsOpenedOver cores cap burst room ends (record { recorded = recorded; ends = ends })
+      opened_over = record {
+        of = record {
+          terms = opened_terms ∙ ap (λ actor. record { actor = actor; cores = cores; cap = cap; burst = burst }) (sym number);
+          room_is = created.seat.room;
+          none_passed = created.seat.passed;
+        };
+        ends_are = refl;
+      }

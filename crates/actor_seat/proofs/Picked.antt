@@ -1,0 +1,69 @@
+-- A core and its ends after a pick.
+use Rattle.std.proofs.Common.{◌≡◌, ℕ, ◌≤◌, None, subst, ◌∙◌, ap}
+use Rattle.std.specs.Prelude.{Result, Ok}
+use Rattle.rt_ids.specs.declared.names.JobId.{JobId}
+use Rattle.rt_ids.specs.declared.order.Order.{Order}
+use Rattle.rt_ids.specs.declared.order.Reason.{Reason}
+use Rattle.rt_core.specs.declared.turn.Turn.{Turn}
+use Rattle.rt_core.specs.declared.turn.Turn.TheVariants.{Back}
+use Rattle.rt_core.specs.declared.turn.PickError.{PickError}
+use Rattle.rt_core.specs.declared.turn.Ahead.TheVariants as ahead
+use Rattle.rt_core.specs.Answers.{IsReadyTurn}
+use Rattle.rt_core.specs.Whole.{TellsAhead}
+use Rattle.rt_jobs.specs.Meanings.{Meaning}
+use Rattle.rt_journal.specs.Ends.{IsSameSeat, LeavesOwed}
+use Rattle.rt_journal.specs.Owed.{owed_back}
+use Rattle.rt_journal.specs.Recorded.{RecordedView, IsRecorded, desk_of, order_taken}
+use Rattle.rt_journal.specs.OwedPolls.{seen_by}
+use Rattle.rt_journal.specs.Turns.{IsBack, Picks}
+use Rattle.rt_journal.proofs.OwedSteps.{picks_keep}
+use Rattle.rt_journal_desk.specs.Ends.{KeepsOuts}
+use Rattle.rt_ring.specs.declared.ring_out.Sending.{Sending}
+use Rattle.rt_ring_mesh.specs.Ends.{EndsView, SameEnds}
+use Rattle.actor_seat.specs.declared.seat.Taken.{Taken}
+use Rattle.actor_seat.specs.Linked.{IsLinked, SeesNoLess, StaysLinked}
+use Rattle.actor_seat.specs.Seats.{PicksTaken, taken_of}
+use Rattle.actor_seat.proofs.AddedTurns.{adds_picked}
+use Rattle.actor_seat.proofs.HandedBack.{handed_back}
+use Rattle.actor_seat.proofs.Kept.{LeavesEnds, kept_linked}
+
+module _ {J T : Type 0} (meaning : Meaning J T) where
+  -- what a pick leaves of the core: the outcome of a job that goes back is owed
+  pub record LeavesPick (turned : Result (Turn J) PickError) (old new : RecordedView J T) : Type 0 where
+    pub picks : Picks meaning old turned new
+    pub ins : (sender : ℕ) → LeavesOwed sender (owed_back turned sender) old new
+    pub outs : KeepsOuts (desk_of old) (desk_of new)
+    pub lanes : new.lanes ≡ old.lanes
+    pub seat : IsSameSeat old new
+    pub sound : IsRecorded meaning new
+
+module _ {J T : Type 0} {meaning : Meaning J T} {turned : Result (Turn J) PickError} {old new : RecordedView J T} (left : LeavesPick meaning turned old new) where
+  -- one that owes nothing touches no end
+  pub owes_none : ((sender : ℕ) → owed_back {T = T} turned sender ≡ None) → LeavesEnds meaning old new
+  owes_none none = record {
+    ins = λ sender. subst (λ owed. LeavesOwed sender owed old new) (none sender) (left.ins sender);
+    outs = left.outs;
+    lanes = left.lanes;
+    seat = left.seat;
+    sound = left.sound;
+  }
+
+  pub picked_stays : (ends given : EndsView J T) → SameEnds ends given → SeesNoLess ends given → StaysLinked (record { recorded = old; ends = ends }) (record { recorded = new; ends = given })
+  picked_stays ends given same sees =
+      let adds = adds_picked meaning old new turned left.picks in
+      record { seat = left.seat; ends = same; sees = sees; opening = adds.opening; grows = adds.grows }
+
+  -- the sender of a job that goes back is there
+  pub back_known : (name : JobId) (reason : Reason) (order : Order J) → turned ≡ Ok (Back name reason order) → name.from ≤ new.core.cores
+  back_known name reason order is =
+      let did = handed_back old new turned name reason order is meaning left.picks in
+      (left.sound.taken name _ (ap (λ took. order_taken took name) did.took ∙ did.task)).sender
+
+  -- what is told of it, beside the core as it was
+  pub picked_told : (before : RecordedView J T) → old ≡ before → IsReadyTurn meaning turned → (TellsAhead old.core (Ok ahead.Back) → IsBack turned) → (told : Result (Taken J) PickError) → told ≡ taken_of turned → PicksTaken meaning before told new
+  picked_told before same ready back told is = subst (λ view. PicksTaken meaning view told new) same (record { turned = turned; picks = left.picks; ready = ready; back = back; told_is = is })
+
+  -- one that owes nothing leaves a linked core linked
+  pub picked_linked : (ends : EndsView J T) → ((sender : ℕ) → owed_back {T = T} turned sender ≡ None) → IsLinked meaning (record { recorded = old; ends = ends }) → new.core.out ≡ None →
+      IsLinked meaning (record { recorded = new; ends = ends })
+  picked_linked ends none linked rest = kept_linked (owes_none none) ends linked rest (picks_keep meaning (seen_by (λ (end : Sending J T). end.out) ends.outs) old new left.seat turned left.picks linked.owed)

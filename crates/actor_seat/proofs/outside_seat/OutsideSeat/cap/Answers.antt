@@ -1,0 +1,7 @@
+use Rattle.std.proofs.Common.{subst}
+use Rattle.rt_link.specs.Fits.{Fits}
+use Rattle.actor_seat.specs.OutsideSeats.{IsSeatedOutside}
+use Rattle.actor_seat.proofs.outside_seat.OutsideSeat.cap.Goals as goal
+
+pub returns-clause-seated : goal.returns-clause-seated
+returns-clause-seated g c = subst (IsSeatedOutside (Fits g.J.Task.meaning)) c.self.view_is c.self.invariant

@@ -1,0 +1,64 @@
+use Rattle.std.proofs.Common.{◌<◌, ap, length, refl, subst, sym, ◌∙◌, arith}
+use Rattle.std.specs.Prelude.{Err}
+use Rattle.rt_ids.specs.declared.names.TicketError.TheVariants.{Unknown}
+use Rattle.rt_journal.specs.Recorded.{desk_of}
+use Rattle.rt_ring_mesh.specs.Ends.{out_at}
+use Rattle.rt_ring_mesh.specs.Lending.{with_out}
+use Rattle.actor_seat.specs.Seats.{DetachesOn, IsSeated}
+use Rattle.actor_seat.proofs.Adding.{detaches_add}
+use Rattle.actor_seat.proofs.Along.{stays_same}
+use Rattle.actor_seat.proofs.LentOut.{LendsOut, out_beside, out_lane, out_seated, out_stays, out_uses}
+use Rattle.actor_seat.proofs.seat.Seat.detach.Given.{Over}
+use Rattle.actor_seat.proofs.seat.Seat.detach.Goals as goal
+use Rattle.actor_seat.proofs.seat.Seat.detach.Goals.{After-detach, After-out_mut}
+
+-- the end to the core of the ticket, as it is lent
+lends : (g : Over) (c : After-out_mut g) → LendsOut g.J.Task.meaning c.args.ticket.to (desk_of c.self.inside.recorded) c.self.inside.ends c.out_mut.result.now
+lends g c = record {
+  known = (c.knows.ensures.knows.0 c.if-not-knows.false).1;
+  is = c.out_mut.ensures.value ∙ ap (λ name. out_at name.to c.self.inside.ends) c.name-to.ensures;
+  outs = c.self.invariant.beside.outs;
+}
+
+-- the core is beside its ends again
+seated : (g : Over) (c : After-detach g) → LendsOut g.J.Task.meaning c.args.ticket.to (desk_of c.self.inside.recorded) c.self.inside.ends c.out_mut.result.now →
+    IsSeated g.J.Task.meaning (record { recorded = c.detach.new.self; ends = with_out c.name-to.result.to c.detach.new.end c.self.inside.ends })
+seated g c lent =
+    subst (λ name. IsSeated g.J.Task.meaning (record { recorded = c.detach.new.self; ends = with_out name.to c.detach.new.end c.self.inside.ends })) (sym c.name-to.ensures)
+    (out_seated c.self.invariant.beside lent c.detach.new.self c.detach.new.end c.detach.ensures.stays c.detach.ensures.ins c.detach.ensures.seat c.detach.ensures.sound)
+
+pub returns-then-not-knows-clause-does : goal.returns-then-not-knows-clause-does
+returns-then-not-knows-clause-does g c =
+    subst (λ old. DetachesOn c.args.ticket old (Err Unknown) old) c.self.view_is
+    (record { detaches = (c.knows.ensures.unknown c.if-not-knows.true, refl); uses = record { others = λ other away. refl; rest = refl }; rest = refl; stays = stays_same _ })
+
+pub out_mut-requires : goal.out_mut-requires
+out_mut-requires g c = omega (arith, c.self.invariant.beside.outs.count, (c.knows.ensures.knows.0 c.if-not-knows.false).1, ap (λ name. name.to) c.name-to.ensures)
+
+pub detach-requires-clause-beside : goal.detach-requires-clause-beside
+detach-requires-clause-beside g c = out_beside (lends g (goal.at.detach-requires-clause-beside g c).After-out_mut)
+
+pub detach-requires-clause-lane : goal.detach-requires-clause-lane
+detach-requires-clause-lane g c = out_lane (lends g (goal.at.detach-requires-clause-lane g c).After-out_mut)
+
+pub detach-requires-clause-room : goal.detach-requires-clause-room
+detach-requires-clause-room g c = λ held. subst (λ view. length view.recorded.journal.notes < view.recorded.journal.room) (sym c.self.view_is) c.requires.room
+
+pub invariant_of-self : goal.invariant_of-self
+invariant_of-self g c = let here = goal.at.invariant_of-self g c in seated g here.After-detach (lends g here.After-out_mut)
+
+pub returns-clause-seated : goal.returns-clause-seated
+returns-clause-seated g c = let here = goal.at.returns-clause-seated g c in seated g here.After-detach (lends g here.After-out_mut)
+
+pub returns-clause-does : goal.returns-clause-does
+returns-clause-does g c =
+    let lent = lends g (goal.at.returns-clause-does g c).After-out_mut in
+    let same = ap (λ out. length out.seen) c.detach.ensures.out in
+    subst (λ old. DetachesOn c.args.ticket old c.detach.result (record { recorded = c.detach.new.self; ends = with_out c.name-to.result.to c.detach.new.end c.self.inside.ends })) c.self.view_is
+    (subst (λ name. DetachesOn c.args.ticket (record { recorded = c.self.inside.recorded; ends = c.self.inside.ends }) c.detach.result (record { recorded = c.detach.new.self; ends = with_out name.to c.detach.new.end c.self.inside.ends })) (sym c.name-to.ensures)
+    (record {
+      detaches = c.detach.ensures.detaches;
+      uses = out_uses lent c.detach.new.end;
+      rest = c.detach.ensures.rest;
+      stays = out_stays c.self.invariant.beside lent c.detach.new.self c.detach.new.end c.detach.ensures.seat c.detach.ensures.untouched (omega (arith, same)) (detaches_add _ _ _ _ c.detach.ensures.detaches);
+    }))

@@ -1,0 +1,64 @@
+use Rattle.std.proofs.Common.{◌<◌, length, sym, ap, subst, arith}
+use Rattle.rt_journal.specs.Turns.{IsOut, IsOutUnder, Settles}
+use Rattle.rt_journal.specs.Owed.{outcome_settled}
+use Rattle.rt_ring_mesh.specs.Lending.{with_in}
+use Rattle.actor_seat.specs.Linked.{StaysLinked}
+use Rattle.actor_seat.proofs.LentIn.{LeavesIn, LendsIn, its_in, settled_seated, settled_stays}
+use Rattle.actor_seat.proofs.Seen.{gives_seen}
+use Rattle.actor_seat.proofs.seat.Seat.settle.Given.{Over}
+use Rattle.actor_seat.proofs.seat.Seat.settle.Goals as goal
+use Rattle.actor_seat.proofs.seat.Seat.settle.Goals.{After-in_mut, After-settle}
+
+-- the end of the sender, as it is lent
+lends : (g : Over) (c : After-in_mut g) → LendsIn g.J.Task.meaning c.args.name.from c.self.inside.recorded c.self.inside.ends c.in_mut.result.now
+lends g c = record {
+  beside = c.self.invariant.beside;
+  known = omega (arith, c.requires.known, ap (λ view. view.recorded.core.cores) c.self.view_is);
+  is = c.in_mut.ensures.value;
+}
+
+-- what the call on it left
+leaves : (g : Over) (c : After-settle g) → LeavesIn g.J.Task.meaning c.args.name.from c.self.inside.recorded c.settle.new.self c.in_mut.result.now c.settle.new.end
+leaves g c = record {
+  its_own = c.settle.ensures.beside;
+  others = c.settle.ensures.others;
+  outs = c.settle.ensures.outs;
+  lanes = c.settle.ensures.lanes;
+  seat = c.settle.ensures.seat;
+  link = c.settle.ensures.untouched;
+  sound = c.settle.ensures.sound;
+}
+
+pub in_mut-requires : goal.in_mut-requires
+in_mut-requires g c = omega (arith, c.self.invariant.beside.ins_are, c.requires.known, ap (λ view. view.recorded.core.cores) c.self.view_is)
+
+pub settle-requires-clause-beside : goal.settle-requires-clause-beside
+settle-requires-clause-beside g c = its_in (lends g (goal.at.settle-requires-clause-beside g c).After-in_mut)
+
+pub settle-requires-clause-out : goal.settle-requires-clause-out
+settle-requires-clause-out g c = subst (λ view. IsOut view.recorded.core.out c.args.ran.before) (sym c.self.view_is) c.requires.out
+
+pub settle-requires-clause-named : goal.settle-requires-clause-named
+settle-requires-clause-named g c = subst (λ view. IsOutUnder view.recorded.core.out c.args.name) (sym c.self.view_is) c.requires.named
+
+pub settle-requires-clause-room : goal.settle-requires-clause-room
+settle-requires-clause-room g c = subst (λ view. length view.recorded.journal.notes < view.recorded.journal.room) (sym c.self.view_is) c.requires.room
+
+pub returns-clause-settles : goal.returns-clause-settles
+returns-clause-settles g c = subst (λ view. Settles g.J.Task.meaning view.recorded c.args.ran c.args.spent c.settle.result c.settle.new.self) c.self.view_is c.settle.ensures.settles
+
+pub invariant_of-self : goal.invariant_of-self
+invariant_of-self g c =
+    let here = goal.at.invariant_of-self g c in
+    settled_seated (lends g here.After-in_mut) _ _ _ c.settle.ensures.settles (gives_seen c.in_mut.result.now.inward c.args.name.number (outcome_settled c.settle.result) c.settle.new.end.inward c.settle.ensures.gives) (leaves g here.After-settle)
+
+pub returns-clause-seated : goal.returns-clause-seated
+returns-clause-seated g c =
+    let here = goal.at.returns-clause-seated g c in
+    settled_seated (lends g here.After-in_mut) _ _ _ c.settle.ensures.settles (gives_seen c.in_mut.result.now.inward c.args.name.number (outcome_settled c.settle.result) c.settle.new.end.inward c.settle.ensures.gives) (leaves g here.After-settle)
+
+pub returns-clause-stays : goal.returns-clause-stays
+returns-clause-stays g c =
+    let here = goal.at.returns-clause-stays g c in
+    subst (λ old. StaysLinked old (record { recorded = c.settle.new.self; ends = with_in c.args.name.from c.settle.new.end c.self.inside.ends })) c.self.view_is
+    (settled_stays (lends g here.After-in_mut) _ _ _ c.settle.ensures.settles (gives_seen c.in_mut.result.now.inward c.args.name.number (outcome_settled c.settle.result) c.settle.new.end.inward c.settle.ensures.gives) (leaves g here.After-settle))

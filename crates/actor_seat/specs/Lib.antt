@@ -1,0 +1,9 @@
+pub mod Queues
+pub mod Linked
+pub mod Seats
+pub mod Steps
+pub mod Bursts
+pub mod Opening
+pub mod Together
+pub mod OutsideSeats
+pub mod Bells

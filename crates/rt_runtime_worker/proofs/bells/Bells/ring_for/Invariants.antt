@@ -1,9 +1,0 @@
-use Rattle.std.proofs.Common.{◌≡◌, drop}
-use Rattle.rt_runtime_worker.specs.Bells.{rung_for}
-use Rattle.rt_runtime_worker.proofs.bells.Bells.ring_for.Given as goal
-
-abbrev pub invariant-loop-note : goal.invariant-loop-note
-invariant-loop-note l = record {
-  names : l.self.names ≡ l.fn.self.names;
-  rings : rung_for (drop l.note-index l.notes) l.self.rings ≡ rung_for l.notes l.fn.self.rings;
-}
