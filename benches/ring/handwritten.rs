@@ -485,6 +485,8 @@ fn all<W: Form>(name: &str) {
         line(&format!("{name} steps_{count}"), JOBS, || steps::<W, u64>(JOBS, count));
     }
     line(&format!("{name} heavy_64"), JOBS, || trips::<W, Heavy>(64, JOBS, 64));
+    line(&format!("{name} heavy_1024"), JOBS, || trips::<W, Heavy>(1024, JOBS, 1024));
+    line(&format!("{name} heavy_single"), SINGLE, || trips::<W, Heavy>(64, SINGLE, 1));
     line(&format!("{name} heavy_alone"), JOBS, || alone::<W, Heavy>(JOBS));
 }
 

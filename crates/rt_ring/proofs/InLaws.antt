@@ -16,12 +16,8 @@ use Rattle.rt_ring_board.specs.Told.{Seated, SeesOrders}
 use Rattle.rt_ring_board.specs.declared.board.Known.{Known}
 use Rattle.rt_ring.specs.Ends.{IsInward}
 
--- a place that is the next one in turn
-abbrev pub Follows : ℕ → ℕ → ℕ → Type 0
-Follows count place next = (index : ℕ) → 0 < count → place ≡ place_of count index → next ≡ place_of count (index + 1)
-
-module _ {J T : Type 0} (seat_rows rows : RowsId) (seat_heap heap : Global) (cells : ℕ) (me : Seated J T) (from to base capacity taken given : ℕ) (shut : Bool) (total next_order next_outcome : ℕ)
-    (is : IsInward seat_rows rows seat_heap heap cells me from to base capacity taken given shut total next_order next_outcome) where
+module _ {J T : Type 0} (seat_rows rows : RowsId) (seat_heap heap : Global) (gap cells : ℕ) (me : Seated J T) (from to base capacity taken given : ℕ) (shut : Bool) (total next_order next_outcome : ℕ)
+    (is : IsInward seat_rows rows seat_heap heap gap cells me from to base capacity taken given shut total next_order next_outcome) where
   -- fewer outcomes are given than orders taken
   pub IsInward-awaits : (fits : Order J → Outcome J T → Type 0) (number : ℕ) (outcome : Outcome J T) → MayGive fits me.view.inward number outcome
       → length me.view.inward.given < me.view.inward.taken
@@ -42,8 +38,8 @@ module _ {J T : Type 0} (seat_rows rows : RowsId) (seat_heap heap : Global) (cel
   module _ (new_rows : RowsId) (new_heap : Global) (new : Seated J T) (stays : (new_rows ≡ seat_rows) × (new_heap ≡ seat_heap)) (seat : IsReceiver new) where
     -- after an outcome was given
     pub IsInward-given : (fits : Order J → Outcome J T → Type 0) (number : ℕ) (outcome : Outcome J T) (next : ℕ) → MayGive fits me.view.inward number outcome
-        → new.view ≡ with_given me.view number outcome → Follows capacity next_outcome next
-        → IsInward new_rows rows new_heap heap cells new from to base capacity taken (given + 1) shut total next_order next
+        → new.view ≡ with_given me.view number outcome → next ≡ place_of gap cells (given + 1)
+        → IsInward new_rows rows new_heap heap gap cells new from to base capacity taken (given + 1) shut total next_order next
     IsInward-given fits number outcome next may now follows =
         let awaits : length me.view.inward.given < me.view.inward.taken = IsInward-awaits fits number outcome may in
         let longer : length (me.view.inward.given ++ (number, outcome) ∷ []) ≡ length me.view.inward.given + 1 = length-append me.view.inward.given ((number, outcome) ∷ []) in
@@ -69,7 +65,7 @@ module _ {J T : Type 0} (seat_rows rows : RowsId) (seat_heap heap : Global) (cel
           open_seen = λ still. ap (λ (v : Known J T). length v.inward.seen) now ∙ is.open_seen still;
           shut_seen = λ over. ap (λ (v : Known J T). length v.inward.seen) now ∙ is.shut_seen over;
           next_order_is = is.next_order_is;
-          next_outcome_is = follows given (omega arith) is.next_outcome_is;
+          next_outcome_is = follows ∙ ap (λ (n : ℕ). place_of gap n (given + 1)) is.at.cells_are;
           sound = subst (λ (v : Known J T). SoundIn v.inward) (sym now) sound;
         }
 
@@ -77,8 +73,8 @@ module _ {J T : Type 0} (seat_rows rows : RowsId) (seat_heap heap : Global) (cel
     pub IsInward-taken : (ready : Order J → Type 0) (order : Order J) (next : ℕ) → SeesOrders ready me.view.inward new.view.inward.seen
         → slice_get new.view.inward.seen me.view.inward.taken ≡ Some order
         → (length me.view.inward.seen ≡ me.view.inward.taken → length new.view.inward.seen ≡ me.view.inward.taken + 1)
-        → new.view ≡ with_taken me.view new.view.inward.seen (me.view.inward.taken + 1) → taken - given ≢ capacity → Follows capacity next_order next
-        → IsInward new_rows rows new_heap heap cells new from to base capacity (taken + 1) given shut total next next_outcome
+        → new.view ≡ with_taken me.view new.view.inward.seen (me.view.inward.taken + 1) → taken - given ≢ capacity → next ≡ place_of gap cells (taken + 1)
+        → IsInward new_rows rows new_heap heap gap cells new from to base capacity (taken + 1) given shut total next next_outcome
     IsInward-taken ready order next sees here last now free follows =
         let there : me.view.inward.taken < length new.view.inward.seen = slice_get_within new.view.inward.seen me.view.inward.taken order here in
         let owed : length me.view.inward.given ≤ me.view.inward.taken = is.sound.within in
@@ -101,7 +97,7 @@ module _ {J T : Type 0} (seat_rows rows : RowsId) (seat_heap heap : Global) (cel
           shut_is = ap (λ (v : Known J T). v.inward.shut) now ∙ is.shut_is;
           open_seen = λ still. last (is.open_seen still ∙ sym is.taken_is) ∙ ap (λ (n : ℕ). n + 1) is.taken_is;
           shut_seen = λ over. ap (λ (l : List (Order J)). length l) (sees.final (is.shut_is ∙ over)) ∙ is.shut_seen over;
-          next_order_is = follows taken (omega arith) is.next_order_is;
+          next_order_is = follows ∙ ap (λ (n : ℕ). place_of gap n (taken + 1)) is.at.cells_are;
           next_outcome_is = is.next_outcome_is;
           sound = subst (λ (v : Known J T). SoundIn v.inward) (sym now) sound;
         }

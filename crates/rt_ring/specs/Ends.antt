@@ -19,7 +19,7 @@ pub record IsAt (seat_rows rows : RowsId) (seat_heap heap : Global) (cells capac
 
 module _ {J T : Type 0} where
   -- a sender's end has the sender's seat at its board, and its numbers are those that the seat knows
-  pub record IsOut (seat_rows rows : RowsId) (seat_heap heap : Global) (cells : ℕ) (me : Seated J T) (base capacity count collected credited : ℕ) (closed : Bool) (next_order next_outcome : ℕ) : Type 0 where
+  pub record IsOut (seat_rows rows : RowsId) (seat_heap heap : Global) (gap cells : ℕ) (me : Seated J T) (base capacity count collected credited : ℕ) (closed : Bool) (next_order next_outcome : ℕ) : Type 0 where
     pub at : IsAt seat_rows rows seat_heap heap cells capacity
     pub seat : IsSender me
     pub base_is : me.view.out.base ≡ base
@@ -27,13 +27,13 @@ module _ {J T : Type 0} where
     pub count_is : length me.view.out.sent ≡ count
     pub collected_is : me.view.out.got ≡ collected
     pub closed_is : me.view.out.closed ≡ closed
-    pub next_order_is : next_order ≡ place_of capacity count
-    pub next_outcome_is : next_outcome ≡ place_of capacity collected
+    pub next_order_is : next_order ≡ place_of gap capacity count
+    pub next_outcome_is : next_outcome ≡ place_of gap capacity collected
     pub sound : SoundOut me.view.out credited
 
   -- a receiver's end has the receiver's seat at its board, and its numbers are those that the seat knows; it has seen all orders if it shut the gate,
   -- and otherwise those that it took
-  pub record IsInward (seat_rows rows : RowsId) (seat_heap heap : Global) (cells : ℕ) (me : Seated J T) (from to base capacity taken given : ℕ) (shut : Bool) (total next_order next_outcome : ℕ) : Type 0 where
+  pub record IsInward (seat_rows rows : RowsId) (seat_heap heap : Global) (gap cells : ℕ) (me : Seated J T) (from to base capacity taken given : ℕ) (shut : Bool) (total next_order next_outcome : ℕ) : Type 0 where
     pub at : IsAt seat_rows rows seat_heap heap cells capacity
     pub seat : IsReceiver me
     pub from_is : me.view.inward.from ≡ from
@@ -45,6 +45,6 @@ module _ {J T : Type 0} where
     pub shut_is : me.view.inward.shut ≡ shut
     pub open_seen : shut ≡ false → length me.view.inward.seen ≡ taken
     pub shut_seen : shut ≡ true → length me.view.inward.seen ≡ total
-    pub next_order_is : next_order ≡ place_of capacity taken
-    pub next_outcome_is : next_outcome ≡ place_of capacity given
+    pub next_order_is : next_order ≡ place_of gap capacity taken
+    pub next_outcome_is : next_outcome ≡ place_of gap capacity given
     pub sound : SoundIn me.view.inward

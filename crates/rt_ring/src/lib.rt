@@ -5,7 +5,6 @@ pub mod accounts;
 pub mod link;
 pub mod ring_in;
 pub mod ring_out;
-mod turns;
 
 pub use accounts::{Accounts, reunite};
 pub use link::{OpenError, RingLink};

@@ -26,7 +26,7 @@ pub struct RingLink;
 impl RingLink {
     /// Opens a link. At most `capacity` submissions are outstanding at any time.
     ///
-    /// The memory of the link is taken here. That its ends ask for none is said by no clause.
+    /// The memory of the link is taken here. Its ends have no allocator in reach.
     ///
     /// # Errors
     ///

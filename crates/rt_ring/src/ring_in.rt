@@ -6,11 +6,10 @@ ghost use Rattle.rt_link.specs.Ends.{AreOf, Joined};
 ghost use Rattle.rt_link.specs.Fits.{Fits};
 
 use crate::ring_out::RingOut;
-use crate::turns::following;
 use rt_ids::{ActorNo, CoreNo, Envelope, JobId, Outcome};
 use rt_jobs::Task;
 use rt_link::{InEnd, Inward};
-use rt_ring_board::{Board, Place, close, give, next_order, shows_order};
+use rt_ring_board::{Board, Place, close, give, next_order, next_place, shows_order};
 use std::alloc::Global;
 use std::collections::LinkedList;
 use std::marker::Model;
@@ -25,8 +24,8 @@ pub struct Receiving<J, T> {
 
 /// The end that takes orders and gives their outcomes. It may go to any thread.
 ///
-/// No body of its calls asks for memory, takes a lock or waits; no clause says so. When it is dropped, it shuts its gate, and drops the orders that
-/// were sent and not taken.
+/// Its calls have no allocator in reach, unless a job has one. No body of them takes a lock or waits; no clause says so. When it is dropped, it shuts
+/// its gate, and drops the orders that were sent and not taken.
 pub struct RingIn<J: Task> {
     pub(crate) board: Arc<Board<J>, Global>,
     pub(crate) seat: Place<J>,
@@ -58,7 +57,7 @@ impl<J: Task> Model for RingIn<J> {
 
     ghost view = { λ s. record { link = name_of s.seat.rows; inward = s.seat.me.view.inward } };
 
-    ghost invariant = { λ s. IsInward s.seat.rows (arc_value s.board).lines.id s.seat.heap (arc_value s.board).lines.heap (arc_value s.board).lines.key.capacity s.seat.me s.from s.to s.base s.capacity s.taken s.given s.shut s.total s.next_order s.next_outcome };
+    ghost invariant = { λ s. IsInward s.seat.rows (arc_value s.board).lines.id s.seat.heap (arc_value s.board).lines.heap (arc_value s.board).gap (arc_value s.board).lines.key.capacity s.seat.me s.from s.to s.base s.capacity s.taken s.given s.shut s.total s.next_order s.next_outcome };
 }
 
 impl<J: Task> RingIn<J> {
@@ -74,7 +73,7 @@ impl<J: Task> RingIn<J> {
             return self.taken != self.total;
         }
         self.taken - self.given < self.capacity
-            && shows_order(&self.board, self.next_order as usize)
+            && shows_order(&self.board, self.next_order as usize, self.taken)
     }
 
     /// Compares both ends of the link, and comes back.
@@ -159,8 +158,8 @@ impl<J: Task> InEnd<J> for RingIn<J> {
         }
         let place = self.next_order as usize;
         let order = next_order(&self.board, &mut self.seat, place)?;
+        self.next_order = next_place(&self.board, self.next_order, self.taken);
         self.taken += 1;
-        self.next_order = following(self.next_order, self.capacity);
         Some(Envelope {
             name: JobId {
                 from: self.from,
@@ -186,8 +185,8 @@ impl<J: Task> InEnd<J> for RingIn<J> {
             number,
             outcome,
         );
+        self.next_outcome = next_place(&self.board, self.next_outcome, self.given);
         self.given += 1;
-        self.next_outcome = following(self.next_outcome, self.capacity);
     }
 
     fn shut(&mut self) -> u64 {

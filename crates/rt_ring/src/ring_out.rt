@@ -8,11 +8,12 @@ ghost use Rattle.rt_link.specs.Fits.{Fits};
 ghost use Rattle.rt_ring.specs.Ends.{name_of};
 ghost use Rattle.rt_ring_board.specs.Seats.{IsReceiver};
 
-use crate::turns::following;
 use rt_ids::{Order, Outcome, SendError};
 use rt_jobs::Task;
 use rt_link::{LAST_NUMBER, OutEnd, Outward};
-use rt_ring_board::{Board, Place, compare, is_open, next_outcome, offer, see_none, shows_outcome};
+use rt_ring_board::{
+    Board, Place, compare, is_open, next_outcome, next_place, offer, see_none, shows_outcome,
+};
 use std::alloc::Global;
 use std::collections::LinkedList;
 use std::marker::Model;
@@ -29,7 +30,8 @@ pub struct Sending<J, T> {
 
 /// The end that sends orders and collects their outcomes. It may go to any thread.
 ///
-/// No body of its calls asks for memory, takes a lock or waits; no clause says so. When it is dropped, it collects what was given, and drops that.
+/// Its calls have no allocator in reach, unless a job has one. No body of them takes a lock or waits; no clause says so. When it is dropped, it
+/// collects what was given, and drops that.
 pub struct RingOut<J: Task> {
     pub(crate) board: Arc<Board<J>, Global>,
     pub(crate) seat: Place<J>,
@@ -58,7 +60,7 @@ impl<J: Task> Model for RingOut<J> {
 
     ghost view = { λ s. record { link = name_of s.seat.rows; out = s.seat.me.view.out; credited = s.credited } };
 
-    ghost invariant = { λ s. IsOut s.seat.rows (arc_value s.board).lines.id s.seat.heap (arc_value s.board).lines.heap (arc_value s.board).lines.key.capacity s.seat.me s.base s.capacity s.count s.collected s.credited s.closed s.next_order s.next_outcome };
+    ghost invariant = { λ s. IsOut s.seat.rows (arc_value s.board).lines.id s.seat.heap (arc_value s.board).lines.heap (arc_value s.board).gap (arc_value s.board).lines.key.capacity s.seat.me s.base s.capacity s.count s.collected s.credited s.closed s.next_order s.next_outcome };
 }
 
 impl<J: Task> RingOut<J> {
@@ -69,7 +71,8 @@ impl<J: Task> RingOut<J> {
         ensures seen { self.now.out.got < length self.now.out.seen → result ≡ true }
         ensures sent { result ≡ true → self.now.out.got < length self.now.out.sent }
     {
-        self.collected < self.count && shows_outcome(&self.board, self.next_outcome as usize)
+        self.collected < self.count
+            && shows_outcome(&self.board, self.next_outcome as usize, self.collected)
     }
 
     /// Compares both ends of the link. `other` is the seat of the receiver's, and comes back.
@@ -145,8 +148,8 @@ impl<J: Task> OutEnd<J> for RingOut<J> {
         let place = self.next_order as usize;
         match offer(&self.board, &mut self.seat, place, order) {
             Ok(()) => {
+                self.next_order = next_place(&self.board, self.next_order, self.count);
                 self.count += 1;
-                self.next_order = following(self.next_order, self.capacity);
                 Ok(last + 1)
             }
             Err(back) => {
@@ -164,8 +167,8 @@ impl<J: Task> OutEnd<J> for RingOut<J> {
         }
         let place = self.next_outcome as usize;
         let found = next_outcome(&self.board, &mut self.seat, place)?;
+        self.next_outcome = next_place(&self.board, self.next_outcome, self.collected);
         self.collected += 1;
-        self.next_outcome = following(self.next_outcome, self.capacity);
         Some(found)
     }
 

@@ -1,5 +1,6 @@
 -- A seat with a cell out, after what the cell holds was exchanged.
-use Rattle.std.proofs.Common.{◌≡◌, ℕ, ◌+◌, ◌%◌, ◌^◌, ◌<◌, Bool, ap, ◌∙◌, arith, Some, None, mod-lt}
+use Rattle.std.proofs.Common.{◌≡◌, ℕ, ◌+◌, ◌*◌, ◌%◌, ◌^◌, ◌<◌, Bool, sym, ap, ◌∙◌, subst, arith, Some, None, mod-lt}
+use Rattle.std.proofs.lemmas.Nat.{mul-lt}
 use Rattle.std.specs.Prelude.{Option}
 use denote.RawPtr.{Ptr}
 use Rattle.atomic_blocks.specs.Cells.{Row, me, step}
@@ -14,13 +15,21 @@ use Rattle.rt_ring_board.specs.declared.held.Held.{Held}
 use Rattle.rt_ring_board.proofs.Filled.{filled}
 use Rattle.rt_ring_board.proofs.Injective.{order_there, outcome_there}
 
+below_40 : (x : ℕ) → x < 5 * 2 ^ 16 → x < 2 ^ 40
+below_40 x small = omega arith
+
 -- a place is a small number
-pub place-small : (n i place : ℕ) → 0 < n → n < 2 ^ 16 → place ≡ place_of n i → place < 2 ^ 40
-place-small n i place some_cell small is = let h : i % n < n = mod-lt i some_cell in omega arith
+pub place-small : (gap n i place : ℕ) → gap < 4 → 0 < n → n < 2 ^ 16 → place ≡ place_of gap n i → place < 2 ^ 40
+place-small gap n i place near some_cell small is = subst (λ (z : ℕ). z < 2 ^ 40) (sym is)
+    (below_40 (place_of gap n i) (mul-lt (gap + 1) (i % n) 5 (2 ^ 16) (omega arith) (let h : i % n < n = mod-lt i some_cell in omega arith)))
 
 -- the word of an outcome, by the gate as the seat knows it
 pub given-word : (word number : ℕ) (told shut : Bool) → word ≡ number + gate_bit told → told ≡ shut → word ≡ number + gate_bit shut
 given-word word number told shut is same = is ∙ ap (λ (b : Bool). number + gate_bit b) same
+
+-- a place by the gap of a board is that place by the gap of its terms
+pub place-told : {told gap place : ℕ} (n i : ℕ) → told ≡ gap → place ≡ place_of gap n i → place ≡ place_of told n i
+place-told n i same is = is ∙ ap (λ (z : ℕ). place_of z n i) (sym same)
 
 module _ {J T : Type 0} (view : Known J T) (spare : Option (Row (Content J T))) (at : Ptr) (place : ℕ) where
   -- what is out with the seat

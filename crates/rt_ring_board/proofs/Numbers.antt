@@ -8,7 +8,7 @@ use Rattle.rt_ids.specs.Assembly.{IsPrefix}
 use Rattle.rt_ids.specs.declared.order.Outcome.{Outcome}
 use Rattle.rt_link.specs.Ends.{AreNamed}
 use Rattle.rt_link.proofs.Lists.{slice_get-starts}
-use Rattle.rt_ring_board.specs.Cells.{number_before, number_of, gate_bit, IsMarked, apart_by, place_of}
+use Rattle.rt_ring_board.specs.Cells.{number_before, number_of, gate_bit, IsMarked, place_of}
 
 pub slice_get-there : {A : Type 0} (xs : List A) (i : ℕ) → i < length xs → (x : A) × (slice_get xs i ≡ Some x)
 slice_get-there [] i h = absurd (omega arith)
@@ -16,8 +16,8 @@ slice_get-there (x ∷ xs) zero h = (x, refl)
 slice_get-there (x ∷ xs) (suc i) h = slice_get-there xs i (omega arith)
 
 -- the place of an index of the next lap
-pub place-again : (n i : ℕ) → place_of n (i + n) ≡ place_of n i
-place-again n i = ap (λ (turn : ℕ). apart_by * turn) (add-mod_right i n)
+pub place-again : (gap n i : ℕ) → place_of gap n (i + n) ≡ place_of gap n i
+place-again gap n i = ap (λ (turn : ℕ). (gap + 1) * turn) (add-mod_right i n)
 
 -- a number with the bit of its gate
 pub IsMarked-own : (shut : Bool) (number word : ℕ) → word ≡ number + gate_bit shut → IsMarked shut number word

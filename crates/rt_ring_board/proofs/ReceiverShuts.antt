@@ -25,8 +25,8 @@ use Rattle.rt_ring_board.proofs.InPlace.{AreInPlace-kept, AreInPlace-shut}
 use Rattle.rt_ring_board.proofs.Knowledge.{KnowsInward-seen, KnowsInward-shut, KnowsOut-shut}
 use Rattle.rt_ring_board.proofs.Marks.{AreMarked-shut, AreMarked-sealed}
 use Rattle.rt_ring_board.proofs.Prefix.{IsPrefix-within, length-front}
-use Rattle.rt_ring_board.proofs.ReceiverSteps.{InNumbers, knows, away, numbers, shut_is, in_range, bounds, told_same, sees, saw}
-use Rattle.rt_ring_board.proofs.Steps.{Rule, two_rows, gated, on_cell, on_gate, cell_keeps}
+use Rattle.rt_ring_board.proofs.ReceiverSteps.{InNumbers, knows, away, numbers, shut_is, bounds, told_same, sees, saw}
+use Rattle.rt_ring_board.proofs.Steps.{Rule, two_rows, gated, on_cell, on_gate, cell_there, cell_keeps}
 use Rattle.rt_ring_board.proofs.Views.{AreTold-receiver}
 
 module _ {J T : Type 0} (fits : Order J → Outcome J T → Type 0) (ready : Order J → Type 0) (terms : Terms J T) (seat : ℕ) (old : Seated J T) (go : old.view.takes ≡ true) (alone : old.view.sends ≡ false) where
@@ -73,8 +73,8 @@ module _ {J T : Type 0} (fits : Order J → Outcome J T → Type 0) (ready : Ord
             terms_are = record { from = r.terms_are.from; to = r.terms_are.to; base = r.terms_are.base; capacity = r.terms_are.capacity };
             laid = record { rows = refl; len = r.laid.len; enough = r.laid.enough; some = r.laid.some };
             gate_word = λ _. refl;
-            marked = AreMarked-sealed r.link r.cells r.cells r.marked closed (λ _. refl);
-            in_place = AreInPlace-shut r.link r.cells r.out_sender r.out_receiver r.in_place;
+            marked = AreMarked-sealed terms.gap r.link r.cells r.cells r.marked closed (λ _. refl);
+            in_place = AreInPlace-shut terms.gap r.link r.cells r.out_sender r.out_receiver r.in_place;
             views = told_shut all;
           },
           (saw fits ready terms seat old go alone s r there, refl),
@@ -82,13 +82,13 @@ module _ {J T : Type 0} (fits : Order J → Outcome J T → Type 0) (ready : Ord
 
     module _ (clear : inward.shut ≡ false) (room : many < length inward.given + inward.capacity) where
       abbrev spot : ℕ
-      spot = place_of n many
+      spot = place_of terms.gap n many
 
       abbrev found : ℕ
       found = word_at r.cells spot
 
       there_is : spot < length r.cells
-      there_is = let e = f in in_range fits ready terms seat old go alone s r there many (omega arith)
+      there_is = let e = f in cell_there fits ready terms s r many (omega arith)
 
       number_is : number_before r.link.given n many ≡ number_before inward.given inward.capacity many
       number_is = let e = f in ap (λ (i : Inward J T). number_before i.given i.capacity many) (sym k.knows)
@@ -154,8 +154,8 @@ module _ {J T : Type 0} (fits : Order J → Outcome J T → Type 0) (ready : Ord
             let same_count : many ≡ length r.link.sent = (last none).0 in
             let all : inward.seen ≡ r.link.sent = sym (IsPrefix-same r.link.sent inward.seen k.sees (sym same_count)) in
             let word : IsChanged r.cells (worded r.cells spot second) spot second (home_at r.cells spot) = IsChanged-worded r.cells spot there_is second in
-            let at_sent : IsChanged r.cells (worded r.cells spot second) (place_of n (length r.link.sent)) second (home_at r.cells spot) =
-            subst (λ (z : ℕ). IsChanged r.cells (worded r.cells spot second) (place_of n z) second (home_at r.cells spot)) same_count word in
+            let at_sent : IsChanged r.cells (worded r.cells spot second) (place_of terms.gap n (length r.link.sent)) second (home_at r.cells spot) =
+            subst (λ (z : ℕ). IsChanged r.cells (worded r.cells spot second) (place_of terms.gap n z) second (home_at r.cells spot)) same_count word in
             let marked : second ≡ number_before r.link.given n (length r.link.sent) + 2 ^ 63 = subst (λ (z : ℕ). second ≡ number_before r.link.given n z + 2 ^ 63) same_count (omega arith) in (
               with_shut old.view inward.seen,
               keeps,
@@ -173,9 +173,9 @@ module _ {J T : Type 0} (fits : Order J → Outcome J T → Type 0) (ready : Ord
                 terms_are = record { from = r.terms_are.from; to = r.terms_are.to; base = r.terms_are.base; capacity = r.terms_are.capacity };
                 laid = record { rows = refl; len = word.count ∙ r.laid.len; enough = r.laid.enough; some = r.laid.some };
                 gate_word = λ _. refl;
-                marked = AreMarked-shut r.link r.cells (worded r.cells spot second) r.marked second (home_at r.cells spot) at_sent marked (omega arith) (omega arith);
-                in_place = AreInPlace-shut r.link (worded r.cells spot second) r.out_sender r.out_receiver
-                    (AreInPlace-kept r.link r.cells (worded r.cells spot second) r.out_sender r.out_receiver (homes_stay r.cells (worded r.cells spot second) spot second word) r.in_place);
+                marked = AreMarked-shut terms.gap r.link r.cells (worded r.cells spot second) r.marked second (home_at r.cells spot) at_sent marked (omega arith) (omega arith);
+                in_place = AreInPlace-shut terms.gap r.link (worded r.cells spot second) r.out_sender r.out_receiver
+                    (AreInPlace-kept terms.gap r.link r.cells (worded r.cells spot second) r.out_sender r.out_receiver (homes_stay r.cells (worded r.cells spot second) spot second word) r.in_place);
                 views = told_shut all;
               },
               record { hit = λ _. (saw fits ready terms seat old go alone s r there, refl); miss = λ miss. absurd (miss hit) },
@@ -200,14 +200,14 @@ module _ {J T : Type 0} (fits : Order J → Outcome J T → Type 0) (ready : Ord
     seals same full s r there = on_gate fits ready terms s r seat old at (λ _. 1) (λ _. Seals ready old) same (seal s r there full)
 
     module _ (place : ℕ) (same : terms.cells.ptr ≡ at) (clear : old.view.inward.shut ≡ false) (room : length old.view.inward.seen < length old.view.inward.given + old.view.inward.capacity)
-        (is : place ≡ place_of old.view.inward.capacity (length old.view.inward.seen)) where
+        (is : place ≡ place_of terms.gap old.view.inward.capacity (length old.view.inward.seen)) where
       pub looks : Allows (Rule fits ready terms) seat old 1 at place (λ z. z) (Looks ready old)
       looks s r there = let e = f s r there in
-          on_cell fits ready terms s r seat old at place (place_of r.link.capacity (length old.view.inward.seen)) (λ z. z) (λ _ _. Looks ready old) same
-          (sym (is ∙ ap (λ (z : ℕ). place_of z (length old.view.inward.seen)) e.capacity)) (there_is s r there clear room) (look s r there clear room)
+          on_cell fits ready terms s r seat old at place (place_of terms.gap r.link.capacity (length old.view.inward.seen)) (λ z. z) (λ _ _. Looks ready old) same
+          (sym (is ∙ ap (λ (z : ℕ). place_of terms.gap z (length old.view.inward.seen)) e.capacity)) (there_is s r there clear room) (look s r there clear room)
 
       pub marks : (first second : ℕ) → first ≡ number_before old.view.inward.given old.view.inward.capacity (length old.view.inward.seen) → second ≡ first + 2 ^ 63
           → Allows (Rule fits ready terms) seat old 1 at place (λ z. either (eqb z first) second z) (Marks ready (step 1 at place first second) old)
       marks first second first_is second_is s r there = let e = f s r there in
-          on_cell fits ready terms s r seat old at place (place_of r.link.capacity (length old.view.inward.seen)) (λ z. either (eqb z first) second z) (λ p i. Marks ready (step 1 p i first second) old) same
-          (sym (is ∙ ap (λ (z : ℕ). place_of z (length old.view.inward.seen)) e.capacity)) (there_is s r there clear room) (mark s r there clear room first second first_is second_is)
+          on_cell fits ready terms s r seat old at place (place_of terms.gap r.link.capacity (length old.view.inward.seen)) (λ z. either (eqb z first) second z) (λ p i. Marks ready (step 1 p i first second) old) same
+          (sym (is ∙ ap (λ (z : ℕ). place_of terms.gap z (length old.view.inward.seen)) e.capacity)) (there_is s r there clear room) (mark s r there clear room first second first_is second_is)

@@ -31,9 +31,8 @@ use Rattle.rt_ring_board.proofs.Knowledge.{KnowsInward-taken, KnowsInward-given,
 use Rattle.rt_ring_board.proofs.Marks.{AreMarked-kept, AreMarked-given}
 use Rattle.rt_ring_board.proofs.Numbers.{number-bounds, slice_get-there}
 use Rattle.rt_ring_board.proofs.SeesNext.{SeesNext, SeesNext-lift}
-use Rattle.rt_ring_board.proofs.Steps.{Rule, two_rows, on_cell, cell_keeps}
+use Rattle.rt_ring_board.proofs.Steps.{Rule, two_rows, on_cell, cell_there, cell_keeps}
 use Rattle.rt_ring_board.proofs.Views.{AreTold-receiver}
-use Rattle.rt_ring_board.proofs.Windows.{place-below}
 
 -- the numbers of a link, and of its receiver's end
 pub record InNumbers {J T : Type 0} (link : Whole J T) (inward : Inward J T) : Type 0 where
@@ -98,9 +97,6 @@ module _ {J T : Type 0} (fits : Order J → Outcome J T → Type 0) (ready : Ord
     pub shut_is : inward.shut ≡ r.link.shut
     shut_is = ap (λ (i : Inward J T). i.shut) knows.knows
 
-    pub in_range : (i : ℕ) → 0 < n → place_of n i < length r.cells
-    in_range i some_cell = omega (arith, place-below n i some_cell, r.laid.len, r.laid.enough, r.terms_are.capacity)
-
     pub bounds : (i : ℕ) → i < given + n → (0 < number_before r.link.given n i) × (number_before r.link.given n i < 2 ^ 63)
     bounds i near = let f = numbers in number-bounds r.link.base r.link.taken r.link.given n i r.law.named (omega arith) near
 
@@ -126,13 +122,13 @@ module _ {J T : Type 0} (fits : Order J → Outcome J T → Type 0) (ready : Ord
 
     module _ (rests : old.view.away ≡ None) (room : inward.taken < length inward.given + inward.capacity) where
       abbrev spot : ℕ
-      spot = place_of n r.link.taken
+      spot = place_of terms.gap n r.link.taken
 
       abbrev found : ℕ
       found = word_at r.cells spot
 
       there_is : spot < length r.cells
-      there_is = let f = numbers in in_range r.link.taken (omega arith)
+      there_is = let f = numbers in cell_there fits ready terms s r r.link.taken (omega arith)
 
       abbrev Owes : Type 0
       Owes = Goes (Rule fits ready terms) s (two_rows fits ready terms r.gate (worded r.cells spot found)) seat old (LiftsOrder ready (step 1 terms.cells.ptr spot 0 0) old found)
@@ -177,10 +173,10 @@ module _ {J T : Type 0} (fits : Order J → Outcome J T → Type 0) (ready : Ord
               terms_are = record { from = r.terms_are.from; to = r.terms_are.to; base = r.terms_are.base; capacity = r.terms_are.capacity };
               laid = record { rows = refl; len = both.count ∙ r.laid.len; enough = r.laid.enough; some = r.laid.some };
               gate_word = r.gate_word;
-              marked = AreMarked-kept r.link r.cells (homed (worded r.cells spot found) spot None) r.marked (r.link.taken + 1) r.link.got r.link.credited
+              marked = AreMarked-kept terms.gap r.link r.cells (homed (worded r.cells spot found) spot None) r.marked (r.link.taken + 1) r.link.got r.link.credited
                   (words_stay r.cells (homed (worded r.cells spot found) spot None) spot None both);
-              in_place = AreInPlace-taken fits ready r.link r.law r.credits r.cells (homed (worded r.cells spot found) spot None) found None r.out_sender both more
-                  (subst (λ (z : Option ℕ). AreInPlace r.link r.cells r.out_sender z) (sym away ∙ rests) r.in_place);
+              in_place = AreInPlace-taken terms.gap fits ready r.link r.law r.credits r.cells (homed (worded r.cells spot found) spot None) found None r.out_sender both more
+                  (subst (λ (z : Option ℕ). AreInPlace terms.gap r.link r.cells r.out_sender z) (sym away ∙ rests) r.in_place);
               views = AreTold-receiver r.link later r.sender r.receiver r.out_sender r.out_receiver seat s.views old.view now r.views there (Some spot) go alone
                   (KnowsInward-taken r.link inward knows seen is.begins (omega (arith, is.within)) is.final) refl (λ out k. KnowsOut-taken r.link out k);
             },
@@ -202,13 +198,13 @@ module _ {J T : Type 0} (fits : Order J → Outcome J T → Type 0) (ready : Ord
 
     module _ (k : ℕ) (low : length inward.given ≤ k) (high : k < inward.taken) where
       abbrev place : ℕ
-      place = place_of n k
+      place = place_of terms.gap n k
 
       abbrev here : ℕ
       here = word_at r.cells place
 
       place_there : place < length r.cells
-      place_there = let f = numbers in in_range k (omega arith)
+      place_there = let f = numbers in cell_there fits ready terms s r k (omega arith)
 
       home : old.hand ≡ Some (terms.cells.ptr, place, None) → old.view.away ≡ Some place
           → Goes (Rule fits ready terms) s (two_rows fits ready terms r.gate (worded r.cells place here)) seat old (Homes (step 1 terms.cells.ptr place 0 0) old here)
@@ -231,10 +227,10 @@ module _ {J T : Type 0} (fits : Order J → Outcome J T → Type 0) (ready : Ord
               terms_are = r.terms_are;
               laid = record { rows = refl; len = both.count ∙ r.laid.len; enough = r.laid.enough; some = r.laid.some };
               gate_word = r.gate_word;
-              marked = AreMarked-kept r.link r.cells (homed (worded r.cells place here) place (Some None)) r.marked r.link.taken r.link.got r.link.credited
+              marked = AreMarked-kept terms.gap r.link r.cells (homed (worded r.cells place here) place (Some None)) r.marked r.link.taken r.link.got r.link.credited
                   (words_stay r.cells (homed (worded r.cells place here) place (Some None)) place (Some None) both);
-              in_place = AreInPlace-home fits ready r.link r.law r.credits r.cells (homed (worded r.cells place here) place (Some None)) here (Some None) r.out_sender k both (omega arith) (omega arith) refl
-                  (subst (λ (z : Option ℕ). AreInPlace r.link r.cells r.out_sender z) (sym away ∙ out_is) r.in_place);
+              in_place = AreInPlace-home terms.gap fits ready r.link r.law r.credits r.cells (homed (worded r.cells place here) place (Some None)) here (Some None) r.out_sender k both (omega arith) (omega arith) refl
+                  (subst (λ (z : Option ℕ). AreInPlace terms.gap r.link r.cells r.out_sender z) (sym away ∙ out_is) r.in_place);
               views = AreTold-receiver r.link r.link r.sender r.receiver r.out_sender r.out_receiver seat s.views old.view (with_away old.view None) r.views there None go alone knows refl (λ _ x. x);
             },
             λ _. refl,
@@ -263,21 +259,21 @@ module _ {J T : Type 0} (fits : Order J → Outcome J T → Type 0) (ready : Ord
               terms_are = r.terms_are;
               laid = record { rows = refl; len = both.count ∙ r.laid.len; enough = r.laid.enough; some = r.laid.some };
               gate_word = r.gate_word;
-              marked = AreMarked-kept r.link r.cells (homed (worded r.cells place here) place None) r.marked r.link.taken r.link.got r.link.credited (words_stay r.cells (homed (worded r.cells place here) place None) place None both);
-              in_place = AreInPlace-lent_back fits ready r.link r.law r.credits r.cells (homed (worded r.cells place here) place None) here None r.out_sender k both (omega arith) (omega arith)
-                  (subst (λ (z : Option ℕ). AreInPlace r.link r.cells r.out_sender z) none r.in_place);
+              marked = AreMarked-kept terms.gap r.link r.cells (homed (worded r.cells place here) place None) r.marked r.link.taken r.link.got r.link.credited (words_stay r.cells (homed (worded r.cells place here) place None) place None both);
+              in_place = AreInPlace-lent_back terms.gap fits ready r.link r.law r.credits r.cells (homed (worded r.cells place here) place None) here None r.out_sender k both (omega arith) (omega arith)
+                  (subst (λ (z : Option ℕ). AreInPlace terms.gap r.link r.cells r.out_sender z) none r.in_place);
               views = AreTold-receiver r.link r.link r.sender r.receiver r.out_sender r.out_receiver seat s.views old.view (with_away old.view (Some place)) r.views there (Some place) go alone knows refl (λ _ x. x);
             },
             refl,
           )
 
-    module _ (number : ℕ) (outcome : Outcome J T) (word : ℕ) (owed : length inward.given < inward.taken) (held_is : old.hand ≡ Some (terms.cells.ptr, place_of n given, of_outcome outcome))
-        (out_is : old.view.away ≡ Some (place_of n given)) (word_is : word ≡ number + gate_bit inward.shut) (may : MayGive fits inward number outcome) where
+    module _ (number : ℕ) (outcome : Outcome J T) (word : ℕ) (owed : length inward.given < inward.taken) (held_is : old.hand ≡ Some (terms.cells.ptr, place_of terms.gap n given, of_outcome outcome))
+        (out_is : old.view.away ≡ Some (place_of terms.gap n given)) (word_is : word ≡ number + gate_bit inward.shut) (may : MayGive fits inward number outcome) where
       abbrev back : ℕ
-      back = place_of n given
+      back = place_of terms.gap n given
 
       back_there : back < length r.cells
-      back_there = let f = numbers in in_range given (omega arith)
+      back_there = let f = numbers in cell_there fits ready terms s r given (omega arith)
 
       give : Goes (Rule fits ready terms) s (two_rows fits ready terms r.gate (worded r.cells back word)) seat old (Gives (step 1 terms.cells.ptr back word 0) old word)
       give = let f = numbers in
@@ -301,10 +297,10 @@ module _ {J T : Type 0} (fits : Order J → Outcome J T → Type 0) (ready : Ord
               terms_are = record { from = r.terms_are.from; to = r.terms_are.to; base = r.terms_are.base; capacity = r.terms_are.capacity };
               laid = record { rows = refl; len = both.count ∙ r.laid.len; enough = r.laid.enough; some = r.laid.some };
               gate_word = r.gate_word;
-              marked = AreMarked-given r.link r.cells (homed (worded r.cells back word) back (Some (of_outcome outcome))) r.marked word (Some (of_outcome outcome)) number outcome both
+              marked = AreMarked-given terms.gap r.link r.cells (homed (worded r.cells back word) back (Some (of_outcome outcome))) r.marked word (Some (of_outcome outcome)) number outcome both
                   (word_is ∙ ap (λ (z : Bool). number + gate_bit z) shut_is) (omega arith) (omega arith);
-              in_place = AreInPlace-given fits ready r.link r.law r.credits r.cells (homed (worded r.cells back word) back (Some (of_outcome outcome))) word (Some (of_outcome outcome)) r.out_sender number outcome both refl (omega arith)
-                  (subst (λ (z : Option ℕ). AreInPlace r.link r.cells r.out_sender z) (sym away ∙ out_is) r.in_place);
+              in_place = AreInPlace-given terms.gap fits ready r.link r.law r.credits r.cells (homed (worded r.cells back word) back (Some (of_outcome outcome))) word (Some (of_outcome outcome)) r.out_sender number outcome both refl (omega arith)
+                  (subst (λ (z : Option ℕ). AreInPlace terms.gap r.link r.cells r.out_sender z) (sym away ∙ out_is) r.in_place);
               views = AreTold-receiver r.link later r.sender r.receiver r.out_sender r.out_receiver seat s.views old.view now r.views there None go alone (KnowsInward-given r.link inward knows number outcome) refl
                   (λ out k. KnowsOut-given r.link out k number outcome);
             },
@@ -315,33 +311,33 @@ module _ {J T : Type 0} (fits : Order J → Outcome J T → Type 0) (ready : Ord
           )
 
   module _ (at : Ptr) (place : ℕ) (same : terms.cells.ptr ≡ at) where
-    pub lifts_order : old.view.away ≡ None → old.view.inward.taken < length old.view.inward.given + old.view.inward.capacity → place ≡ place_of old.view.inward.capacity old.view.inward.taken
+    pub lifts_order : old.view.away ≡ None → old.view.inward.taken < length old.view.inward.given + old.view.inward.capacity → place ≡ place_of terms.gap old.view.inward.capacity old.view.inward.taken
         → Allows (Rule fits ready terms) seat old 1 at place (λ z. z) (LiftsOrder ready (step 1 at place 0 0) old)
     lifts_order rests room is s r there = let f = numbers s r there in
-        on_cell fits ready terms s r seat old at place (place_of r.link.capacity r.link.taken) (λ z. z) (λ p i. LiftsOrder ready (step 1 p i 0 0) old) same
-        (sym (is ∙ (λ i. place_of (f.capacity i) (f.taken i)))) (there_is s r there rests room) (lift s r there rests room)
+        on_cell fits ready terms s r seat old at place (place_of terms.gap r.link.capacity r.link.taken) (λ z. z) (λ p i. LiftsOrder ready (step 1 p i 0 0) old) same
+        (sym (is ∙ (λ i. place_of terms.gap (f.capacity i) (f.taken i)))) (there_is s r there rests room) (lift s r there rests room)
 
     pub homes_answered : (k : ℕ) → old.hand ≡ Some (at, place, None) → old.view.away ≡ Some place → length old.view.inward.given ≤ k → k < old.view.inward.taken
-        → place ≡ place_of old.view.inward.capacity k → Allows (Rule fits ready terms) seat old 1 at place (λ z. z) (Homes (step 1 at place 0 0) old)
+        → place ≡ place_of terms.gap old.view.inward.capacity k → Allows (Rule fits ready terms) seat old 1 at place (λ z. z) (Homes (step 1 at place 0 0) old)
     homes_answered k held_is out_is low high is s r there = let f = numbers s r there in
-        let spot_is : place ≡ place_of r.link.capacity k = is ∙ ap (λ (z : ℕ). place_of z k) f.capacity in
-        on_cell fits ready terms s r seat old at place (place_of r.link.capacity k) (λ z. z) (λ p i. Homes (step 1 p i 0 0) old) same
+        let spot_is : place ≡ place_of terms.gap r.link.capacity k = is ∙ ap (λ (z : ℕ). place_of terms.gap z k) f.capacity in
+        on_cell fits ready terms s r seat old at place (place_of terms.gap r.link.capacity k) (λ z. z) (λ p i. Homes (step 1 p i 0 0) old) same
         (sym spot_is) (place_there s r there k low high)
         (home s r there k low high (held_is ∙ λ i. Some (sym same i, spot_is i, None)) (out_is ∙ ap (λ (z : ℕ). Some z) spot_is))
 
-    pub lends_back : old.view.away ≡ None → length old.view.inward.given < old.view.inward.taken → place ≡ place_of old.view.inward.capacity (length old.view.inward.given)
+    pub lends_back : old.view.away ≡ None → length old.view.inward.given < old.view.inward.taken → place ≡ place_of terms.gap old.view.inward.capacity (length old.view.inward.given)
         → Allows (Rule fits ready terms) seat old 1 at place (λ z. z) (LendsBack (step 1 at place 0 0) old)
     lends_back rests owed is s r there = let f = numbers s r there in let k : ℕ = length old.view.inward.given in
-        on_cell fits ready terms s r seat old at place (place_of r.link.capacity k) (λ z. z) (λ p i. LendsBack (step 1 p i 0 0) old) same
-        (sym (is ∙ ap (λ (z : ℕ). place_of z k) f.capacity)) (place_there s r there k (omega arith) owed) (lend s r there k (omega arith) owed rests)
+        on_cell fits ready terms s r seat old at place (place_of terms.gap r.link.capacity k) (λ z. z) (λ p i. LendsBack (step 1 p i 0 0) old) same
+        (sym (is ∙ ap (λ (z : ℕ). place_of terms.gap z k) f.capacity)) (place_there s r there k (omega arith) owed) (lend s r there k (omega arith) owed rests)
 
     pub gives_back : (number : ℕ) (outcome : Outcome J T) (word : ℕ) → old.hand ≡ Some (at, place, of_outcome outcome) → old.view.away ≡ Some place
-        → length old.view.inward.given < old.view.inward.taken → place ≡ place_of old.view.inward.capacity (length old.view.inward.given)
+        → length old.view.inward.given < old.view.inward.taken → place ≡ place_of terms.gap old.view.inward.capacity (length old.view.inward.given)
         → word ≡ number + gate_bit old.view.inward.shut → MayGive fits old.view.inward number outcome
         → Allows (Rule fits ready terms) seat old 1 at place (λ _. word) (λ _. Gives (step 1 at place word 0) old word)
     gives_back number outcome word held_is out_is owed is word_is may s r there = let f = numbers s r there in
-        let spot_is : place ≡ place_of r.link.capacity (length r.link.given) = is ∙ (λ i. place_of (f.capacity i) (f.count i)) in
-        let held' : old.hand ≡ Some (terms.cells.ptr, place_of r.link.capacity (length r.link.given), of_outcome outcome) = held_is ∙ λ i. Some (sym same i, spot_is i, of_outcome outcome) in
-        let out' : old.view.away ≡ Some (place_of r.link.capacity (length r.link.given)) = out_is ∙ ap (λ (z : ℕ). Some z) spot_is in
-        on_cell fits ready terms s r seat old at place (place_of r.link.capacity (length r.link.given)) (λ _. word) (λ p i _. Gives (step 1 p i word 0) old word) same
+        let spot_is : place ≡ place_of terms.gap r.link.capacity (length r.link.given) = is ∙ (λ i. place_of terms.gap (f.capacity i) (f.count i)) in
+        let held' : old.hand ≡ Some (terms.cells.ptr, place_of terms.gap r.link.capacity (length r.link.given), of_outcome outcome) = held_is ∙ λ i. Some (sym same i, spot_is i, of_outcome outcome) in
+        let out' : old.view.away ≡ Some (place_of terms.gap r.link.capacity (length r.link.given)) = out_is ∙ ap (λ (z : ℕ). Some z) spot_is in
+        on_cell fits ready terms s r seat old at place (place_of terms.gap r.link.capacity (length r.link.given)) (λ _. word) (λ p i _. Gives (step 1 p i word 0) old word) same
         (sym spot_is) (back_there s r there number outcome word owed held' out' word_is may) (give s r there number outcome word owed held' out' word_is may)

@@ -1,6 +1,6 @@
 -- The receiver's seat after its calls.
 use Rattle.std.proofs.Common.{◌≡◌, ℕ, ◌+◌, ◌<◌, List, [], ◌∷◌, ◌++◌, length, length-append, refl, sym, ap, ◌∙◌, subst, arith, Some, None}
-use Rattle.std.specs.Prelude.{slice_get}
+use Rattle.std.specs.Prelude.{Option, slice_get}
 use Rattle.std.proofs.lemmas.Option.{slice_get_within}
 use denote.RawPtr.{Ptr}
 use Rattle.atomic_blocks.specs.Cells.{me, step}
@@ -32,6 +32,9 @@ module _ {J T : Type 0} (old : Seated J T) (is : IsReceiver old) where
     gave_is : now ≡ me (with_away (with_given old.view number outcome) None) None old.spare
     gave_is = gave number outcome (word_is ∙ ap (λ (m : Seated J T). number + gate_bit m.view.inward.shut) (sym lent_is)) (ap (λ (m : Seated J T). m.hand) lent_is)
         ∙ ap (λ (m : Seated J T). me (with_away (with_given m.view number outcome) None) None m.spare) lent_is
+
+    pub view-gave : now.view ≡ with_given old.view number outcome
+    view-gave = ap (λ (m : Seated J T). m.view) gave_is ∙ ap (λ (z : Option ℕ). with_given (with_away old.view z) number outcome) (sym is.rests.away)
 
     pub IsReceiver-gave : IsReceiver now
     IsReceiver-gave = let longer : length (old.view.inward.given ++ (number, outcome) ∷ []) ≡ length old.view.inward.given + 1 = length-append old.view.inward.given ((number, outcome) ∷ []) in

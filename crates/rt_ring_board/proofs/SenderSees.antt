@@ -29,8 +29,8 @@ use Rattle.rt_ring_board.proofs.Knowledge.{KnowsOut-got, KnowsInward-got}
 use Rattle.rt_ring_board.proofs.Marks.{AreMarked-kept}
 use Rattle.rt_ring_board.proofs.Numbers.{number-again, place-again, slice_get-there}
 use Rattle.rt_ring_board.proofs.Prefix.{AreOf-front, IsPrefix-within, length-front, slice_get-front}
-use Rattle.rt_ring_board.proofs.SenderSteps.{OutNumbers, knows, away, numbers, in_range, bounds, told_same}
-use Rattle.rt_ring_board.proofs.Steps.{Rule, two_rows, gated, on_cell, on_gate, cell_keeps, gate_keeps}
+use Rattle.rt_ring_board.proofs.SenderSteps.{OutNumbers, knows, away, numbers, bounds, told_same}
+use Rattle.rt_ring_board.proofs.Steps.{Rule, two_rows, gated, on_cell, on_gate, cell_there, cell_keeps, gate_keeps}
 use Rattle.rt_ring_board.proofs.Views.{AreTold-sender}
 
 -- the number in a word
@@ -51,7 +51,7 @@ module _ {J T : Type 0} (fits : Order J → Outcome J T → Type 0) (ready : Ord
     n = r.link.capacity
 
     abbrev spot : ℕ
-    spot = place_of n r.link.got
+    spot = place_of terms.gap n r.link.got
 
     abbrev found : ℕ
     found = word_at r.cells spot
@@ -79,7 +79,7 @@ module _ {J T : Type 0} (fits : Order J → Outcome J T → Type 0) (ready : Ord
 
     module _ (rests : old.view.away ≡ None) (got_all : length out.seen ≡ out.got) (waits : out.got < length out.sent) where
       there_is : spot < length r.cells
-      there_is = let e = f in in_range fits ready terms seat old go alone s r there r.link.got (omega arith)
+      there_is = let e = f in cell_there fits ready terms s r r.link.got (omega arith)
 
       abbrev Owes : Type 0
       Owes = Goes (Rule fits ready terms) s (two_rows fits ready terms r.gate (worded r.cells spot found)) seat old (LiftsOutcome fits (step 1 terms.cells.ptr spot 0 0) old found)
@@ -102,8 +102,8 @@ module _ {J T : Type 0} (fits : Order J → Outcome J T → Type 0) (ready : Ord
         next = slice_get-there r.link.given r.link.got more
 
         mark : IsMarked r.link.shut next.0.0 found
-        mark = let e = f in subst (λ (z : ℕ). IsMarked r.link.shut next.0.0 (word_at r.cells z)) (place-again n r.link.got)
-            (subst (λ (z : ℕ). IsMarked r.link.shut z (word_at r.cells (place_of n (r.link.got + n)))) (number-again r.link.given n r.link.got next.0 next.1)
+        mark = let e = f in subst (λ (z : ℕ). IsMarked r.link.shut next.0.0 (word_at r.cells z)) (place-again terms.gap n r.link.got)
+            (subst (λ (z : ℕ). IsMarked r.link.shut z (word_at r.cells (place_of terms.gap n (r.link.got + n)))) (number-again r.link.given n r.link.got next.0 next.1)
             (r.marked.settled (r.link.got + n) (omega arith) (omega arith)))
 
         small : (0 < next.0.0) × (next.0.0 < 2 ^ 63)
@@ -155,10 +155,10 @@ module _ {J T : Type 0} (fits : Order J → Outcome J T → Type 0) (ready : Ord
                 terms_are = record { from = r.terms_are.from; to = r.terms_are.to; base = r.terms_are.base; capacity = r.terms_are.capacity };
                 laid = record { rows = refl; len = both.count ∙ r.laid.len; enough = r.laid.enough; some = r.laid.some };
                 gate_word = r.gate_word;
-                marked = AreMarked-kept r.link r.cells (homed (worded r.cells spot found) spot None) r.marked r.link.taken (r.link.got + 1) (r.link.credited + 1)
+                marked = AreMarked-kept terms.gap r.link r.cells (homed (worded r.cells spot found) spot None) r.marked r.link.taken (r.link.got + 1) (r.link.credited + 1)
                     (words_stay r.cells (homed (worded r.cells spot found) spot None) spot None both);
-                in_place = AreInPlace-got fits ready r.link r.law r.credits r.cells (homed (worded r.cells spot found) spot None) found None r.out_receiver both more
-                    (subst (λ (z : Option ℕ). AreInPlace r.link r.cells z r.out_receiver) (sym (away fits ready terms seat old go alone s r there) ∙ rests) r.in_place);
+                in_place = AreInPlace-got terms.gap fits ready r.link r.law r.credits r.cells (homed (worded r.cells spot found) spot None) found None r.out_receiver both more
+                    (subst (λ (z : Option ℕ). AreInPlace terms.gap r.link r.cells z r.out_receiver) (sym (away fits ready terms seat old go alone s r there) ∙ rests) r.in_place);
                 views = AreTold-sender r.link later r.sender r.receiver r.out_sender r.out_receiver seat s.views old.view now r.views there (Some spot) go alone
                     (KnowsOut-got r.link out k seen (IsPrefix-take (r.link.got + 1) r.link.given) (let l = long in omega arith)) refl (λ inward x. KnowsInward-got r.link inward x);
               },
@@ -173,7 +173,7 @@ module _ {J T : Type 0} (fits : Order J → Outcome J T → Type 0) (ready : Ord
     gathers same s r there = on_gate fits ready terms s r seat old at (λ z. z) (λ _. Gathers fits old) same (gather s r there)
 
     pub lifts_outcome : (place : ℕ) → terms.cells.ptr ≡ at → old.view.away ≡ None → length old.view.out.seen ≡ old.view.out.got → old.view.out.got < length old.view.out.sent
-        → place ≡ place_of old.view.out.capacity old.view.out.got → Allows (Rule fits ready terms) seat old 1 at place (λ z. z) (LiftsOutcome fits (step 1 at place 0 0) old)
+        → place ≡ place_of terms.gap old.view.out.capacity old.view.out.got → Allows (Rule fits ready terms) seat old 1 at place (λ z. z) (LiftsOutcome fits (step 1 at place 0 0) old)
     lifts_outcome place same rests got_all waits is s r there = let e = f s r there in
-        on_cell fits ready terms s r seat old at place (place_of r.link.capacity r.link.got) (λ z. z) (λ p i. LiftsOutcome fits (step 1 p i 0 0) old) same
-        (sym (is ∙ (λ i. place_of (e.capacity i) (e.got i)))) (there_is s r there rests got_all waits) (lift s r there rests got_all waits)
+        on_cell fits ready terms s r seat old at place (place_of terms.gap r.link.capacity r.link.got) (λ z. z) (λ p i. LiftsOutcome fits (step 1 p i 0 0) old) same
+        (sym (is ∙ (λ i. place_of terms.gap (e.capacity i) (e.got i)))) (there_is s r there rests got_all waits) (lift s r there rests got_all waits)

@@ -27,9 +27,8 @@ use Rattle.rt_ring_board.proofs.Injective.{of_order-injective, same_hand}
 use Rattle.rt_ring_board.proofs.Knowledge.{KnowsOut-closed, KnowsOut-sent, KnowsInward-sent}
 use Rattle.rt_ring_board.proofs.Marks.{AreMarked-kept, AreMarked-sent}
 use Rattle.rt_ring_board.proofs.Numbers.{number-bounds, number-seen}
-use Rattle.rt_ring_board.proofs.Steps.{Rule, two_rows, gated, on_cell, on_gate, cell_keeps, gate_keeps}
+use Rattle.rt_ring_board.proofs.Steps.{Rule, two_rows, gated, on_cell, on_gate, cell_there, cell_keeps, gate_keeps}
 use Rattle.rt_ring_board.proofs.Views.{AreTold-sender}
-use Rattle.rt_ring_board.proofs.Windows.{place-below}
 
 -- where the gate is open, the sender has not seen it shut
 not_closed : (closed gate : Bool) → (closed ≡ true → gate ≡ true) → gate ≡ false → closed ≡ false
@@ -84,9 +83,6 @@ module _ {J T : Type 0} (fits : Order J → Outcome J T → Type 0) (ready : Ord
       small = r.law.numbered;
     }
 
-    pub in_range : (i : ℕ) → 0 < n → place_of n i < length r.cells
-    in_range i some_cell = omega (arith, place-below n i some_cell, r.laid.len, r.laid.enough, r.terms_are.capacity)
-
     -- the number that the next order finds is the same by what the sender has seen
     pub number_seen : (i : ℕ) → i < r.link.got + n → number_before r.link.given n i ≡ number_before out.seen out.capacity i
     number_seen i near = let f = numbers in number-seen r.link.given out.seen n i knows.sees (omega arith) ∙ ap (λ (z : ℕ). number_before out.seen z i) (sym f.capacity)
@@ -116,13 +112,13 @@ module _ {J T : Type 0} (fits : Order J → Outcome J T → Type 0) (ready : Ord
 
     module _ (room : length out.sent < out.got + out.capacity) where
       abbrev spot : ℕ
-      spot = place_of n sent
+      spot = place_of terms.gap n sent
 
       abbrev found : ℕ
       found = word_at r.cells spot
 
       there_is : spot < length r.cells
-      there_is = let f = numbers in in_range sent (omega arith)
+      there_is = let f = numbers in cell_there fits ready terms s r sent (omega arith)
 
       mark : IsMarked r.link.shut (number_before r.link.given n sent) found
       mark = let f = numbers in r.marked.settled sent (omega arith) (omega arith)
@@ -157,9 +153,9 @@ module _ {J T : Type 0} (fits : Order J → Outcome J T → Type 0) (ready : Ord
               terms_are = r.terms_are;
               laid = record { rows = refl; len = both.count ∙ r.laid.len; enough = r.laid.enough; some = r.laid.some };
               gate_word = r.gate_word;
-              marked = AreMarked-kept r.link r.cells (homed (worded r.cells spot found) spot None) r.marked r.link.taken r.link.got r.link.credited (words_stay r.cells (homed (worded r.cells spot found) spot None) spot None both);
-              in_place = AreInPlace-lent fits ready r.link r.law r.credits r.cells (homed (worded r.cells spot found) spot None) found None sent r.out_receiver both (omega arith) (omega arith)
-                  (subst (λ (z : Option ℕ). AreInPlace r.link r.cells z r.out_receiver) none r.in_place);
+              marked = AreMarked-kept terms.gap r.link r.cells (homed (worded r.cells spot found) spot None) r.marked r.link.taken r.link.got r.link.credited (words_stay r.cells (homed (worded r.cells spot found) spot None) spot None both);
+              in_place = AreInPlace-lent terms.gap fits ready r.link r.law r.credits r.cells (homed (worded r.cells spot found) spot None) found None sent r.out_receiver both (omega arith) (omega arith)
+                  (subst (λ (z : Option ℕ). AreInPlace terms.gap r.link r.cells z r.out_receiver) none r.in_place);
               views = AreTold-sender r.link r.link r.sender r.receiver r.out_sender r.out_receiver seat s.views old.view (with_away old.view (Some spot)) r.views there (Some spot) go alone knows refl (λ _ k. k);
             },
             record { clear = λ _. (is ∙ number_is, refl); shut = λ high. let b = small in absurd (omega arith) },
@@ -204,9 +200,9 @@ module _ {J T : Type 0} (fits : Order J → Outcome J T → Type 0) (ready : Ord
                 terms_are = record { from = r.terms_are.from; to = r.terms_are.to; base = r.terms_are.base; capacity = r.terms_are.capacity };
                 laid = record { rows = refl; len = both.count ∙ r.laid.len; enough = r.laid.enough; some = r.laid.some };
                 gate_word = r.gate_word;
-                marked = AreMarked-sent r.link r.cells (homed (worded r.cells spot 0) spot (Some (of_order order))) r.marked 0 (Some (of_order order)) order both refl (omega arith) (omega arith) open_gate;
-                in_place = AreInPlace-sent fits ready r.link r.law r.credits r.cells (homed (worded r.cells spot 0) spot (Some (of_order order))) 0 (Some (of_order order)) order r.out_receiver both refl (omega arith)
-                    (subst (λ (z : Option ℕ). AreInPlace r.link r.cells z r.out_receiver) (sym away ∙ out_is) r.in_place);
+                marked = AreMarked-sent terms.gap r.link r.cells (homed (worded r.cells spot 0) spot (Some (of_order order))) r.marked 0 (Some (of_order order)) order both refl (omega arith) (omega arith) open_gate;
+                in_place = AreInPlace-sent terms.gap fits ready r.link r.law r.credits r.cells (homed (worded r.cells spot 0) spot (Some (of_order order))) 0 (Some (of_order order)) order r.out_receiver both refl (omega arith)
+                    (subst (λ (z : Option ℕ). AreInPlace terms.gap r.link r.cells z r.out_receiver) (sym away ∙ out_is) r.in_place);
                 views = AreTold-sender r.link later r.sender r.receiver r.out_sender r.out_receiver seat s.views old.view now r.views there None go alone (KnowsOut-sent r.link out knows order) refl
                     (λ inward k. KnowsInward-sent r.link inward k order open_gate);
               },
@@ -236,10 +232,10 @@ module _ {J T : Type 0} (fits : Order J → Outcome J T → Type 0) (ready : Ord
 
     module _ (k : ℕ) (low : length out.sent ≤ k) (high : k < out.got + out.capacity) where
       abbrev place : ℕ
-      place = place_of n k
+      place = place_of terms.gap n k
 
       place_there : place < length r.cells
-      place_there = let f = numbers in in_range k (omega arith)
+      place_there = let f = numbers in cell_there fits ready terms s r k (omega arith)
 
       home : old.hand ≡ Some (terms.cells.ptr, place, None) → old.view.away ≡ Some place
           → Goes (Rule fits ready terms) s (two_rows fits ready terms r.gate (worded r.cells place (word_at r.cells place))) seat old (Homes (step 1 terms.cells.ptr place 0 0) old (word_at r.cells place))
@@ -262,10 +258,10 @@ module _ {J T : Type 0} (fits : Order J → Outcome J T → Type 0) (ready : Ord
               terms_are = r.terms_are;
               laid = record { rows = refl; len = both.count ∙ r.laid.len; enough = r.laid.enough; some = r.laid.some };
               gate_word = r.gate_word;
-              marked = AreMarked-kept r.link r.cells (homed (worded r.cells place here) place (Some None)) r.marked r.link.taken r.link.got r.link.credited
+              marked = AreMarked-kept terms.gap r.link r.cells (homed (worded r.cells place here) place (Some None)) r.marked r.link.taken r.link.got r.link.credited
                   (words_stay r.cells (homed (worded r.cells place here) place (Some None)) place (Some None) both);
-              in_place = AreInPlace-back fits ready r.link r.law r.credits r.cells (homed (worded r.cells place here) place (Some None)) here (Some None) k r.out_receiver both (omega arith) (omega arith) refl
-                  (subst (λ (z : Option ℕ). AreInPlace r.link r.cells z r.out_receiver) (sym away ∙ out_is) r.in_place);
+              in_place = AreInPlace-back terms.gap fits ready r.link r.law r.credits r.cells (homed (worded r.cells place here) place (Some None)) here (Some None) k r.out_receiver both (omega arith) (omega arith) refl
+                  (subst (λ (z : Option ℕ). AreInPlace terms.gap r.link r.cells z r.out_receiver) (sym away ∙ out_is) r.in_place);
               views = AreTold-sender r.link r.link r.sender r.receiver r.out_sender r.out_receiver seat s.views old.view (with_away old.view None) r.views there None go alone knows refl (λ _ x. x);
             },
             λ _. refl,
@@ -276,26 +272,26 @@ module _ {J T : Type 0} (fits : Order J → Outcome J T → Type 0) (ready : Ord
     probes same s r there = on_gate fits ready terms s r seat old at (λ z. z) (Probes (step 0 at 0 0 0) old) same (probe s r there at)
 
     module _ (place : ℕ) (same : terms.cells.ptr ≡ at) where
-      pub lends_order : old.view.away ≡ None → length old.view.out.sent < old.view.out.got + old.view.out.capacity → place ≡ place_of old.view.out.capacity (length old.view.out.sent)
+      pub lends_order : old.view.away ≡ None → length old.view.out.sent < old.view.out.got + old.view.out.capacity → place ≡ place_of terms.gap old.view.out.capacity (length old.view.out.sent)
           → Allows (Rule fits ready terms) seat old 1 at place (λ z. z) (LendsOrder (step 1 at place 0 0) old)
       lends_order rests room is s r there = let f = numbers s r there in
-          on_cell fits ready terms s r seat old at place (place_of r.link.capacity (length r.link.sent)) (λ z. z) (λ p i. LendsOrder (step 1 p i 0 0) old) same
-          (sym (is ∙ (λ i. place_of (f.capacity i) (f.count i)))) (there_is s r there room) (lend s r there room rests)
+          on_cell fits ready terms s r seat old at place (place_of terms.gap r.link.capacity (length r.link.sent)) (λ z. z) (λ p i. LendsOrder (step 1 p i 0 0) old) same
+          (sym (is ∙ (λ i. place_of terms.gap (f.capacity i) (f.count i)))) (there_is s r there room) (lend s r there room rests)
 
       pub accepts : (order : Order J) (first : ℕ) → old.hand ≡ Some (at, place, of_order order) → old.view.away ≡ Some place
-          → length old.view.out.sent < old.view.out.got + old.view.out.capacity → place ≡ place_of old.view.out.capacity (length old.view.out.sent)
+          → length old.view.out.sent < old.view.out.got + old.view.out.capacity → place ≡ place_of terms.gap old.view.out.capacity (length old.view.out.sent)
           → first ≡ number_before old.view.out.seen old.view.out.capacity (length old.view.out.sent) → old.view.out.base + length old.view.out.sent + 1 < 2 ^ 63 → ready order
           → Allows (Rule fits ready terms) seat old 1 at place (λ z. either (eqb z first) 0 z) (Accepts (step 1 at place first 0) old)
       accepts order first held_is out_is room is first_is below is_ready s r there = let f = numbers s r there in
-          let spot_is : place ≡ place_of r.link.capacity (length r.link.sent) = is ∙ (λ i. place_of (f.capacity i) (f.count i)) in
-          on_cell fits ready terms s r seat old at place (place_of r.link.capacity (length r.link.sent)) (λ z. either (eqb z first) 0 z) (λ p i. Accepts (step 1 p i first 0) old) same
+          let spot_is : place ≡ place_of terms.gap r.link.capacity (length r.link.sent) = is ∙ (λ i. place_of terms.gap (f.capacity i) (f.count i)) in
+          on_cell fits ready terms s r seat old at place (place_of terms.gap r.link.capacity (length r.link.sent)) (λ z. either (eqb z first) 0 z) (λ p i. Accepts (step 1 p i first 0) old) same
           (sym spot_is) (there_is s r there room)
           (accept s r there room order first (held_is ∙ λ i. Some (sym same i, spot_is i, of_order order)) (out_is ∙ ap (λ (z : ℕ). Some z) spot_is) first_is below is_ready)
 
       pub homes_free : (k : ℕ) → old.hand ≡ Some (at, place, None) → old.view.away ≡ Some place → length old.view.out.sent ≤ k → k < old.view.out.got + old.view.out.capacity
-          → place ≡ place_of old.view.out.capacity k → Allows (Rule fits ready terms) seat old 1 at place (λ z. z) (Homes (step 1 at place 0 0) old)
+          → place ≡ place_of terms.gap old.view.out.capacity k → Allows (Rule fits ready terms) seat old 1 at place (λ z. z) (Homes (step 1 at place 0 0) old)
       homes_free k held_is out_is low high is s r there = let f = numbers s r there in
-          let spot_is : place ≡ place_of r.link.capacity k = is ∙ ap (λ (z : ℕ). place_of z k) f.capacity in
-          on_cell fits ready terms s r seat old at place (place_of r.link.capacity k) (λ z. z) (λ p i. Homes (step 1 p i 0 0) old) same
+          let spot_is : place ≡ place_of terms.gap r.link.capacity k = is ∙ ap (λ (z : ℕ). place_of terms.gap z k) f.capacity in
+          on_cell fits ready terms s r seat old at place (place_of terms.gap r.link.capacity k) (λ z. z) (λ p i. Homes (step 1 p i 0 0) old) same
           (sym spot_is) (place_there s r there k low high)
           (home s r there k low high (held_is ∙ λ i. Some (sym same i, spot_is i, None)) (out_is ∙ ap (λ (z : ℕ). Some z) spot_is))

@@ -1,5 +1,5 @@
 -- The board at the start, a seat that only looks, and the seat that is parted.
-use Rattle.std.proofs.Common.{◌≡◌, ℕ, ◌*◌, ◌^◌, ◌<◌, ◌≤◌, inl, inr, ⊎_elim, true, List, [], ◌∷◌, length, set, refl, sym, ◌∙◌, arith, subst, None}
+use Rattle.std.proofs.Common.{◌≡◌, ℕ, ◌+◌, ◌*◌, ◌^◌, ◌<◌, inl, inr, ⊎_elim, true, List, [], ◌∷◌, length, set, refl, sym, ◌∙◌, arith, subst, None}
 use denote.RawPtr.{Ptr}
 use Rattle.atomic_table.proofs.Lists.{at_set}
 use Rattle.atomic_blocks.specs.Cells.{State, Cell, Row, row_at, cell_in, Lies, Splits, Enters}
@@ -7,7 +7,7 @@ use Rattle.rt_ids.specs.declared.order.Order.{Order}
 use Rattle.rt_ids.specs.declared.order.Outcome.{Outcome}
 use Rattle.rt_ids.proofs.Prefixes.{IsPrefix-self}
 use Rattle.rt_link.proofs.WholeLaws.{IsLink-fresh}
-use Rattle.rt_ring_board.specs.Cells.{apart_by, place_of}
+use Rattle.rt_ring_board.specs.Cells.{place_of}
 use Rattle.rt_ring_board.specs.Places.{AreFresh}
 use Rattle.rt_ring_board.specs.Views.{IsTold, fresh_link, first_view, out_part, inward_part, spent_view}
 use Rattle.rt_ring_board.specs.declared.board.Known.{Known}
@@ -25,7 +25,7 @@ one_cell (c ∷ d ∷ cells) e = absurd (omega arith)
 
 module _ {J T : Type 0} (fits : Order J → Outcome J T → Type 0) (ready : Order J → Type 0) (terms : Terms J T) where
   pub starts : (gate_at cells_at : Ptr) (gates cells : List (Cell (Content J T))) → gate_at ≡ terms.gate.ptr → cells_at ≡ terms.cells.ptr → AreFresh gates 1 0 → AreFresh cells terms.len 1
-      → apart_by * terms.capacity ≤ terms.len → 0 < terms.len → terms.base < 2 ^ 63
+      → ((turn : ℕ) → turn < terms.capacity → (terms.gap + 1) * turn < terms.len) → 0 < terms.len → terms.base < 2 ^ 63
       → Rule fits ready terms record { rows = row_at gate_at gates ∷ row_at cells_at cells ∷ []; views = first_view terms ∷ [] }
   starts gate_at cells_at gates cells gate_is cells_is one all enough some_cell small = record {
     link = fresh_link terms;
@@ -48,14 +48,14 @@ module _ {J T : Type 0} (fits : Order J → Outcome J T → Type 0) (ready : Ord
     marked = record {
       pending = λ i a b. absurd (omega arith);
       settled = λ i a b. let low : i < terms.capacity = omega arith in
-          inl ((all.2 (place_of terms.capacity i) (omega (arith, place-below terms.capacity i))).0 ∙ sym (number-low {J = J} {T = T} [] terms.capacity i low));
+          inl ((all.2 (place_of terms.gap terms.capacity i) (place-below terms.gap terms.capacity i terms.len enough (omega arith))).0 ∙ sym (number-low {J = J} {T = T} [] terms.capacity i low));
       closed = λ shut. absurd cc;
     };
     in_place = record {
       orders = λ i a b. absurd (omega arith);
       outcomes = λ i a b. absurd (omega arith);
       answered = λ i a b. absurd (omega arith);
-      free = λ i a b. inr (all.2 (place_of terms.capacity i) (omega (arith, place-below terms.capacity i))).1;
+      free = λ i a b. inr (all.2 (place_of terms.gap terms.capacity i) (place-below terms.gap terms.capacity i terms.len enough (omega arith))).1;
     };
     views = λ seat view here. let is = only_one (first_view terms) view seat here in
         subst (IsTold (fresh_link terms) 0 0 None None seat) is.1 (record {
@@ -68,13 +68,16 @@ module _ {J T : Type 0} (fits : Order J → Outcome J T → Type 0) (ready : Ord
     pub gate_lies : (at : Ptr) → terms.gate.ptr ≡ at → Lies s.rows 0 at 0
     gate_lies at same = subst (λ (rows : List (Row (Content J T))). Lies rows 0 at 0) (sym r.laid.rows) (same, omega arith)
 
-    pub cell_lies : (at : Ptr) (place : ℕ) → terms.cells.ptr ≡ at → place < apart_by * terms.capacity → Lies s.rows 1 at place
-    cell_lies at place same near = subst (λ (rows : List (Row (Content J T))). Lies rows 1 at place) (sym r.laid.rows) (same, omega (arith, r.laid.len, r.laid.enough))
+    pub cell_lies : (at : Ptr) (place i : ℕ) → terms.cells.ptr ≡ at → 0 < terms.capacity → place ≡ place_of terms.gap terms.capacity i → Lies s.rows 1 at place
+    cell_lies at place i same some_cell is =
+        let near : place_of terms.gap terms.capacity i < terms.len = place-below terms.gap terms.capacity i terms.len r.laid.enough some_cell in
+        let there : place < length r.cells = subst (λ (z : ℕ). z < length r.cells) (sym is) (subst (λ (z : ℕ). place_of terms.gap terms.capacity i < z) (sym r.laid.len) near) in
+        subst (λ (rows : List (Row (Content J T))). Lies rows 1 at place) (sym r.laid.rows) (same, there)
 
   -- a new seat that knows nothing may come at any time
-  pub enters : (at : Ptr) (place : ℕ) → terms.cells.ptr ≡ at → place < apart_by * terms.capacity → Enters (Rule fits ready terms) 1 at place (λ _ view. view ≡ spent_view)
-  enters at place same near s r = (
-    cell_lies s r at place same near,
+  pub enters : (at : Ptr) (place i : ℕ) → terms.cells.ptr ≡ at → 0 < terms.capacity → place ≡ place_of terms.gap terms.capacity i → Enters (Rule fits ready terms) 1 at place (λ _ view. view ≡ spent_view)
+  enters at place i same some_cell is s r = (
+    cell_lies s r at place i same some_cell is,
     λ _. (
       spent_view,
       record {

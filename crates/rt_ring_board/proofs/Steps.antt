@@ -4,7 +4,7 @@ use denote.RawPtr.{Ptr}
 use Rattle.atomic_blocks.specs.Cells.{State, Cell, Row, cell, row_at, Lies, Goes, word_of, with_word}
 use Rattle.rt_ids.specs.declared.order.Order.{Order}
 use Rattle.rt_ids.specs.declared.order.Outcome.{Outcome}
-use Rattle.rt_ring_board.specs.Cells.{word_at, home_at}
+use Rattle.rt_ring_board.specs.Cells.{place_of, word_at, home_at}
 use Rattle.rt_ring_board.specs.Rule.{IsRing}
 use Rattle.rt_ring_board.specs.Told.{Seated}
 use Rattle.rt_ring_board.specs.Views.{AreTold}
@@ -14,6 +14,7 @@ use Rattle.rt_ring_board.specs.Held.{Content}
 use Rattle.rt_ring_board.proofs.Changes.{worded, IsChanged, IsChanged-worded, words_stay, homes_stay}
 use Rattle.rt_ring_board.proofs.InPlace.{AreInPlace-kept}
 use Rattle.rt_ring_board.proofs.Marks.{AreMarked-kept}
+use Rattle.rt_ring_board.proofs.Windows.{place-below}
 
 module _ {J T : Type 0} (fits : Order J → Outcome J T → Type 0) (ready : Order J → Type 0) (terms : Terms J T) where
   abbrev pub Rule : State (Content J T) (Known J T) → Type 0
@@ -47,6 +48,11 @@ module _ {J T : Type 0} (fits : Order J → Outcome J T → Type 0) (ready : Ord
         subst (λ (rows : List (Row (Content J T))). Lies rows 0 at 0 × (word_of rows 0 0 < 18446744073709551616 → Goes Rule s (with_word rows 0 0 (f (word_of rows 0 0))) seat old (then (word_of rows 0 0))))
         (sym r.laid.rows) ((same, omega arith), λ _. goes)
 
+  -- the cell of each index is there
+  pub cell_there : (s : State (Content J T) (Known J T)) (r : Rule s) (i : ℕ) → 0 < r.link.capacity → place_of terms.gap r.link.capacity i < length r.cells
+  cell_there s r i some_cell = subst (λ (z : ℕ). place_of terms.gap r.link.capacity i < z) (sym r.laid.len)
+      (place-below terms.gap r.link.capacity i terms.len (λ turn near. r.laid.enough turn (omega (arith, r.terms_are.capacity))) some_cell)
+
   module _ (s : State (Content J T) (Known J T)) (r : Rule s) (views : List (Known J T)) (told : AreTold r.link r.sender r.receiver r.out_sender r.out_receiver views) where
     -- no word changes, and no cell goes out or comes home
     pub cell_keeps : (place : ℕ) → place < length r.cells → Rule (with_views r.gate (worded r.cells place (word_at r.cells place)) views)
@@ -64,8 +70,8 @@ module _ {J T : Type 0} (fits : Order J → Outcome J T → Type 0) (ready : Ord
           terms_are = r.terms_are;
           laid = record { rows = refl; len = is.count ∙ r.laid.len; enough = r.laid.enough; some = r.laid.some };
           gate_word = r.gate_word;
-          marked = AreMarked-kept r.link r.cells (worded r.cells place (word_at r.cells place)) r.marked r.link.taken r.link.got r.link.credited (words_stay r.cells (worded r.cells place (word_at r.cells place)) place (home_at r.cells place) is);
-          in_place = AreInPlace-kept r.link r.cells (worded r.cells place (word_at r.cells place)) r.out_sender r.out_receiver (homes_stay r.cells (worded r.cells place (word_at r.cells place)) place (word_at r.cells place) is) r.in_place;
+          marked = AreMarked-kept terms.gap r.link r.cells (worded r.cells place (word_at r.cells place)) r.marked r.link.taken r.link.got r.link.credited (words_stay r.cells (worded r.cells place (word_at r.cells place)) place (home_at r.cells place) is);
+          in_place = AreInPlace-kept terms.gap r.link r.cells (worded r.cells place (word_at r.cells place)) r.out_sender r.out_receiver (homes_stay r.cells (worded r.cells place (word_at r.cells place)) place (word_at r.cells place) is) r.in_place;
           views = told;
         }
 

@@ -95,7 +95,7 @@ module _ {J T : Type 0} (fits : Order J → Outcome J T → Type 0) (ready : Ord
       → Allows (Rule fits ready terms) seat now 0 at 0 (λ _. 1) (λ _. Seals ready now)
   seals_after same ends = seals fits ready terms seat now takes alone at same ends
 
-  module _ (place seen given capacity : ℕ) (same : terms.cells.ptr ≡ at) (clear : now.view.inward.shut ≡ false) (place_is : place ≡ place_of capacity seen) (seen_is : seen ≡ length now.view.inward.seen)
+  module _ (place seen given capacity : ℕ) (same : terms.cells.ptr ≡ at) (clear : now.view.inward.shut ≡ false) (place_is : place ≡ place_of terms.gap capacity seen) (seen_is : seen ≡ length now.view.inward.seen)
       (given_is : given ≡ length old.view.inward.given) (capacity_is : capacity ≡ old.view.inward.capacity) (room : seen < given + capacity) where
     capacity_now : capacity ≡ now.view.inward.capacity
     capacity_now = capacity_is ∙ ap (λ (m : Seated J T). m.view.inward.capacity) (sym w.same)
@@ -103,8 +103,8 @@ module _ {J T : Type 0} (fits : Order J → Outcome J T → Type 0) (ready : Ord
     room_now : length now.view.inward.seen < length now.view.inward.given + now.view.inward.capacity
     room_now = let one : length now.view.inward.given ≡ length old.view.inward.given = ap (λ (m : Seated J T). length m.view.inward.given) w.same in let two = capacity_now in omega arith
 
-    spot : place ≡ place_of now.view.inward.capacity (length now.view.inward.seen)
-    spot = place_is ∙ λ i. place_of (capacity_now i) (seen_is i)
+    spot : place ≡ place_of terms.gap now.view.inward.capacity (length now.view.inward.seen)
+    spot = place_is ∙ λ i. place_of terms.gap (capacity_now i) (seen_is i)
 
     pub looks_after : Allows (Rule fits ready terms) seat now 1 at place (λ z. z) (Looks ready now)
     looks_after = looks fits ready terms seat now takes alone at place same clear room_now spot

@@ -6,13 +6,10 @@ use Rattle.rt_ids.specs.declared.order.Outcome.{Outcome}
 use Rattle.rt_link.specs.declared.plain.Whole.{Whole}
 use Rattle.rt_ring_board.specs.Held.{Content, of_order, of_outcome}
 
--- how far the cells of two indexes that follow each other are apart: those between them are never used, so that the two share no line of a cache
-abbrev pub apart_by : ℕ
-apart_by = 4
-
--- the cell of an index, for the order at that index of those sent and for the outcome at that index of those given; after the last cell comes the first again
-abbrev pub place_of : ℕ → ℕ → ℕ
-place_of capacity index = apart_by * (index % capacity)
+-- The cell of an index, for the order at that index of those sent and for the outcome at that index of those given. Between the cells of two
+-- indexes that follow each other lie `gap` cells that are never used; after the last cell comes the first again.
+abbrev pub place_of : ℕ → ℕ → ℕ → ℕ
+place_of gap capacity index = (gap + 1) * (index % capacity)
 
 -- the top bit of a word, for a gate that is shut
 abbrev pub gate_bit : Bool → ℕ
@@ -59,26 +56,27 @@ module _ {J T : Type 0} where
   abbrev pub home_at : List (Cell (Content J T)) → ℕ → Option (Content J T)
   home_at cells place = (cell_in cells place).home
 
-  -- the word of an order that has no outcome yet is 0; each other word has a number, and once the gate is shut, the word that the next order would find has the top bit
-  pub record AreMarked (link : Whole J T) (cells : List (Cell (Content J T))) : Type 0 where
-    pub pending : (index : ℕ) → length link.given ≤ index → index < length link.sent → word_at cells (place_of link.capacity index) ≡ 0
-    pub settled : (index : ℕ) → length link.sent ≤ index → index < length link.given + link.capacity
-        → IsMarked link.shut (number_before link.given link.capacity index) (word_at cells (place_of link.capacity index))
-    pub closed : link.shut ≡ true → length link.sent < length link.given + link.capacity → 2 ^ 63 ≤ word_at cells (place_of link.capacity (length link.sent))
+  module _ (gap : ℕ) where
+    -- the word of an order that has no outcome yet is 0; each other word has a number, and once the gate is shut, the word that the next order would find has the top bit
+    pub record AreMarked (link : Whole J T) (cells : List (Cell (Content J T))) : Type 0 where
+      pub pending : (index : ℕ) → length link.given ≤ index → index < length link.sent → word_at cells (place_of gap link.capacity index) ≡ 0
+      pub settled : (index : ℕ) → length link.sent ≤ index → index < length link.given + link.capacity
+          → IsMarked link.shut (number_before link.given link.capacity index) (word_at cells (place_of gap link.capacity index))
+      pub closed : link.shut ≡ true → length link.sent < length link.given + link.capacity → 2 ^ 63 ≤ word_at cells (place_of gap link.capacity (length link.sent))
 
-  -- the cells of the indexes from `low` to below `high` are at home with their contents
-  abbrev pub AreHome : List (Cell (Content J T)) → ℕ → ℕ → ℕ → (ℕ → Content J T) → Type 0
-  AreHome cells capacity low high content = (index : ℕ) → low ≤ index → index < high → home_at cells (place_of capacity index) ≡ Some (content index)
+    -- the cells of the indexes from `low` to below `high` are at home with their contents
+    abbrev pub AreHome : List (Cell (Content J T)) → ℕ → ℕ → ℕ → (ℕ → Content J T) → Type 0
+    AreHome cells capacity low high content = (index : ℕ) → low ≤ index → index < high → home_at cells (place_of gap capacity index) ≡ Some (content index)
 
-  -- the cells of these indexes hold nothing, and are at home unless they are the one that is away
-  abbrev pub AreFree : List (Cell (Content J T)) → Option ℕ → ℕ → ℕ → ℕ → Type 0
-  AreFree cells away capacity low high =
-      (index : ℕ) → low ≤ index → index < high → (away ≡ Some (place_of capacity index)) ⊎ (home_at cells (place_of capacity index) ≡ Some None)
+    -- the cells of these indexes hold nothing, and are at home unless they are the one that is away
+    abbrev pub AreFree : List (Cell (Content J T)) → Option ℕ → ℕ → ℕ → ℕ → Type 0
+    AreFree cells away capacity low high =
+        (index : ℕ) → low ≤ index → index < high → (away ≡ Some (place_of gap capacity index)) ⊎ (home_at cells (place_of gap capacity index) ≡ Some None)
 
-  -- An order lies in its cell until it is taken, and an outcome until it is got. All other cells hold nothing; the sender and the receiver
-  -- may each have one of them out: the receiver one of the orders that have no outcome yet, the sender one of its next orders.
-  pub record AreInPlace (link : Whole J T) (cells : List (Cell (Content J T))) (out_sender out_receiver : Option ℕ) : Type 0 where
-    pub orders : AreHome cells link.capacity link.taken (length link.sent) (order_at link.sent)
-    pub outcomes : AreHome cells link.capacity link.got (length link.given) (outcome_at link.given)
-    pub answered : AreFree cells out_receiver link.capacity (length link.given) link.taken
-    pub free : AreFree cells out_sender link.capacity (length link.sent) (link.got + link.capacity)
+    -- An order lies in its cell until it is taken, and an outcome until it is got. All other cells hold nothing; the sender and the receiver
+    -- may each have one of them out: the receiver one of the orders that have no outcome yet, the sender one of its next orders.
+    pub record AreInPlace (link : Whole J T) (cells : List (Cell (Content J T))) (out_sender out_receiver : Option ℕ) : Type 0 where
+      pub orders : AreHome cells link.capacity link.taken (length link.sent) (order_at link.sent)
+      pub outcomes : AreHome cells link.capacity link.got (length link.given) (outcome_at link.given)
+      pub answered : AreFree cells out_receiver link.capacity (length link.given) link.taken
+      pub free : AreFree cells out_sender link.capacity (length link.sent) (link.got + link.capacity)

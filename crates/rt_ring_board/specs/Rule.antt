@@ -1,11 +1,11 @@
 -- The rule of the board, which holds between any two steps of its seats.
-use Rattle.std.specs.Prelude.{◌≡◌, ℕ, ◌*◌, ◌<◌, ◌≤◌, true, List, [], ◌∷◌, length, Option}
+use Rattle.std.specs.Prelude.{◌≡◌, ℕ, ◌+◌, ◌*◌, ◌<◌, true, List, [], ◌∷◌, length, Option}
 use Rattle.atomic_blocks.specs.Cells.{State, Cell, row_at}
 use Rattle.rt_ids.specs.declared.order.Order.{Order}
 use Rattle.rt_ids.specs.declared.order.Outcome.{Outcome}
 use Rattle.rt_link.specs.Whole.{IsLink}
 use Rattle.rt_link.specs.declared.plain.Whole.{Whole}
-use Rattle.rt_ring_board.specs.Cells.{AreMarked, AreInPlace, apart_by}
+use Rattle.rt_ring_board.specs.Cells.{AreMarked, AreInPlace}
 use Rattle.rt_ring_board.specs.Views.{AreTold}
 use Rattle.rt_ring_board.specs.declared.board.Known.{Known}
 use Rattle.rt_ring_board.specs.declared.board.Terms.{Terms}
@@ -23,7 +23,7 @@ module _ {J T : Type 0} where
   pub record AreLaid (terms : Terms J T) (gate : Cell (Content J T)) (cells : List (Cell (Content J T))) (state : State (Content J T) (Known J T)) : Type 0 where
     pub rows : state.rows ≡ row_at terms.gate.ptr (gate ∷ []) ∷ row_at terms.cells.ptr cells ∷ []
     pub len : length cells ≡ terms.len
-    pub enough : apart_by * terms.capacity ≤ terms.len
+    pub enough : (turn : ℕ) → turn < terms.capacity → (terms.gap + 1) * turn < terms.len
     pub some : 0 < terms.len
 
   -- There is a link that keeps the law of links. The words of the cells tell what has no outcome yet, the cells hold it, and each seat knows its
@@ -42,6 +42,6 @@ module _ {J T : Type 0} where
     pub terms_are : IsOfTerms link terms
     pub laid : AreLaid terms gate cells state
     pub gate_word : 0 < gate.word → link.shut ≡ true
-    pub marked : AreMarked link cells
-    pub in_place : AreInPlace link cells out_sender out_receiver
+    pub marked : AreMarked terms.gap link cells
+    pub in_place : AreInPlace terms.gap link cells out_sender out_receiver
     pub views : AreTold link sender receiver out_sender out_receiver state.views

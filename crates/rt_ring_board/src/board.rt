@@ -13,7 +13,7 @@
 //!
 //! An end looks at one word alone: that of the cell of its next order or outcome. So what waits comes with the word that tells of it.
 
-ghost use Rattle.std.specs.Prelude.{◌≡◌};
+ghost use Rattle.std.specs.Prelude.{◌≡◌, ◌+◌, ◌*◌, ◌<◌};
 ghost use denote.RawPtr.{InBlock};
 ghost use Rattle.rt_ring_board.specs.Places.{in_blocks_prop};
 
@@ -31,10 +31,6 @@ pub(crate) const GATE_ROW: u64 = 0;
 /// The row of the cells.
 pub(crate) const CELL_ROW: u64 = 1;
 
-/// How far the cells of two orders that follow each other are apart. Between them lie three that are never used. So the two share no line of a
-/// cache. If a cell takes a multiple of 16 bytes, all cells in use lie at the same place of their lines, as the first does.
-pub const APART: u64 = 4;
-
 /// The top bit of a word.
 pub(crate) const GATE: u64 = 1 << 63;
 
@@ -46,7 +42,9 @@ pub struct Terms<J, T> {
     /// The number before the first order.
     pub base: u64,
     pub capacity: u64,
-    /// How many cells there are: `APART` at least, also for no order.
+    /// How many cells that are never used lie between those of two orders that follow each other (`spacing`).
+    pub gap: u64,
+    /// How many cells there are, also those that are never used: one at least, also for no order.
     pub len: u64,
     pub gate: Link<Cell<J, T>>,
     pub cells: Link<Cell<J, T>>,
@@ -91,14 +89,49 @@ pub type Lines<J> = Rows<
 pub type Place<J> = Seat<Cell<J, <J as Task>::Out>, Known<J, <J as Task>::Out>, Global>;
 
 /// The cells with their memory, and where they lie. What lies in a cell when the board is dropped is forgotten.
+///
+/// The allocator is for the drop alone. It is private here, and this module lends it to nobody: no step on a board can ask for memory.
 pub struct Board<J: Task> {
     pub(crate) lines: Lines<J>,
     pub(crate) gate: Link<Cell<J, J::Out>>,
     pub(crate) cells: Link<Cell<J, J::Out>>,
+    /// How many cells that are never used lie between two that are.
+    pub gap: u64,
     pub(crate) len: u64,
-    pub(crate) alloc: Global,
+    alloc: Global,
     ghost keyed: { (lines.key.gate.ptr ≡ gate.ptr) × (lines.key.cells.ptr ≡ cells.ptr) × (lines.key.len ≡ len) × (lines.heap ≡ alloc) },
     ghost placed: { InBlock gate.ptr × InBlock cells.ptr } by { in_blocks_prop gate.ptr cells.ptr },
+    ghost spaced: { (lines.key.gap ≡ gap) × (gap < 4) × (0 < lines.key.capacity → len ≡ (gap + 1) * lines.key.capacity) },
+}
+
+impl<J: Task> Board<J> {
+    /// The board of these rows, which were opened on these terms.
+    pub(crate) fn of(lines: Lines<J>, terms: Terms<J, J::Out>, alloc: Global) -> Board<J>
+        requires rows { (lines.key ≡ terms) × (lines.heap ≡ alloc) }
+        requires placed { InBlock terms.gate.ptr × InBlock terms.cells.ptr }
+        requires gap { terms.gap < 4 }
+        requires len { 0 < terms.capacity → terms.len ≡ (terms.gap + 1) * terms.capacity }
+        ensures { result.lines ≡ lines }
+    {
+        let Terms {
+            from: _,
+            to: _,
+            base: _,
+            capacity: _,
+            gap,
+            len,
+            gate,
+            cells,
+        } = terms;
+        Board {
+            lines,
+            gate,
+            cells,
+            gap,
+            len,
+            alloc,
+        }
+    }
 }
 
 impl<J: Task> Drop for Board<J> {
@@ -107,6 +140,7 @@ impl<J: Task> Drop for Board<J> {
             lines,
             gate,
             cells,
+            gap: _,
             len,
             alloc,
         } = self;

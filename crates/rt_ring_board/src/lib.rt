@@ -7,9 +7,11 @@ pub mod opening;
 mod plays;
 mod receiver;
 mod sender;
+mod spacing;
 
-pub use board::{APART, Board, Known, Place, Ring, Terms};
+pub use board::{Board, Known, Place, Ring, Terms};
 pub use held::{Cell, Held};
 pub use opening::{compare, lay};
 pub use receiver::{close, give, next_order, shows_order};
 pub use sender::{is_open, next_outcome, offer, see_none, shows_outcome};
+pub use spacing::next_place;

@@ -8,9 +8,10 @@ ghost use Rattle.rt_link.specs.Whole.{fresh, inward_of, out_of};
 ghost use Rattle.rt_ring_board.specs.Places.{AreFresh};
 ghost use Rattle.rt_ring_board.specs.Seats.{IsReceiver, IsSender};
 
-use crate::board::{APART, Board, GATE_ROW, Lines, Place, Terms};
+use crate::board::{Board, GATE_ROW, Lines, Place, Terms};
 use crate::held::{Cell, Held};
 use crate::plays::{Compare, Halves};
+use crate::spacing::{cells_for, gap_of};
 use atomic_blocks::rows::{Link, Loose, Rows};
 use rt_ids::{ActorNo, CoreNo};
 use rt_jobs::Task;
@@ -57,7 +58,9 @@ pub fn lay<J: Task>(
     ensures inward { IfOk result (λ laid. laid.2.me.view.inward ≡ inward_of (fresh from to capacity base)) }
 {
     let capacity = capacity as u64;
-    let len = APART * capacity.max(1);
+    let empty: Cell<J, J::Out> = MaybeTaken::bytes_of(Held::Empty);
+    let gap = gap_of(&empty);
+    let len = cells_for(gap, capacity);
     let (gate, gate_row) = row_of::<J, J::Out>(&alloc, 1, 0)?;
     let Ok((cells, cell_row)) = row_of::<J, J::Out>(&alloc, len, 1) else {
         gate_row.free(&alloc, gate, 1);
@@ -68,20 +71,14 @@ pub fn lay<J: Task>(
         to,
         base,
         capacity,
+        gap,
         len,
         gate,
         cells,
     };
     let (lines, mut seat): (Lines<J>, Place<J>) = Rows::open(&terms, gate_row, cell_row);
     let other = lines.split_seat::<Halves>(&mut seat, GATE_ROW, gate);
-    let board = Board {
-        lines,
-        gate,
-        cells,
-        len,
-        alloc,
-    };
-    Ok((board, seat, other))
+    Ok((Board::of(lines, terms, alloc), seat, other))
 }
 
 /// Compares what the two seats know, by which both ends are those of one link. The receiver's seat comes back.

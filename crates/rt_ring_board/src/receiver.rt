@@ -5,13 +5,14 @@ ghost use Rattle.rt_jobs.specs.Ready.{HasReadyJob};
 ghost use Rattle.rt_link.specs.Calls.{MayGive};
 ghost use Rattle.rt_link.specs.Fits.{Fits};
 ghost use Rattle.rt_ring_board.specs.After.{with_given, with_shut, with_taken};
-ghost use Rattle.rt_ring_board.specs.Cells.{apart_by, gate_bit, place_of};
+ghost use Rattle.rt_ring_board.specs.Cells.{gate_bit, place_of};
 ghost use Rattle.rt_ring_board.specs.Seats.{IsReceiver, Watches};
 ghost use Rattle.rt_ring_board.specs.Told.{SeesOrders};
 
-use crate::board::{APART, Board, CELL_ROW, GATE, GATE_ROW, Place};
+use crate::board::{Board, CELL_ROW, GATE, GATE_ROW, Place};
 use crate::held::{hold_outcome, order_of};
 use crate::plays::{Give, HomeAnswered, LendBack, LiftOrder, Look, Mark, Peek, Seal};
+use crate::spacing::place_at;
 use rt_ids::{Order, Outcome};
 use rt_jobs::Task;
 use rt_ring_cells::{MaybeTaken, take_out};
@@ -22,7 +23,7 @@ use std::mem::forget;
 pub fn next_order<J: Task>(board: &Board<J>, seat: &mut Place<J>, place: usize) -> Option<Order<J>>
     requires at { (seat.old.rows ≡ board.now.lines.id) × (seat.old.heap ≡ board.now.lines.heap) }
     requires receiver { IsReceiver seat.old.me }
-    requires place { place ≡ place_of seat.old.me.view.inward.capacity seat.old.me.view.inward.taken }
+    requires place { place ≡ place_of board.now.gap seat.old.me.view.inward.capacity seat.old.me.view.inward.taken }
     requires room { seat.old.me.view.inward.taken < length seat.old.me.view.inward.given + seat.old.me.view.inward.capacity }
     ensures at { (seat.new.rows ≡ seat.old.rows) × (seat.new.heap ≡ seat.old.heap) }
     ensures receiver { IsReceiver seat.new.me }
@@ -64,7 +65,7 @@ pub fn give<J: Task>(
 )
     requires at { (seat.old.rows ≡ board.now.lines.id) × (seat.old.heap ≡ board.now.lines.heap) }
     requires receiver { IsReceiver seat.old.me }
-    requires place { place ≡ place_of seat.old.me.view.inward.capacity (length seat.old.me.view.inward.given) }
+    requires place { place ≡ place_of board.now.gap seat.old.me.view.inward.capacity (length seat.old.me.view.inward.given) }
     requires owed { length seat.old.me.view.inward.given < seat.old.me.view.inward.taken }
     requires shut { shut ≡ seat.old.me.view.inward.shut }
     requires number { number < 2 ^ 63 }
@@ -105,7 +106,7 @@ fn mark_next<J: Task>(
 {
     let mut seen = seen;
     'looks: while seen - given < capacity {
-        let place = (APART * (seen % capacity)) as usize;
+        let place = place_at(board.gap, capacity, seen) as usize;
         // step: look.
         let word = board.lines.load::<Look>(seat, CELL_ROW, board.cells, place);
         if word != 0 {
@@ -151,9 +152,11 @@ pub fn close<J: Task>(
     all
 }
 
-/// Whether an order lies in the cell of the next one. No clause says that the answer is right.
-pub fn shows_order<J: Task>(board: &Board<J>, place: usize) -> bool
-    requires { (place < apart_by * board.now.lines.key.capacity) × (board.now.lines.key.capacity < 2 ^ 16) }
+/// Whether an order lies in the cell of this index, which is the next one's. No clause says that the answer is right.
+pub fn shows_order<J: Task>(board: &Board<J>, place: usize, index: u64) -> bool
+    requires place { place ≡ place_of board.now.gap board.now.lines.key.capacity index }
+    requires some { 0 < board.now.lines.key.capacity }
+    requires few { board.now.lines.key.capacity < 2 ^ 16 }
 {
     // step: peek. Neither end knows more by it.
     let (word, seat) = board

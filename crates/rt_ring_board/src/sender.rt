@@ -4,7 +4,7 @@ ghost use Rattle.std.specs.Prelude.{◌≡◌, ◌+◌, ◌*◌, ◌^◌, ◌<�
 ghost use Rattle.rt_jobs.specs.Ready.{HasReadyJob};
 ghost use Rattle.rt_link.specs.Fits.{Fits};
 ghost use Rattle.rt_ring_board.specs.After.{with_closed, with_got, with_sent};
-ghost use Rattle.rt_ring_board.specs.Cells.{apart_by, place_of};
+ghost use Rattle.rt_ring_board.specs.Cells.{place_of};
 ghost use Rattle.rt_ring_board.specs.Seats.{IsSender};
 ghost use Rattle.rt_ring_board.specs.Told.{SeesOutcomes};
 
@@ -26,7 +26,7 @@ pub fn offer<J: Task>(
 ) -> Result<(), Order<J>>
     requires at { (seat.old.rows ≡ board.now.lines.id) × (seat.old.heap ≡ board.now.lines.heap) }
     requires sender { IsSender seat.old.me }
-    requires place { place ≡ place_of seat.old.me.view.out.capacity (length seat.old.me.view.out.sent) }
+    requires place { place ≡ place_of board.now.gap seat.old.me.view.out.capacity (length seat.old.me.view.out.sent) }
     requires number { seat.old.me.view.out.base + length seat.old.me.view.out.sent + 1 < 2 ^ 63 }
     requires room { length seat.old.me.view.out.sent < seat.old.me.view.out.got + seat.old.me.view.out.capacity }
     requires ready { HasReadyJob J.meaning order }
@@ -75,7 +75,7 @@ pub fn next_outcome<J: Task>(
 ) -> Option<(u64, Outcome<J, J::Out>)>
     requires at { (seat.old.rows ≡ board.now.lines.id) × (seat.old.heap ≡ board.now.lines.heap) }
     requires sender { IsSender seat.old.me }
-    requires place { place ≡ place_of seat.old.me.view.out.capacity seat.old.me.view.out.got }
+    requires place { place ≡ place_of board.now.gap seat.old.me.view.out.capacity seat.old.me.view.out.got }
     requires waits { seat.old.me.view.out.got < length seat.old.me.view.out.sent }
     ensures at { (seat.new.rows ≡ seat.old.rows) × (seat.new.heap ≡ seat.old.heap) }
     ensures sender { IsSender seat.new.me }
@@ -109,9 +109,11 @@ pub fn see_none<J: Task>(board: &Board<J>, seat: &mut Place<J>)
     let _word = board.lines.load::<Gather>(seat, GATE_ROW, board.gate, 0);
 }
 
-/// Whether an outcome lies in the cell of the next one, which is outstanding. No clause says that the answer is right.
-pub fn shows_outcome<J: Task>(board: &Board<J>, place: usize) -> bool
-    requires { (place < apart_by * board.now.lines.key.capacity) × (board.now.lines.key.capacity < 2 ^ 16) }
+/// Whether an outcome lies in the cell of this index, which is the next one's and outstanding. No clause says that the answer is right.
+pub fn shows_outcome<J: Task>(board: &Board<J>, place: usize, index: u64) -> bool
+    requires place { place ≡ place_of board.now.gap board.now.lines.key.capacity index }
+    requires some { 0 < board.now.lines.key.capacity }
+    requires few { board.now.lines.key.capacity < 2 ^ 16 }
 {
     // step: peek. Neither end knows more by it.
     let (word, seat) = board

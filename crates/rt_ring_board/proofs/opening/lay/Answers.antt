@@ -1,4 +1,4 @@
-use Rattle.std.proofs.Common.{rules, arith, ap}
+use Rattle.std.proofs.Common.{rules, ap}
 use Rattle.rt_jobs.specs.Ready.{HasReadyJob}
 use Rattle.rt_link.specs.Fits.{Fits}
 use Rattle.rt_ring_board.proofs.Starting.{starts, parts}
@@ -6,7 +6,7 @@ use Rattle.rt_ring_board.proofs.opening.lay.Goals as goal
 
 pub open-lines-requires-clause-rule : goal.open-lines-requires-clause-rule
 open-lines-requires-clause-rule g c =
-    starts (Fits g.J.Task.meaning) (HasReadyJob g.J.Task.meaning) _ _ _ _ _ c.in_ok-gate.ensures.place.1 c.in-Ok.ensures.place.1 c.in_ok-gate.ensures.cells c.in-Ok.ensures.cells (omega arith) (omega arith) c.requires
+    starts (Fits g.J.Task.meaning) (HasReadyJob g.J.Task.meaning) _ _ _ _ _ c.in_ok-gate.ensures.place.1 c.in-Ok.ensures.place.1 c.in_ok-gate.ensures.cells c.in-Ok.ensures.cells c.cells_for-len.ensures.enough c.cells_for-len.ensures.some c.requires
 
 pub split_seat-other-requires : goal.split_seat-other-requires
 split_seat-other-requires g c = let seat = c.open-lines.ensures.seat.3 in (

@@ -3,9 +3,9 @@ use Rattle.rt_jobs.specs.Ready.{HasReadyJob}
 use Rattle.rt_link.specs.Fits.{Fits}
 use Rattle.rt_ring_board.specs.Held.{of_outcome}
 use Rattle.rt_ring_board.proofs.Filled.{gives_filled}
-use Rattle.rt_ring_board.proofs.Lent.{place-small, given-word, hand_of, filled_is}
+use Rattle.rt_ring_board.proofs.Lent.{place-small, place-told, given-word, hand_of, filled_is}
 use Rattle.rt_ring_board.proofs.ReceiverSteps.{lends_back}
-use Rattle.rt_ring_board.proofs.Rests.{IsReceiver-gave}
+use Rattle.rt_ring_board.proofs.Rests.{IsReceiver-gave, view-gave}
 use Rattle.rt_ring_board.proofs.receiver.give.Goals as goal
 
 pub load-word-requires : goal.load-word-requires
@@ -13,8 +13,8 @@ load-word-requires g c = let is = c.requires.receiver in let inward = c.args.sea
   search rules,
   search rules,
   c.args.board.now.placed.1,
-  place-small inward.capacity (length inward.given) c.args.place (omega (arith, is.few, c.requires.owed)) is.small c.requires.place,
-  lends_back (Fits g.J.Task.meaning) (HasReadyJob g.J.Task.meaning) _ _ _ is.takes is.alone _ c.args.place c.args.board.now.keyed.1 is.rests.away c.requires.owed c.requires.place,
+  place-small c.args.board.now.gap inward.capacity (length inward.given) c.args.place c.args.board.now.spaced.1 (omega (arith, is.few, c.requires.owed)) is.small c.requires.place,
+  lends_back (Fits g.J.Task.meaning) (HasReadyJob g.J.Task.meaning) _ _ _ is.takes is.alone _ c.args.place c.args.board.now.keyed.1 is.rests.away c.requires.owed (place-told _ _ c.args.board.now.spaced.0 c.requires.place),
 )
 
 pub store-requires : goal.store-requires
@@ -24,9 +24,9 @@ store-requires g c =
       search rules,
       search rules,
       c.args.board.now.placed.1,
-      place-small inward.capacity (length inward.given) c.args.place (omega (arith, is.few, c.requires.owed)) is.small c.requires.place,
+      place-small c.args.board.now.gap inward.capacity (length inward.given) c.args.place c.args.board.now.spaced.1 (omega (arith, is.few, c.requires.owed)) is.small c.requires.place,
       gives_filled (Fits g.J.Task.meaning) (HasReadyJob g.J.Task.meaning) _ _ old.view old.spare c.exchange.new.seat.me _ _ c.args.board.now.keyed.1 c.args.number c.args.outcome c.given_word-marked.result now is.takes is.alone
-          c.requires.owed c.requires.place (given-word c.given_word-marked.result c.args.number c.args.shut inward.shut c.given_word-marked.ensures c.requires.shut) c.requires.may,
+          c.requires.owed (place-told _ _ c.args.board.now.spaced.0 c.requires.place) (given-word c.given_word-marked.result c.args.number c.args.shut inward.shut c.given_word-marked.ensures c.requires.shut) c.requires.may,
     )
 
 pub exchange-requires : goal.exchange-requires
@@ -39,4 +39,11 @@ returns-clause-receiver g c =
     let is = c.requires.receiver in let old = c.args.seat.now.me in let inward = old.view.inward in
     let now = filled_is old.view old.spare c.args.board.now.cells.ptr c.args.place c.load-word.new.seat.me c.exchange.new.seat.me _ _ (of_outcome c.args.outcome) c.load-word.ensures.3 c.exchange.ensures.slot.1 (c.of-held.ensures ∙ c.hold_outcome.ensures) in
     IsReceiver-gave old is c.exchange.new.seat.me c.store.new.seat.me c.args.board.now.cells.ptr c.args.place c.args.number c.given_word-marked.result c.args.outcome c.requires.owed now
+    (given-word c.given_word-marked.result c.args.number c.args.shut inward.shut c.given_word-marked.ensures c.requires.shut) c.store.ensures.3
+
+pub returns-clause-gave : goal.returns-clause-gave
+returns-clause-gave g c =
+    let is = c.requires.receiver in let old = c.args.seat.now.me in let inward = old.view.inward in
+    let now = filled_is old.view old.spare c.args.board.now.cells.ptr c.args.place c.load-word.new.seat.me c.exchange.new.seat.me _ _ (of_outcome c.args.outcome) c.load-word.ensures.3 c.exchange.ensures.slot.1 (c.of-held.ensures ∙ c.hold_outcome.ensures) in
+    view-gave old is c.exchange.new.seat.me c.store.new.seat.me c.args.board.now.cells.ptr c.args.place c.args.number c.given_word-marked.result c.args.outcome c.requires.owed now
     (given-word c.given_word-marked.result c.args.number c.args.shut inward.shut c.given_word-marked.ensures c.requires.shut) c.store.ensures.3

@@ -1,7 +1,7 @@
-use Rattle.std.proofs.Common.{rules, arith, refl}
+use Rattle.std.proofs.Common.{rules, arith}
 use Rattle.rt_jobs.specs.Ready.{HasReadyJob}
 use Rattle.rt_link.specs.Fits.{Fits}
-use Rattle.rt_ring_board.proofs.Lent.{place-small}
+use Rattle.rt_ring_board.proofs.Lent.{place-small, place-told}
 use Rattle.rt_ring_board.proofs.Watching.{looks_after, marks_after}
 use Rattle.rt_ring_board.proofs.receiver.mark_next.Goals as goal
 
@@ -10,8 +10,9 @@ load-word-requires g c = let i = c.looks.invariant in let is = c.requires.receiv
   search rules,
   search rules,
   c.args.board.now.placed.1,
-  place-small c.args.capacity c.looks.seen _ (omega arith) (omega (arith, is.small, c.requires.capacity)) refl,
-  looks_after (Fits g.J.Task.meaning) (HasReadyJob g.J.Task.meaning) _ _ c.args.seat.now.me c.looks.seat.me is i.2 _ _ c.looks.seen c.args.given c.args.capacity c.args.board.now.keyed.1 i.3 refl i.4 c.requires.given c.requires.capacity (omega arith),
+  place-small c.args.board.now.gap c.args.capacity c.looks.seen _ c.args.board.now.spaced.1 (omega arith) (omega (arith, is.small, c.requires.capacity)) c.place_at-place.ensures,
+  looks_after (Fits g.J.Task.meaning) (HasReadyJob g.J.Task.meaning) _ _ c.args.seat.now.me c.looks.seat.me is i.2 _ _ c.looks.seen c.args.given c.args.capacity c.args.board.now.keyed.1 i.3
+      (place-told _ _ c.args.board.now.spaced.0 c.place_at-place.ensures) i.4 c.requires.given c.requires.capacity (omega arith),
 )
 
 pub compare_exchange-requires : goal.compare_exchange-requires
@@ -19,7 +20,7 @@ compare_exchange-requires g c = let i = c.looks.invariant in let is = c.requires
   search rules,
   search rules,
   c.args.board.now.placed.1,
-  place-small c.args.capacity c.looks.seen _ (omega arith) (omega (arith, is.small, c.requires.capacity)) refl,
-  marks_after (Fits g.J.Task.meaning) (HasReadyJob g.J.Task.meaning) _ _ c.args.seat.now.me c.looks.seat.me is i.2 _ _ c.looks.seen c.args.given c.args.capacity c.args.board.now.keyed.1 i.3 refl i.4 c.requires.given c.requires.capacity (omega arith)
-      c.load-word.new.seat.me _ _ none.2 none.0 (omega arith),
+  place-small c.args.board.now.gap c.args.capacity c.looks.seen _ c.args.board.now.spaced.1 (omega arith) (omega (arith, is.small, c.requires.capacity)) c.place_at-place.ensures,
+  marks_after (Fits g.J.Task.meaning) (HasReadyJob g.J.Task.meaning) _ _ c.args.seat.now.me c.looks.seat.me is i.2 _ _ c.looks.seen c.args.given c.args.capacity c.args.board.now.keyed.1 i.3
+      (place-told _ _ c.args.board.now.spaced.0 c.place_at-place.ensures) i.4 c.requires.given c.requires.capacity (omega arith) c.load-word.new.seat.me _ _ none.2 none.0 (omega arith),
 )

@@ -3,7 +3,7 @@ use Rattle.rt_jobs.specs.Ready.{HasReadyJob}
 use Rattle.rt_link.specs.Fits.{Fits}
 use Rattle.rt_ring_board.specs.After.{with_taken}
 use Rattle.rt_ring_board.proofs.Filled.{homes_receiver}
-use Rattle.rt_ring_board.proofs.Lent.{place-small, order_out, filled_is}
+use Rattle.rt_ring_board.proofs.Lent.{place-small, place-told, order_out, filled_is}
 use Rattle.rt_ring_board.proofs.ReceiverSteps.{lifts_order}
 use Rattle.rt_ring_board.proofs.receiver.next_order.Goals as goal
 
@@ -12,8 +12,8 @@ load-requires g c = let is = c.requires.receiver in let inward = c.args.seat.now
   search rules,
   search rules,
   c.args.board.now.placed.1,
-  place-small inward.capacity inward.taken c.args.place (omega (arith, is.behind, c.requires.room)) is.small c.requires.place,
-  lifts_order (Fits g.J.Task.meaning) (HasReadyJob g.J.Task.meaning) _ _ _ is.takes is.alone _ c.args.place c.args.board.now.keyed.1 is.rests.away c.requires.room c.requires.place,
+  place-small c.args.board.now.gap inward.capacity inward.taken c.args.place c.args.board.now.spaced.1 (omega (arith, is.behind, c.requires.room)) is.small c.requires.place,
+  lifts_order (Fits g.J.Task.meaning) (HasReadyJob g.J.Task.meaning) _ _ _ is.takes is.alone _ c.args.place c.args.board.now.keyed.1 is.rests.away c.requires.room (place-told _ _ c.args.board.now.spaced.0 c.requires.place),
 )
 
 pub load-word-requires : goal.load-word-requires
@@ -23,9 +23,9 @@ load-word-requires g c =
       search rules,
       search rules,
       c.args.board.now.placed.1,
-      place-small inward.capacity inward.taken c.args.place (omega (arith, is.behind, c.requires.room)) is.small c.requires.place,
+      place-small c.args.board.now.gap inward.capacity inward.taken c.args.place c.args.board.now.spaced.1 (omega (arith, is.behind, c.requires.room)) is.small c.requires.place,
       homes_receiver (Fits g.J.Task.meaning) (HasReadyJob g.J.Task.meaning) _ _ (with_taken old.view lent.seen (inward.taken + 1)) old.spare c.take_out.new.seat.me _ _ c.args.board.now.keyed.1 inward.taken now is.takes is.alone
-          is.behind (omega arith) c.requires.place,
+          is.behind (omega arith) (place-told _ _ c.args.board.now.spaced.0 c.requires.place),
     )
 
 pub take_out-requires : goal.take_out-requires

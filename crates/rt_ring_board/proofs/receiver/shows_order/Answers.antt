@@ -1,12 +1,13 @@
-use Rattle.std.proofs.Common.{arith}
 use Rattle.rt_jobs.specs.Ready.{HasReadyJob}
 use Rattle.rt_link.specs.Fits.{Fits}
+use Rattle.rt_ring_board.proofs.Lent.{place-small, place-told}
 use Rattle.rt_ring_board.proofs.Starting.{enters}
 use Rattle.rt_ring_board.proofs.receiver.shows_order.Goals as goal
 
 pub load_new_seat-word-requires : goal.load_new_seat-word-requires
 load_new_seat-word-requires g c = (
   c.args.board.now.placed.1,
-  omega (arith, c.requires),
-  enters (Fits g.J.Task.meaning) (HasReadyJob g.J.Task.meaning) c.args.board.now.lines.key _ _ c.args.board.now.keyed.1 c.requires.0,
+  place-small c.args.board.now.gap c.args.board.now.lines.key.capacity c.args.index c.args.place c.args.board.now.spaced.1 c.requires.some c.requires.few c.requires.place,
+  enters (Fits g.J.Task.meaning) (HasReadyJob g.J.Task.meaning) c.args.board.now.lines.key _ _ c.args.index c.args.board.now.keyed.1 c.requires.some
+      (place-told _ _ c.args.board.now.spaced.0 c.requires.place),
 )

@@ -4,7 +4,7 @@ use Rattle.rt_link.specs.Fits.{Fits}
 use Rattle.rt_ring_board.specs.After.{with_got}
 use Rattle.rt_ring_board.specs.Told.{SeesOutcomes}
 use Rattle.rt_ring_board.proofs.Filled.{homes_sender}
-use Rattle.rt_ring_board.proofs.Lent.{place-small, outcome_out, filled_is, homed_is}
+use Rattle.rt_ring_board.proofs.Lent.{place-small, place-told, outcome_out, filled_is, homed_is}
 use Rattle.rt_ring_board.proofs.Numbers.{place-again}
 use Rattle.rt_ring_board.proofs.SenderSees.{lifts_outcome}
 use Rattle.rt_ring_board.proofs.sender.next_outcome.Goals as goal
@@ -14,8 +14,8 @@ load-word-requires g c = let is = c.requires.sender in let out = c.args.seat.now
   search rules,
   search rules,
   c.args.board.now.placed.1,
-  place-small out.capacity out.got c.args.place (omega (arith, is.few, c.requires.waits)) is.small c.requires.place,
-  lifts_outcome (Fits g.J.Task.meaning) (HasReadyJob g.J.Task.meaning) _ _ _ is.sends is.alone _ c.args.place c.args.board.now.keyed.1 is.rests.away is.got_all c.requires.waits c.requires.place,
+  place-small c.args.board.now.gap out.capacity out.got c.args.place c.args.board.now.spaced.1 (omega (arith, is.few, c.requires.waits)) is.small c.requires.place,
+  lifts_outcome (Fits g.J.Task.meaning) (HasReadyJob g.J.Task.meaning) _ _ _ is.sends is.alone _ c.args.place c.args.board.now.keyed.1 is.rests.away is.got_all c.requires.waits (place-told _ _ c.args.board.now.spaced.0 c.requires.place),
 )
 
 pub load-word-requires-2 : goal.load-word-requires-2
@@ -25,9 +25,9 @@ load-word-requires-2 g c =
       search rules,
       search rules,
       c.args.board.now.placed.1,
-      place-small out.capacity out.got c.args.place (omega (arith, is.few, c.requires.waits)) is.small c.requires.place,
+      place-small c.args.board.now.gap out.capacity out.got c.args.place c.args.board.now.spaced.1 (omega (arith, is.few, c.requires.waits)) is.small c.requires.place,
       homes_sender (Fits g.J.Task.meaning) (HasReadyJob g.J.Task.meaning) _ _ (with_got old.view lent.seen (out.got + 1)) old.spare c.take_out.new.seat.me _ _ c.args.board.now.keyed.1 (out.got + out.capacity) now is.sends is.alone
-          is.few (omega arith) (c.requires.place ∙ sym (place-again out.capacity out.got)),
+          is.few (omega arith) (place-told _ _ c.args.board.now.spaced.0 c.requires.place ∙ sym (place-again c.args.board.now.lines.key.gap out.capacity out.got)),
     )
 
 pub take_out-requires : goal.take_out-requires

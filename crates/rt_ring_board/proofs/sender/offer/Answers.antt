@@ -4,7 +4,7 @@ use Rattle.rt_link.specs.Fits.{Fits}
 use Rattle.rt_ring_board.specs.After.{with_closed}
 use Rattle.rt_ring_board.specs.Held.{of_order}
 use Rattle.rt_ring_board.proofs.Filled.{accepts_filled, homes_sender}
-use Rattle.rt_ring_board.proofs.Lent.{place-small, order_out, filled_is, missed_is}
+use Rattle.rt_ring_board.proofs.Lent.{place-small, place-told, order_out, filled_is, missed_is}
 use Rattle.rt_ring_board.proofs.SenderSteps.{lends_order}
 use Rattle.rt_ring_board.proofs.sender.offer.Goals as goal
 
@@ -13,8 +13,8 @@ load-word-requires g c = let is = c.requires.sender in (
   search rules,
   search rules,
   c.args.board.now.placed.1,
-  place-small c.args.seat.now.me.view.out.capacity (length c.args.seat.now.me.view.out.sent) c.args.place (omega (arith, is.behind, c.requires.room)) is.small c.requires.place,
-  lends_order (Fits g.J.Task.meaning) (HasReadyJob g.J.Task.meaning) _ _ _ is.sends is.alone _ _ c.args.board.now.keyed.1 is.rests.away c.requires.room c.requires.place,
+  place-small c.args.board.now.gap c.args.seat.now.me.view.out.capacity (length c.args.seat.now.me.view.out.sent) c.args.place c.args.board.now.spaced.1 (omega (arith, is.behind, c.requires.room)) is.small c.requires.place,
+  lends_order (Fits g.J.Task.meaning) (HasReadyJob g.J.Task.meaning) _ _ _ is.sends is.alone _ _ c.args.board.now.keyed.1 is.rests.away c.requires.room (place-told _ _ c.args.board.now.spaced.0 c.requires.place),
 )
 
 pub compare_exchange-requires : goal.compare_exchange-requires
@@ -24,8 +24,8 @@ compare_exchange-requires g c =
       search rules,
       search rules,
       c.args.board.now.placed.1,
-      place-small old.view.out.capacity (length old.view.out.sent) c.args.place (omega (arith, is.behind, c.requires.room)) is.small c.requires.place,
-      accepts_filled (Fits g.J.Task.meaning) (HasReadyJob g.J.Task.meaning) _ _ old.view old.spare c.exchange.new.seat.me _ _ c.args.board.now.keyed.1 c.args.order c.load-word.result now is.sends is.alone c.requires.room c.requires.place
+      place-small c.args.board.now.gap old.view.out.capacity (length old.view.out.sent) c.args.place c.args.board.now.spaced.1 (omega (arith, is.behind, c.requires.room)) is.small c.requires.place,
+      accepts_filled (Fits g.J.Task.meaning) (HasReadyJob g.J.Task.meaning) _ _ old.view old.spare c.exchange.new.seat.me _ _ c.args.board.now.keyed.1 c.args.order c.load-word.result now is.sends is.alone c.requires.room (place-told _ _ c.args.board.now.spaced.0 c.requires.place)
           lent.0 c.requires.number c.requires.ready,
     )
 
@@ -38,9 +38,9 @@ load-word-requires-2 g c =
       search rules,
       search rules,
       c.args.board.now.placed.1,
-      place-small old.view.out.capacity (length old.view.out.sent) c.args.place (omega (arith, is.behind, c.requires.room)) is.small c.requires.place,
+      place-small c.args.board.now.gap old.view.out.capacity (length old.view.out.sent) c.args.place c.args.board.now.spaced.1 (omega (arith, is.behind, c.requires.room)) is.small c.requires.place,
       homes_sender (Fits g.J.Task.meaning) (HasReadyJob g.J.Task.meaning) _ _ (with_closed old.view) old.spare c.take_out.new.seat.me _ _ c.args.board.now.keyed.1 (length old.view.out.sent) last is.sends is.alone
-          (omega arith) c.requires.room c.requires.place,
+          (omega arith) c.requires.room (place-told _ _ c.args.board.now.spaced.0 c.requires.place),
     )
 
 pub take_out-requires : goal.take_out-requires
