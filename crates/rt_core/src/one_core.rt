@@ -44,7 +44,6 @@ mod wakes;
 mod whole;
 
 /// One core: its task queues, what each has used of the core, and the job that is being polled.
-#[derive(Drop)]
 pub struct Core<J: Task, A: Allocator + Clone = Global> {
     core: CoreNo,
     cores: u8,
@@ -77,6 +76,32 @@ impl<J: Task, A: Allocator + Clone> Model for Core<J, A> {
     ghost view = { λ c. core_view c.core c.cores (queues_alone c.queues) c.tallies.items c.floor c.turns (job_out c.out) c.senders c.mode c.bursts };
 
     ghost invariant = { λ c. IsCore J.meaning (core_view c.core c.cores (queues_alone c.queues) c.tallies.items c.floor c.turns (job_out c.out) c.senders c.mode c.bursts) c.queues.slips c.ready.keys c.inside c.room c.tallies.cap };
+}
+
+// Written out: a derived drop is proved again in each crate above.
+impl<J: Task, A: Allocator + Clone> Drop for Core<J, A> {
+    fn drop(self) {
+        let Core {
+            core: _,
+            cores: _,
+            queues,
+            ready,
+            tallies,
+            senders,
+            floor: _,
+            turns: _,
+            inside: _,
+            room: _,
+            out,
+            mode: _,
+            bursts: _,
+        } = self;
+        drop(queues);
+        drop(ready);
+        drop(tallies);
+        drop(senders);
+        drop(out);
+    }
 }
 
 impl<J: Task, A: Allocator + Clone> Core<J, A> {

@@ -41,7 +41,6 @@ mod whole;
 ///
 /// A contract sees the core, its notes, and the orders that were delivered to it. What an end of a link is to them says `IsInOf`
 /// of an end that is received from, and `IsOutOf` of an end that is sent on.
-#[derive(Drop)]
 pub struct Recorded<J: Task<Out = u64>, A: Allocator + Clone = Global> {
     core: Core<J, A>,
     took: History<Envelope<J>>,
@@ -62,6 +61,16 @@ impl<J: Task<Out = u64>, A: Allocator + Clone> Model for Recorded<J, A> {
     ghost invariant = { λ r.
         IsRecorded J.meaning (record { cap = r.said.cap; core = r.core; journal = r.said.journal; took = r.took.items; lanes = r.said.lanes })
         × (r.said ≡ desk_of (record { cap = r.said.cap; core = r.core; journal = r.said.journal; took = r.took.items; lanes = r.said.lanes })) };
+}
+
+// Written out: a derived drop is proved again in each crate above.
+impl<J: Task<Out = u64>, A: Allocator + Clone> Drop for Recorded<J, A> {
+    fn drop(self) {
+        let Recorded { core, took, said } = self;
+        drop(core);
+        drop(took);
+        drop(said);
+    }
 }
 
 impl<J: Task<Out = u64>, A: Allocator + Clone> Recorded<J, A> {
@@ -140,7 +149,9 @@ impl<J: Task<Out = u64>, A: Allocator + Clone> Recorded<J, A> {
     pub fn into_journal(self) -> RunningJournal<u64>
         ensures { result ≡ self.journal }
     {
-        let Recorded { said, .. } = self;
+        let Recorded { core, took, said } = self;
+        drop(core);
+        drop(took);
         said.into_journal()
     }
 

@@ -23,7 +23,6 @@ use std::alloc::{AllocError, Global};
 use std::marker::Model;
 
 /// One actor's journal, which tells what it does with its submissions. The outside actor is one, and each core has one.
-#[derive(Drop)]
 pub struct RecordedDesk<J: Task<Out = u64>> {
     actor: ActorNo,
     cores: u8,
@@ -47,6 +46,22 @@ impl<J: Task<Out = u64>> Model for RecordedDesk<J> {
     ghost invariant = { λ d.
         IsWritten (record { actor = d.actor; cores = d.cores; cap = d.cap; burst = d.burst }) d.journal.notes
         × KnowsLanes (record { actor = d.actor; cores = d.cores; cap = d.cap; burst = d.burst; journal = d.journal; lanes = d.lanes.items }) };
+}
+
+// Written out: a derived drop is proved again in each crate above.
+impl<J: Task<Out = u64>> Drop for RecordedDesk<J> {
+    fn drop(self) {
+        let RecordedDesk {
+            actor: _,
+            cores: _,
+            cap: _,
+            burst: _,
+            journal,
+            lanes,
+        } = self;
+        drop(journal);
+        drop(lanes);
+    }
 }
 
 impl<J: Task<Out = u64>> RecordedDesk<J> {
@@ -137,7 +152,16 @@ impl<J: Task<Out = u64>> RecordedDesk<J> {
     pub fn into_journal(self) -> RunningJournal<u64>
         ensures { result ≡ self.journal }
     {
-        self.journal
+        let RecordedDesk {
+            actor: _,
+            cores: _,
+            cap: _,
+            burst: _,
+            journal,
+            lanes,
+        } = self;
+        drop(lanes);
+        journal
     }
 
     /// Sends an order to this core, on the end that is lent, and notes it if it is accepted.

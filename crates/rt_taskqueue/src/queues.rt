@@ -38,7 +38,6 @@ pub enum CreateError {
 ///
 /// A queue's slip is the node by which it stands in a timeline. It is made with the queue, and is with it while it stands in none.
 /// Only `open` and `try_create` ask for memory: the bodies of the other calls have no allocator in reach. No clause says so.
-#[derive(Drop)]
 pub struct Queues<J, A: Allocator> {
     // The jobs of all queues, each with the key of the next in its line. A key names nothing outside this crate.
     jobs: SealedSlab<Waiting<J>, A>,
@@ -71,6 +70,25 @@ impl<J, A: Allocator> Model for Queues<J, A> {
         × HasOwnSlips (length q.lines.items) q.slips.at.cap q.slips.at.items
         × AreAtRest q.jobs q.lines.items
         × AreFound q.jobs q.lines.items q.names q.seats.items };
+}
+
+// Written out: a derived drop is proved again in each crate above.
+impl<J: Drop, A: Allocator> Drop for Queues<J, A> {
+    fn drop(self) {
+        let Queues {
+            jobs,
+            lines,
+            slips,
+            room: _,
+            names,
+            seats,
+        } = self;
+        drop(jobs);
+        drop(lines);
+        drop(slips);
+        drop(names);
+        drop(seats);
+    }
 }
 
 impl<J: Drop, A: Allocator + Clone> Queues<J, A> {

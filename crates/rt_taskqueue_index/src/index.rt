@@ -12,7 +12,6 @@ use std::marker::Model;
 /// For each key of a slab the name of the job that has it, if one has, and from a name to such a key.
 ///
 /// The keys stand in buckets by their names. Only `open` asks for memory.
-#[derive(Drop)]
 pub struct Index<A: Allocator> {
     buckets: SealedVec<Bucket, A>,
     rows: SealedVec<Row, A>,
@@ -29,6 +28,19 @@ impl<A: Allocator> Model for Index<A> {
     ghost view = { λ i. map shown i.rows.items };
 
     ghost invariant = { λ i. IsIndexed i.mask i.rows.items i.buckets.items };
+}
+
+// Written out: a derived drop is proved again in each crate above.
+impl<A: Allocator> Drop for Index<A> {
+    fn drop(self) {
+        let Index {
+            buckets,
+            rows,
+            mask: _,
+        } = self;
+        drop(buckets);
+        drop(rows);
+    }
 }
 
 impl<A: Allocator + Clone> Index<A> {

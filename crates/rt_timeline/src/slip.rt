@@ -8,7 +8,6 @@ use std::alloc::{AllocError, Allocator};
 use std::marker::Model;
 
 /// The one tree node of a queue, while it is out of the tree. It is seen as the number of its queue.
-#[derive(Drop)]
 pub struct Slip<A: Allocator> {
     node: Box<Node<A>, A>,
 }
@@ -23,6 +22,14 @@ impl<A: Allocator> Model for Slip<A> {
     ghost view = { λ s. s.node.value.queue };
 
     ghost invariant = { λ s. IsLoose s.node.value };
+}
+
+// Written out: a derived drop is proved again in each crate above.
+impl<A: Allocator> Drop for Slip<A> {
+    fn drop(self) {
+        let Slip { node } = self;
+        drop(node);
+    }
 }
 
 impl<A: Allocator> Slip<A> {

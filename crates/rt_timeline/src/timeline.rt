@@ -16,7 +16,6 @@ use std::marker::Model;
 /// balanced tree.
 ///
 /// The front's places lie behind pointers. An array in each type that holds a timeline would make every proof about such a type longer.
-#[derive(Drop)]
 pub struct Timeline<A: Allocator> {
     first: Option<Front<A>>,
     later: Tree<A>,
@@ -34,6 +33,19 @@ impl<A: Allocator> Model for Timeline<A> {
     ghost view = { λ t. led (front_of t.first) t.later };
 
     ghost invariant = { λ t. IsOfQueues (led_keys (front_of t.first) t.later) × (t.len ≡ length (led_keys (front_of t.first) t.later)) × IsFronted t.first t.later };
+}
+
+// Written out: a derived drop is proved again in each crate above.
+impl<A: Allocator> Drop for Timeline<A> {
+    fn drop(self) {
+        let Timeline {
+            first,
+            later,
+            len: _,
+        } = self;
+        drop(first);
+        drop(later);
+    }
 }
 
 impl<A: Allocator + Clone> Timeline<A> {
