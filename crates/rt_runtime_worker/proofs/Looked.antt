@@ -1,6 +1,6 @@
 -- Which watch and which gate serve a turn, and what a look at the room leaves.
-use Rattle.std.proofs.Common.{◌≡◌, ℕ, List, ◌++◌, [], ◌∷◌, ap, sym, subst, arith, refl}
-use Rattle.std.specs.Prelude.{Bool, true, false, Option, Some, None, IsSome}
+use Rattle.std.proofs.Common.{◌≡◌, ℕ, ◌++◌, [], ◌∷◌, ap, sym, subst, arith, refl}
+use Rattle.std.specs.Prelude.{Bool, Option, Some, None, IsSome}
 use Rattle.rt_ids.specs.declared.names.JobId.{JobId}
 use Rattle.rt_ids.specs.declared.note.Note.{Note}
 use Rattle.rt_ids.specs.Closing.{core_mode_told, count_told}

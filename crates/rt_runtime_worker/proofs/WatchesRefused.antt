@@ -18,7 +18,7 @@ tells_next clock told after = (told ≡ clock) × (after ≡ clock + 1)
 
 -- a poll behind a sleep: the clock is read twice, and the poll is counted
 is_timed : TimesNext tells_next (watch_view 0 None 7) 1 (watch_view 2 (Some 1) 8)
-is_timed = (watch_view 1 (Some 0) 7, inr (refl, 0, (refl, refl), refl), record { told = 1; is_read = (refl, refl); took = refl; keeps = refl; counts = refl })
+is_timed = (watch_view 1 (Some 0) 7, inr (refl, (0, (refl, refl), refl)), record { told = 1; is_read = (refl, refl); took = refl; keeps = refl; counts = refl })
 
 -- a poll right behind one that ended at 1: it is read once
 goes_on : TimesNext tells_next (watch_view 4 (Some 1) 7) 3 (watch_view 5 (Some 4) 10)

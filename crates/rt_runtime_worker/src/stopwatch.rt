@@ -66,7 +66,8 @@ impl<C: Clock> Meter for Stopwatch<C> {
 
     fn start(&mut self) {
         if self.last.is_none() {
-            self.last = Some(self.clock.now());
+            let began = self.clock.now();
+            self.last = Some(began);
         }
     }
 
