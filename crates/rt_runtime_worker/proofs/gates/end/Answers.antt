@@ -1,3 +1,5 @@
+use Rattle.std.proofs.Common.{ap}
+use Rattle.std.specs.Prelude.{is_some}
 use Rattle.rt_runtime_worker.specs.Gates.{LeavesReturning}
 use Rattle.actor_seat.proofs.Along.{stays_along}
 use Rattle.rt_runtime_worker.proofs.Alone.{alone_grows, alone_now}
@@ -9,6 +11,9 @@ use Rattle.rt_runtime_worker.proofs.gates.end.Goals.{After-close-alone}
 -- it is in mode `Return`
 leaves : (g : Over) (c : After-close-alone g) → LeavesReturning c.args.seat.now c.close-alone.new.self
 leaves g c = returned_leaves c.args.seat.now c.close-alone.new.self c.close-alone.result c.close-alone.ensures.closes c.close-alone.ensures.stays
+
+pub shut_gates-requires-clause-closed : goal.shut_gates-requires-clause-closed
+shut_gates-requires-clause-closed g c = ap is_some (returned_leaves c.args.seat.now c.close-alone.new.self c.close-alone.result c.close-alone.ensures.closes c.close-alone.ensures.stays).returning
 
 pub returns-clause-ending : goal.returns-clause-ending
 returns-clause-ending g c =
