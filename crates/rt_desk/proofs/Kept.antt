@@ -1,0 +1,233 @@
+-- What each change of the marks and of the slab is to the entries.
+use Rattle.std.proofs.Common.{◌≡◌, ◌≢◌, ◌⊎◌, inl, inr, ℕ, ◌+◌, ◌≤◌, Bool, true, false, List, Option, None, Some, is_some, refl, sym, ap, ◌∙◌, arith}
+use Rattle.std.specs.Prelude.{eqb}
+use Rattle.std.proofs.lemmas.Bool.Decides.{eqb_tells}
+use Rattle.slab.specs.Slab.{Slab, ContainsKey, HasRoomFor, Updates, get, slab_len}
+use Rattle.rt_ids.specs.declared.order.Outcome.{Outcome}
+use Rattle.rt_desk.specs.Held.{one, at, tally, count_of, Adds, Removes, Becomes}
+use Rattle.rt_desk.specs.Kept.{has_key, has_any, is_waiting, collected, entry_of, shown, AreKept, IsCollectedAt}
+use Rattle.rt_desk.specs.declared.entry.Entry.{Entry}
+use Rattle.rt_desk.specs.declared.entry.Entry.TheVariants.{Pending, Detached, Collected}
+use Rattle.rt_desk.specs.declared.entry.Mark.{Mark}
+use Rattle.rt_desk.specs.declared.entry.Mark.TheVariants.{Waits, LetGo, Holds}
+use Rattle.rt_desk.proofs.Lanes.{option_cases}
+use Rattle.rt_desk.proofs.Marks.{none_tells, at-tally, tally-apart, tally-two, mapped, at-shown, tally-shown}
+
+-- a key is its own
+has_own_key : (key : ℕ) → has_key key (Holds key) ≡ true
+has_own_key key = elim (eqb_tells key key) [ inl same ↦ same.0 | inr other ↦ absurd (other.1 refl) ]
+
+-- a mark doesn't both wait and have a key
+apart : (mark : Mark) → one (has_any mark) + one (is_waiting mark) ≤ 1
+apart Waits = omega arith
+apart LetGo = omega arith
+apart (Holds key) = omega arith
+
+module _ {J T : Type 0} (kept : Slab (Outcome J T)) (marks : List (ℕ × Mark)) (k : AreKept kept marks) where
+  -- a key that a mark has is that of an outcome
+  pub holds-kept : (n key : ℕ) → at marks n ≡ Some (Holds key) → (outcome : Outcome J T) × (get kept key ≡ Some outcome)
+  holds-kept n key there =
+      let counted : one (has_key key (Holds key)) ≤ tally marks (has_key key) = at-tally marks n (Holds key) (has_key key) there in
+      let own : one (has_key key (Holds key)) ≡ 1 = ap one (has_own_key key) in
+      let once : tally marks (has_key key) ≡ one (is_some (get kept key)) = k.once key in
+      elim (option_cases (get kept key)) [
+        | inl none ↦ let e : one (is_some (get kept key)) ≡ 0 = ap (λ o. one (is_some o)) none in absurd (omega arith)
+        | inr some ↦ some
+      ]
+
+  -- a mark with a key stands for an outcome
+  pub shows-collected : (n key : ℕ) → at marks n ≡ Some (Holds key) → (outcome : Outcome J T) × (at (shown kept marks) n ≡ Some (Collected outcome))
+  shows-collected n key there =
+      let found = holds-kept n key there in
+      (found.0, at-shown kept marks n ∙ (ap (mapped kept) there ∙ ap (λ o. Some (collected o)) found.1))
+
+  -- the mark of an entry, as a statement of what is found
+  marked : (n : ℕ) (entry : Entry J T) (found : Option Mark) → at marks n ≡ found → at (shown kept marks) n ≡ Some entry → mapped kept found ≡ Some entry
+  marked n entry found is shows = sym (ap (mapped kept) is) ∙ (sym (at-shown kept marks n) ∙ shows)
+
+  pub waits-there : (n : ℕ) → at (shown kept marks) n ≡ Some Pending → at marks n ≡ Some Waits
+  waits-there n shows = by_mark (at marks n) refl
+    where
+      by_mark : (found : Option Mark) → at marks n ≡ found → at marks n ≡ Some Waits
+      by_mark None is = absurd (let e : None {A = Entry J T} ≡ Some Pending = marked n Pending None is shows in cc)
+      by_mark (Some Waits) is = is
+      by_mark (Some LetGo) is = absurd (let e : Some (Detached {J = J} {T = T}) ≡ Some Pending = marked n Pending (Some LetGo) is shows in cc)
+      by_mark (Some (Holds key)) is = absurd (let found = shows-collected n key is in let e : Some (Collected found.0) ≡ Some Pending = sym found.1 ∙ shows in cc)
+
+  pub let_go-there : (n : ℕ) → at (shown kept marks) n ≡ Some Detached → at marks n ≡ Some LetGo
+  let_go-there n shows = by_mark (at marks n) refl
+    where
+      by_mark : (found : Option Mark) → at marks n ≡ found → at marks n ≡ Some LetGo
+      by_mark None is = absurd (let e : None {A = Entry J T} ≡ Some Detached = marked n Detached None is shows in cc)
+      by_mark (Some Waits) is = absurd (let e : Some (Pending {J = J} {T = T}) ≡ Some Detached = marked n Detached (Some Waits) is shows in cc)
+      by_mark (Some LetGo) is = is
+      by_mark (Some (Holds key)) is = absurd (let found = shows-collected n key is in let e : Some (Collected found.0) ≡ Some Detached = sym found.1 ∙ shows in cc)
+
+  pub holds-there : (n : ℕ) → IsCollectedAt (shown kept marks) n → (key : ℕ) × (at marks n ≡ Some (Holds key))
+  holds-there n shows = by_mark (at marks n) refl
+    where
+      by_mark : (found : Option Mark) → at marks n ≡ found → (key : ℕ) × (at marks n ≡ Some (Holds key))
+      by_mark None is = absurd (let e : None {A = Entry J T} ≡ Some (Collected shows.0) = marked n (Collected shows.0) None is shows.1 in cc)
+      by_mark (Some Waits) is = absurd (let e : Some (Pending {J = J} {T = T}) ≡ Some (Collected shows.0) = marked n (Collected shows.0) (Some Waits) is shows.1 in cc)
+      by_mark (Some LetGo) is = absurd (let e : Some (Detached {J = J} {T = T}) ≡ Some (Collected shows.0) = marked n (Collected shows.0) (Some LetGo) is shows.1 in cc)
+      by_mark (Some (Holds key)) is = (key, is)
+
+  -- where a number waits there is room for its outcome
+  pub room-kept : (n : ℕ) → at marks n ≡ Some Waits → count_of marks ≤ kept.capacity → HasRoomFor kept 1
+  room-kept n there fits =
+      let waiting : 1 ≤ tally marks is_waiting = at-tally marks n Waits is_waiting there in
+      let two : tally marks has_any + tally marks is_waiting ≤ count_of marks = tally-two marks has_any is_waiting apart in
+      let count : slab_len kept ≡ tally marks has_any = k.count in
+      omega arith
+
+  -- a vacant key is that of no mark
+  pub vacant-key : (key : ℕ) → get kept key ≡ None → tally marks (has_key key) ≡ 0
+  vacant-key key vacant =
+      let e : one (is_some (get kept key)) ≡ 0 = ap (λ o. one (is_some o)) vacant in let once : tally marks (has_key key) ≡ one (is_some (get kept key)) = k.once key in omega arith
+
+-- Marks change, and the slab doesn't.
+module _ {J T : Type 0} (kept : Slab (Outcome J T)) (marks new : List (ℕ × Mark)) (number : ℕ) where
+  pub Adds-shown : Adds marks new number Waits → Adds (shown kept marks) (shown kept new) number Pending
+  Adds-shown adds = record {
+    here = at-shown kept new number ∙ ap (mapped kept) adds.here;
+    others = λ n. λ away. at-shown kept new n ∙ (ap (mapped kept) (adds.others n away) ∙ sym (at-shown kept marks n));
+    tallies = λ test. omega (arith, tally-shown kept new test, tally-shown kept marks test, adds.tallies (λ mark. test (entry_of kept mark)));
+  }
+
+  pub AreKept-added : AreKept kept marks → Adds marks new number Waits → AreKept kept new
+  AreKept-added k adds = record {
+    once = λ key. let e : tally new (has_key key) ≡ 0 + tally marks (has_key key) = adds.tallies (has_key key) in omega (arith, k.once key);
+    count = let e : tally new has_any ≡ 0 + tally marks has_any = adds.tallies has_any in omega (arith, k.count);
+  }
+
+  pub Becomes-shown : Becomes marks new number Waits LetGo → Becomes (shown kept marks) (shown kept new) number Pending Detached
+  Becomes-shown becomes = record {
+    was = at-shown kept marks number ∙ ap (mapped kept) becomes.was;
+    here = at-shown kept new number ∙ ap (mapped kept) becomes.here;
+    others = λ n. λ away. at-shown kept new n ∙ (ap (mapped kept) (becomes.others n away) ∙ sym (at-shown kept marks n));
+    tallies = λ test. omega (arith, tally-shown kept new test, tally-shown kept marks test, becomes.tallies (λ mark. test (entry_of kept mark)));
+  }
+
+  pub AreKept-let_go : AreKept kept marks → Becomes marks new number Waits LetGo → AreKept kept new
+  AreKept-let_go k becomes = record {
+    once = λ key. let e : 0 + tally new (has_key key) ≡ 0 + tally marks (has_key key) = becomes.tallies (has_key key) in omega (arith, k.once key);
+    count = let e : 0 + tally new has_any ≡ 0 + tally marks has_any = becomes.tallies has_any in omega (arith, k.count);
+  }
+
+  pub Removes-shown : Removes marks new number LetGo → Removes (shown kept marks) (shown kept new) number Detached
+  Removes-shown removes = record {
+    was = at-shown kept marks number ∙ ap (mapped kept) removes.was;
+    gone = at-shown kept new number ∙ ap (mapped kept) removes.gone;
+    others = λ n. λ away. at-shown kept new n ∙ (ap (mapped kept) (removes.others n away) ∙ sym (at-shown kept marks n));
+    tallies = λ test. omega (arith, tally-shown kept new test, tally-shown kept marks test, removes.tallies (λ mark. test (entry_of kept mark)));
+  }
+
+  pub AreKept-forgotten : AreKept kept marks → Removes marks new number LetGo → AreKept kept new
+  AreKept-forgotten k removes = record {
+    once = λ key. let e : tally marks (has_key key) ≡ 0 + tally new (has_key key) = removes.tallies (has_key key) in omega (arith, k.once key);
+    count = let e : tally marks has_any ≡ 0 + tally new has_any = removes.tallies has_any in omega (arith, k.count);
+  }
+
+-- One key of the slab changes. What no mark of it has stands for the same as before.
+module _ {J T : Type 0} (kept later : Slab (Outcome J T)) (key : ℕ) (slot : Option (Outcome J T)) (updates : Updates kept later key slot) where
+  pub same-entry : (mark : Mark) → has_key key mark ≡ false → entry_of later mark ≡ entry_of kept mark
+  same-entry Waits away = refl
+  same-entry LetGo away = refl
+  same-entry (Holds other) away =
+      elim (eqb_tells key other) [
+        | inl same ↦ absurd (let e : true ≡ false = sym same.0 ∙ away in cc)
+        | inr differs ↦ ap collected (updates.others other (λ e. differs.1 (sym e)))
+      ]
+
+  pub same-mapped : (marks : List (ℕ × Mark)) (n : ℕ) → tally marks (has_key key) ≡ 0 → mapped later (at marks n) ≡ mapped kept (at marks n)
+  same-mapped marks n none = by_mark (at marks n) refl
+    where
+      by_mark : (found : Option Mark) → at marks n ≡ found → mapped later found ≡ mapped kept found
+      by_mark None is = refl
+      by_mark (Some mark) is =
+          let low : one (has_key key mark) ≤ 0 = let e : one (has_key key mark) ≤ tally marks (has_key key) = at-tally marks n mark (has_key key) is in omega (arith, none) in
+          ap Some (same-entry mark (none_tells (has_key key mark) low))
+
+  pub same-tally : (marks : List (ℕ × Mark)) (test : Entry J T → Bool) → tally marks (has_key key) ≡ 0
+      → tally marks (λ mark. test (entry_of later mark)) ≡ tally marks (λ mark. test (entry_of kept mark))
+  same-tally marks test none =
+      tally-apart marks (has_key key) (λ mark. test (entry_of later mark)) (λ mark. test (entry_of kept mark)) none (λ mark. λ away. ap test (same-entry mark away))
+
+-- An outcome comes into the slab, and a mark that waited has its key.
+module _ {J T : Type 0} (kept later : Slab (Outcome J T)) (marks new : List (ℕ × Mark)) (number key : ℕ) (outcome : Outcome J T)
+    (k : AreKept kept marks) (vacant : get kept key ≡ None) (updates : Updates kept later key (Some outcome)) (becomes : Becomes marks new number Waits (Holds key)) where
+  no_mark : tally marks (has_key key) ≡ 0
+  no_mark = vacant-key kept marks k key vacant
+
+  pub Becomes-kept : Becomes (shown kept marks) (shown later new) number Pending (Collected outcome)
+  Becomes-kept = record {
+    was = at-shown kept marks number ∙ ap (mapped kept) becomes.was;
+    here = at-shown later new number ∙ (ap (mapped later) becomes.here ∙ ap (λ o. Some (collected o)) updates.changed);
+    others = λ n. λ away.
+        at-shown later new n
+        ∙ (ap (mapped later) (becomes.others n away) ∙ (same-mapped kept later key (Some outcome) updates marks n no_mark ∙ sym (at-shown kept marks n)));
+    tallies = λ test.
+        let now : one (test (entry_of later (Holds key))) ≡ one (test (Collected outcome)) = ap (λ o. one (test (collected o))) updates.changed in
+        let changes : one (test Pending) + tally new (λ mark. test (entry_of later mark)) ≡ one (test (entry_of later (Holds key))) + tally marks (λ mark. test (entry_of later mark)) =
+        becomes.tallies (λ mark. test (entry_of later mark)) in
+        omega (arith, tally-shown later new test, tally-shown kept marks test, same-tally kept later key (Some outcome) updates marks test no_mark);
+  }
+
+  pub AreKept-kept : slab_len later ≡ slab_len kept + 1 → AreKept later new
+  AreKept-kept more = record {
+    once = λ other. elim (eqb_tells other key) [
+      | inl same ↦
+          let e : 0 + tally new (has_key other) ≡ one (eqb other key) + tally marks (has_key other) = becomes.tallies (has_key other) in
+          let own : one (eqb other key) ≡ 1 = ap one same.0 in
+          let none : tally marks (has_key other) ≡ 0 = ap (λ n. tally marks (has_key n)) same.1 ∙ no_mark in
+          let some : one (is_some (get later other)) ≡ 1 = ap (λ n. one (is_some (get later n))) same.1 ∙ ap (λ o. one (is_some o)) updates.changed in
+          omega arith
+      | inr differs ↦
+          let e : 0 + tally new (has_key other) ≡ one (eqb other key) + tally marks (has_key other) = becomes.tallies (has_key other) in
+          let away : one (eqb other key) ≡ 0 = ap one differs.0 in
+          let same : one (is_some (get later other)) ≡ one (is_some (get kept other)) = ap (λ o. one (is_some o)) (updates.others other differs.1) in
+          omega (arith, k.once other)
+    ];
+    count = let e : 0 + tally new has_any ≡ 1 + tally marks has_any = becomes.tallies has_any in omega (arith, k.count, more);
+  }
+
+-- A mark is taken out, and the outcome that has its key.
+module _ {J T : Type 0} (kept later : Slab (Outcome J T)) (marks new : List (ℕ × Mark)) (number key : ℕ) (outcome : Outcome J T)
+    (k : AreKept kept marks) (found : get kept key ≡ Some outcome) (updates : Updates kept later key None) (removes : Removes marks new number (Holds key)) where
+  no_mark_left : tally new (has_key key) ≡ 0
+  no_mark_left =
+      let e : tally marks (has_key key) ≡ one (has_key key (Holds key)) + tally new (has_key key) = removes.tallies (has_key key) in
+      let own : one (has_key key (Holds key)) ≡ 1 = ap one (has_own_key key) in
+      let some : one (is_some (get kept key)) ≡ 1 = ap (λ o. one (is_some o)) found in
+      let once : tally marks (has_key key) ≡ one (is_some (get kept key)) = k.once key in
+      omega arith
+
+  pub Removes-taken : Removes (shown kept marks) (shown later new) number (Collected outcome)
+  Removes-taken = record {
+    was = at-shown kept marks number ∙ (ap (mapped kept) removes.was ∙ ap (λ o. Some (collected o)) found);
+    gone = at-shown later new number ∙ ap (mapped later) removes.gone;
+    others = λ n. λ away.
+        at-shown later new n
+        ∙ (same-mapped kept later key None updates new n no_mark_left ∙ (ap (mapped kept) (removes.others n away) ∙ sym (at-shown kept marks n)));
+    tallies = λ test.
+        let was : one (test (entry_of kept (Holds key))) ≡ one (test (Collected outcome)) = ap (λ o. one (test (collected o))) found in
+        let changes : tally marks (λ mark. test (entry_of kept mark)) ≡ one (test (entry_of kept (Holds key))) + tally new (λ mark. test (entry_of kept mark)) =
+        removes.tallies (λ mark. test (entry_of kept mark)) in
+        omega (arith, tally-shown later new test, tally-shown kept marks test, same-tally kept later key None updates new test no_mark_left);
+  }
+
+  pub AreKept-taken : slab_len later + 1 ≡ slab_len kept → AreKept later new
+  AreKept-taken less = record {
+    once = λ other. elim (eqb_tells other key) [
+      | inl same ↦
+          let none : tally new (has_key other) ≡ 0 = ap (λ n. tally new (has_key n)) same.1 ∙ no_mark_left in
+          let vacant : one (is_some (get later other)) ≡ 0 = ap (λ n. one (is_some (get later n))) same.1 ∙ ap (λ o. one (is_some o)) updates.changed in
+          omega arith
+      | inr differs ↦
+          let e : tally marks (has_key other) ≡ one (eqb other key) + tally new (has_key other) = removes.tallies (has_key other) in
+          let away : one (eqb other key) ≡ 0 = ap one differs.0 in
+          let same : one (is_some (get later other)) ≡ one (is_some (get kept other)) = ap (λ o. one (is_some o)) (updates.others other differs.1) in
+          omega (arith, k.once other)
+    ];
+    count = let e : tally marks has_any ≡ 1 + tally new has_any = removes.tallies has_any in omega (arith, k.count, less);
+  }
