@@ -6,6 +6,7 @@ pub mod Taken
 pub mod Lanes
 pub mod Marks
 pub mod Kept
+pub mod KeptOutcomes
 pub mod Collections
 pub mod Collected
 pub mod Gathered
