@@ -1,4 +1,4 @@
-use Rattle.std.proofs.Common.{◌+◌, ◌≤◌, length, ap, subst, ◌∙◌, arith}
+use Rattle.std.proofs.Common.{◌≡◌, ◌+◌, ◌≤◌, length, ap, subst, true, ◌∙◌, arith}
 use Rattle.rt_desk.specs.Held.{at, count_of, Becomes}
 use Rattle.rt_desk.specs.Kept.{shown}
 use Rattle.rt_desk.specs.declared.entry.Entry.TheVariants.{Pending, Collected}
