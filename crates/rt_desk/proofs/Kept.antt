@@ -16,6 +16,10 @@ use Rattle.rt_desk.proofs.Marks.{at-tally, tally-two, mapped, at-shown, tally-sh
 pub has_own_key : (key : ℕ) → has_key key (Holds key) ≡ true
 has_own_key key = elim (eqb_tells key key) [ inl same ↦ same.0 | inr other ↦ absurd (other.1 refl) ]
 
+-- what is found isn't nothing
+pub not_both : {V : Type 0} (found : Option V) (value : V) → found ≡ Some value → found ≡ None → ⊥
+not_both found value is none = cc
+
 -- a mark doesn't both wait and have a key
 apart : (mark : Mark) → one (has_any mark) + one (is_waiting mark) ≤ 1
 apart Waits = omega arith
@@ -23,7 +27,7 @@ apart LetGo = omega arith
 apart (Holds key) = omega arith
 
 module _ {V : Type 0} (held new : List (ℕ × V)) (number : ℕ) (before was : V) (there : at held number ≡ Some was) where
-  same_before : at held number ≡ Some before → before ≡ was
+  pub same_before : at held number ≡ Some before → before ≡ was
   same_before is = let e : Some before ≡ Some was = sym is ∙ there in cc
 
   -- what became another, or was taken out, is what stood there
@@ -69,17 +73,17 @@ module _ {J T : Type 0} (kept : Slab (Outcome J T)) (marks : List (ℕ × Mark))
   waits-there n shows = by_mark (at marks n) refl
     where
       by_mark : (found : Option Mark) → at marks n ≡ found → at marks n ≡ Some Waits
-      by_mark None is = absurd (let e : None {A = Entry J T} ≡ Some Pending = marked n Pending None is shows in cc)
+      by_mark None is = absurd (let e : mapped kept None ≡ Some Pending = marked n Pending None is shows in cc)
       by_mark (Some Waits) is = is
-      by_mark (Some LetGo) is = absurd (let e : Some (Detached {J = J} {T = T}) ≡ Some Pending = marked n Pending (Some LetGo) is shows in cc)
+      by_mark (Some LetGo) is = absurd (let e : mapped kept (Some LetGo) ≡ Some Pending = marked n Pending (Some LetGo) is shows in cc)
       by_mark (Some (Holds key)) is = absurd (let found = shows-collected n key is in let e : Some (Collected found.0) ≡ Some Pending = sym found.1 ∙ shows in cc)
 
   pub let_go-there : (n : ℕ) → at (shown kept marks) n ≡ Some Detached → at marks n ≡ Some LetGo
   let_go-there n shows = by_mark (at marks n) refl
     where
       by_mark : (found : Option Mark) → at marks n ≡ found → at marks n ≡ Some LetGo
-      by_mark None is = absurd (let e : None {A = Entry J T} ≡ Some Detached = marked n Detached None is shows in cc)
-      by_mark (Some Waits) is = absurd (let e : Some (Pending {J = J} {T = T}) ≡ Some Detached = marked n Detached (Some Waits) is shows in cc)
+      by_mark None is = absurd (let e : mapped kept None ≡ Some Detached = marked n Detached None is shows in cc)
+      by_mark (Some Waits) is = absurd (let e : mapped kept (Some Waits) ≡ Some Detached = marked n Detached (Some Waits) is shows in cc)
       by_mark (Some LetGo) is = is
       by_mark (Some (Holds key)) is = absurd (let found = shows-collected n key is in let e : Some (Collected found.0) ≡ Some Detached = sym found.1 ∙ shows in cc)
 
@@ -87,9 +91,9 @@ module _ {J T : Type 0} (kept : Slab (Outcome J T)) (marks : List (ℕ × Mark))
   holds-there n shows = by_mark (at marks n) refl
     where
       by_mark : (found : Option Mark) → at marks n ≡ found → (key : ℕ) × (at marks n ≡ Some (Holds key))
-      by_mark None is = absurd (let e : None {A = Entry J T} ≡ Some (Collected shows.0) = marked n (Collected shows.0) None is shows.1 in cc)
-      by_mark (Some Waits) is = absurd (let e : Some (Pending {J = J} {T = T}) ≡ Some (Collected shows.0) = marked n (Collected shows.0) (Some Waits) is shows.1 in cc)
-      by_mark (Some LetGo) is = absurd (let e : Some (Detached {J = J} {T = T}) ≡ Some (Collected shows.0) = marked n (Collected shows.0) (Some LetGo) is shows.1 in cc)
+      by_mark None is = absurd (let e : mapped kept None ≡ Some (Collected shows.0) = marked n (Collected shows.0) None is shows.1 in cc)
+      by_mark (Some Waits) is = absurd (let e : mapped kept (Some Waits) ≡ Some (Collected shows.0) = marked n (Collected shows.0) (Some Waits) is shows.1 in cc)
+      by_mark (Some LetGo) is = absurd (let e : mapped kept (Some LetGo) ≡ Some (Collected shows.0) = marked n (Collected shows.0) (Some LetGo) is shows.1 in cc)
       by_mark (Some (Holds key)) is = (key, is)
 
   -- where a number waits there is room for its outcome

@@ -3,12 +3,12 @@ use Rattle.rt_desk.specs.Held.{at, count_of, Becomes}
 use Rattle.rt_desk.specs.Kept.{shown}
 use Rattle.rt_desk.specs.declared.entry.Entry.TheVariants.{Pending, Collected}
 use Rattle.rt_desk.specs.declared.entry.Mark.TheVariants.{Waits, Holds}
-use Rattle.rt_desk.proofs.Kept.{waits-there, room-kept, became}
+use Rattle.rt_desk.proofs.Kept.{not_both, waits-there, room-kept, became}
 use Rattle.rt_desk.proofs.KeptOutcomes.{Becomes-kept, AreKept-kept}
 use Rattle.rt_desk.proofs.shelf.Shelf.keep.Goals as goal
 
-pub insert_reserved-requires-key : goal.insert_reserved-requires-key
-insert_reserved-requires-key g c =
+pub insert_reserved-key-requires : goal.insert_reserved-key-requires
+insert_reserved-key-requires g c =
     let i = c.self.inside in
     let there = waits-there i.kept i.held c.self.invariant.0 c.args.number (ap (λ s. at s.entries c.args.number) c.self.view_is ∙ c.requires.waits) in
     let fits : count_of i.held + length i.free.items ≤ i.kept.capacity = c.self.invariant.2 in
@@ -34,3 +34,9 @@ invariant_of-self g c =
       omega (arith, c.self.invariant.1),
       omega (arith, c.insert_reserved-key.ensures.capacity),
     )
+
+pub unreachable-requires : goal.unreachable-requires
+unreachable-requires g c =
+    let i = c.self.inside in
+    let there = waits-there i.kept i.held c.self.invariant.0 c.args.number (ap (λ s. at s.entries c.args.number) c.self.view_is ∙ c.requires.waits) in
+    not_both _ _ there c.in_default.ensures.none
