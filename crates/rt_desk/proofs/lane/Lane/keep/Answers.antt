@@ -1,6 +1,7 @@
-use Rattle.std.proofs.Common.{sym, ap, subst, ◌∙◌}
+use Rattle.std.proofs.Common.{inl, inr, sym, ap, subst, ◌∙◌}
 use Rattle.rt_link.specs.Fits.{Fits}
 use Rattle.rt_desk.specs.Held.{at, Removes, Becomes}
+use Rattle.rt_desk.specs.Steps.{StandsAs}
 use Rattle.rt_desk.specs.declared.entry.Entry.TheVariants.{Pending, Detached, Collected}
 use Rattle.rt_desk.proofs.Collected.{not_none, not_collected, IsLaneOf-collected, IsLaneOf-let_go}
 use Rattle.rt_desk.proofs.lane.Lane.keep.Goals as goal
@@ -25,12 +26,15 @@ returns-in-Detached-clause-lane g c =
     (subst (λ l. Removes l.entries c.forget.new.self.entries c.args.number Detached) c.self.view_is c.forget.ensures.removes) c.credit.ensures.same c.credit.ensures.credited
     (c.forget.ensures.room ∙ ap (λ l. l.room) c.self.view_is) (ap (λ l. l.count) c.self.view_is) (ap (λ l. l.last) c.self.view_is)
 
-pub unreachable-requires-in-Nothing : goal.unreachable-requires-in-Nothing
-unreachable-requires-in-Nothing g c =
-    not_none (Fits g.J.Task.meaning) c.args.self.now (g.O.OutEnd.out c.args.end.now) (g.O.OutEnd.credited c.args.end.now) c.args.number c.args.outcome c.requires
-    (ap (λ l. at l.entries c.args.number) (sym c.self.view_is) ∙ c.in-Nothing.ensures)
-
-pub unreachable-requires-in-Collected : goal.unreachable-requires-in-Collected
-unreachable-requires-in-Collected g c =
-    not_collected (Fits g.J.Task.meaning) c.args.self.now (g.O.OutEnd.out c.args.end.now) (g.O.OutEnd.credited c.args.end.now) c.args.number c.args.outcome c.requires c.in-Collected.ensures.0
-    (ap (λ l. at l.entries c.args.number) (sym c.self.view_is) ∙ c.in-Collected.ensures.1)
+pub unreachable-requires : goal.unreachable-requires
+unreachable-requires g c =
+    let entry = at c.self.inside.shelf.entries c.args.number in
+    elim c.in-Nothing.is [
+      | inl nothing ↦
+          not_none (Fits g.J.Task.meaning) c.args.self.now (g.O.OutEnd.out c.args.end.now) (g.O.OutEnd.credited c.args.end.now) c.args.number c.args.outcome c.requires
+          (ap (λ l. at l.entries c.args.number) (sym c.self.view_is) ∙ subst (λ s. StandsAs s entry) nothing c.standing.ensures)
+      | inr collected ↦
+          let there = subst (λ s. StandsAs s entry) collected c.standing.ensures in
+          not_collected (Fits g.J.Task.meaning) c.args.self.now (g.O.OutEnd.out c.args.end.now) (g.O.OutEnd.credited c.args.end.now) c.args.number c.args.outcome c.requires there.0
+          (ap (λ l. at l.entries c.args.number) (sym c.self.view_is) ∙ there.1)
+    ]
