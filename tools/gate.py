@@ -18,6 +18,7 @@ PARTS = {
     "tests/hosts": (480, 2),
     "tests/memory/run": (60, 1),
     "tests/memory/steady": (20, 1),
+    "tests/memory/houses": (90, 1),
     "tests/memory/again": (300, 4),
     "tests/tested-edits": (240, 1),
 }

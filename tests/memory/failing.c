@@ -1,6 +1,7 @@
 // Lets one call for memory fail. Preloaded into a program, it counts the program's calls of malloc and realloc, and answers that there is
 // no memory at the call whose number stands in FAILING_CALL. At the end it writes how many calls there were into the file FAILING_COUNT,
-// and behind it how many failed. A program with threads ends by `_exit`, and any other by its return.
+// behind it how many failed, for how many bytes was asked, and how many kibibytes the program had in memory at most. A program with threads
+// ends by `_exit`, and any other by its return.
 #define _GNU_SOURCE
 #include <dlfcn.h>
 #include <fcntl.h>
@@ -8,12 +9,13 @@
 #include <stddef.h>
 #include <stdio.h>
 #include <stdlib.h>
+#include <string.h>
 #include <sys/syscall.h>
 #include <unistd.h>
 
 static void *(*next_malloc)(size_t);
 static void *(*next_realloc)(void *, size_t);
-static atomic_ulong calls, failed;
+static atomic_ulong calls, failed, asked;
 static unsigned long failing;
 
 __attribute__((constructor)) static void begin(void) {
@@ -23,9 +25,11 @@ __attribute__((constructor)) static void begin(void) {
     failing = number ? strtoul(number, NULL, 10) : 0;
     atomic_store(&calls, 0);
     atomic_store(&failed, 0);
+    atomic_store(&asked, 0);
 }
 
-static int fails(void) {
+static int fails(size_t size) {
+    atomic_fetch_add(&asked, size);
     if (atomic_fetch_add(&calls, 1) + 1 != failing) return 0;
     atomic_fetch_add(&failed, 1);
     return 1;
@@ -33,12 +37,12 @@ static int fails(void) {
 
 void *malloc(size_t size) {
     if (!next_malloc) begin();
-    return fails() ? NULL : next_malloc(size);
+    return fails(size) ? NULL : next_malloc(size);
 }
 
 void *realloc(void *place, size_t size) {
     if (!next_realloc) begin();
-    return fails() ? NULL : next_realloc(place, size);
+    return fails(size) ? NULL : next_realloc(place, size);
 }
 
 __attribute__((noreturn)) static void leave(int status) {
@@ -46,12 +50,25 @@ __attribute__((noreturn)) static void leave(int status) {
     __builtin_unreachable();
 }
 
+// The kibibytes that the system counted at most, or 0 if it doesn't tell.
+static unsigned long most_in_memory(void) {
+    static char text[8192];
+    int file = open("/proc/self/status", O_RDONLY);
+    if (file < 0) return 0;
+    ssize_t length = read(file, text, sizeof text - 1);
+    close(file);
+    if (length < 0) return 0;
+    text[length] = 0;
+    const char *line = strstr(text, "VmHWM:");
+    return line ? strtoul(line + 6, NULL, 10) : 0;
+}
+
 __attribute__((destructor)) static void end(void) {
     const char *name = getenv("FAILING_COUNT");
     int file = name ? open(name, O_WRONLY | O_CREAT | O_TRUNC, 0666) : -1;
     if (file < 0) return;
-    char text[64];
-    int length = snprintf(text, sizeof text, "%lu %lu\n", atomic_load(&calls), atomic_load(&failed));
+    char text[128];
+    int length = snprintf(text, sizeof text, "%lu %lu %lu %lu\n", atomic_load(&calls), atomic_load(&failed), atomic_load(&asked), most_in_memory());
     if (write(file, text, (size_t)length) != length) leave(9);
     close(file);
 }

@@ -1,6 +1,5 @@
 -- A lane after a collection, as the call tells of its end.
-use Rattle.std.proofs.Common.{◌≡◌, ℕ, ◌+◌, ◌<◌, Option, Some, None, sym, ap, subst, ◌∙◌, arith}
-use Rattle.std.specs.Prelude.{List, IfSome, IfNone}
+use Rattle.std.proofs.Common.{◌≡◌, ℕ, ◌+◌, ◌<◌, Some, None, sym, ap, subst, ◌∙◌, arith}
 use Rattle.rt_ids.specs.declared.order.Order.{Order}
 use Rattle.rt_ids.specs.declared.order.Outcome.{Outcome}
 use Rattle.rt_link.specs.declared.ends.Outward.{Outward}
@@ -10,31 +9,6 @@ use Rattle.rt_desk.specs.Held.{at, Removes, Becomes}
 use Rattle.rt_desk.specs.Lanes.{Lane, IsLaneOf, IsJustGot}
 use Rattle.rt_desk.specs.declared.entry.Entry.TheVariants.{Pending, Detached, Collected}
 use Rattle.rt_desk.proofs.Collections.{IsLaneOf-seen, IsLaneOf-kept, IsLaneOf-dropped, IsLaneOf-redeemed, IsLaneOf-detached, next_not_none, next_not_collected}
-
--- what was taken out is what stood there
-pub pulled : {V : Type 0} (held new : List (ℕ × V)) (number : ℕ) (before : V) (result : Option V) → IfNone result (at held number ≡ None)
-    → IfSome result (λ value. Removes held new number value) → at held number ≡ Some before → Removes held new number before
-pulled held new number before None none removes there = absurd (let e : at held number ≡ None = none in cc)
-pulled held new number before (Some value) none removes there = let same : value ≡ before = let e : at held number ≡ Some value = removes.was in cc in subst (Removes held new number) same removes
-
--- what was swapped is what stood there
-pub swapped : {V : Type 0} (held new : List (ℕ × V)) (number : ℕ) (before after : V) (result : Option V) → IfNone result (at held number ≡ None)
-    → IfSome result (λ value. Becomes held new number value after) → at held number ≡ Some before → Becomes held new number before after
-swapped held new number before after None none becomes there = absurd (let e : at held number ≡ None = none in cc)
-swapped held new number before after (Some value) none becomes there =
-    let same : value ≡ before = let e : at held number ≡ Some value = becomes.was in cc in subst (λ was. Becomes held new number was after) same becomes
-
--- what became another and was then taken out is gone
-pub let_go : {V : Type 0} (held mid new : List (ℕ × V)) (number : ℕ) (before after : V) (result : Option V) → Becomes held mid number before after
-    → IfNone result (at mid number ≡ None) → IfSome result (λ value. Removes mid new number value) → Removes held new number before
-let_go held mid new number before after result becomes none removes =
-    let gone : Removes mid new number after = pulled mid new number after result none removes becomes.here in
-    record {
-      was = becomes.was;
-      gone = gone.gone;
-      others = λ n. λ apart. gone.others n apart ∙ becomes.others n apart;
-      tallies = λ test. omega (arith, becomes.tallies test, gone.tallies test);
-    }
 
 -- nothing was found
 pub IsLaneOf-none : {J T : Type 0} (fits : Order J → Outcome J T → Type 0) (lane : Lane J T) (out later : Outward J T) (credited after : ℕ) → IsLaneOf fits lane out credited

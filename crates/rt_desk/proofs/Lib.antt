@@ -4,6 +4,9 @@ pub mod Remainders
 pub mod Tops
 pub mod Taken
 pub mod Lanes
+pub mod Marks
+pub mod Kept
+pub mod KeptOutcomes
 pub mod Collections
 pub mod Collected
 pub mod Gathered

@@ -2,6 +2,7 @@ pub mod Held
 pub mod Nodes
 pub mod Rows
 pub mod Shelves
+pub mod Kept
 pub mod Lanes
 pub mod Told
 pub mod Steps

@@ -2,7 +2,7 @@
 
 use rt_ids::Outcome;
 
-/// What a desk knows of a submission that is still outstanding.
+/// What a desk knows of a submission that is still outstanding. No value of it is made: a mark stands for it.
 #[derive(Drop)]
 pub enum Entry<J: Drop, T: Drop> {
     /// Its outcome isn't collected yet.
@@ -11,6 +11,15 @@ pub enum Entry<J: Drop, T: Drop> {
     Detached,
     /// Its outcome waits to be redeemed.
     Collected(Outcome<J, T>),
+}
+
+/// What a tree holds for an entry. The outcomes stand in a slab of their own, whose memory isn't touched before the first one comes.
+#[derive(Clone, Copy)]
+pub(crate) enum Mark {
+    Waits,
+    LetGo,
+    /// The outcome has this key.
+    Holds(usize),
 }
 
 /// What stands at a number, without the outcome.

@@ -5,13 +5,13 @@ ghost use Rattle.rt_ids.specs.Outcomes.{IsSpelledOutcome};
 ghost use Rattle.rt_jobs.specs.Ready.{HasReadyJob};
 ghost use Rattle.rt_link.specs.Calls.{Sends};
 ghost use Rattle.rt_link.specs.Fits.{Fits};
-ghost use Rattle.rt_desk.specs.Held.{at, count_of, Adds};
+ghost use Rattle.rt_desk.specs.Held.{count_of, Adds};
 ghost use Rattle.rt_desk.specs.Lanes.{fresh_lane, IsGiven, IsLaneOf, IsJustGot, IsGot, FitsSent};
-ghost use Rattle.rt_desk.specs.Steps.{CollectsNext, CollectsAll, Keeps, Redeems, Detaches, StandsAs};
+ghost use Rattle.rt_desk.specs.Steps.{CollectsNext, CollectsAll, Keeps, Redeems, Detaches};
 ghost use Rattle.rt_desk.specs.Told.{told_of};
 ghost use Rattle.rt_desk.specs.declared.entry.Entry.TheVariants.{Pending};
 
-use crate::entry::{Entry, Standing};
+use crate::entry::Standing;
 use crate::shelf::Shelf;
 use rt_ids::{ActorNo, CoreNo, JobId, Order, Outcome, OutcomeNote, SendError, TicketError};
 use rt_jobs::Task;
@@ -85,16 +85,14 @@ impl<J: Task> Lane<J> {
         ensures rest { self.new ≡ record self.old { entries = self.new.entries } }
         ensures keeps { Keeps self.old.entries self.new.entries number outcome (O.credited end.old) (O.credited end.new) }
     {
-        let Some(before) = self.shelf.swap(number, Entry::Collected(outcome)) else {
-            unreachable!()
-        };
-        match before {
-            Entry::Pending => {}
-            Entry::Detached => {
-                drop(self.shelf.pull(number));
+        match self.shelf.standing(number) {
+            Standing::Pending => self.shelf.keep(number, outcome),
+            Standing::Detached => {
+                self.shelf.forget(number);
+                drop(outcome);
                 end.credit();
             }
-            Entry::Collected(_) => unreachable!(),
+            Standing::Nothing | Standing::Collected => unreachable!(),
         }
     }
 
@@ -169,18 +167,6 @@ impl<J: Task> Lane<J> {
         self.last - self.count < number && number <= self.last
     }
 
-    #[inline(always)]
-    fn standing(&self, number: u64) -> Standing
-        ensures { StandsAs result (at self.now.entries number) }
-    {
-        match self.shelf.get(number) {
-            None => Standing::Nothing,
-            Some(Entry::Pending) => Standing::Pending,
-            Some(Entry::Detached) => Standing::Detached,
-            Some(Entry::Collected(_)) => Standing::Collected,
-        }
-    }
-
     /// The outcome of a number, which is gone from then on.
     #[inline(always)]
     pub fn redeem<O: OutEnd<J>>(
@@ -199,13 +185,11 @@ impl<J: Task> Lane<J> {
         if !self.is_given(number) {
             return Err(TicketError::Unknown);
         }
-        match self.standing(number) {
+        match self.shelf.standing(number) {
             Standing::Nothing | Standing::Detached => Err(TicketError::Gone),
             Standing::Pending => Err(TicketError::Pending),
             Standing::Collected => {
-                let Some(Entry::Collected(outcome)) = self.shelf.pull(number) else {
-                    unreachable!()
-                };
+                let outcome = self.shelf.take(number);
                 end.credit();
                 Ok(outcome)
             }
@@ -223,14 +207,14 @@ impl<J: Task> Lane<J> {
         if !self.is_given(number) {
             return Err(TicketError::Unknown);
         }
-        match self.standing(number) {
+        match self.shelf.standing(number) {
             Standing::Nothing | Standing::Detached => Err(TicketError::Gone),
             Standing::Pending => {
-                drop(self.shelf.swap(number, Entry::Detached));
+                self.shelf.let_go(number);
                 Ok(())
             }
             Standing::Collected => {
-                drop(self.shelf.pull(number));
+                drop(self.shelf.take(number));
                 end.credit();
                 Ok(())
             }

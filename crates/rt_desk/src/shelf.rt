@@ -1,68 +1,73 @@
 //! What is known of outstanding submissions, by number, in trees whose nodes are all made at the opening.
 
-ghost use Rattle.std.specs.Prelude.{◌≡◌, ◌<◌, [], None, IfOk, IfSome, IfNone, option_copied};
+ghost use Rattle.std.specs.Prelude.{◌≡◌, ◌<◌, [], None, Some, IfOk};
 ghost use Rattle.rt_desk.specs.Held.{at, count_of, Adds, Removes, Becomes};
+ghost use Rattle.rt_desk.specs.Kept.{IsCollectedAt};
 ghost use Rattle.rt_desk.specs.Nodes.{IsLoose};
-ghost use Rattle.rt_desk.specs.declared.entry.Entry.TheVariants.{Pending};
+ghost use Rattle.rt_desk.specs.Steps.{StandsAs};
+ghost use Rattle.rt_desk.specs.declared.entry.Entry.TheVariants.{Pending, Detached, Collected};
+ghost use Rattle.rt_desk.specs.declared.entry.Mark.TheVariants.{Waits};
 
-use crate::entry::Entry;
+use crate::entry::{Mark, Standing};
 use crate::rows::Rows;
 use crate::trie::Node;
+use rt_fixed::SealedSlab;
+use rt_ids::Outcome;
+use slab::Slab;
 use std::alloc::{AllocError, Global};
 use std::marker::Model;
-use std::mem;
 
-/// A node that is in no tree. Its entry waits, so that it needn't be written when it is used.
+/// A node that is in no tree. Its mark waits, so that it needn't be written when it is used.
 #[derive(Drop)]
-struct Slip<J: Drop, T: Drop> {
-    node: Box<Node<Entry<J, T>>, Global>,
+struct Slip {
+    node: Box<Node<Mark>, Global>,
 }
 
-impl<J: Drop, T: Drop> Model for Slip<J, T> {
-    ghost use Rattle.rt_desk.specs.declared.entry.Entry.{Entry};
+impl Model for Slip {
+    ghost use Rattle.rt_desk.specs.declared.entry.Mark.{Mark};
 
-    ghost Value = { Entry J T };
+    ghost Value = { Mark };
 
     ghost view = { λ s. s.node.value.value };
 
     ghost use Rattle.std.specs.Prelude.{◌≡◌};
     ghost use Rattle.rt_desk.specs.Nodes.{IsLoose};
-    ghost use Rattle.rt_desk.specs.declared.entry.Entry.TheVariants.{Pending};
+    ghost use Rattle.rt_desk.specs.declared.entry.Mark.TheVariants.{Waits};
 
-    ghost invariant = { λ s. IsLoose s.node.value × (s.node.value.value ≡ Pending) };
+    ghost invariant = { λ s. IsLoose s.node.value × (s.node.value.value ≡ Waits) };
 }
 
-impl<J: Drop, T: Drop> Slip<J, T> {
+impl Slip {
     fn try_new(alloc: Global) -> Result<Self, AllocError> {
-        let node = Box::new(alloc, Node::loose(Entry::Pending))?;
+        let node = Box::new(alloc, Node::loose(Mark::Waits))?;
         Ok(Slip { node })
     }
 
     /// The node.
-    fn taken(self) -> Box<Node<Entry<J, T>>, Global>
+    fn taken(self) -> Box<Node<Mark>, Global>
         ensures loose { IsLoose result.value }
-        ensures value { result.value.value ≡ Pending }
+        ensures value { result.value.value ≡ Waits }
     {
         let Slip { node } = self;
         node
     }
 
-    /// The entry of a node, and the node without it.
-    fn emptied(node: Box<Node<Entry<J, T>>, Global>) -> (Self, Entry<J, T>)
+    /// A node that was taken out of a tree.
+    fn freed(node: Box<Node<Mark>, Global>) -> Self
         requires { IsLoose node.value }
-        ensures { result.1 ≡ node.value.value }
     {
         let mut node = node;
-        let entry = mem::replace(&mut node.value, Entry::Pending);
-        (Slip { node }, entry)
+        node.value = Mark::Waits;
+        Slip { node }
     }
 }
 
 /// Entries by number. It has room for so many. The other calls ask for no memory; no clause says so.
 #[derive(Drop)]
 pub(crate) struct Shelf<J: Drop, T: Drop> {
-    held: Rows<Entry<J, T>>,
-    free: Vec<Slip<J, T>, Global>,
+    held: Rows<Mark>,
+    free: Vec<Slip, Global>,
+    kept: SealedSlab<Outcome<J, T>, Global>,
 }
 
 impl<J: Drop, T: Drop> Model for Shelf<J, T> {
@@ -74,10 +79,11 @@ impl<J: Drop, T: Drop> Model for Shelf<J, T> {
     ghost use Rattle.std.specs.Prelude.{◌+◌, ◌≤◌, length};
     ghost use Rattle.std.specs.Vec.{vec_capacity};
     ghost use Rattle.rt_desk.specs.Held.{count_of};
+    ghost use Rattle.rt_desk.specs.Kept.{AreKept, shown};
 
-    ghost view = { λ s. record { entries = s.held; room = count_of s.held + length s.free.items } };
+    ghost view = { λ s. record { entries = shown s.kept s.held; room = count_of s.held + length s.free.items } };
 
-    ghost invariant = { λ s. count_of s.held + length s.free.items ≤ vec_capacity s.free };
+    ghost invariant = { λ s. AreKept s.kept s.held × (count_of s.held + length s.free.items ≤ vec_capacity s.free) × (count_of s.held + length s.free.items ≤ s.kept.capacity) };
 }
 
 impl<J: Drop, T: Drop> Shelf<J, T> {
@@ -89,18 +95,25 @@ impl<J: Drop, T: Drop> Shelf<J, T> {
         for _ in 0..room {
             free.push_reserved(Slip::try_new(alloc)?);
         }
+        let kept = Slab::with_capacity(alloc, room as usize)?;
         Ok(Shelf {
             held: Rows::open(alloc, room)?,
             free,
+            kept: SealedSlab::sealed(kept),
         })
     }
 
-    /// The entry at a number.
+    /// What stands at a number.
     #[inline(always)]
-    pub(crate) fn get(&self, number: u64) -> Option<&Entry<J, T>>
-        ensures { option_copied result ≡ at self.now.entries number }
+    pub(crate) fn standing(&self, number: u64) -> Standing
+        ensures { StandsAs result (at self.now.entries number) }
     {
-        self.held.get(number)
+        match self.held.get(number) {
+            None => Standing::Nothing,
+            Some(Mark::Waits) => Standing::Pending,
+            Some(Mark::LetGo) => Standing::Detached,
+            Some(Mark::Holds(_)) => Standing::Collected,
+        }
     }
 
     /// Adds an entry that waits at a number that has none.
@@ -117,27 +130,58 @@ impl<J: Drop, T: Drop> Shelf<J, T> {
         self.held.add(number, slip.taken());
     }
 
-    /// Takes the entry of a number out, if it has one.
+    /// Keeps the outcome of a number that waits for it.
     #[inline(always)]
-    pub(crate) fn pull(&mut self, number: u64) -> Option<Entry<J, T>>
-        ensures none { IfNone result (at self.old.entries number ≡ None) }
-        ensures unchanged { IfNone result (self.new ≡ self.old) }
-        ensures removes { IfSome result (λ entry. Removes self.old.entries self.new.entries number entry) }
+    pub(crate) fn keep(&mut self, number: u64, outcome: Outcome<J, T>)
+        requires waits { at self.old.entries number ≡ Some Pending }
+        ensures becomes { Becomes self.old.entries self.new.entries number Pending (Collected outcome) }
         ensures room { self.new.room ≡ self.old.room }
     {
-        let node = self.held.remove(number)?;
-        let (slip, entry) = Slip::emptied(node);
-        self.free.push_reserved(slip);
-        Some(entry)
+        let key = self.kept.insert_reserved(outcome);
+        let Some(_waited) = self.held.swap(number, Mark::Holds(key)) else {
+            unreachable!()
+        };
     }
 
-    /// Puts an entry in the place of the one of a number, which comes back. If the number has none, nothing changes.
+    /// Takes the outcome out that a number has, and with it the entry.
     #[inline(always)]
-    pub(crate) fn swap(&mut self, number: u64, entry: Entry<J, T>) -> Option<Entry<J, T>>
-        ensures none { IfNone result (at self.old.entries number ≡ None) }
-        ensures becomes { IfSome result (λ before. Becomes self.old.entries self.new.entries number before entry) }
+    pub(crate) fn take(&mut self, number: u64) -> Outcome<J, T>
+        requires { IsCollectedAt self.old.entries number }
+        ensures removes { Removes self.old.entries self.new.entries number (Collected result) }
         ensures room { self.new.room ≡ self.old.room }
     {
-        self.held.swap(number, entry)
+        let Some(node) = self.held.remove(number) else {
+            unreachable!()
+        };
+        let Mark::Holds(key) = node.value else {
+            unreachable!()
+        };
+        self.free.push_reserved(Slip::freed(node));
+        self.kept.remove(key)
+    }
+
+    /// Nobody will ask for the outcome of a number that waits for it.
+    #[inline(always)]
+    pub(crate) fn let_go(&mut self, number: u64)
+        requires waits { at self.old.entries number ≡ Some Pending }
+        ensures becomes { Becomes self.old.entries self.new.entries number Pending Detached }
+        ensures room { self.new.room ≡ self.old.room }
+    {
+        let Some(_waited) = self.held.swap(number, Mark::LetGo) else {
+            unreachable!()
+        };
+    }
+
+    /// Takes the entry of a number out for whose outcome nobody will ask.
+    #[inline(always)]
+    pub(crate) fn forget(&mut self, number: u64)
+        requires detached { at self.old.entries number ≡ Some Detached }
+        ensures removes { Removes self.old.entries self.new.entries number Detached }
+        ensures room { self.new.room ≡ self.old.room }
+    {
+        let Some(node) = self.held.remove(number) else {
+            unreachable!()
+        };
+        self.free.push_reserved(Slip::freed(node));
     }
 }
