@@ -10,7 +10,7 @@ pub fn bytes() -> u64 {
     BYTES.load(Ordering::Relaxed)
 }
 
-/// One task. It lets others run where `yields` does so, which is asked behind each KiB: that takes some 100 ns.
+/// One task. It lets others run where `yields` does so, which is asked behind each KiB.
 pub async fn compute<F: Future<Output = ()>>(yields: impl Fn() -> F) {
     let bytes = vec![1_u8; 1 << 16];
     loop {
