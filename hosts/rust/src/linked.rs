@@ -24,7 +24,9 @@
 
 mod actor;
 mod core;
+mod fresh;
 mod house;
+mod jobs;
 mod lanes;
 mod names;
 mod outside;
@@ -32,8 +34,9 @@ mod seat;
 mod tasks;
 
 pub use actor::Ticket;
-pub use core::{Core, Cx, Job, Turn};
+pub use core::{Core, Cx, Turn};
 pub use house::{Config, Ended, House, Journals, Opened, Verdict};
+pub use jobs::Job;
 pub use lanes::Ringer;
 pub use names::{Answer, Name, Outcome, Reason, Step};
 pub use outside::Outside;

@@ -1,8 +1,10 @@
 //! How an executor is made, runs and ends.
 
+use crate::barrier::Barrier;
 use crate::drive::Driver;
-use crate::journal::{judge, Journal, Notes, Taker};
+use crate::journal::{judge, parts, Journal, Notes, Taker};
 use crate::local::{on_core, Job, Local};
+use crate::pin::Pin;
 use crate::reactor::Reactor;
 use crate::report::{CoreStats, Report};
 use crate::shared::{lock, Handle, Port, Queue, QueueSetup, Shared};
@@ -24,19 +26,6 @@ impl Executor {
     pub fn builder() -> Builder {
         Builder::default()
     }
-}
-
-/// On which processors the cores run.
-#[derive(Clone, PartialEq, Eq, Debug, Default)]
-#[non_exhaustive]
-pub enum Pin {
-    /// Wherever the system puts their threads.
-    #[default]
-    No,
-    /// Core 0 on the processor of this number, and each further core on the next one.
-    From(usize),
-    /// Each core on the processor of this list.
-    List(Vec<usize>),
 }
 
 /// A run that took longer than [`Builder::slow_poll`] allows.
@@ -162,6 +151,21 @@ impl Builder {
     }
 
     /// Who is told of each run that takes so long or longer. It is called on the core, behind that run.
+    ///
+    /// ```
+    /// use fairexec_rt::Executor;
+    /// use std::sync::atomic::{AtomicU32, Ordering::SeqCst};
+    /// use std::time::Duration;
+    ///
+    /// static SLOW: AtomicU32 = AtomicU32::new(0);
+    /// let server = Executor::builder().queue("requests", 1000).slow_poll(Duration::from_millis(2), |it| {
+    ///     eprintln!("core {}: a task of {} ran for {:?}", it.core, it.name, it.ran);
+    ///     SLOW.fetch_add(1, SeqCst);
+    /// });
+    /// server.run(|_| async { std::thread::sleep(Duration::from_millis(3)) })?;
+    /// assert!(SLOW.load(SeqCst) >= 1);
+    /// # Ok::<(), fairexec_rt::Error>(())
+    /// ```
     pub fn slow_poll(mut self, longest: Duration, tell: impl Fn(SlowPoll) + Send + Sync + 'static) -> Builder {
         self.setup.slow_poll = Some((longest, Box::new(tell)));
         self
@@ -195,7 +199,7 @@ impl Builder {
         outside.keep(&self.setup.takers[self.cores as usize]);
         let ports = cores.iter().map(|it| Port::new(it.ringer(), CoreStats { core: it.number(), ..CoreStats::default() })).collect();
         let (queues, ending) = (std::mem::take(&mut self.queues), Ending::new(self.cores));
-        let shared = Arc::new(Shared { ports, queues, places: self.places, ending });
+        let shared = Arc::new(Shared { ports, queues, places: self.places, ending, barrier: Barrier::default() });
         // Before a core runs, since it may call the others at once.
         for core in &mut cores {
             core.keep(&self.setup.takers[core.number() as usize]);
@@ -229,7 +233,8 @@ impl Builder {
         let journals = house.end(cores, outside).map_err(|(error, ..)| error)?;
         let (audit, text) = judge(journal, journals)?;
         let newest = self.setup.takers.iter().flatten().map(Taker::end).collect::<Result<Vec<_>, _>>()?.into_iter().flatten().collect();
-        Ok(Report { cores: shared.ports.iter().map(|it| lock(&it.stats).clone()).collect(), audit, journal: text, newest })
+        let cores = shared.ports.iter().map(|it| lock(&it.stats).clone()).collect();
+        Ok(Report { cores, audit, journal: text, newest, parts: parts(journal, self.cores) })
     }
 
     /// What the library would refuse later, and with fewer words.
@@ -276,6 +281,25 @@ impl Here {
         self.shared.queues.iter().position(|it| it.name == name).map(|it| Queue(it as u32))
     }
 
+    /// Waits until each core waits here, round by round. A future that is dropped counts all the same.
+    ///
+    /// ```
+    /// use fairexec_rt::Executor;
+    /// use std::sync::atomic::{AtomicU32, Ordering::SeqCst};
+    ///
+    /// static OPENED: AtomicU32 = AtomicU32::new(0);
+    /// Executor::builder().cores(3).run(|here| async move {
+    ///     OPENED.fetch_add(1, SeqCst);
+    ///     // No core calls another one that isn't ready for it.
+    ///     here.barrier().await;
+    ///     assert_eq!(OPENED.load(SeqCst), 3);
+    /// })?;
+    /// # Ok::<(), fairexec_rt::Error>(())
+    /// ```
+    pub async fn barrier(&self) {
+        self.shared.barrier.wait(self.cores()).await;
+    }
+
     /// The executor, for other threads.
     pub fn handle(&self) -> Handle {
         Handle(Arc::clone(&self.shared))
@@ -316,7 +340,7 @@ where
     }
     let mut failing = Failing(Some(Arc::clone(&shared)));
     let number = core.number();
-    pin(&setup.pin, number)?;
+    setup.pin.apply(number)?;
     let (reactor, bell) = Reactor::new()?;
     // A ring that fails has no end of the wait, and nobody else to tell. An eventfd fails if the process has closed it.
     core.set_bell(move || bell.wake().expect("an eventfd takes a ring"));
@@ -347,26 +371,4 @@ impl Drop for Rooted {
     fn drop(&mut self) {
         self.0.ending.root_ended();
     }
-}
-
-/// Keeps this thread on its processor.
-fn pin(pin: &Pin, core: u32) -> Result<(), Error> {
-    let processor = match pin {
-        Pin::No => return Ok(()),
-        Pin::From(first) => first + core as usize,
-        Pin::List(all) => all[core as usize],
-    };
-    if processor >= libc::CPU_SETSIZE as usize {
-        return Err(Error::Setup(format!("there is no processor {processor}")));
-    }
-    // SAFETY: zeroes are a set of no processor. The number is one of the set, and the call reads a local value of the size that it is told.
-    let told = unsafe {
-        let mut set: libc::cpu_set_t = std::mem::zeroed();
-        libc::CPU_SET(processor, &mut set);
-        libc::sched_setaffinity(0, size_of::<libc::cpu_set_t>(), &set)
-    };
-    if told != 0 {
-        return Err(std::io::Error::last_os_error().into());
-    }
-    Ok(())
 }

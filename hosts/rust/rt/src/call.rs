@@ -88,6 +88,21 @@ impl<T> Drop for Slot<T> {
 ///
 /// A call that is dropped is given up. If it didn't begin, its function isn't called. If its future waits, that is dropped at its next turn. A run
 /// that has begun goes on until it waits, and what was done before stays done.
+///
+/// ```
+/// use fairexec_rt::{submit, timeout, CallError, Executor, Queue};
+/// use std::{future::pending, time::Duration};
+///
+/// Executor::builder().cores(2).run(|here| async move {
+///     let other = (here.core() + 1) % 2;
+///     let panics = submit(other, Queue::FIRST, || async { panic!("the caller is told") });
+///     assert_eq!(panics.await, Err::<(), _>(CallError::Panicked));
+///     // Who waits no longer gives the call up, and its future is dropped.
+///     let waits = submit(other, Queue::FIRST, || pending::<()>());
+///     assert!(timeout(Duration::from_millis(1), waits).await.is_err());
+/// })?;
+/// # Ok::<(), fairexec_rt::Error>(())
+/// ```
 #[must_use = "a call that is dropped is given up"]
 pub struct Call<T>(Arc<Mutex<Answer<T>>>);
 

@@ -27,6 +27,27 @@ pub fn local<T>(room: usize) -> (Sender<T>, Receiver<T>) {
 /// # Panics
 ///
 /// If there is room for none.
+///
+/// ```
+/// use fairexec_rt::{chan, submit, Executor, Queue};
+///
+/// Executor::builder().cores(2).run(|here| async move {
+///     let (sender, receiver) = chan::across(4);
+///     let sum = submit((here.core() + 1) % 2, Queue::FIRST, move || async move {
+///         let mut sum = 0;
+///         while let Ok(it) = receiver.recv().await {
+///             sum += it;
+///         }
+///         sum
+///     });
+///     for it in 1..=8 {
+///         sender.send(it).await.unwrap();
+///     }
+///     drop(sender);
+///     assert_eq!(sum.await, Ok(36));
+/// })?;
+/// # Ok::<(), fairexec_rt::Error>(())
+/// ```
 pub fn across<T: Send>(room: usize) -> (Sender<T>, Receiver<T>) {
     async_channel::bounded(room)
 }

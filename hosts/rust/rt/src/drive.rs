@@ -18,10 +18,9 @@ const SHOWN_EVERY: u64 = 20_000_000;
 const HANDED_EVERY: u32 = 32;
 
 /// How long a core sleeps if the library allows so much. Under `--cfg long_sleep`, by which `tests/rt` compiles, it is longer than any test waits,
-/// so that a ring that is lost shows. The library rings for no answer of an order, which a core finds as it looks again.
-fn longest_sleep(local: &Local, allowed: Duration) -> Duration {
-    let awaits_order = || local.sent.iter().any(|it| !it.borrow().shares.is_empty());
-    if cfg!(long_sleep) && !allowed.is_zero() && !awaits_order() {
+/// so that a ring that is lost shows.
+fn longest_sleep(allowed: Duration) -> Duration {
+    if cfg!(long_sleep) && !allowed.is_zero() {
         return Duration::from_secs(3600);
     }
     allowed
@@ -195,7 +194,7 @@ impl<'a> Driver<'a> {
         let (port, ending) = (&local.shared.ports[local.number as usize], &local.shared.ending);
         let next = local.timers.next_after(now).unwrap_or(Duration::MAX).min(longest);
         let looks = || port.has_mail() || ending.is_closing() || ending.is_stopping() != has_told;
-        self.core.wait_by(looks, |longest| local.reactor.wait(longest_sleep(local, longest), next))?;
+        self.core.wait_by(looks, |longest| local.reactor.wait(longest_sleep(longest), next))?;
         Ok(())
     }
 
@@ -347,7 +346,7 @@ impl<'a> Driver<'a> {
             }
             if !did {
                 let port = &local.shared.ports[local.number as usize];
-                self.core.wait_by(|| port.has_mail(), |longest| local.reactor.wait(longest_sleep(local, longest), Duration::MAX))?;
+                self.core.wait_by(|| port.has_mail(), |longest| local.reactor.wait(longest_sleep(longest), Duration::MAX))?;
             }
         }
         self.show();

@@ -6,6 +6,7 @@ use std::os::unix::fs::FileExt;
 use std::path::Path;
 use std::sync::Arc;
 
+pub use crate::log::{Compacting, Compaction, Fsync, Log};
 pub use blocking::unblock;
 
 /// An open file. Each call reads or writes at a place that it names, so several may go on at once.
@@ -25,6 +26,12 @@ pub use blocking::unblock;
 /// ```
 #[derive(Clone, Debug)]
 pub struct File(Arc<fs::File>);
+
+impl From<fs::File> for File {
+    fn from(file: fs::File) -> File {
+        File(Arc::new(file))
+    }
+}
 
 impl File {
     /// Opens a file to read it.
@@ -56,7 +63,7 @@ impl File {
     /// As `open`.
     pub async fn open_with(options: fs::OpenOptions, path: impl AsRef<Path>) -> io::Result<File> {
         let path = path.as_ref().to_owned();
-        unblock(move || options.open(path)).await.map(|it| File(Arc::new(it)))
+        unblock(move || options.open(path)).await.map(File::from)
     }
 
     /// The bytes from one place to another, or fewer at the end of the file.

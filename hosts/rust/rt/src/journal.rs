@@ -177,6 +177,14 @@ impl<J> Notes for Outside<J> {
     }
 }
 
+/// The files of this journal, of so many cores.
+pub(crate) fn parts(journal: &Journal, cores: u32) -> Vec<PathBuf> {
+    match journal {
+        Journal::Parts(folder) => (0..=cores).map(|it| folder.join(format!("part{it}"))).chain([folder.join("rest")]).collect(),
+        Journal::Off | Journal::Last(_) | Journal::Keep => Vec::new(),
+    }
+}
+
 /// The verdict and the text of journals that were kept. The lines around parts are written.
 pub(crate) fn judge(journal: &Journal, mut journals: Journals) -> Result<(Option<Verdict>, Option<String>), Error> {
     match journal {

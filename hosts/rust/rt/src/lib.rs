@@ -30,6 +30,8 @@
 //!
 //! docs/SERVERS.md begins with `cargo new`, and says what of a server is proved.
 
+mod appender;
+mod barrier;
 mod builder;
 mod call;
 pub mod chan;
@@ -38,8 +40,11 @@ mod error;
 pub mod fs;
 mod journal;
 mod local;
+mod log;
 pub mod net;
+mod pin;
 mod reactor;
+mod reads;
 mod report;
 mod shared;
 pub mod signal;
@@ -48,10 +53,11 @@ mod stop;
 mod task;
 mod time;
 
-pub use builder::{Builder, Executor, Here, Pin, SlowPoll};
+pub use builder::{Builder, Executor, Here, SlowPoll};
 pub use call::{submit, try_submit, Call, CallError, Full};
 pub use error::Error;
 pub use journal::Journal;
+pub use pin::Pin;
 pub use report::{CoreStats, QueueStats, Report};
 pub use shared::{Handle, Queue};
 pub use slice::{ran_for, yield_if_needed, yield_now};

@@ -185,6 +185,7 @@ impl Local {
         for mail in port.take() {
             match mail {
                 Mail::Woken(queue, turn) => self.take_woken(queue, turn),
+                Mail::Shares(queue, shares, slot) => self.outbox[self.number as usize].borrow_mut().push_back(Sending::Shares(queue, shares, slot)),
                 Mail::Start(queue, start) => {
                     if !self.has_closed.get() {
                         self.tell_busy();

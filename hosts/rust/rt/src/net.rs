@@ -1,20 +1,21 @@
 //! Sockets, which read and write as `futures-io` says. A socket stays on the core that it was made on. [`TcpStream::into_std`] takes it out of the
 //! reactor, and `from_std` puts it into that of another core.
 
+pub use crate::reads::Reads;
+
 use crate::reactor::{Registered, Side};
-use crate::{sleep, stopping, Sleep, Stopping};
+use crate::{sleep, stopping};
 use futures_io::{AsyncRead, AsyncWrite};
 use futures_lite::future;
 use socket2::{Domain, Protocol, SockAddr, Socket, Type};
-use std::cell::RefCell;
-use std::future::{poll_fn, Future};
+use std::future::poll_fn;
 use std::io::{self, IoSlice, Read, Write};
 use std::net::{Shutdown, SocketAddr, ToSocketAddrs};
 use std::os::unix::net as unix;
 use std::path::Path;
 use std::pin::Pin;
 use std::task::{Context, Poll};
-use std::time::{Duration, Instant};
+use std::time::Duration;
 
 /// Connections that wait to be accepted.
 const BACKLOG: i32 = 1024;
@@ -274,66 +275,29 @@ impl TcpStream {
     }
 }
 
-thread_local!(static ROOM: RefCell<Vec<u8>> = RefCell::new(vec![0; 1 << 16]));
-
-/// The reads of a server's connection. They end when nothing came for a time, and once the executor stops.
-pub struct Reads {
-    stop: Stopping,
-    // When something came last, and what ends the wait.
-    idle: Option<(Duration, Instant, Sleep)>,
-}
-
-impl Reads {
-    /// Reads that end when nothing came for so long, if that is given.
-    pub fn new(idle: Option<Duration>) -> Reads {
-        Reads { stop: stopping(), idle: idle.map(|it| (it, Instant::now(), sleep(it))) }
-    }
-
-    /// Puts what comes next behind these bytes. False at the end of the connection, of the time or of the executor.
-    ///
-    /// # Errors
-    ///
-    /// As the system answers.
-    pub async fn read<S>(&mut self, stream: &S, bytes: &mut Vec<u8>) -> io::Result<bool>
-    where
-        for<'a> &'a S: AsyncRead,
-    {
-        poll_fn(|cx| {
-            let mut stream = stream;
-            let count = ROOM.with_borrow_mut(|room| {
-                let count = Pin::new(&mut stream).poll_read(cx, room);
-                if let Poll::Ready(Ok(count)) = count {
-                    bytes.extend_from_slice(&room[..count]);
-                }
-                count
-            });
-            match count {
-                Poll::Ready(told) => {
-                    self.idle.iter_mut().for_each(|it| it.1 = Instant::now());
-                    Poll::Ready(told.map(|count| count > 0))
-                }
-                Poll::Pending if Pin::new(&mut self.stop).poll(cx).is_ready() || self.is_over(cx) => Poll::Ready(Ok(false)),
-                Poll::Pending => Poll::Pending,
-            }
-        })
-        .await
-    }
-
-    /// Whether nothing came for so long. A timer that is due because something came meanwhile is set anew, so a read sets none.
-    fn is_over(&mut self, cx: &mut Context<'_>) -> bool {
-        let Some((longest, last, sleep)) = &mut self.idle else { return false };
-        while Pin::new(&mut *sleep).poll(cx).is_ready() {
-            let left = longest.saturating_sub(last.elapsed());
-            if left.is_zero() {
-                return true;
-            }
-            sleep.reset(left);
-        }
-        false
-    }
-}
-
 /// A socket that accepts connections by a path.
+///
+/// ```
+/// use fairexec_rt::net::{Reads, UnixListener, UnixStream};
+/// use fairexec_rt::{spawn_local, Executor, Queue};
+/// use futures_lite::AsyncWriteExt;
+///
+/// let path = std::env::temp_dir().join(format!("fairexec-rt-{}", std::process::id()));
+/// let at = path.clone();
+/// Executor::builder().run(move |_| {
+///     let listener = UnixListener::bind(&at).unwrap();
+///     let connects = UnixStream::connect(at.clone());
+///     async move {
+///         spawn_local(Queue::FIRST, async { connects.await.unwrap().write_all(b"by a path").await });
+///         let (stream, mut bytes) = (listener.accept().await.unwrap(), Vec::new());
+///         let mut reads = Reads::new(None);
+///         while reads.read(&stream, &mut bytes).await.unwrap() {}
+///         assert_eq!(bytes, b"by a path");
+///     }
+/// })?;
+/// std::fs::remove_file(path).unwrap();
+/// # Ok::<(), fairexec_rt::Error>(())
+/// ```
 pub struct UnixListener(Registered<unix::UnixListener>);
 
 impl UnixListener {

@@ -1,6 +1,7 @@
 //! What an executor tells of itself.
 
 use fairexec::linked::Verdict;
+use std::path::PathBuf;
 use std::time::Duration;
 
 /// The counts of one core.
@@ -34,6 +35,16 @@ pub struct QueueStats {
 }
 
 /// What a run of the executor came to.
+///
+/// ```
+/// use fairexec_rt::{Executor, Journal};
+///
+/// let report = Executor::builder().cores(2).journal(Journal::Keep).run(|_| async {})?;
+/// assert!(report.is_sound());
+/// assert!(report.journal.unwrap().starts_with("journal 1\ncores 2 "));
+/// assert!(report.cores.iter().all(|it| it.turns >= 1 && it.tasks == 0));
+/// # Ok::<(), fairexec_rt::Error>(())
+/// ```
 #[derive(Debug)]
 pub struct Report {
     /// The counts of each core at its end.
@@ -45,6 +56,9 @@ pub struct Report {
     /// The newest notes of each core, and behind them those of the outside actor, if these were asked for
     /// ([`Journal::Last`](crate::Journal::Last)).
     pub newest: Vec<String>,
+    /// The files that have the notes of each core, and behind them those of the outside actor and the lines around all, if these were asked for
+    /// ([`Journal::Parts`](crate::Journal::Parts)).
+    pub parts: Vec<PathBuf>,
 }
 
 impl Report {

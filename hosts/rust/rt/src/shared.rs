@@ -1,6 +1,7 @@
 //! What all threads reach of an executor.
 
-use crate::call::{Call, Start};
+use crate::barrier::Barrier;
+use crate::call::{Call, Slot, Start};
 use crate::report::CoreStats;
 use crate::stop::Ending;
 use crate::task::Turn;
@@ -33,6 +34,13 @@ impl Queue {
     }
 }
 
+/// # Panics
+///
+/// If a queue can't have so many shares.
+pub(crate) fn check_shares(shares: u32) {
+    assert!((1..=10_000).contains(&shares), "shares are 1 to 10000, and not {shares}");
+}
+
 /// What the builder says of a queue.
 pub(crate) struct QueueSetup {
     pub(crate) name: String,
@@ -47,6 +55,8 @@ pub(crate) enum Mail {
     Woken(u32, Turn),
     /// A call of a thread that is no core.
     Start(u32, Start),
+    /// Shares for a queue, from such a thread.
+    Shares(u32, u32, Slot<()>),
 }
 
 /// What other threads reach of a core.
@@ -95,6 +105,7 @@ pub(crate) struct Shared {
     /// Submissions that may be outstanding on a link.
     pub(crate) places: u32,
     pub(crate) ending: Ending,
+    pub(crate) barrier: Barrier,
 }
 
 impl Shared {
@@ -152,10 +163,36 @@ impl Handle {
         F: std::future::Future<Output = T> + 'static,
         T: Send + 'static,
     {
-        assert!(queue.0 < self.0.queues.len() as u32, "there is no queue {}", queue.0);
-        let port = self.0.ports.get(core as usize).unwrap_or_else(|| panic!("there is no core {core}"));
         let (start, call) = Start::new(make);
-        port.leave(Mail::Start(queue.0, start));
+        self.port(core, queue).leave(Mail::Start(queue.0, start));
         call
+    }
+
+    /// As [`set_shares`](crate::set_shares), from any thread.
+    ///
+    /// # Panics
+    ///
+    /// If there is no such core or queue, or the shares are out of their range.
+    ///
+    /// ```
+    /// use fairexec_rt::{fs::unblock, Executor, Queue};
+    ///
+    /// let report = Executor::builder().queue("requests", 1000).queue("background", 100).run(|here| async move {
+    ///     let handle = here.handle();
+    ///     unblock(move || futures_lite::future::block_on(handle.set_shares(0, Queue::new(1), 300))).await.unwrap();
+    /// })?;
+    /// assert_eq!(report.cores[0].queues[1].shares, 300);
+    /// # Ok::<(), fairexec_rt::Error>(())
+    /// ```
+    pub fn set_shares(&self, core: u32, queue: Queue, shares: u32) -> Call<()> {
+        check_shares(shares);
+        let (slot, call) = Slot::new();
+        self.port(core, queue).leave(Mail::Shares(queue.0, shares, slot));
+        call
+    }
+
+    fn port(&self, core: u32, queue: Queue) -> &Port {
+        assert!(queue.0 < self.0.queues.len() as u32, "there is no queue {}", queue.0);
+        self.0.ports.get(core as usize).unwrap_or_else(|| panic!("there is no core {core}"))
     }
 }

@@ -26,6 +26,17 @@ pub struct Signals {
 /// # Panics
 ///
 /// Outside a task, and for SIGKILL, SIGSTOP, SIGILL, SIGFPE and SIGSEGV.
+///
+/// ```
+/// use fairexec_rt::{signal::signals, Executor};
+///
+/// Executor::builder().run(|_| async {
+///     let mut hangs_up = signals(libc::SIGHUP).unwrap();
+///     std::process::Command::new("kill").args(["-HUP", &std::process::id().to_string()]).status().unwrap();
+///     hangs_up.next().await.unwrap();
+/// })?;
+/// # Ok::<(), fairexec_rt::Error>(())
+/// ```
 pub fn signals(number: i32) -> io::Result<Signals> {
     Signals::of(caught(number)?)
 }

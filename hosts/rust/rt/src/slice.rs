@@ -7,6 +7,21 @@ use std::task::Poll;
 use std::time::Duration;
 
 /// Lets other tasks run: this one goes to the tail of its queue.
+///
+/// ```
+/// use fairexec_rt::{spawn_local, yield_now, Executor, Queue};
+/// use std::{cell::Cell, rc::Rc};
+///
+/// Executor::builder().run(|_| async {
+///     let has_run = Rc::new(Cell::new(false));
+///     let other = Rc::clone(&has_run);
+///     spawn_local(Queue::FIRST, async move { other.set(true) });
+///     while !has_run.get() {
+///         yield_now().await;
+///     }
+/// })?;
+/// # Ok::<(), fairexec_rt::Error>(())
+/// ```
 pub async fn yield_now() {
     let mut was_polled = false;
     poll_fn(move |cx| {

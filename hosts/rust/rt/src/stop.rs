@@ -3,7 +3,7 @@
 use crate::call::{Call, Slot};
 use crate::local::{here, with_here, Sending};
 use crate::report::CoreStats;
-use crate::shared::{lock, Queue};
+use crate::shared::{check_shares, lock, Queue};
 use std::future::Future;
 use std::marker::PhantomData;
 use std::pin::Pin;
@@ -131,6 +131,21 @@ pub struct Stopping {
 }
 
 /// Ends once [`stop`] was called. A server that accepts connections stops accepting them then.
+///
+/// ```
+/// use fairexec_rt::{sleep, stop, stopping, Executor};
+/// use futures_lite::future;
+/// use std::time::Duration;
+///
+/// Executor::builder().cores(2).run(|here| async move {
+///     if here.core() == 0 {
+///         stop(Duration::from_secs(1));
+///     }
+///     // Whatever it is that a server does, up to the stop.
+///     future::or(stopping(), async { sleep(Duration::from_secs(3600)).await }).await;
+/// })?;
+/// # Ok::<(), fairexec_rt::Error>(())
+/// ```
 pub fn stopping() -> Stopping {
     Stopping { waits: None, stays: PhantomData }
 }
@@ -182,7 +197,7 @@ impl Drop for Stopping {
 /// # Ok::<(), fairexec_rt::Error>(())
 /// ```
 pub fn set_shares(core: u32, queue: Queue, shares: u32) -> Call<()> {
-    assert!((1..=10_000).contains(&shares), "shares are 1 to 10000, and not {shares}");
+    check_shares(shares);
     here(|it| {
         it.check(core, queue);
         let (slot, call) = Slot::new();
@@ -196,6 +211,17 @@ pub fn set_shares(core: u32, queue: Queue, shares: u32) -> Call<()> {
 /// # Panics
 ///
 /// Outside a task. Other threads have [`Handle::stats`](crate::Handle::stats).
+///
+/// ```
+/// use fairexec_rt::{stats, Executor};
+///
+/// Executor::builder().cores(2).queue("requests", 1000).run(|_| async {
+///     for it in stats().iter().flat_map(|core| &core.queues) {
+///         println!("{} had {:?} in {} turns", it.name, it.time, it.picks);
+///     }
+/// })?;
+/// # Ok::<(), fairexec_rt::Error>(())
+/// ```
 pub fn stats() -> Vec<CoreStats> {
     here(|it| it.shared.ports.iter().map(|port| lock(&port.stats).clone()).collect())
 }

@@ -50,6 +50,19 @@ impl fmt::Display for JoinError {
 impl std::error::Error for JoinError {}
 
 /// What a task comes to. The task runs on if this is dropped.
+///
+/// ```
+/// use fairexec_rt::{sleep, spawn_local, Executor, Queue};
+/// use std::time::Duration;
+///
+/// Executor::builder().run(|_| async {
+///     spawn_local(Queue::FIRST, async { println!("nobody waits for this") }).detach();
+///     let sleeps = spawn_local(Queue::FIRST, sleep(Duration::from_secs(3600)));
+///     sleeps.abort();
+///     assert_eq!(spawn_local(Queue::FIRST, async { "told" }).await.unwrap(), "told");
+/// })?;
+/// # Ok::<(), fairexec_rt::Error>(())
+/// ```
 pub struct JoinHandle<T>(Option<FallibleTask<Result<T, Panic>>>);
 
 impl<T> JoinHandle<T> {

@@ -57,6 +57,19 @@ fn after(time: Duration) -> u64 {
 }
 
 /// Ends behind so much time.
+///
+/// ```
+/// use fairexec_rt::{sleep, sleep_until, Executor};
+/// use std::time::{Duration, Instant};
+///
+/// Executor::builder().run(|_| async {
+///     let began = Instant::now();
+///     sleep(Duration::from_millis(2)).await;
+///     sleep_until(began + Duration::from_millis(5)).await;
+///     assert!(began.elapsed() >= Duration::from_millis(4));
+/// })?;
+/// # Ok::<(), fairexec_rt::Error>(())
+/// ```
 #[must_use = "a future does nothing unless it is awaited"]
 pub fn sleep(time: Duration) -> Sleep {
     Sleep { deadline: after(time), waits: None, stays: PhantomData }

@@ -167,7 +167,7 @@ fn shares_change_and_statistics_are_told() {
             }
             set_shares(1, BACKGROUND, 777).await.unwrap();
             sleep(Duration::from_millis(60)).await;
-            // A core that sleeps wakes each 10 ms.
+            // A core tells its statistics each 20 ms.
             assert_eq!(stats()[1].queues[1].shares, 777);
             assert_eq!(here.handle().stats().len(), 2);
         })

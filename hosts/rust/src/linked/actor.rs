@@ -1,5 +1,6 @@
 //! What each actor of a house does: it submits, collects, and asks for outcomes.
 
+use super::fresh::Fresh;
 use super::lanes::Lanes;
 use super::names::{Answer, Name, Outcome, Reason};
 use super::seat::{Seat, Told};
@@ -69,6 +70,8 @@ pub(super) struct Actor<J> {
     sent: Vec<Sent>,
     // Whether the last collection ended before it redeemed each of those for which nobody asks: the journal was too full, or it panicked.
     misses: bool,
+    // Of a core: what it delivered.
+    pub(super) fresh: Fresh,
 }
 
 /// An actor during the calls that one thread makes on its seat.
@@ -99,7 +102,8 @@ impl<J> Actor<J> {
     pub(super) fn new(number: u32, seat: Seat, lanes: Arc<Lanes<J>>) -> Actor<J> {
         let none = |_| Sent { vacant: (0..Lanes::<J>::room(lanes.places())).collect(), pending: 0, is_used: false, loose: VecDeque::new() };
         let sent = (0..lanes.cores()).map(none).collect();
-        Actor { seat, number, lanes, sent, misses: false }
+        let fresh = Fresh::new(lanes.cores() + 1);
+        Actor { seat, number, lanes, sent, misses: false, fresh }
     }
 
     /// Each call below is made by an actor that was entered.
@@ -154,6 +158,43 @@ impl<J> Actor<J> {
             return self.sent[sender as usize].pending > 0;
         }
         self.lanes.is_used(sender, self.number)
+    }
+
+    /// Delivers so many orders of this actor at most. How many it were.
+    pub(super) fn deliver(&mut self, sender: u32, most: u32) -> Result<u32, Error> {
+        let mut count = 0;
+        let told = loop {
+            if count == most {
+                break Ok(count);
+            }
+            match self.seat.deliver(sender) {
+                Ok(true) => count += 1,
+                Ok(false) => break Ok(count),
+                Err(error) => break Err(error),
+            }
+        };
+        self.fresh.deliver(sender, count);
+        told
+    }
+
+    /// Rings for those whose orders were answered at their delivery, and who may sleep.
+    #[inline]
+    pub(super) fn ring_for_answers(&mut self, is_idle: bool) {
+        let Actor { fresh, lanes, .. } = self;
+        fresh.look(is_idle, |sender| lanes.ring(sender));
+    }
+
+    /// Shuts the gates of these actors in a closed core. Whether one was shut, or `Open`.
+    pub(super) fn shut(&mut self, senders: impl Iterator<Item = u32>) -> Result<bool, Error> {
+        let mut did = false;
+        for sender in senders {
+            match self.seat.shut(sender) {
+                Ok(()) => did = true,
+                Err(Error::Shut) => {}
+                Err(error) => return Err(error),
+            }
+        }
+        Ok(did)
     }
 
     /// Collects what the links show. How many outcomes there were.

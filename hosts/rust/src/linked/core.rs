@@ -153,12 +153,21 @@ where
     R: FnOnce(&mut J, &mut Cx<'_, J>) -> Step,
 {
     let (name, queue, place) = match actor.seat.next()? {
-        Next::Run(name, queue, place) => (name, queue, place),
+        Next::Run(name, queue, place, is_first) => {
+            if is_first {
+                actor.fresh.start(name);
+            }
+            (name, queue, place)
+        }
         Next::Back(name) => {
+            actor.fresh.start(name);
             actor.lanes.ring(name.from);
             return Ok((Turn::Back(name), None));
         }
-        Next::Idle => return Ok((Turn::Idle, None)),
+        Next::Idle => {
+            actor.ring_for_answers(true);
+            return Ok((Turn::Idle, None));
+        }
     };
     let mut running = Running { actor, name, place, clock, began: u64::MAX, ended: 0, step: Step::Done(0), settled: None };
     running.began = since.unwrap_or_else(|| now(clock));
@@ -194,19 +203,6 @@ where
         }
     }
     Ok(true)
-}
-
-/// Shuts the gates of these actors in a closed core. Whether one was shut, or `Open`.
-fn shut<J>(actor: &mut Actor<J>, senders: impl Iterator<Item = u32>) -> Result<bool, Error> {
-    let mut did = false;
-    for sender in senders {
-        match actor.seat.shut(sender) {
-            Ok(()) => did = true,
-            Err(Error::Shut) => {}
-            Err(error) => return Err(error),
-        }
-    }
-    Ok(did)
 }
 
 impl<J> Core<J> {
@@ -249,7 +245,7 @@ impl<J> Core<J> {
 
     /// Delivers one order of each actor, and doesn't look at the links of actors that never submitted to this core. If the core is closed, it shuts
     /// the gates of the others first, and its own once no actor's order shows and no job is inside, since its jobs may still have to be woken.
-    /// Whether anything happened.
+    /// Whether anything happened. Who sleeps and was answered by this is rung for by a turn that finds no work, or by some further deliveries.
     ///
     /// # Errors
     ///
@@ -263,9 +259,10 @@ impl<J> Core<J> {
         let mut actor = self.actor.enter();
         let (own, cores) = (actor.number, actor.lanes.cores());
         let mut did = false;
+        actor.ring_for_answers(false);
         let mut may_shut_own = self.may_be_closed && !needs_own_gate;
         if self.may_be_closed {
-            match shut(&mut actor, (0..=cores).filter(|sender| *sender != own)) {
+            match actor.shut((0..=cores).filter(|sender| *sender != own)) {
                 Err(Error::Open) => (self.may_be_closed, may_shut_own) = (false, false),
                 told => did = told?,
             }
@@ -274,17 +271,15 @@ impl<J> Core<J> {
             if !actor.may_show(sender) {
                 continue;
             }
-            let mut left = most;
-            while left > 0 && actor.seat.deliver(sender)? {
-                left -= 1;
-                self.may_be_closed = true;
-                did = true;
-            }
+            let told = actor.deliver(sender, most);
+            self.may_be_closed |= told != Ok(0);
+            let count = told?;
+            did |= count > 0;
             // Else there may be more.
-            may_shut_own &= left > 0;
+            may_shut_own &= count < most;
         }
         if may_shut_own && actor.seat.stats().held == 0 {
-            did |= shut(&mut actor, std::iter::once(own))?;
+            did |= actor.shut(std::iter::once(own))?;
         }
         Ok(did)
     }
@@ -393,26 +388,5 @@ impl<J> Core<J> {
     /// `NoQueue`.
     pub fn stats_of(&mut self, queue: u32) -> Result<QueueStats, Error> {
         self.actor.enter().seat.stats_of(queue)
-    }
-}
-
-/// A closure as a job: it is called with what it may do while it runs.
-pub struct Job(Box<dyn FnMut(&mut Cx<'_, Job>) -> Step + Send>);
-
-impl Job {
-    /// This closure as a job.
-    pub fn new(run: impl FnMut(&mut Cx<'_, Job>) -> Step + Send + 'static) -> Job {
-        Job(Box::new(run))
-    }
-}
-
-impl Core<Job> {
-    /// Runs closures until the core is drained.
-    ///
-    /// # Errors
-    ///
-    /// `JournalFull`, `Spent`.
-    pub fn run_jobs(&mut self) -> Result<(), Error> {
-        self.run(|job, cx| (job.0)(cx))
     }
 }

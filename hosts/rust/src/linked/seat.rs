@@ -10,7 +10,8 @@ use std::sync::atomic::{AtomicU64, Ordering};
 
 /// What comes next, with the host's number of a job.
 pub(super) enum Next {
-    Run(Name, u32, u32),
+    /// Queue and job, and whether it is the first run of that.
+    Run(Name, u32, u32, bool),
     Back(Name),
     Idle,
 }
@@ -176,7 +177,7 @@ impl Seat {
         let mut turn = raw::fx_turn { size: size_of::<raw::fx_turn>() as u32, ..raw::fx_turn::default() };
         // SAFETY: as above.
         match self.call(|it| unsafe { raw::fx_seat_next(it, &mut turn) }) {
-            raw::FX_START | raw::FX_RESUME => Ok(Next::Run(Name::of(&turn.name), turn.queue, turn.job as u32)),
+            code @ (raw::FX_START | raw::FX_RESUME) => Ok(Next::Run(Name::of(&turn.name), turn.queue, turn.job as u32, code == raw::FX_START)),
             raw::FX_BACK => Ok(Next::Back(Name::of(&turn.name))),
             raw::FX_IDLE => Ok(Next::Idle),
             code => Err(Error::of(code)),

@@ -2,16 +2,18 @@
 //!
 //!     compare [--port 6379] [--cores 2] [--background TASKS]
 
+mod background;
 #[path = "../../examples/kv/resp.rs"]
 mod resp;
 
 use socket2::{Domain, Protocol, Socket, Type};
-use std::cell::RefCell;
-use std::collections::HashMap;
+use std::cell::{Cell, RefCell};
+use std::collections::BTreeMap;
 use std::io;
 use std::net::SocketAddr;
 use std::rc::Rc;
 use std::sync::Arc;
+use std::time::{Duration, Instant};
 use tokio::io::{AsyncReadExt, AsyncWriteExt};
 use tokio::net::{TcpListener, TcpStream};
 use tokio::runtime::Builder;
@@ -20,12 +22,14 @@ use tokio::task::{spawn_local, LocalSet};
 
 /// A part of a command, and who is told its answer.
 enum Op {
-    Get(Vec<u8>),
-    Set(Vec<u8>, Vec<u8>),
+    Get(Key),
+    Set(Key, Vec<u8>),
 }
 
 type Asked = (Op, oneshot::Sender<Option<Vec<u8>>>);
-type Shard = Rc<RefCell<HashMap<Vec<u8>, Vec<u8>>>>;
+/// A key behind its hash, as the example has it.
+type Key = (u64, Vec<u8>);
+type Shard = Rc<RefCell<BTreeMap<Key, Vec<u8>>>>;
 
 fn apply(shard: &Shard, op: Op) -> Option<Vec<u8>> {
     match op {
@@ -44,29 +48,40 @@ struct Here {
 }
 
 enum Does {
-    Now(&'static str),
+    Now(String),
     Got(Option<Vec<u8>>),
     Asked(oneshot::Receiver<Option<Vec<u8>>>, bool),
 }
 
-fn core_of(key: &[u8], cores: usize) -> usize {
-    let hash = key.iter().fold(0xcbf2_9ce4_8422_2325_u64, |hash, byte| (hash ^ u64::from(*byte)).wrapping_mul(0x100_0000_01b3));
-    ((hash ^ (hash >> 32)) % cores as u64) as usize
+fn key_of(bytes: &[u8]) -> Key {
+    let hash = bytes.iter().fold(0xcbf2_9ce4_8422_2325_u64, |hash, byte| (hash ^ u64::from(*byte)).wrapping_mul(0x100_0000_01b3));
+    ((hash ^ (hash >> 32)).wrapping_mul(0x9e37_79b9_7f4a_7c15), bytes.to_vec())
 }
 
 fn command(here: &Here, words: &[&[u8]]) -> Does {
     let name = words[0].to_ascii_uppercase();
-    let (op, is_get) = match (name.as_slice(), &words[1..]) {
-        (b"GET", [key]) => (Op::Get(key.to_vec()), true),
-        (b"SET", [key, value, ..]) => (Op::Set(key.to_vec(), value.to_vec()), false),
-        (b"PING", _) => return Does::Now("+PONG\r\n"),
-        (b"CONFIG", _) => return Does::Now("*2\r\n$4\r\nsave\r\n$0\r\n\r\n"),
-        _ => return Does::Now("-ERR unknown command\r\n"),
+    let now = |text: &str| Does::Now(text.to_owned());
+    let (hash, op, is_get) = match (name.as_slice(), &words[1..]) {
+        (b"GET", [key]) => {
+            let key = key_of(key);
+            (key.0, Op::Get(key), true)
+        }
+        (b"SET", [key, value, ..]) => {
+            let key = key_of(key);
+            (key.0, Op::Set(key, value.to_vec()), false)
+        }
+        (b"PING", _) => return now("+PONG\r\n"),
+        (b"CONFIG", _) => return now("*2\r\n$4\r\nsave\r\n$0\r\n\r\n"),
+        (b"INFO", _) => {
+            let text = format!("background_bytes:{}\r\n", background::bytes());
+            return Does::Now(format!("${}\r\n{text}\r\n", text.len()));
+        }
+        _ => return now("-ERR unknown command\r\n"),
     };
-    let core = core_of(words[1], here.others.len());
+    let core = (((hash >> 32) * here.others.len() as u64) >> 32) as usize;
     if core == here.core {
         let told = apply(&here.shard, op);
-        return if is_get { Does::Got(told) } else { Does::Now("+OK\r\n") };
+        return if is_get { Does::Got(told) } else { now("+OK\r\n") };
     }
     let (answer, asked) = oneshot::channel();
     // The other end lives as long as the process.
@@ -87,21 +102,17 @@ fn write_bulk(out: &mut Vec<u8>, told: Option<Vec<u8>>) {
 
 async fn serve(here: Rc<Here>, mut stream: TcpStream) -> io::Result<()> {
     stream.set_nodelay(true)?;
-    let (mut input, mut out, mut words, mut at) = (Vec::with_capacity(1 << 12), Vec::new(), Vec::new(), 0);
+    let (mut input, mut out) = (Vec::with_capacity(1 << 12), Vec::new());
     loop {
-        let mut batch = Vec::new();
+        let (mut batch, mut rest) = (Vec::new(), input.as_slice());
         while batch.len() < 128 {
-            match resp::parse(&input, at, &mut words).map_err(io::Error::other)? {
-                None => break,
-                Some(next) => {
-                    at = next;
-                    let words: Vec<&[u8]> = words.iter().map(|it| &input[it.clone()]).collect();
-                    batch.push(command(&here, &words));
-                }
-            }
+            let Some((words, behind)) = resp::parse(rest).map_err(io::Error::other)? else { break };
+            rest = behind;
+            batch.push(command(&here, &words));
         }
+        let taken = input.len() - rest.len();
+        input.drain(..taken);
         if batch.is_empty() {
-            input.drain(..std::mem::take(&mut at));
             if stream.read_buf(&mut input).await? == 0 {
                 return Ok(());
             }
@@ -133,12 +144,15 @@ fn listen(port: u16) -> io::Result<TcpListener> {
     TcpListener::from_std(socket.into())
 }
 
-/// A task that computes without end, 2 µs at a time.
-async fn work() {
-    loop {
-        let began = std::time::Instant::now();
-        while began.elapsed().as_nanos() < 2000 {}
+/// Slices of a task that computes are as long as those of the example.
+const SLICE: Duration = Duration::from_micros(2);
+
+thread_local!(static BEGAN: Cell<Option<Instant>> = const { Cell::new(None) });
+
+async fn yield_if_needed() {
+    if BEGAN.get().is_none_or(|it| it.elapsed() >= SLICE) {
         tokio::task::yield_now().await;
+        BEGAN.set(Some(Instant::now()));
     }
 }
 
@@ -150,7 +164,7 @@ async fn core(here: Here, mut asked: mpsc::UnboundedReceiver<Asked>, port: u16, 
             let _ = answer.send(apply(&shard, op));
         }
     });
-    (0..background).for_each(|_| drop(spawn_local(work())));
+    (0..background).for_each(|_| drop(spawn_local(background::compute(yield_if_needed))));
     let listener = listen(port).expect("the port is free");
     while let Ok((stream, _)) = listener.accept().await {
         spawn_local(serve(Rc::clone(&here), stream));

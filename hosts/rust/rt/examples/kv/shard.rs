@@ -1,15 +1,13 @@
-//! The keys of one core.
+//! The keys of one core, and what commands do to them.
 
-use crate::log::Log;
+use crate::log::{append, ALL_DELETED, DELETED};
 use crate::resp::number;
-use slab::Slab;
-use std::collections::HashMap;
-use std::rc::Rc;
-use std::time::{SystemTime, UNIX_EPOCH};
+use fairexec_rt::fs::Log;
+use std::{collections::BTreeMap, time::SystemTime};
 
 /// Milliseconds since 1970.
 pub fn now() -> u64 {
-    SystemTime::now().duration_since(UNIX_EPOCH).map_or(0, |it| it.as_millis() as u64)
+    SystemTime::now().duration_since(SystemTime::UNIX_EPOCH).map_or(0, |it| it.as_millis() as u64)
 }
 
 /// What a client is told: a number, which may be summed up, or text of the protocol.
@@ -17,9 +15,6 @@ pub enum Answer {
     Int(i64),
     Text(Vec<u8>),
 }
-
-pub const OK: &[u8] = b"+OK\r\n";
-pub const NIL: &[u8] = b"$-1\r\n";
 
 pub fn text(bytes: &[u8]) -> Answer {
     Answer::Text(bytes.to_vec())
@@ -33,116 +28,95 @@ pub fn bulk(bytes: &[u8]) -> Vec<u8> {
     [format!("${}\r\n", bytes.len()).as_bytes(), bytes, b"\r\n"].concat()
 }
 
+/// A key behind its hash, by which keys are in order: SCAN and the compaction go on behind any key.
+pub type Key = (u64, Vec<u8>);
+
+pub fn key_of(bytes: &[u8]) -> Key {
+    let hash = bytes.iter().fold(0xcbf2_9ce4_8422_2325_u64, |hash, byte| (hash ^ u64::from(*byte)).wrapping_mul(0x100_0000_01b3));
+    ((hash ^ (hash >> 32)).wrapping_mul(0x9e37_79b9_7f4a_7c15), bytes.to_vec())
+}
+
 pub struct Entry {
-    pub key: Rc<[u8]>,
     pub value: Vec<u8>,
     // When it is gone, or 0.
     pub expires: u64,
 }
 
-impl Entry {
-    pub fn is_over(&self) -> bool {
-        self.expires != 0 && self.expires <= now()
-    }
+fn is_over(entry: &Entry) -> bool {
+    entry.expires != 0 && entry.expires <= now()
 }
 
-/// An entry has a place for as long as its key is there: so SCAN and the compaction find each.
 #[derive(Default)]
 pub struct Shard {
-    places: HashMap<Rc<[u8]>, usize>,
-    pub entries: Slab<Entry>,
+    pub entries: BTreeMap<Key, Entry>,
     pub log: Option<Log>,
 }
 
 impl Shard {
     /// The entry of a key, if its time isn't over.
-    pub fn get(&mut self, key: &[u8]) -> Option<&mut Entry> {
-        let place = *self.places.get(key)?;
-        if self.entries[place].is_over() {
-            self.remove(key);
-            return None;
+    pub fn get(&mut self, key: &Key) -> Option<&mut Entry> {
+        if is_over(self.entries.get(key)?) {
+            self.entries.remove(key);
         }
-        self.entries.get_mut(place)
+        self.entries.get_mut(key)
     }
 
-    pub fn put(&mut self, key: &[u8], value: Vec<u8>, expires: u64) {
-        if let Some(&place) = self.places.get(key) {
-            let entry = &mut self.entries[place];
-            (entry.value, entry.expires) = (value, expires);
-            return;
-        }
-        let key: Rc<[u8]> = key.into();
-        let place = self.entries.insert(Entry { key: Rc::clone(&key), value, expires });
-        self.places.insert(key, place);
+    /// Gives a key this value, in the log, too.
+    fn put(&mut self, key: Key, value: Vec<u8>, expires: u64) {
+        self.log.iter().for_each(|it| append(it, expires, &key.1, &value));
+        self.entries.insert(key, Entry { value, expires });
     }
 
-    pub fn remove(&mut self, key: &[u8]) -> bool {
-        self.places.remove(key).map(|place| self.entries.remove(place)).is_some()
+    pub fn value(&mut self, key: Key) -> Answer {
+        Answer::Text(self.get(&key).map_or(b"$-1\r\n".to_vec(), |it| bulk(&it.value)))
     }
 
-    pub fn clear(&mut self) {
-        self.places.clear();
-        self.entries.clear();
-    }
-
-    /// Writes what a key has now to the log, or that it is gone. Without a key all are gone.
-    fn note(&mut self, key: &[u8]) {
-        let Shard { places, entries, log: Some(log) } = self else { return };
-        log.append(key, places.get(key).map(|place| &entries[*place]));
-    }
-
-    pub fn value(&mut self, key: &[u8]) -> Answer {
-        Answer::Text(self.get(key).map_or(NIL.to_vec(), |it| bulk(&it.value)))
-    }
-
-    pub fn set(&mut self, key: &[u8], value: Vec<u8>, ttl: Option<u64>, is_new: bool) -> Answer {
-        if is_new && self.get(key).is_some() {
-            return text(NIL);
+    pub fn set(&mut self, key: Key, value: Vec<u8>, ttl: Option<u64>, is_new: bool) -> Answer {
+        if is_new && self.get(&key).is_some() {
+            return text(b"$-1\r\n");
         }
         self.put(key, value, ttl.map_or(0, |it| now() + it));
-        self.note(key);
-        text(OK)
+        text(b"+OK\r\n")
     }
 
-    pub fn delete(&mut self, key: &[u8]) -> Answer {
-        let was_there = self.get(key).is_some() && self.remove(key);
+    pub fn delete(&mut self, key: Key) -> Answer {
+        let was_there = self.get(&key).is_some();
         if was_there {
-            self.note(key);
+            self.entries.remove(&key);
+            self.log.iter().for_each(|it| append(it, DELETED, &key.1, &[]));
         }
         Answer::Int(was_there.into())
     }
 
-    pub fn increase(&mut self, key: &[u8]) -> Answer {
-        let (count, expires) = self.get(key).map_or((Some(0), 0), |it| (number::<i64>(&it.value), it.expires));
+    pub fn increase(&mut self, key: Key) -> Answer {
+        let (count, expires) = self.get(&key).map_or((Some(0), 0), |it| (number::<i64>(&it.value), it.expires));
         let Some(count) = count.and_then(|it| it.checked_add(1)) else { return error("value is not an integer or out of range") };
         self.put(key, count.to_string().into_bytes(), expires);
-        self.note(key);
         Answer::Int(count)
     }
 
-    pub fn expire(&mut self, key: &[u8], seconds: i64) -> Answer {
-        let Some(entry) = self.get(key) else { return Answer::Int(0) };
-        entry.expires = now().saturating_add_signed(seconds.saturating_mul(1000)).max(1);
-        self.note(key);
+    pub fn expire(&mut self, key: Key, seconds: i64) -> Answer {
+        let Some(value) = self.get(&key).map(|it| std::mem::take(&mut it.value)) else { return Answer::Int(0) };
+        self.put(key, value, now().saturating_add_signed(seconds.saturating_mul(1000)).max(1));
         Answer::Int(1)
     }
 
-    pub fn left(&mut self, key: &[u8]) -> Answer {
+    pub fn left(&mut self, key: Key) -> Answer {
         let left = |it: &mut Entry| if it.expires == 0 { -1 } else { it.expires.saturating_sub(now()).div_ceil(1000) as i64 };
-        Answer::Int(self.get(key).map_or(-2, left))
+        Answer::Int(self.get(&key).map_or(-2, left))
     }
 
     pub fn flush(&mut self) -> Answer {
-        self.clear();
-        self.note(&[]);
-        text(OK)
+        self.entries.clear();
+        self.log.iter().for_each(|it| append(it, ALL_DELETED, &[], &[]));
+        text(b"+OK\r\n")
     }
 
-    /// Keys from a place on, and the cursor of those behind them. A cursor tells the core, too, and 0 is the end.
-    pub fn scan(&self, from: usize, count: usize, core: u64, cores: u64) -> Answer {
-        let to = from.saturating_add(count.clamp(1, 1000)).min(self.entries.capacity());
-        let keys: Vec<_> = (from..to).filter_map(|it| self.entries.get(it)).filter(|it| !it.is_over()).map(|it| bulk(&it.key)).collect();
-        let next = if to < self.entries.capacity() { to as u64 * cores + core } else { (core + 1) % cores };
-        Answer::Text([b"*2\r\n", bulk(next.to_string().as_bytes()).as_slice(), format!("*{}\r\n", keys.len()).as_bytes(), &keys.concat()].concat())
+    /// Keys from a hash on, and the hash of the next one, or that of the next core if there is none.
+    pub fn scan(&self, from: u64, count: usize, next_core: u64) -> Answer {
+        let mut all = self.entries.range((from, Vec::new())..).filter(|it| !is_over(it.1)).map(|it| it.0);
+        let keys: Vec<_> = all.by_ref().take(count.clamp(1, 1000)).map(|it| bulk(&it.1)).collect();
+        let next = bulk(all.next().map_or(next_core, |it| it.0).to_string().as_bytes());
+        Answer::Text([b"*2\r\n", next.as_slice(), format!("*{}\r\n", keys.len()).as_bytes(), &keys.concat()].concat())
     }
 }

@@ -1,0 +1,279 @@
+//! Logs: records on a disk, to which the tasks of a core append, and which are read at the next start.
+
+use crate::appender::Appender;
+use crate::fs::unblock;
+use crate::{yield_if_needed, Queue};
+use std::cell::Cell;
+use std::collections::BTreeSet;
+use std::fs;
+use std::io;
+use std::path::{Path, PathBuf};
+use std::rc::Rc;
+use std::time::Duration;
+
+/// When what was appended to a [`Log`] goes to the disk.
+#[derive(Clone, Copy, PartialEq, Eq, Debug)]
+pub enum Fsync {
+    /// Before [`Log::safe`] ends.
+    Always,
+    /// So much time after it was written, at most. Until then the system has it.
+    Every(Duration),
+    /// When the system likes.
+    Never,
+}
+
+/// What a compaction appends goes to the disk behind so many bytes.
+const SYNCED: u64 = 4 << 20;
+
+/// The number of a file of a log, and whether it has what a compaction left: then it stands for all files up to that number.
+type Name = (u64, bool);
+
+fn path(folder: &Path, (number, is_base): Name) -> PathBuf {
+    folder.join(format!("{number}{}", if is_base { ".base" } else { "" }))
+}
+
+fn names(folder: &Path) -> io::Result<BTreeSet<Name>> {
+    let name = |it: fs::DirEntry| {
+        let name = it.file_name().into_string().ok()?;
+        let number = name.strip_suffix(".base");
+        Some((number.unwrap_or(&name).parse().ok()?, number.is_some()))
+    };
+    Ok(fs::read_dir(folder)?.flatten().filter_map(name).collect())
+}
+
+/// The names that count, without those that a compaction has replaced, whose files are removed.
+fn tidy(folder: &Path) -> io::Result<BTreeSet<Name>> {
+    let mut names = names(folder)?;
+    let base = names.iter().rev().find(|it| it.1).copied().unwrap_or_default();
+    let kept = names.split_off(&base);
+    names.into_iter().try_for_each(|it| fs::remove_file(path(folder, it)))?;
+    Ok(kept)
+}
+
+struct Files {
+    folder: PathBuf,
+    appender: Appender,
+    // The greatest number that a file has.
+    number: Cell<u64>,
+    is_compacting: Cell<bool>,
+}
+
+/// A folder with records. Tasks of one core append to them. They are written in a task of its own: what is appended while a write goes on goes out
+/// together, and has one `fsync`. A record that a crash left torn is cut off at the next start, with all behind it, and none before it is lost.
+///
+/// A record has 8 bytes more than what it tells: its length, and a sum that finds what was torn, and nothing that somebody forged.
+///
+/// ```
+/// use fairexec_rt::fs::{Fsync, Log};
+/// use fairexec_rt::{Executor, Queue};
+///
+/// let folder = std::env::temp_dir().join(format!("fairexec-rt-log-{}", std::process::id()));
+/// let at = folder.clone();
+/// Executor::builder().run(move |_| {
+///     let folder = at.clone();
+///     async move {
+///         let (log, _) = Log::open(Queue::FIRST, &folder, Fsync::Always, |_| {}).await.unwrap();
+///         log.append(&[b"forty-", b"two"]);
+///         log.append(&[b"more"]);
+///         log.safe().await.unwrap();
+///         // A crash tears what is written.
+///         let file = std::fs::OpenOptions::new().write(true).open(folder.join("1")).unwrap();
+///         file.set_len(log.len() - 1).unwrap();
+///         drop(log);
+///         let mut records = Vec::new();
+///         let (log, torn) = Log::open(Queue::FIRST, &folder, Fsync::Always, |it| records.push(it.to_vec())).await.unwrap();
+///         assert_eq!((records, torn, log.len()), (vec![b"forty-two".to_vec()], 11, 17));
+///     }
+/// })?;
+/// std::fs::remove_dir_all(folder).unwrap();
+/// # Ok::<(), fairexec_rt::Error>(())
+/// ```
+#[derive(Clone)]
+pub struct Log(Rc<Files>);
+
+impl Log {
+    /// The log in a folder, which is made if it isn't there. Each record goes to `each`, in its order. How many bytes were cut off is told. What is
+    /// appended is written by tasks of this queue.
+    ///
+    /// A folder has one log at a time.
+    ///
+    /// # Errors
+    ///
+    /// As the system answers.
+    pub async fn open(queue: Queue, folder: impl AsRef<Path>, fsync: Fsync, mut each: impl FnMut(&[u8])) -> io::Result<(Log, u64)> {
+        let folder = folder.as_ref().to_owned();
+        let of = folder.clone();
+        let names = unblock(move || {
+            fs::create_dir_all(&of)?;
+            tidy(&of)
+        });
+        let (mut last, mut bytes, mut torn) = (None, 0, 0);
+        for name in names.await? {
+            let (appender, cut) = Appender::open(queue, &path(&folder, name), fsync, &mut each).await?;
+            (bytes, torn) = (bytes + appender.len(), torn + cut);
+            last = Some((name, appender));
+        }
+        let (number, appender) = match last {
+            Some(((number, false), appender)) => (number, appender),
+            last => {
+                let number = last.map_or(0, |it| it.0 .0) + 1;
+                (number, Appender::create(queue, &path(&folder, (number, false)), fsync).await?)
+            }
+        };
+        appender.set_before(bytes - appender.len());
+        Ok((Log(Rc::new(Files { folder, appender, number: Cell::new(number), is_compacting: Cell::new(false) })), torn))
+    }
+
+    /// Appends a record of these parts. It is written behind this run.
+    ///
+    /// # Panics
+    ///
+    /// Outside a task, and for 4 GiB or more.
+    pub fn append(&self, parts: &[&[u8]]) {
+        self.0.appender.append(parts);
+    }
+
+    /// Waits until all that was appended is on the disk, if the log has [`Fsync::Always`]. Else it waits for nothing.
+    ///
+    /// # Errors
+    ///
+    /// As the system answered the first write that failed. Nothing is written behind that.
+    pub async fn safe(&self) -> io::Result<()> {
+        self.0.appender.safe().await
+    }
+
+    /// Waits until all that was appended is on the disk.
+    ///
+    /// # Errors
+    ///
+    /// As `safe`.
+    pub async fn sync(&self) -> io::Result<()> {
+        self.0.appender.sync().await
+    }
+
+    /// How many bytes its files have, with what isn't written yet.
+    pub fn len(&self) -> u64 {
+        self.0.appender.before() + self.0.appender.len()
+    }
+
+    /// Whether there are none.
+    pub fn is_empty(&self) -> bool {
+        self.len() == 0
+    }
+
+    /// A compaction, if it pays and none goes on: since the last one as many bytes were appended as there were, and so many more.
+    pub fn compaction(&self, spare: u64) -> Option<Compaction> {
+        let pays = self.0.appender.len() > self.0.appender.before() + spare;
+        (pays && !self.0.is_compacting.replace(true)).then(|| Compaction(self.clone()))
+    }
+}
+
+/// The right to compact a log. To drop it leaves the log as it is.
+///
+/// ```
+/// use fairexec_rt::fs::{Fsync, Log};
+/// use fairexec_rt::{Executor, Queue};
+///
+/// let folder = std::env::temp_dir().join(format!("fairexec-rt-compaction-{}", std::process::id()));
+/// let at = folder.clone();
+/// Executor::builder().queue("requests", 1000).queue("compaction", 100).run(move |_| {
+///     let folder = at.clone();
+///     async move {
+///         let (log, _) = Log::open(Queue::FIRST, &folder, Fsync::Never, |_| {}).await.unwrap();
+///         let mut sum = 0_u64;
+///         for it in 0..100 {
+///             sum += it;
+///             log.append(&[&it.to_le_bytes()]);
+///         }
+///         let compacts = log.compaction(1000).unwrap();
+///         let compacts = compacts.begin(Queue::new(1)).await.unwrap();
+///         compacts.append(&[&sum.to_le_bytes()]);
+///         compacts.end().await.unwrap();
+///         assert_eq!(log.len(), 16);
+///         drop(log);
+///         let mut told = 0;
+///         Log::open(Queue::FIRST, &folder, Fsync::Never, |it| told += u64::from_le_bytes(it.try_into().unwrap())).await.unwrap();
+///         assert_eq!(told, sum);
+///     }
+/// })?;
+/// std::fs::remove_dir_all(folder).unwrap();
+/// # Ok::<(), fairexec_rt::Error>(())
+/// ```
+pub struct Compaction(Log);
+
+impl Drop for Compaction {
+    fn drop(&mut self) {
+        self.0 .0.is_compacting.set(false);
+    }
+}
+
+impl Compaction {
+    /// Begins it, in a file that tasks of this queue write. What is appended to the log from then on stands behind what this is told, so that may have
+    /// it already.
+    ///
+    /// # Errors
+    ///
+    /// As [`Log::safe`], and as the system answers.
+    pub async fn begin(self, queue: Queue) -> io::Result<Compacting> {
+        let files = &self.0 .0;
+        // No number comes again, even if this is dropped while it waits.
+        let number = files.number.replace(files.number.get() + 1);
+        files.appender.rotate(&path(&files.folder, (number + 1, false))).await?;
+        let base = Appender::create(queue, &files.folder.join("new"), Fsync::Never).await?;
+        Ok(Compacting { compaction: self, base, synced: 0, number })
+    }
+}
+
+/// A compaction that goes on: see [`Compaction`]. To drop it leaves what was appended where it is.
+pub struct Compacting {
+    compaction: Compaction,
+    base: Appender,
+    // So many of its bytes are on the disk.
+    synced: u64,
+    // It stands for all files up to this number.
+    number: u64,
+}
+
+impl Compacting {
+    /// Appends a record of these parts.
+    ///
+    /// # Panics
+    ///
+    /// As [`Log::append`].
+    pub fn append(&self, parts: &[&[u8]]) {
+        self.base.append(parts);
+    }
+
+    /// Lets others run between two records: as [`yield_if_needed`], and behind each 4 MiB it waits for the disk.
+    ///
+    /// # Errors
+    ///
+    /// As [`Log::safe`].
+    pub async fn step(&mut self) -> io::Result<()> {
+        if self.base.len() > self.synced + SYNCED {
+            self.base.sync().await?;
+            self.synced = self.base.len();
+        }
+        yield_if_needed().await;
+        Ok(())
+    }
+
+    /// Puts what was appended to it in the place of what was appended to the log before it began.
+    ///
+    /// # Errors
+    ///
+    /// As [`Log::safe`], and as the system answers. Then the next start finds what was there before, or this, and each time all behind it.
+    pub async fn end(self) -> io::Result<()> {
+        self.base.sync().await?;
+        let (files, number) = (&self.compaction.0 .0, self.number);
+        let folder = files.folder.clone();
+        let ends = unblock(move || {
+            fs::rename(folder.join("new"), path(&folder, (number, true)))?;
+            fs::File::open(&folder)?.sync_all()?;
+            tidy(&folder).map(drop)
+        });
+        ends.await?;
+        files.appender.set_before(self.base.len());
+        Ok(())
+    }
+}

@@ -1,0 +1,69 @@
+//! What a server reads of a connection.
+
+use crate::{sleep, stopping, Sleep, Stopping};
+use futures_io::AsyncRead;
+use std::cell::RefCell;
+use std::future::{poll_fn, Future};
+use std::io;
+use std::pin::Pin;
+use std::task::{Context, Poll};
+use std::time::{Duration, Instant};
+
+thread_local!(static ROOM: RefCell<Vec<u8>> = RefCell::new(vec![0; 1 << 16]));
+
+/// The reads of a server's connection. They end when nothing came for a time, and once the executor stops.
+pub struct Reads {
+    stop: Stopping,
+    // When something came last, and what ends the wait.
+    idle: Option<(Duration, Instant, Sleep)>,
+}
+
+impl Reads {
+    /// Reads that end when nothing came for so long, if that is given.
+    pub fn new(idle: Option<Duration>) -> Reads {
+        Reads { stop: stopping(), idle: idle.map(|it| (it, Instant::now(), sleep(it))) }
+    }
+
+    /// Puts what comes next behind these bytes. False at the end of the connection, of the time or of the executor.
+    ///
+    /// # Errors
+    ///
+    /// As the system answers.
+    pub async fn read<S>(&mut self, stream: &S, bytes: &mut Vec<u8>) -> io::Result<bool>
+    where
+        for<'a> &'a S: AsyncRead,
+    {
+        poll_fn(|cx| {
+            let mut stream = stream;
+            let count = ROOM.with_borrow_mut(|room| {
+                let count = Pin::new(&mut stream).poll_read(cx, room);
+                if let Poll::Ready(Ok(count)) = count {
+                    bytes.extend_from_slice(&room[..count]);
+                }
+                count
+            });
+            match count {
+                Poll::Ready(told) => {
+                    self.idle.iter_mut().for_each(|it| it.1 = Instant::now());
+                    Poll::Ready(told.map(|count| count > 0))
+                }
+                Poll::Pending if Pin::new(&mut self.stop).poll(cx).is_ready() || self.is_over(cx) => Poll::Ready(Ok(false)),
+                Poll::Pending => Poll::Pending,
+            }
+        })
+        .await
+    }
+
+    /// Whether nothing came for so long. A timer that is due because something came meanwhile is set anew, so a read sets none.
+    fn is_over(&mut self, cx: &mut Context<'_>) -> bool {
+        let Some((longest, last, sleep)) = &mut self.idle else { return false };
+        while Pin::new(&mut *sleep).poll(cx).is_ready() {
+            let left = longest.saturating_sub(last.elapsed());
+            if left.is_zero() {
+                return true;
+            }
+            sleep.reset(left);
+        }
+        false
+    }
+}
