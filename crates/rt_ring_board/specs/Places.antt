@@ -12,9 +12,9 @@ in_blocks_prop (block_ptr b o) null_ptr x y = absurd x.1
 in_blocks_prop null_ptr q x y = absurd x.0
 
 -- How many cells that are never used lie between two that are, by the bytes of what a cell holds. Before those a cell has a word and a link, of 8
--- bytes each, so one that holds 48 bytes takes a line of 64.
+-- bytes each, so one that holds 176 bytes takes three lines of 64.
 abbrev pub gap_for : ℕ → ℕ
-gap_for bytes = if nat_lt bytes 48 then 3 else 1
+gap_for bytes = if nat_lt bytes 176 then 3 else 1
 
 module _ {J T : Type 0} where
   -- there are so many cells, each at home with nothing in it, and with this word

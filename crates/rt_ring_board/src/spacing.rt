@@ -1,7 +1,7 @@
 //! How far the cells of two orders that follow each other are apart.
 //!
 //! On a full link both ends work on neighbouring cells, and a processor fetches more lines of a cache than it is asked for. So between two cells in
-//! use lies one that is never used, and three if a cell takes less than a line. `benches/ring/RESULTS.md` tells what other distances take.
+//! use lies one that is never used, and three if a cell takes less than three lines. `benches/ring/RESULTS.md` tells what other distances take.
 
 ghost use Rattle.std.specs.Prelude.{◌≡◌, ℕ, ◌+◌, ◌*◌, ◌^◌, ◌<◌};
 ghost use Rattle.std.specs.Mem.{type_size};
@@ -13,15 +13,15 @@ use crate::board::Board;
 use rt_jobs::Task;
 use std::mem::size_of_val;
 
-/// The bytes of a slot whose cell takes a line of 64: before it stand a word and a link.
-const LINE: usize = 48;
+/// The bytes of a slot whose cell takes three lines of 64: before it stand a word and a link.
+const LARGE: usize = 176;
 
 /// How many cells that are never used lie between two that are, if they hold such a value.
 pub(crate) fn gap_of<X>(held: &X) -> u64
     ensures { result ≡ gap_for (capped (type_size X.row)) }
 {
     let bytes = size_of_val(held);
-    if bytes < LINE { 3 } else { 1 }
+    if bytes < LARGE { 3 } else { 1 }
 }
 
 /// The place of the cell of an index.
