@@ -58,3 +58,9 @@ returns-then-has_bursts-clause-whole g c =
             turns.0 turned.result.0 turned.result.1 next.queue next.vr next.name next.started next.woken c.requires.ahead turns.2.2,
       ),
     )
+
+pub returns-clause-bounded : goal.returns-clause-bounded
+returns-clause-bounded g c = c.turn_first.ensures.bounded
+
+pub returns-then-has_bursts-clause-bounded : goal.returns-then-has_bursts-clause-bounded
+returns-then-has_bursts-clause-bounded g c = c.turn_opening.ensures.bounded
