@@ -236,6 +236,17 @@ def try_kills(program, room, check, times):
         check("a torn tail is told", "a torn tail of 8 bytes is cut off" in server.end()[1], True)
 
 
+def bytes_of(folder):
+    """The bytes of the files there, of which any may be removed meanwhile."""
+    count = 0
+    for it in folder.iterdir():
+        try:
+            count += it.stat().st_size
+        except FileNotFoundError:
+            pass
+    return count
+
+
 def try_compaction(program, room, check):
     """A log that grows is compacted while it is written."""
     folder = room / "compacted"
@@ -246,8 +257,13 @@ def try_compaction(program, room, check):
                 client.sendall(command("SET", f"key{key}", b"%d." % count + b"y" * 8000))
             for _ in range(8):
                 client.recv(5)
+        # How soon that comes to its end, and so how much was written meanwhile, depends on the disk.
+        deadline = time.monotonic() + 30
+        while bytes_of(folder / "of-1/0") > 8 << 20 and time.monotonic() < deadline:
+            ask(client, command("SET", "key0", b"299." + b"y" * 8000), b"+OK\r\n")
+            time.sleep(0.02)
         check("kv ends by SIGTERM", server.end()[0], 0)
-    check("the log was compacted", sum(it.stat().st_size for it in (folder / "of-1/0").iterdir()) < 12 << 20, True)
+    check("the log was compacted", bytes_of(folder / "of-1/0") < 9 << 20, True)
     with Server(program, "--cores", 1, "--dir", folder):
         client = connect()
         wanted = b"$8004\r\n299." + b"y" * 8000 + b"\r\n"
