@@ -1,20 +1,25 @@
 //! A house that is planned before its threads are there.
 
 ghost use Rattle.std.specs.Prelude.{◌≡◌, ◌+◌, ◌<◌, ◌≤◌, All, [], IfOk, Some, length, min};
+ghost use Rattle.std.specs.Result.{result_map_both};
 ghost use Rattle.rt_ids.specs.Limits.{most_notes};
 ghost use Rattle.rt_shares.specs.Charge.{InRange};
 ghost use Rattle.rt_runtime_config.specs.Configs.{least_room, queues_of};
+ghost use Rattle.rt_runtime.specs.Calls.{Starts};
+ghost use Rattle.rt_runtime.specs.WithLocals.{StartsWithSinksAndLocals};
 ghost use Rattle.rt_runtime.specs.WithSinks.{HasSinks};
 ghost use Rattle.duthlwyran.specs.Errors.{plan_text};
-ghost use Rattle.duthlwyran.specs.Plans.{fresh_plan, PlansQueue, StartsPlan, StartsPlanWithLocals, StartsPlanWithSinks, StartsPlanWithSinksAndLocals};
+ghost use Rattle.duthlwyran.specs.Plans.{fresh_plan, PlansQueue};
 
-use crate::names::QueueNames;
+use crate::names::{Queue, QueueNames};
+use crate::node::Node;
+use crate::parts::Parts;
 use rt_ids::{CoreNo, MOST_NOTES, MOST_QUEUES, QueueNo};
 use rt_jobs::{Job, Task};
-use rt_runtime::{Runtime, Sink, StartError, Whole};
-use rt_runtime_config::{Config, NoGate, SystemClock, is_good};
+use rt_runtime::{Runtime, Sink, StartError};
+use rt_runtime_config::{Clock, Config, Gate, SystemClock, is_good};
 use rt_shares::Shares;
-use std::alloc::{AllocError, Global};
+use std::alloc::Global;
 use std::error::Error;
 use std::marker::Model;
 use std::sync::Wait;
@@ -68,48 +73,7 @@ fn planned_of(core: CoreNo, queues: &[(CoreNo, Shares)]) -> usize
     count
 }
 
-/// A system's clock for each core.
-fn clocks<R: Copy + Drop>(
-    rt: R,
-    alloc: Global,
-    cores: u8,
-) -> Result<Vec<SystemClock<R>>, AllocError>
-    ensures { IfOk result (λ clocks. length clocks.items ≡ cores) }
-{
-    let mut clocks = Vec::with_capacity(alloc, cores as usize)?;
-    for _ in 0..cores {
-        clocks.push_reserved(SystemClock::new(rt));
-    }
-    Ok(clocks)
-}
-
-/// A gate for each core, which does nothing.
-fn gates(alloc: Global, cores: u8) -> Result<Vec<NoGate>, AllocError>
-    ensures { IfOk result (λ gates. length gates.items ≡ cores) }
-{
-    let mut gates = Vec::with_capacity(alloc, cores as usize)?;
-    for _ in 0..cores {
-        gates.push_reserved(NoGate);
-    }
-    Ok(gates)
-}
-
-/// A clock and a gate for each core.
-type Wiring<R> = (Vec<SystemClock<R>>, Vec<NoGate>);
-
-/// A system's clock and a gate that does nothing for each core.
-fn wiring<R: Copy + Drop>(rt: R, alloc: Global, cores: u8) -> Result<Wiring<R>, AllocError>
-    ensures clocks { IfOk result (λ wiring. length wiring.0.items ≡ cores) }
-    ensures gates { IfOk result (λ wiring. length wiring.1.items ≡ cores) }
-{
-    Ok((clocks(rt, alloc, cores)?, gates(alloc, cores)?))
-}
-
-/// The threads of a house whose cores read the system's clock round each poll, and ask nobody before it.
-pub type Node<J, R, S = Whole> = Runtime<J, SystemClock<R>, NoGate, S>;
-
 /// A house before its threads are there: how many cores it has, and which queues, by name.
-#[derive(Drop)]
 pub struct House {
     config: Config,
     names: QueueNames,
@@ -128,6 +92,16 @@ impl Model for House {
       queues = h.config.queues.items;
       names = h.names;
     } };
+}
+
+// By hand: a derived `drop` is proved again in each crate above.
+impl Drop for House {
+    fn drop(self) {
+        let House {
+            config: _,
+            names: _,
+        } = self;
+    }
 }
 
 impl House {
@@ -171,12 +145,12 @@ impl House {
         house
     }
 
-    /// Plans the next queue of a core, with a name and shares from 1 to 10,000, and returns its number. The first of a core is queue 1.
+    /// Plans the next queue of a core, with a name and shares from 1 to 10,000. The first of a core is its queue 1.
     ///
     /// # Errors
     ///
     /// `NoCore`, `BadShares`, `TooMany` or `Memory`, tried in this order. Nothing was planned then.
-    pub fn queue(&mut self, core: CoreNo, name: &str, shares: u32) -> Result<QueueNo, PlanError>
+    pub fn queue(&mut self, core: CoreNo, name: &str, shares: u32) -> Result<Queue, PlanError>
         ensures { PlansQueue core shares name.now self.old result self.new }
     {
         if core.0 >= self.config.cores {
@@ -189,7 +163,7 @@ impl House {
     }
 
     /// The next queue of a core that is there.
-    fn next_queue(&mut self, core: CoreNo, name: &str, shares: Shares) -> Result<QueueNo, PlanError>
+    fn next_queue(&mut self, core: CoreNo, name: &str, shares: Shares) -> Result<Queue, PlanError>
         requires there { core < self.old.cores }
         requires good { InRange shares }
         ensures { PlansQueue core shares name.now self.old result self.new }
@@ -206,7 +180,7 @@ impl House {
             return Err(PlanError::Memory);
         };
         self.config.queues.push_reserved((core, shares));
-        Ok(queue)
+        Ok(Queue { core, queue })
     }
 
     /// The names of the queues that are planned.
@@ -216,122 +190,70 @@ impl House {
         &self.names
     }
 
-    /// Starts a thread for each core, which reads the system's clock and asks no gate. The names of the queues come back beside it.
+    /// Starts a thread for each core, which reads the system's clock, asks no gate, passes no notes on and shares nothing with its jobs.
     ///
     /// # Errors
     ///
     /// Those of `Runtime::start`.
-    pub fn start<J, R>(self, rt: R, alloc: Global) -> Result<(Node<J, R>, QueueNames), StartError>
+    pub fn start<J, R>(self, rt: R) -> Result<Node<J, SystemClock<R>>, StartError>
     where
         J: Job + Task<Out = u64, Local = ()> + Send + 'static,
         R: Threads + Wait + time::Clock + Copy + Drop + Send + 'static,
-        ensures { StartsPlan self result }
+        ensures starts { Starts self.cores self.cap self.burst self.room self.queues self.cores self.cores (result_map_both (λ node. node.runtime) (λ error. error) result) }
+        ensures cores { IfOk result (λ node. node.cores ≡ self.cores) }
+        ensures names { IfOk result (λ node. node.names ≡ self.names) }
     {
-        let House { config, names } = self;
-        let cores = config.cores;
-        if !is_good(&config, cores as usize, cores as usize) {
+        let cores = self.config.cores;
+        if !is_good(&self.config, cores as usize, cores as usize) {
             return Err(StartError::BadConfig);
         }
-        let Ok((clocks, gates)) = wiring(rt, alloc, cores) else {
+        let Ok(parts) = Parts::of(rt, self.names.alloc(), cores) else {
             return Err(StartError::Memory);
         };
-        let runtime = Runtime::start(rt, alloc, config, clocks, gates)?;
-        Ok((runtime, names))
+        self.start_with(rt, parts)
     }
 
-    /// The same, where each core passes on its notes to the sink of its number, and the outside actor to the last one. None of them has a note yet.
-    ///
-    /// # Errors
-    ///
-    /// Those of `Runtime::start_with_sinks`.
-    pub fn start_with_sinks<J, R, S>(
-        self,
-        rt: R,
-        alloc: Global,
-        sinks: Vec<S>,
-    ) -> Result<(Node<J, R, S>, QueueNames), StartError>
-    where
-        J: Job + Task<Out = u64, Local = ()> + Send + 'static,
-        R: Threads + Wait + time::Clock + Copy + Drop + Send + 'static,
-        S: Sink + Send + 'static,
-        requires { All (λ sink. S.has sink ≡ []) sinks.items }
-        ensures starts { StartsPlanWithSinks self (length sinks.items) result }
-        ensures dealt { IfOk result (λ started. HasSinks S.asks S.mark sinks.items started.0) }
-    {
-        let House { config, names } = self;
-        let cores = config.cores;
-        if !is_good(&config, cores as usize, cores as usize) || sinks.len() != cores as usize + 1 {
-            return Err(StartError::BadConfig);
-        }
-        let Ok((clocks, gates)) = wiring(rt, alloc, cores) else {
-            return Err(StartError::Memory);
-        };
-        let runtime = Runtime::start_with_sinks(rt, alloc, config, clocks, gates, sinks)?;
-        Ok((runtime, names))
-    }
-
-    /// The same as `start`, for jobs that share a state: each core has one by its number, which its worker lends to each poll.
-    ///
-    /// # Errors
-    ///
-    /// Those of `Runtime::start_with_locals`.
-    pub fn start_with_locals<J, R>(
-        self,
-        rt: R,
-        alloc: Global,
-        locals: Vec<J::Local>,
-    ) -> Result<(Node<J, R>, QueueNames), StartError>
-    where
-        J: Job + Task<Out = u64> + Send + 'static,
-        J::Local: Send + 'static,
-        R: Threads + Wait + time::Clock + Copy + Drop + Send + 'static,
-        ensures { StartsPlanWithLocals self (length locals.items) result }
-    {
-        let House { config, names } = self;
-        let cores = config.cores;
-        if !is_good(&config, cores as usize, cores as usize) || locals.len() != cores as usize {
-            return Err(StartError::BadConfig);
-        }
-        let Ok((clocks, gates)) = wiring(rt, alloc, cores) else {
-            return Err(StartError::Memory);
-        };
-        let runtime = Runtime::start_with_locals(rt, alloc, config, clocks, gates, locals)?;
-        Ok((runtime, names))
-    }
-
-    /// The same as `start_with_sinks`, for jobs that share a state.
+    /// The same with parts of your own: clocks, gates, sinks that have no note yet, and the states that the jobs of a core share. The core of each
+    /// number gets those of its number, and the caller the last sink.
     ///
     /// # Errors
     ///
     /// Those of `Runtime::start_with_sinks_and_locals`.
-    pub fn start_with_sinks_and_locals<J, R, S>(
+    pub fn start_with<J, R, C, G, S>(
         self,
         rt: R,
-        alloc: Global,
-        sinks: Vec<S>,
-        locals: Vec<J::Local>,
-    ) -> Result<(Node<J, R, S>, QueueNames), StartError>
+        parts: Parts<C, G, S, J::Local>,
+    ) -> Result<Node<J, C, G, S>, StartError>
     where
         J: Job + Task<Out = u64> + Send + 'static,
         J::Local: Send + 'static,
-        R: Threads + Wait + time::Clock + Copy + Drop + Send + 'static,
+        C: Clock + Drop + Send + 'static,
+        G: Gate + Drop + Send + 'static,
         S: Sink + Send + 'static,
-        requires { All (λ sink. S.has sink ≡ []) sinks.items }
-        ensures starts { StartsPlanWithSinksAndLocals self (length sinks.items) (length locals.items) result }
-        ensures dealt { IfOk result (λ started. HasSinks S.asks S.mark sinks.items started.0) }
+        R: Threads + Wait + Copy + Drop + Send + 'static,
+        requires { All (λ sink. S.has sink ≡ []) parts.sinks.items }
+        ensures starts { StartsWithSinksAndLocals self.cores self.cap self.burst self.room self.queues (length parts.clocks.items) (length parts.gates.items) (length parts.sinks.items) (length parts.locals.items) (result_map_both (λ node. node.runtime) (λ error. error) result) }
+        ensures dealt { IfOk result (λ node. HasSinks S.asks S.mark parts.sinks.items node.runtime) }
+        ensures cores { IfOk result (λ node. node.cores ≡ self.cores) }
+        ensures names { IfOk result (λ node. node.names ≡ self.names) }
     {
         let House { config, names } = self;
-        let cores = config.cores;
-        let seats = cores as usize;
-        if !is_good(&config, seats, seats) || sinks.len() != seats + 1 || locals.len() != seats {
-            return Err(StartError::BadConfig);
-        }
-        let Ok((clocks, gates)) = wiring(rt, alloc, cores) else {
-            return Err(StartError::Memory);
-        };
-        let runtime = Runtime::start_with_sinks_and_locals(
+        let Parts {
+            clocks,
+            gates,
+            sinks,
+            locals,
+        } = parts;
+        let (alloc, cores) = (names.alloc(), config.cores);
+        match Runtime::start_with_sinks_and_locals(
             rt, alloc, config, clocks, gates, sinks, locals,
-        )?;
-        Ok((runtime, names))
+        ) {
+            Ok(runtime) => Ok(Node {
+                runtime,
+                names,
+                cores,
+            }),
+            Err(error) => Err(error),
+        }
     }
 }

@@ -1,12 +1,20 @@
 //! Which queue has which name.
 
 ghost use Rattle.std.specs.Prelude.{◌≡◌, ◌++◌, ◌∷◌, [], OnErr, OnOk, option_map};
+ghost use Rattle.std.specs.Str.{bytes_eq};
 ghost use Rattle.std.specs.String.{string_bytes};
-ghost use Rattle.duthlwyran.specs.Plans.{Name, name_of};
+ghost use Rattle.duthlwyran.specs.Plans.{Name, name_of, queue_named};
 
 use rt_ids::{CoreNo, QueueNo};
 use std::alloc::{AllocError, Global};
 use std::marker::Model;
+
+/// A queue of a core: where a job is submitted to. Each core has queue 0, with 1000 shares.
+#[derive(Clone, Copy, PartialEq, Eq, Debug)]
+pub struct Queue {
+    pub core: CoreNo,
+    pub queue: QueueNo,
+}
 
 /// A queue of a core, and its name.
 #[derive(Drop)]
@@ -41,6 +49,13 @@ impl Model for QueueNames {
     ghost view = { λ n. n.all.items };
 }
 
+/// Whether two texts are the same.
+fn is_same(one: &str, other: &str) -> bool
+    ensures { result ≡ bytes_eq one.now other.now }
+{
+    one == other
+}
+
 impl QueueNames {
     /// No queue has a name.
     pub(crate) fn new(alloc: Global) -> Self
@@ -50,6 +65,11 @@ impl QueueNames {
             alloc,
             all: Vec::new(alloc),
         }
+    }
+
+    /// What allocates the names.
+    pub(crate) fn alloc(&self) -> Global {
+        self.alloc
     }
 
     /// This queue has this name from now on.
@@ -71,6 +91,24 @@ impl QueueNames {
             let named = &self.all[index];
             if named.core == core.0 && named.queue == queue.0 {
                 return Some(named.name.as_str());
+            }
+        }
+        None
+    }
+
+    /// The queue of this core that was planned with this name: the first, if there are several.
+    #[tactic(auto, using(crate::proofs::Finds::found_here, crate::proofs::Finds::found_away, crate::proofs::Finds::found_behind, crate::proofs::Finds::found_none))]
+    pub fn queue(&self, core: CoreNo, name: &str) -> Option<Queue>
+        ensures { result ≡ queue_named core name.now self.now }
+    {
+        let number = core.0;
+        for index in 0..self.all.len() {
+            let named = &self.all[index];
+            if named.core == number && is_same(named.name.as_str(), name) {
+                return Some(Queue {
+                    core: CoreNo(number),
+                    queue: QueueNo(named.queue),
+                });
             }
         }
         None

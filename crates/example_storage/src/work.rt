@@ -20,7 +20,7 @@ pub enum Work {
 
 // What the work answers stands in specs/Answers.antt. The rest of this block is the same for each such enum that submits nothing itself.
 impl Task for Work {
-    ghost use Rattle.rt_jobs.specs.Plain.{answering_meaning, answering_laws};
+    ghost use Rattle.duthlwyran.specs.Jobs.{answering_meaning, answering_laws};
     ghost use Rattle.example_storage.specs.Answers.{MayAnswer, is_ended};
 
     type Out = u64;
@@ -44,7 +44,8 @@ impl Job for Work {
     fn poll<P: Post<Self, u64>>(&mut self, post: &mut P) -> Step<u64> {
         let answer = match self {
             Work::Read { key } => {
-                post.local().count_read();
+                let table = post.local();
+                table.reads = table.reads.saturating_add(1);
                 *key as u64 * *key as u64
             }
             Work::Compact { blocks, left } => {
@@ -56,7 +57,7 @@ impl Job for Work {
             }
             Work::Commit { key, is_written } => {
                 if !*is_written {
-                    *is_written = post.local().keep(*key);
+                    *is_written = post.local().keys.push(*key).is_ok();
                     return if *is_written { Step::Park } else { Step::Yield };
                 }
                 *key as u64

@@ -30,4 +30,5 @@ returns c =
       ap (λ (p : Plan). record p { queues = c.push_reserved.new.self.items; names = c.add.new.self }) c.self.view_is
           ∙ planned c.args.self.now c.push_reserved.new.self.items (c.args.self.now.queues ++ (c.args.core, c.args.shares) ∷ []) c.add.new.self _ longer named,
       ap (creations c.args.core) longer ∙ plans_next c.args.core c.args.self.now.queues c.args.shares c.planned_of-count.result (c.planned_of-count.result + 1) counted refl,
+      refl,
     )

@@ -1,0 +1,9 @@
+-- One more core is closed.
+use Rattle.std.proofs.Common.{◌≡◌, ℕ, ◌+◌, sym, subst, add-one}
+use Rattle.rt_ids.specs.declared.order.Mode.{Mode}
+use Rattle.rt_runtime.specs.State.{RuntimeView}
+use Rattle.duthlwyran.specs.Finishes.{ClosesAt, ClosesBelow}
+
+module _ {J T : Type 0} where
+  pub closes_more : (mode : Mode) (core : ℕ) (old between new : RuntimeView J T) → ClosesBelow mode core old between → ClosesAt mode core between new → ClosesBelow mode (core + 1) old new
+  closes_more mode core old between new before closes = subst (λ cores. ClosesBelow mode cores old new) (sym (add-one core)) (between, before, closes)
