@@ -8,6 +8,8 @@ use Rattle.actor_seat.specs.Opening.{AreEndsOf, IsOpenedOver, IsWorkerOf}
 use Rattle.rt_runtime_worker.specs.Queues.{creations}
 use Rattle.actor_seat.specs.Together.{worker_at}
 use Rattle.rt_runtime_worker.specs.Workers.{WorkerView}
+use Rattle.rt_watch.specs.declared.watcher.Watching.{Watching}
+use Rattle.actor_caller.specs.Watching.{IsUnseen}
 
 -- a journal has room for the queues that a core is to have, and for what a worker needs
 abbrev pub IsRoomFor : ℕ → ℕ → ℕ → ℕ → List Entry → ℕ → Type 0
@@ -32,6 +34,12 @@ module _ {J T : Type 0} where
     pub sink_is : worker.sink ≡ sink
     pub bells_are : worker.bells ≡ names
     pub tries_are : worker.tries ≡ 1024
+
+  -- the watcher of this worker's board, which saw nothing yet
+  pub record IsWatcherOf {C G S : Type 0} (worker : WorkerView J T C G S) (watcher : Watching) : Type 0 where
+    pub board : watcher.board ≡ worker.shown.board
+    pub terms_are : watcher.terms ≡ worker.shown.terms
+    pub unseen : IsUnseen watcher
 
   -- the journal of each worker tells of the queues of its core and of nothing else
   abbrev pub HaveQueues : ℕ → List Entry → List (LinkedView J T) → Type 0

@@ -5,15 +5,14 @@ ghost use Rattle.rt_runtime_config.specs.Configs.{IsGood};
 ghost use Rattle.rt_runtime_team.specs.Works.{Together};
 ghost use Rattle.rt_journal_desk.specs.Submissions.{IsWritten, opened_desk, terms_of_desk};
 ghost use Rattle.rt_runtime.specs.Calls.{Begins};
-ghost use Rattle.rt_runtime.specs.Starting.{AreOpening, IsHouse, IsOpenedWith, IsWiredWith};
-ghost use Rattle.rt_runtime.specs.Watching.{IsWatcherOf};
+ghost use Rattle.rt_runtime.specs.Starting.{AreOpening, IsHouse, IsOpenedWith, IsWatcherOf, IsWiredWith};
 ghost use Rattle.rt_runtime.specs.WithLocals.{without_locals};
 ghost use Rattle.rt_runtime.specs.WithSinks.{HasSinks};
 
 use crate::error::StartError;
 use crate::passed::ActorNotes;
-use crate::rings::Rings;
-use crate::runtime::Runtime;
+use crate::runtime::{Crew, Runtime};
+use actor_caller::Caller;
 use rt_ids::ActorNo;
 use rt_jobs::{Job, Task};
 use rt_journal::RecordedDesk;
@@ -273,29 +272,30 @@ impl<J: Task<Out = u64>, C: Drop, G: Drop, S: Sink> Runtime<J, C, G, S> {
         ) else {
             return Err(StartError::Memory);
         };
-        let bells = Rings::of(bells, &ends);
         let outside = OutsideSeat::of(desk, ends);
         let given = Snapshot::of(&workers);
         match Team::start(rt, alloc, workers) {
-            Ok(team) => Ok((
-                Runtime {
-                    cores: config.cores,
-                    cap: config.cap,
-                    room: config.room,
+            Ok(team) => {
+                let crew = Crew {
+                    team,
+                    ends: spare_ends,
+                    actors: spare_actors,
+                    journals: spare_journals,
+                    locals: spare_locals,
+                };
+                let caller = Caller::of(
+                    config.cores,
+                    config.cap,
+                    config.room,
                     outside,
                     sink,
-                    refused: false,
                     bells,
                     closing,
-                    team,
                     watchers,
-                    spare_ends,
-                    spare_actors,
-                    spare_journals,
-                    spare_locals,
-                },
-                given,
-            )),
+                    crew,
+                );
+                Ok((Runtime { caller }, given))
+            }
             Err(NotStarted::Memory(_)) => Err(StartError::Memory),
             Err(NotStarted::Thread(_)) => Err(StartError::Thread),
         }
