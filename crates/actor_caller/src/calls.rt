@@ -114,13 +114,12 @@ impl<J: Task<Out = u64>, S: Sink, H: Beside<J>> Caller<J, S, H> {
         answer
     }
 
-    /// Sends an order to a core, and leaves room for what the submissions may still need. If the outside journal has too few notes free,
-    /// those that are kept are passed on first.
+    /// Sends an order to a core, and leaves room for what the submissions may still need. If the journal has too few notes free, those that are
+    /// kept are passed on first.
     ///
     /// # Errors
     ///
-    /// Tried in this order, and the order comes back: `JournalFull` where the outside journal has too few notes free, and its sink refuses;
-    /// `Send` where there is no such core, and where its link refuses.
+    /// `JournalFull` where the sink refuses then; `Send` where there is no such core, or its link refuses. The order comes back.
     #[inline(always)]
     pub fn submit(&mut self, to: CoreNo, order: Order<J>) -> Result<Ticket, SubmitError<J>>
         requires ready { HasReadyJob J.meaning order }

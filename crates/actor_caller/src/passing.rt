@@ -11,7 +11,7 @@ use rt_jobs::Task;
 use rt_journal_notes::{Journal, Refused, Sink};
 
 impl<J: Task<Out = u64>, S: Sink, H: Beside<J>> Caller<J, S, H> {
-    /// The notes of the outside actor that are kept. The older ones are in its sink.
+    /// The notes that are kept. The older ones are in the sink.
     pub fn kept(&self) -> &Journal<u64>
         ensures notes { result.now.notes ++ self.now.desk.journal.passed ≡ self.now.desk.journal.notes }
         ensures room { length self.now.desk.journal.passed + result.now.room ≡ self.now.desk.journal.room }
@@ -20,7 +20,7 @@ impl<J: Task<Out = u64>, S: Sink, H: Beside<J>> Caller<J, S, H> {
         self.outside.journal().kept()
     }
 
-    /// The outside actor's sink. It has the notes that were passed on. If it refused when it was last asked, it says so.
+    /// The sink. If it refused when it was last asked, it says so.
     pub fn sink(&self) -> &S
         ensures has { S.has result.now ≡ self.now.desk.journal.passed }
         ensures asks { S.asks result.now ≡ self.now.asks }
@@ -30,8 +30,7 @@ impl<J: Task<Out = u64>, S: Sink, H: Beside<J>> Caller<J, S, H> {
         &self.sink
     }
 
-    /// Passes on all notes of the outside actor that are kept, so that their places are free again. The caller may do so at any time; a
-    /// submission does so where there are too few. The sink is asked each time, also if it refused before.
+    /// Passes on all notes that are kept, so that their places are free again. The sink is asked each time.
     ///
     /// # Errors
     ///

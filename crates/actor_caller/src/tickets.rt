@@ -24,8 +24,7 @@ impl<J: Task<Out = u64>, S: Sink, H: Beside<J>> Caller<J, S, H> {
     ///
     /// # Errors
     ///
-    /// `Unknown` where this caller submitted nothing under the name; `Gone` where it was redeemed or detached before; `Pending` where its
-    /// outcome isn't collected yet. Nothing changes.
+    /// `Unknown`, `Gone` and `Pending`. Nothing changes.
     #[inline(always)]
     pub fn redeem(&mut self, ticket: Ticket) -> Result<Outcome<J, u64>, TicketError>
         ensures { RedeemsHere (Fits J.meaning) ticket self.old result self.new }
@@ -40,7 +39,7 @@ impl<J: Task<Out = u64>, S: Sink, H: Beside<J>> Caller<J, S, H> {
     ///
     /// # Errors
     ///
-    /// `Unknown` and `Gone`, as `redeem`. Nothing changes.
+    /// `Unknown` and `Gone`. Nothing changes.
     pub fn detach(&mut self, ticket: Ticket) -> Result<(), TicketError>
         ensures { DetachesHere ticket self.old result self.new }
     {

@@ -83,11 +83,11 @@ impl<J: Task<Out = u64>, S: Sink, H: Beside<J>> Caller<J, S, H> {
         let _slept = self.rest_on(rt, &own);
     }
 
-    /// Waits until the outcome of a submission is there, and redeems it. The caller is parked meanwhile, if that takes long.
+    /// Waits until the outcome of a submission is there, and redeems it.
     ///
     /// # Errors
     ///
-    /// `Unknown` and `Gone`, as `redeem`. Then it doesn't wait.
+    /// `Unknown` and `Gone`. Then it doesn't wait.
     pub fn wait<R: Wait>(&mut self, rt: &R, ticket: Ticket) -> Result<Outcome<J, u64>, TicketError>
         ensures { RedeemsAtLast (Fits J.meaning) ticket self.old result self.new }
     {
@@ -117,9 +117,8 @@ impl<J: Task<Out = u64>, S: Sink, H: Beside<J>> Caller<J, S, H> {
         None
     }
 
-    /// Waits until the outcome of one of these submissions is there, and redeems it: the place of its ticket, and what `redeem` answers. Where
-    /// several are there, the first one of the slice is redeemed. A ticket that is unknown or gone is answered as if its outcome were there.
-    /// None if there are no tickets.
+    /// Waits until the outcome of one of these submissions is there, and redeems it: the place of its ticket, and what `redeem` answers. None if
+    /// there are no tickets.
     pub fn wait_any<R: Wait>(
         &mut self,
         rt: &R,
@@ -139,8 +138,7 @@ impl<J: Task<Out = u64>, S: Sink, H: Beside<J>> Caller<J, S, H> {
         unreachable!()
     }
 
-    /// Submits an order, and waits as long as the link to its core is full. A place is free there by the outcome of a submission that was
-    /// let go (`detach`). If the caller keeps a ticket of each submission to this core, it waits for ever: redeem one instead.
+    /// Submits an order, and waits as long as the link to its core is full.
     ///
     /// # Errors
     ///
