@@ -194,12 +194,9 @@ impl<J: Job + Task<Out = u64>, C: Clock + Drop, G: Gate + Drop, S: Sink> Runtime
     ) -> Result<Passed<S>, FinishError<Self>>
         ensures { FinishesWithSinks J.meaning S.has S.refused S.asks S.mark self result }
     {
-        match self.caller.first_open() {
-            Some(core) => Err(FinishError::NotClosed(core, self)),
-            None => {
-                let (passed, _journals, _locals) = self.end(rt);
-                Ok(passed)
-            }
+        match self.finish_with_sinks_and_locals(rt) {
+            Ok((passed, _locals)) => Ok(passed),
+            Err(error) => Err(error),
         }
     }
 
@@ -234,12 +231,9 @@ impl<J: Job + Task<Out = u64>, C: Clock + Drop, G: Gate + Drop> Runtime<J, C, G>
     pub fn finish<R: Threads + Wait>(self, rt: &R) -> Result<Assembly, FinishError<Self>>
         ensures { Finishes J.meaning self result }
     {
-        match self.caller.first_open() {
-            Some(core) => Err(FinishError::NotClosed(core, self)),
-            None => {
-                let (passed, journals, _locals) = self.end(rt);
-                Ok(whole_assembly(passed, journals))
-            }
+        match self.finish_with_locals(rt) {
+            Ok((assembly, _locals)) => Ok(assembly),
+            Err(error) => Err(error),
         }
     }
 
