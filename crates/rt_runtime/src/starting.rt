@@ -1,11 +1,11 @@
 //! How a house is opened, and its threads begin.
 
-ghost use Rattle.std.specs.Prelude.{◌≡◌, ◌+◌, ◌≤◌, ◌++◌, All, [], ◌∷◌, false, IfOk, length, map, replicate, vec_capacity};
+ghost use Rattle.std.specs.Prelude.{◌≡◌, ◌+◌, ◌≤◌, All, [], false, IfOk, length, map, replicate, vec_capacity};
 ghost use Rattle.rt_runtime_config.specs.Configs.{IsGood};
 ghost use Rattle.rt_runtime_team.specs.Works.{Together};
 ghost use Rattle.rt_journal_desk.specs.Submissions.{IsWritten, opened_desk, terms_of_desk};
 ghost use Rattle.rt_runtime.specs.Calls.{Begins};
-ghost use Rattle.rt_runtime.specs.Starting.{AreOpening, IsHouse, IsOpenedWith, IsWatcherOf, IsWiredWith};
+ghost use Rattle.rt_runtime.specs.Starting.{AreGiven, AreOpening, AreWired, IsHouse, IsOpenedWith, IsWatcherOf, IsWiredWith};
 ghost use Rattle.rt_runtime.specs.WithLocals.{without_locals};
 ghost use Rattle.rt_runtime.specs.WithSinks.{HasSinks};
 
@@ -126,11 +126,7 @@ fn open_workers<J: Task<Out = u64>, C: Drop, G: Drop, S: Sink>(
     requires locals { length locals.items ≡ length all.items }
     requires empty { All (λ sink. S.has sink ≡ []) sinks.items }
     ensures opened { IfOk result (λ opened. Together (IsOpenedWith config.now.cores config.now.cap config.now.burst config.now.room config.now.queues.items) all.items (map (λ worker. worker.linked) opened.0.items)) }
-    ensures clocks { IfOk result (λ opened. map (λ worker. worker.clock) opened.0.items ≡ clocks.items) }
-    ensures gates { IfOk result (λ opened. map (λ worker. worker.gate) opened.0.items ≡ gates.items) }
-    ensures sinks { IfOk result (λ opened. map (λ worker. worker.sink) opened.0.items ≡ sinks.items) }
-    ensures bells { IfOk result (λ opened. map (λ worker. worker.bells) opened.0.items ≡ map (λ ends. bells.now.names) all.items) }
-    ensures tries { IfOk result (λ opened. map (λ worker. worker.tries) opened.0.items ≡ map (λ ends. 1024) all.items) }
+    ensures wired { IfOk result (λ opened. AreWired (length all.items) clocks.items gates.items sinks.items bells.now.names opened.0.items) }
     ensures watchers { IfOk result (λ opened. Together IsWatcherOf opened.0.items opened.1.items) }
 {
     let seats = deal(alloc, all, clocks, gates, sinks, locals)?;
@@ -154,11 +150,7 @@ fn open_house<J: Task<Out = u64>, C: Drop, G: Drop, S: Sink>(
     requires locals { length locals.items ≡ config.now.cores }
     requires empty { All (λ sink. S.has sink ≡ []) sinks.items }
     ensures house { IfOk result (λ house. IsHouse config.now.cores config.now.cap config.now.burst config.now.room config.now.queues.items (map (λ worker. worker.linked) house.0.items) house.2) }
-    ensures clocks { IfOk result (λ house. map (λ worker. worker.clock) house.0.items ≡ clocks.items) }
-    ensures gates { IfOk result (λ house. map (λ worker. worker.gate) house.0.items ≡ gates.items) }
-    ensures sinks { IfOk result (λ house. map (λ worker. worker.sink) house.0.items ≡ sinks.items) }
-    ensures shared { IfOk result (λ house. map (λ worker. worker.bells) house.0.items ≡ replicate config.now.cores house.1.names) }
-    ensures tries { IfOk result (λ house. map (λ worker. worker.tries) house.0.items ≡ replicate config.now.cores 1024) }
+    ensures wired { IfOk result (λ house. AreWired config.now.cores clocks.items gates.items sinks.items house.1.names house.0.items) }
     ensures bells { IfOk result (λ house. house.1.rings ≡ replicate (config.now.cores + 1) 0) }
     ensures watchers { IfOk result (λ house. Together IsWatcherOf house.0.items house.3.items) }
 {
@@ -247,12 +239,7 @@ impl<J: Task<Out = u64>, C: Drop, G: Drop, S: Sink> Runtime<J, C, G, S> {
         requires empty { All (λ sink. S.has sink ≡ []) sinks.items }
         ensures begins { Begins config.now.cores config.now.cap config.now.burst config.now.room config.now.queues.items (without_locals result) }
         ensures dealt { IfOk result (λ begun. HasSinks S.asks S.mark sinks.items begun.0) }
-        ensures workers { IfOk result (λ begun. begun.0.workers ≡ map (λ worker. worker.linked) begun.1.value.items) }
-        ensures bells { IfOk result (λ begun. begun.0.bells ≡ map (λ worker. worker.bells) begun.1.value.items) }
-        ensures tries { IfOk result (λ begun. begun.0.tries ≡ map (λ worker. worker.tries) begun.1.value.items) }
-        ensures clocks { IfOk result (λ begun. map (λ worker. worker.clock) begun.1.value.items ≡ clocks.items) }
-        ensures gates { IfOk result (λ begun. map (λ worker. worker.gate) begun.1.value.items ≡ gates.items) }
-        ensures sinks { IfOk result (λ begun. (last : S) × (sinks.items ≡ map (λ worker. worker.sink) begun.1.value.items ++ last ∷ [])) }
+        ensures given { IfOk result (λ begun. AreGiven begun.0 clocks.items gates.items sinks.items begun.1.value.items) }
     {
         let mut sinks = sinks;
         let Some(sink) = sinks.pop() else {

@@ -96,8 +96,8 @@ returns-in-Ok-start-clause-begins g c =
       desk = ap (λ outside. outside.desk) c.of-outside.ensures.is ∙ c.in-Ok-open_outside.ensures.desk;
       closing = c.in-Ok-open_outside.ensures.closing;
       rung = c.in-Ok.ensures.bells;
-      bells = ap (λ workers. map (λ worker. worker.bells) workers) c.in-Ok-start.ensures.ok ∙ c.in-Ok.ensures.shared;
-      tries = ap (λ workers. map (λ worker. worker.tries) workers) c.in-Ok-start.ensures.ok ∙ c.in-Ok.ensures.tries;
+      bells = ap (λ workers. map (λ worker. worker.bells) workers) c.in-Ok-start.ensures.ok ∙ c.in-Ok.ensures.wired.bells_are;
+      tries = ap (λ workers. map (λ worker. worker.tries) workers) c.in-Ok-start.ensures.ok ∙ c.in-Ok.ensures.wired.tries_are;
       room_is = refl;
       count = ap (λ workers. length (map (λ worker. worker.linked) workers)) c.in-Ok-start.ensures.ok ∙ c.in-Ok.ensures.house.count;
       ends = ap (λ outside. length outside.ends.outs) c.of-outside.ensures.is ∙ c.in-Ok.ensures.house.outs;
@@ -118,7 +118,7 @@ returns-in-Ok-start-clause-dealt g c =
     (record {
       marks_are =
           ap (λ workers. map (λ worker. g.S.Sink.mark worker.sink) workers ++ g.S.Sink.mark c.in-Some.sink ∷ []) c.in-Ok-start.ensures.ok
-          ∙ made_with_last g.S.Sink.mark (λ worker. worker.sink) c.in-Ok.workers.items c.pop.new.self.items c.args.sinks.items c.in-Some.sink c.in-Ok.ensures.sinks c.in-Some.ensures.items;
+          ∙ made_with_last g.S.Sink.mark (λ worker. worker.sink) c.in-Ok.workers.items c.pop.new.self.items c.args.sinks.items c.in-Some.sink c.in-Ok.ensures.wired.sinks_are c.in-Some.ensures.items;
       front = c.pop.new.self.items;
       last = c.in-Some.sink;
       split = c.in-Some.ensures.items;
@@ -126,20 +126,16 @@ returns-in-Ok-start-clause-dealt g c =
     })
 
 -- the workers as the threads were given them
-pub returns-in-Ok-start-clause-workers : goal.returns-in-Ok-start-clause-workers
-returns-in-Ok-start-clause-workers g c =
-    ap (λ view. view.workers) c.of-caller.ensures ∙ ap (λ workers. map (λ worker. worker.linked) workers) (c.in-Ok-start.ensures.ok ∙ ap (λ vec. vec.items) (sym c.of-given.ensures))
-
-pub returns-in-Ok-start-clause-bells : goal.returns-in-Ok-start-clause-bells
-returns-in-Ok-start-clause-bells g c =
-    ap (λ view. view.bells) c.of-caller.ensures ∙ ap (λ workers. map (λ worker. worker.bells) workers) (c.in-Ok-start.ensures.ok ∙ ap (λ vec. vec.items) (sym c.of-given.ensures))
-
-pub returns-in-Ok-start-clause-tries : goal.returns-in-Ok-start-clause-tries
-returns-in-Ok-start-clause-tries g c =
-    ap (λ view. view.tries) c.of-caller.ensures ∙ ap (λ workers. map (λ worker. worker.tries) workers) (c.in-Ok-start.ensures.ok ∙ ap (λ vec. vec.items) (sym c.of-given.ensures))
-
-pub returns-in-Ok-start-clause-sinks : goal.returns-in-Ok-start-clause-sinks
-returns-in-Ok-start-clause-sinks g c = (
-  c.in-Some.sink,
-  c.in-Some.ensures.items ∙ ap (λ front. front ++ c.in-Some.sink ∷ []) (sym (ap (λ vec. map (λ worker. worker.sink) vec.items) c.of-given.ensures ∙ c.in-Ok.ensures.sinks)),
-)
+pub returns-in-Ok-start-clause-given : goal.returns-in-Ok-start-clause-given
+returns-in-Ok-start-clause-given g c =
+    let given = ap (λ vec. vec.items) (sym c.of-given.ensures) in
+    let team = c.in-Ok-start.ensures.ok ∙ given in
+    record {
+      workers_are = ap (λ view. view.workers) c.of-caller.ensures ∙ ap (λ workers. map (λ worker. worker.linked) workers) team;
+      bells_are = ap (λ view. view.bells) c.of-caller.ensures ∙ ap (λ workers. map (λ worker. worker.bells) workers) team;
+      tries_are = ap (λ view. view.tries) c.of-caller.ensures ∙ ap (λ workers. map (λ worker. worker.tries) workers) team;
+      clocks_are = ap (λ workers. map (λ worker. worker.clock) workers) (sym given) ∙ c.in-Ok.ensures.wired.clocks_are;
+      gates_are = ap (λ workers. map (λ worker. worker.gate) workers) (sym given) ∙ c.in-Ok.ensures.wired.gates_are;
+      last = c.in-Some.sink;
+      sinks_are = c.in-Some.ensures.items ∙ ap (λ front. front ++ c.in-Some.sink ∷ []) (sym (ap (λ workers. map (λ worker. worker.sink) workers) (sym given) ∙ c.in-Ok.ensures.wired.sinks_are));
+    }
