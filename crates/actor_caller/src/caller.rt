@@ -1,6 +1,6 @@
 //! The caller of a house: its outside actor, and what it sees of the cores.
 
-ghost use Rattle.std.specs.Prelude.{◌≡◌, false};
+ghost use Rattle.std.specs.Prelude.{◌≡◌, false, length};
 ghost use Rattle.rt_link.specs.Fits.{Fits};
 ghost use Rattle.actor_caller.specs.Closings.{IsFirstOpenOf, TellsOpen};
 ghost use Rattle.actor_caller.specs.Stored.{IsHeld, IsRuntime, view_of};
@@ -15,16 +15,20 @@ use rt_watch::Watcher;
 use std::marker::Model;
 
 /// What stands beside a caller: the workers of its house. The caller keeps it, and asks nothing of it.
-pub trait Beside<J: Task<Out = u64>>: Drop {
+pub trait Beside: Drop {
     ghost use Rattle.std.specs.Prelude.{ℕ};
     ghost use Rattle.actor_caller.specs.Teams.{TeamView};
 
-    ghost team: { Self → TeamView J ℕ };
+    /// What its cores run.
+    type Job: Task<Out = u64>;
+
+    // What is seen of the workers.
+    ghost team: { Self → TeamView Self.Job ℕ };
 }
 
 /// The outside actor of a house, in the hands of the caller, who sends on its links, waits for outcomes and watches the cores.
 #[derive(Drop)]
-pub struct Caller<J: Task<Out = u64>, S: Sink, H: Beside<J>> {
+pub struct Caller<J: Task<Out = u64>, S: Sink, H: Beside<Job = J>> {
     pub(crate) cores: u8,
     pub(crate) cap: u16,
     pub(crate) room: u32,
@@ -42,7 +46,7 @@ pub struct Caller<J: Task<Out = u64>, S: Sink, H: Beside<J>> {
     pub(crate) house: H,
 }
 
-impl<J: Task<Out = u64>, S: Sink, H: Beside<J>> Model for Caller<J, S, H> {
+impl<J: Task<Out = u64>, S: Sink, H: Beside<Job = J>> Model for Caller<J, S, H> {
     ghost use Rattle.std.specs.Prelude.{ℕ};
     ghost use Rattle.actor_caller.specs.State.{RuntimeView};
 
@@ -72,7 +76,7 @@ fn first_open(cores: u8, closing: &[bool]) -> Option<u8>
     None
 }
 
-impl<J: Task<Out = u64>, S: Sink, H: Beside<J>> Caller<J, S, H> {
+impl<J: Task<Out = u64>, S: Sink, H: Beside<Job = J>> Caller<J, S, H> {
     /// A caller that closed nothing yet, whose hands haven't rung these bells.
     pub fn of(
         cores: u8,
@@ -139,7 +143,7 @@ impl<J: Task<Out = u64>, S: Sink, H: Beside<J>> Caller<J, S, H> {
     }
 }
 
-impl<J: Task<Out = u64>, H: Beside<J>> Caller<J, Whole, H> {
+impl<J: Task<Out = u64>, H: Beside<Job = J>> Caller<J, Whole, H> {
     /// The outside actor's journal. It is whole: nothing is passed on of it.
     pub fn journal(&self) -> &Journal<u64>
         ensures { result.now ≡ self.now.desk.journal }

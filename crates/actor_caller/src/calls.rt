@@ -46,7 +46,7 @@ fn mark(closing: &mut Vec<bool>, core: usize, told: bool)
     closing[core] = was || told;
 }
 
-impl<J: Task<Out = u64>, S: Sink, H: Beside<J>> Caller<J, S, H> {
+impl<J: Task<Out = u64>, S: Sink, H: Beside<Job = J>> Caller<J, S, H> {
     /// How many submissions are outstanding on all links.
     #[inline(always)]
     fn outstanding(&self) -> u128

@@ -10,7 +10,7 @@ use crate::caller::{Beside, Caller};
 use rt_jobs::Task;
 use rt_journal_notes::{Journal, Refused, Sink};
 
-impl<J: Task<Out = u64>, S: Sink, H: Beside<J>> Caller<J, S, H> {
+impl<J: Task<Out = u64>, S: Sink, H: Beside<Job = J>> Caller<J, S, H> {
     /// The notes that are kept. The older ones are in the sink.
     pub fn kept(&self) -> &Journal<u64>
         ensures notes { result.now.notes ++ self.now.desk.journal.passed ≡ self.now.desk.journal.notes }

@@ -127,7 +127,7 @@ impl<'a> Quiet<'a> {
     }
 }
 
-impl<J: Task<Out = u64>, S: Sink, H: Beside<J>> Caller<J, S, H> {
+impl<J: Task<Out = u64>, S: Sink, H: Beside<Job = J>> Caller<J, S, H> {
     /// Looks once more at all links, behind the moment in which the caller lay down. It gets up if there was an outcome.
     pub(crate) fn look_again<'a>(&mut self, lain: Lain<'a>) -> Option<Quiet<'a>>
         ensures collects { CollectsEach self.old self.new }

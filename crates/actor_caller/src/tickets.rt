@@ -8,7 +8,7 @@ use rt_ids::{CoreNo, Outcome, Ticket, TicketError};
 use rt_jobs::Task;
 use rt_journal_notes::Sink;
 
-impl<J: Task<Out = u64>, S: Sink, H: Beside<J>> Caller<J, S, H> {
+impl<J: Task<Out = u64>, S: Sink, H: Beside<Job = J>> Caller<J, S, H> {
     /// Collects all outcomes that the link to a core shows. How many there were: 0 where there is no such core.
     #[inline(always)]
     pub fn collect(&mut self, core: CoreNo) -> usize

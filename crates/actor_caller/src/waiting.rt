@@ -18,7 +18,7 @@ use std::sync::Wait;
 /// How often a caller looks for outcomes before it parks.
 const TRIES: u32 = 1024;
 
-impl<J: Task<Out = u64>, S: Sink, H: Beside<J>> Caller<J, S, H> {
+impl<J: Task<Out = u64>, S: Sink, H: Beside<Job = J>> Caller<J, S, H> {
     /// Collects all outcomes that the links show, from each core. Whether there was one.
     pub(crate) fn collect_all(&mut self) -> bool
         ensures collects { CollectsEach self.old self.new }

@@ -9,7 +9,7 @@ use rt_jobs::Task;
 use rt_journal_notes::Sink;
 use rt_watch::Watcher;
 
-impl<J: Task<Out = u64>, S: Sink, H: Beside<J>> Caller<J, S, H> {
+impl<J: Task<Out = u64>, S: Sink, H: Beside<Job = J>> Caller<J, S, H> {
     /// Looks at the numbers that the worker of this core published last. `watched` tells them. False if there is no such core, or if each try
     /// of the look met a publication on the way; then `watched` tells the same as before.
     pub fn watch(&mut self, core: CoreNo) -> bool

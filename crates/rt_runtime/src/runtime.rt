@@ -38,8 +38,10 @@ impl<J: Task<Out = u64>, C: Drop, G: Drop, S: Sink> Model for Crew<J, C, G, S> {
         × IsSpare c.team c.locals.items (vec_capacity c.locals) };
 }
 
-impl<J: Task<Out = u64>, C: Drop, G: Drop, S: Sink> Beside<J> for Crew<J, C, G, S> {
+impl<J: Task<Out = u64>, C: Drop, G: Drop, S: Sink> Beside for Crew<J, C, G, S> {
     ghost use Rattle.rt_runtime.specs.Crews.{team_of};
+
+    type Job = J;
 
     ghost team = { λ workers. team_of S.mark workers };
 }

@@ -39,3 +39,18 @@ loop-ends-preserved g c =
       some_sinks = omega (arith, loop.invariant.some_sinks, c.remove-sink.ensures.len, steps.1, loop.sinks.ok.0, c.remove-sink.new.self.ok.0);
       some_locals = omega (arith, loop.invariant.some_locals, c.remove-local.ensures.len, steps.1, loop.locals.ok.0, c.remove-local.new.self.ok.0);
     }
+
+pub remove-clock-requires : goal.remove-clock-requires
+remove-clock-requires g c = omega (arith, c.loop-ends.invariant.some_clocks, c.in-Some.ensures.steps.1)
+
+pub remove-gate-requires : goal.remove-gate-requires
+remove-gate-requires g c = omega (arith, c.loop-ends.invariant.some_gates, c.in-Some.ensures.steps.1)
+
+pub remove-sink-requires : goal.remove-sink-requires
+remove-sink-requires g c = omega (arith, c.loop-ends.invariant.some_sinks, c.in-Some.ensures.steps.1)
+
+pub remove-local-requires : goal.remove-local-requires
+remove-local-requires g c = omega (arith, c.loop-ends.invariant.some_locals, c.in-Some.ensures.steps.1)
+
+pub push_reserved-requires : goal.push_reserved-requires
+push_reserved-requires g c = omega (arith, c.loop-ends.invariant.reserved, c.in-Some.ensures.steps.1, c.loop-ends.seats.ok.0)
