@@ -149,7 +149,7 @@ impl<J: Job + Task<Out = u64>, C: Clock + Drop, G: Gate + Drop, S: Sink> Runtime
         ensures room { length result.0.actors.items ≤ vec_capacity result.1 }
         ensures locals { length result.2.items ≡ self.desk.cores }
     {
-        let Runtime { caller } = self;
+        let caller = self.into_caller();
         let cores = caller.cores();
         let (outside, sink, crew, watchers) = caller.into_parts();
         let cap = outside.cap();

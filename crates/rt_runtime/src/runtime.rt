@@ -1,5 +1,7 @@
 //! The running threads of a house, and its outside actor.
 
+ghost use Rattle.std.specs.Prelude.{◌≡◌};
+
 use crate::passed::ActorNotes;
 use actor_caller::{Beside, Caller};
 use rt_jobs::Task;
@@ -55,9 +57,16 @@ impl<J: Task<Out = u64>, C: Drop, G: Drop, S: Sink> Beside for Crew<J, C, G, S> 
 /// Each core must be closed, and then `finish` or `finish_with_sinks` called. A runtime that is dropped without that closes no core: each
 /// worker is left to itself and serves until the process ends, and its journal and its sink are lost with it. The caller's are dropped at
 /// once, and what is kept is passed on to nobody.
-#[derive(Drop)]
 pub struct Runtime<J: Task<Out = u64>, C: Drop, G: Drop, S: Sink = Whole> {
     pub(crate) caller: Caller<J, S, Crew<J, C, G, S>>,
+}
+
+// Written out, so that no crate above proves again that what is below can be dropped.
+impl<J: Task<Out = u64>, C: Drop, G: Drop, S: Sink> Drop for Runtime<J, C, G, S> {
+    fn drop(self) {
+        let Self { caller } = self;
+        drop(caller);
+    }
 }
 
 impl<J: Task<Out = u64>, C: Drop, G: Drop, S: Sink> Model for Runtime<J, C, G, S> {
@@ -67,4 +76,14 @@ impl<J: Task<Out = u64>, C: Drop, G: Drop, S: Sink> Model for Runtime<J, C, G, S
     ghost Value = { RuntimeView J ℕ };
 
     ghost view = { λ r. r.caller };
+}
+
+impl<J: Task<Out = u64>, C: Drop, G: Drop, S: Sink> Runtime<J, C, G, S> {
+    /// The caller, with the workers beside it.
+    pub(crate) fn into_caller(self) -> Caller<J, S, Crew<J, C, G, S>>
+        ensures { result ≡ self }
+    {
+        let Self { caller } = self;
+        caller
+    }
 }

@@ -77,7 +77,7 @@ returns-clause-passed g c =
     let team = c.into_parts-outside.result.2 in
     let outside = c.into_parts-outside.result.0 in
     let runtime = c.into_parts-outside.ensures.runtime in
-    let same = c.into_parts-outside.ensures.is ∙ c.self.view_is in
+    let same = c.into_parts-outside.ensures.is ∙ c.into_caller-caller.ensures in
     let joined = subst (λ team. Together (KeepsOn g.S.Sink.mark) team c.join-ended.result.items) c.crew.view_is c.join-ended.ensures in
     let keeps = subst (Together (KeepsOn g.S.Sink.mark) team) (sym c.compare_all.ensures.ended) joined in
     let kept = all_run_on g.S.Sink.mark team c.compare_all.new.ended.items keeps in
@@ -117,4 +117,4 @@ returns-clause-locals g c =
     c.part_all-all.ensures.locals
     ∙ (ap length c.compare_all.ensures.ended
     ∙ (all_ended g.J.Task.meaning _ c.into_parts-outside.ensures.runtime c.join-ended.result.items (all_run_on g.S.Sink.mark c.into_parts-outside.result.2 c.join-ended.result.items joined)
-    ∙ ap (λ view. view.desk.cores) (c.into_parts-outside.ensures.is ∙ c.self.view_is)))
+    ∙ ap (λ view. view.desk.cores) (c.into_parts-outside.ensures.is ∙ c.into_caller-caller.ensures)))
