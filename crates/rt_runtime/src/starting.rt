@@ -1,6 +1,6 @@
 //! How a house is opened, and its threads begin.
 
-ghost use Rattle.std.specs.Prelude.{◌≡◌, ◌+◌, ◌≤◌, All, [], false, IfOk, length, map, replicate, vec_capacity};
+ghost use Rattle.std.specs.Prelude.{◌≡◌, ◌+◌, ◌<◌, ◌≤◌, All, [], ◌∷◌, false, IfOk, length, map, replicate, vec_capacity};
 ghost use Rattle.rt_runtime_config.specs.Configs.{IsGood};
 ghost use Rattle.rt_runtime_team.specs.Works.{Together};
 ghost use Rattle.rt_journal_desk.specs.Submissions.{IsWritten, opened_desk, terms_of_desk};
@@ -37,6 +37,37 @@ struct Seat<J: Task<Out = u64>, C: Drop, G: Drop, S: Sink> {
     local: J::Local,
 }
 
+/// The seat of these ends, with the first clock, gate, sink and shared state that are left.
+fn next_seat<J: Task<Out = u64>, C: Drop, G: Drop, S: Sink>(
+    ends: Ends<J>,
+    clocks: &mut Vec<C>,
+    gates: &mut Vec<G>,
+    sinks: &mut Vec<S>,
+    locals: &mut Vec<J::Local>,
+) -> Seat<J, C, G, S>
+    requires clocks { 0 < length clocks.old.items }
+    requires gates { 0 < length gates.old.items }
+    requires sinks { 0 < length sinks.old.items }
+    requires locals { 0 < length locals.old.items }
+    ensures ends { result.ends ≡ ends }
+    ensures clocks { clocks.old.items ≡ result.clock ∷ clocks.new.items }
+    ensures gates { gates.old.items ≡ result.gate ∷ gates.new.items }
+    ensures sinks { sinks.old.items ≡ result.sink ∷ sinks.new.items }
+    ensures locals { locals.old.items ≡ result.local ∷ locals.new.items }
+{
+    let clock = clocks.remove(0);
+    let gate = gates.remove(0);
+    let sink = sinks.remove(0);
+    let local = locals.remove(0);
+    Seat {
+        ends,
+        clock,
+        gate,
+        sink,
+        local,
+    }
+}
+
 /// Deals the clocks, the gates, the sinks and the shared states: the actor at each place gets those of its place.
 fn deal<J: Task<Out = u64>, C: Drop, G: Drop, S: Sink>(
     alloc: Global,
@@ -60,16 +91,8 @@ fn deal<J: Task<Out = u64>, C: Drop, G: Drop, S: Sink>(
     let (mut clocks, mut gates, mut sinks) = (clocks, gates, sinks);
     let mut locals = locals;
     for ends in all {
-        let (clock, gate) = (clocks.remove(0), gates.remove(0));
-        let sink = sinks.remove(0);
-        let local = locals.remove(0);
-        seats.push_reserved(Seat {
-            ends,
-            clock,
-            gate,
-            sink,
-            local,
-        });
+        let seat = next_seat(ends, &mut clocks, &mut gates, &mut sinks, &mut locals);
+        seats.push_reserved(seat);
     }
     Ok(seats)
 }
