@@ -18,8 +18,8 @@ use Rattle.fairexec_script.specs.Limits.{IsSize}
 use Rattle.rt_runtime_config.specs.Configs.{Entry}
 use Rattle.fairexec_threads.specs.Rooms.{room_of}
 use Rattle.rt_jobs.specs.Scripts.{Script}
-use Rattle.rt_runtime.specs.declared.error.SubmitError.{SubmitError}
-use Rattle.rt_runtime.specs.declared.error.SubmitError.TheVariants.{JournalFull, Send}
+use Rattle.actor_caller.specs.declared.error.SubmitError.{SubmitError}
+use Rattle.actor_caller.specs.declared.error.SubmitError.TheVariants.{JournalFull, Send}
 use Rattle.rt_runtime.specs.Sends.{MakesRoom, Sends, SendsTo, SubmitsTo}
 use Rattle.rt_runtime.specs.State.{RuntimeView}
 use Rattle.fairexec_threads_script.specs.Orders.{Told, orders_to}

@@ -19,7 +19,7 @@ use Rattle.rt_journal_notes.specs.Journals.{JournalView}
 use Rattle.rt_jobs.specs.ScriptMeaning.{script_meaning}
 use Rattle.rt_jobs.specs.Scripts.{Script}
 use Rattle.rt_runtime.specs.Calls.{HasFinished, IsStarted}
-use Rattle.rt_runtime.specs.Laws.{ClosedStaysClosed, IsClosed}
+use Rattle.actor_caller.specs.Laws.{ClosedStaysClosed, IsClosed}
 use Rattle.rt_runtime.specs.Sends.{SendsTo}
 use Rattle.rt_runtime.specs.State.{RuntimeView, is_told_shut}
 use Rattle.rt_runtime_config.specs.Configs.{Entry}

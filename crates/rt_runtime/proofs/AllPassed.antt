@@ -25,10 +25,10 @@ use Rattle.rt_runtime.specs.declared.passed.ActorNotes.{ActorNotes}
 use Rattle.rt_runtime.specs.declared.passed.Passed.{Passed}
 use Rattle.rt_runtime.specs.Calls.{HasFinishedBy}
 use Rattle.rt_runtime.specs.Finishing.{IsPart, Parts}
-use Rattle.rt_runtime.specs.Watching.{watch_at}
+use Rattle.actor_caller.specs.Watching.{watch_at}
 use Rattle.rt_watch.specs.Growth.{Grows}
-use Rattle.rt_runtime.specs.State.{RuntimeView, closing_at, outside_of}
-use Rattle.rt_runtime.specs.Stored.{IsRuntime}
+use Rattle.actor_caller.specs.State.{RuntimeView, closing_at, outside_of}
+use Rattle.actor_caller.specs.Stored.{IsRuntime}
 use Rattle.rt_runtime.specs.WithSinks.{HasPassed, KeepsRefused, MayActAmong, MayActBeside, assembly_of, notes_of}
 use Rattle.rt_runtime.proofs.Dealt.{map_twice, same_maps, together_maps}
 use Rattle.rt_runtime.proofs.Finished.{count, finished_as, least_now, places_now, told}

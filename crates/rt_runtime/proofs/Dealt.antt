@@ -1,6 +1,6 @@
 -- A loop that takes the first of several lists again and again.
 use Rattle.std.proofs.Common.{◌≡◌, ℕ, ◌<◌, replicate, List, [], ◌∷◌, ◌++◌, length, map, get_or, refl, sym, ◌∙◌, ap, subst, arith, append_assoc}
-use Rattle.std.specs.Prelude.{All, IfOk, Result, Ok, Err, Some, remove, slice_get}
+use Rattle.std.specs.Prelude.{All, IfOk, Result, Ok, Err, remove}
 use Rattle.std.proofs.lemmas.List.{get_or-map, length-map, map-append}
 use Rattle.rt_runtime_team.specs.Works.{Together}
 
@@ -62,8 +62,3 @@ map_twice f g (x ∷ xs) = ap (λ rest. f (g x) ∷ rest) (map_twice f g xs)
 pub made_with_last : {A B C : Type 0} (f : B → C) (g : A → B) (xs : List A) (front all : List B) (last : B) → map g xs ≡ front → all ≡ front ++ last ∷ [] → map (λ x. f (g x)) xs ++ f last ∷ [] ≡ map f all
 made_with_last f g xs front all last are split =
     ap (λ made. made ++ f last ∷ []) (sym (map_twice f g xs) ∙ ap (map f) are) ∙ (sym (map-append f front (last ∷ [])) ∙ ap (map f) (sym split))
-
--- what stands behind a list, at the place of another that is as long
-pub last_of : {A B C : Type 0} (f : A → B) (g : A → C) (xs : List A) (last : C) → slice_get (map g xs ++ last ∷ []) (length (map f xs)) ≡ Some last
-last_of f g [] last = refl
-last_of f g (x ∷ xs) last = last_of f g xs last

@@ -26,11 +26,10 @@ use Rattle.rt_runtime_worker.specs.Rooms.{least_free}
 use Rattle.rt_runtime_worker.specs.Together.{HaveEnded, EndedAreJoined, desk_among, all_ends}
 use Rattle.actor_seat.specs.Together.{no_linked, worker_at}
 use Rattle.rt_runtime_worker.proofs.Ending.{before_last, at_last}
-use Rattle.rt_runtime.specs.State.{RuntimeView, outside_of, closing_at}
-use Rattle.rt_runtime.specs.Stored.{IsRuntime}
-use Rattle.rt_runtime.specs.Calls.{HasFinishedBy, IsFirstOpen}
-use Rattle.rt_runtime.specs.Finishing.{IsFirstOpenOf}
-use Rattle.rt_runtime.specs.Watching.{watch_at}
+use Rattle.actor_caller.specs.State.{RuntimeView, outside_of, closing_at}
+use Rattle.actor_caller.specs.Stored.{IsRuntime}
+use Rattle.rt_runtime.specs.Calls.{HasFinishedBy}
+use Rattle.actor_caller.specs.Watching.{watch_at}
 use Rattle.rt_watch.specs.Growth.{Grows}
 use Rattle.rt_runtime.proofs.Fitting.{all_fit}
 use Rattle.rt_runtime.proofs.Orders.{are_its_orders, its_orders}
@@ -176,13 +175,3 @@ module _ {J : Type 0} (meaning : Meaning J ℕ) (view : RuntimeView J ℕ) (is :
         subst (HasFinishedBy meaning may view)
         (λ i. record { cores = (sym same_cores) i; cap = (sym same_cap) i; burst = (sym same_burst) i; journals = (sym journals_are) i })
         (finished (subst (λ cores. AreReunited (Fits meaning) cores (all_ends ended (outside_of view))) same_cores (subst (AreReunited (Fits meaning) cores) ends_are reunited)) joined_law sound_law spelled_law closed)
-
--- the first core that is told as open is the first that the caller didn't close
-pub first_open_of : {J T : Type 0} {fits : Order J → Outcome J T → Type 0} (inside view : RuntimeView J T) (core : ℕ) → inside ≡ view → IsRuntime fits inside → IsFirstOpenOf inside.closing (Some core) → IsFirstOpen core view
-first_open_of inside view core seen is found =
-    subst (IsFirstOpen core) seen
-    (record {
-      known = omega (arith, found.0, is.closings);
-      not_closed = found.1;
-      before = found.2;
-    })

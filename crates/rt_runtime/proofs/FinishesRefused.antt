@@ -15,7 +15,7 @@ use Rattle.rt_runtime.specs.declared.passed.ActorNotes.{ActorNotes}
 use Rattle.rt_runtime.specs.declared.passed.Passed.{Passed}
 use Rattle.rt_runtime.specs.Calls.{Finishes, HasFinishedBy}
 use Rattle.rt_runtime.specs.Outcomes.{AllHaveOutcomes, AreItsOrders, Orders}
-use Rattle.rt_runtime.specs.State.{RuntimeView, closing_at, submitted_under}
+use Rattle.actor_caller.specs.State.{RuntimeView, closing_at, submitted_under}
 use Rattle.rt_runtime.specs.WithSinks.{HasPassed, KeepsRefused}
 
 module _ {J : Type 0} (meaning : Meaning J ℕ) (view : RuntimeView J ℕ) where

@@ -26,7 +26,7 @@ use Rattle.rt_runtime_worker.specs.Together.{HaveEnded, all_ends, desk_among}
 use Rattle.rt_runtime_worker.proofs.Ending.{ended_together}
 use Rattle.rt_runtime.specs.Outcomes.{AllFitTheirOrders, FitsItsOrder, Orders}
 use Rattle.rt_runtime.proofs.Orders.{at_number, at_number_is, its_orders, out_under}
-use Rattle.rt_runtime.specs.State.{RuntimeView, outside_of}
+use Rattle.actor_caller.specs.State.{RuntimeView, outside_of}
 use Rattle.rt_link.specs.Fits.{Fits}
 
 -- the outcome that stands first under a name, among outcomes of one link

@@ -1,17 +1,9 @@
 pub mod Orders
 pub mod Fitting
 pub mod Outcomes
-pub mod Idle
-pub mod InARow
-pub mod Vain
-pub mod WaitedOnce
-mod WaitsRefused
 mod LocalsRefused
 mod StartsRefused
-mod SendsRefused
-mod TicketsRefused
 mod FinishesRefused
-mod WatchesRefused
 pub mod Polled
 pub mod PollsOwed
 mod PollsRefused
@@ -19,15 +11,8 @@ pub mod Finished
 pub mod AllPassed
 pub mod WholeJournals
 pub mod SinksTold
-pub mod Booked
-pub mod HandedOn
 pub mod Dealt
 pub mod Watched
 pub mod Started
-pub mod Collected
-pub mod Sent
-mod Closing
-pub mod Redeemed
-mod OrdersBack
 pub mod Crosses
 pub mod WrongAnswers

@@ -2,7 +2,7 @@
 use Rattle.std.proofs.Common.{ℕ, ◌<◌, List, arith}
 use Rattle.std.specs.Prelude.{Ok}
 use Rattle.rt_runtime_config.specs.Configs.{Entry}
-use Rattle.rt_runtime.specs.State.{RuntimeView}
+use Rattle.actor_caller.specs.State.{RuntimeView}
 use Rattle.rt_runtime.specs.WithLocals.{StartsWithLocals, StartsWithSinksAndLocals}
 
 module _ {J T : Type 0} (cores cap burst room : ℕ) (queues : List Entry) (clocks gates sinks locals : ℕ) (view : RuntimeView J T) (few : locals < cores) where

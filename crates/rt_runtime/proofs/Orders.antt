@@ -21,7 +21,7 @@ use Rattle.rt_runtime_worker.specs.Together.{HaveEnded, all_ends, desk_among}
 use Rattle.actor_seat.specs.Together.{no_linked}
 use Rattle.rt_runtime_worker.proofs.Ending.{at_last, ended_together}
 use Rattle.rt_runtime.specs.Outcomes.{AreItsOrders, Orders}
-use Rattle.rt_runtime.specs.State.{RuntimeView, outside_of}
+use Rattle.actor_caller.specs.State.{RuntimeView, outside_of}
 
 module _ {J : Type 0} where
   -- the order of a number on a link, where numbers count from 1

@@ -24,7 +24,7 @@ use Rattle.rt_link.specs.Fits.{Fits}
 use Rattle.rt_jobs.specs.Meanings.{Meaning}
 use Rattle.rt_runtime.specs.Laws.{IsToldOf, SubmittedOrdersAreTold}
 use Rattle.rt_runtime.specs.Outcomes.{AllHaveOutcomes, AreItsOrders, FitsItsOrder, Orders}
-use Rattle.rt_runtime.specs.State.{RuntimeView}
+use Rattle.actor_caller.specs.State.{RuntimeView}
 use Rattle.rt_runtime.proofs.WrongAnswers.{the_callers}
 
 module _ {T : Type 0} (name : JobId) where

@@ -26,7 +26,7 @@ use Rattle.rt_runtime_worker.specs.Together.{HaveEnded, all_ends, desk_among}
 use Rattle.actor_seat.specs.Together.{no_linked, worker_at}
 use Rattle.rt_runtime_worker.proofs.Ending.{before_last, ended_together}
 use Rattle.rt_runtime.specs.Outcomes.{AllPollsAreOwed, seen_at_end}
-use Rattle.rt_runtime.specs.State.{RuntimeView, outside_of}
+use Rattle.actor_caller.specs.State.{RuntimeView, outside_of}
 use Rattle.rt_runtime.proofs.Orders.{at_number, at_place, its_orders}
 
 -- a gate that is shut is told with the number of the last order

@@ -11,7 +11,7 @@ use Rattle.rt_jobs.specs.declared.job.Step.TheVariants.{Yield}
 use Rattle.rt_journal.specs.Polls.{polls_made}
 use Rattle.rt_runtime.specs.Laws.{TellsPoll}
 use Rattle.rt_runtime.specs.Outcomes.{TellsOrders}
-use Rattle.rt_runtime.specs.State.{RuntimeView}
+use Rattle.actor_caller.specs.State.{RuntimeView}
 use Rattle.rt_runtime.proofs.PollsOwed.{unowed_polls_refused}
 
 -- work that is a number of yields, and then answers

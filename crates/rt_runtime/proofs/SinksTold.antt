@@ -8,7 +8,7 @@ use Rattle.rt_jobs.specs.Meanings.{Meaning}
 use Rattle.rt_runtime_worker.specs.Rooms.{ActsByCommand}
 use Rattle.rt_runtime.specs.declared.passed.ActorNotes.{ActorNotes}
 use Rattle.rt_runtime.specs.SinkLaws.{NeverRefused, NeverRefusedNeverShort}
-use Rattle.rt_runtime.specs.State.{RuntimeView}
+use Rattle.actor_caller.specs.State.{RuntimeView}
 use Rattle.rt_runtime.specs.WithSinks.{MayActBeside, assembly_of}
 
 -- what holds of all holds of what stands at a place

@@ -23,9 +23,9 @@ use Rattle.actor_seat.specs.OutsideSeats.{IsSeatedOutside}
 use Rattle.rt_runtime_worker.specs.Queues.{creations}
 use Rattle.actor_seat.specs.OutsideSeats.{OutsideView}
 use Rattle.actor_seat.specs.Together.{no_linked, worker_at}
-use Rattle.rt_runtime.specs.Rings.{RingsView}
+use Rattle.actor_caller.specs.Rings.{RingsView}
 use Rattle.rt_watch.specs.declared.watcher.Watching.{Watching}
-use Rattle.rt_runtime.specs.Stored.{IsRuntime}
+use Rattle.actor_caller.specs.Stored.{IsRuntime}
 use Rattle.rt_runtime.specs.Starting.{AreOpening, IsHouse, IsOpenedWith}
 use Rattle.rt_runtime.proofs.Finished.{together_at}
 

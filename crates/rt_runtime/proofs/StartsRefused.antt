@@ -6,8 +6,8 @@ use Rattle.std.proofs.lemmas.List.Elements.{All-head}
 use Rattle.rt_runtime_config.specs.Configs.{Entry, IsGood}
 use Rattle.rt_runtime.specs.declared.error.StartError.TheVariants.{BadConfig, Memory}
 use Rattle.rt_runtime.specs.Calls.{IsStarted, Starts}
-use Rattle.rt_runtime.specs.State.{RuntimeView}
-use Rattle.rt_runtime.specs.Watching.{IsUnseen}
+use Rattle.actor_caller.specs.State.{RuntimeView}
+use Rattle.actor_caller.specs.Watching.{IsUnseen}
 use Rattle.rt_watch.specs.declared.watcher.Watching.{Watching}
 use Rattle.rt_runtime.specs.WithSinks.{HasSinks, StartsWithSinks}
 

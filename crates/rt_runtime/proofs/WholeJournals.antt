@@ -14,7 +14,7 @@ use Rattle.rt_runtime_worker.specs.Rooms.{ActsByCommand, MayAct, least_free}
 use Rattle.rt_runtime.specs.declared.passed.ActorNotes.{ActorNotes}
 use Rattle.rt_runtime.specs.declared.passed.Passed.{Passed}
 use Rattle.rt_runtime.specs.Calls.{HasFinished, HasFinishedBy, MayActWhole}
-use Rattle.rt_runtime.specs.State.{RuntimeView}
+use Rattle.actor_caller.specs.State.{RuntimeView}
 use Rattle.rt_runtime.specs.WithSinks.{HasPassed, MayActAmong, assembly_of, notes_of}
 use Rattle.rt_runtime.proofs.Dealt.{same_maps}
 

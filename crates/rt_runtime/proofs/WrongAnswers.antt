@@ -12,7 +12,7 @@ use Rattle.rt_ids.specs.Outcomes.{outcome_note}
 use Rattle.rt_link.specs.Fits.{Fits}
 use Rattle.rt_runtime.specs.Laws.{TellsAnswer, WrongAnswersAreRefused}
 use Rattle.rt_runtime.specs.Outcomes.{AreItsOrders, FitsItsOrder, Orders, TellsOrders}
-use Rattle.rt_runtime.specs.State.{RuntimeView, submitted_under}
+use Rattle.actor_caller.specs.State.{RuntimeView, submitted_under}
 use Rattle.rt_jobs.specs.Meanings.{Meaning}
 
 one_order : {J : Type 0} (a b : Order J) → Some a ≡ Some b → a ≡ b

@@ -20,8 +20,9 @@ use Rattle.rt_runtime.specs.declared.error.StartError.TheVariants.{BadConfig, Me
 use Rattle.rt_runtime_config.specs.Configs.{Entry, IsGood}
 use Rattle.rt_runtime.specs.Outcomes.{AllFitTheirOrders, AllHaveOutcomes, AllPollsAreOwed, AreItsOrders, Orders, TellsOrders}
 use Rattle.rt_runtime.specs.Starting.{HaveQueues}
-use Rattle.rt_runtime.specs.State.{RuntimeView, closing_at, submitted}
-use Rattle.rt_runtime.specs.Watching.{IsUnseen, SawBeginnings}
+use Rattle.actor_caller.specs.Closings.{IsFirstOpen}
+use Rattle.actor_caller.specs.State.{RuntimeView, closing_at, submitted}
+use Rattle.actor_caller.specs.Watching.{IsUnseen, SawBeginnings}
 
 module _ {J T : Type 0} where
   -- A runtime that was just started. There is a worker for each core, and the outside actor has a fresh end to each. Each core has the queues that
@@ -42,12 +43,6 @@ module _ {J T : Type 0} where
     pub refused : view.refused ≡ false
     pub watched : length view.watched ≡ cores
     pub unseen : All IsUnseen view.watched
-
-  -- this is the first core that the caller didn't close
-  pub record IsFirstOpen (core : ℕ) (view : RuntimeView J T) : Type 0 where
-    pub known : core < view.desk.cores
-    pub not_closed : closing_at core view ≡ false
-    pub before : (other : ℕ) → other < core → closing_at other view ≡ true
 
   -- a start with a good configuration
   abbrev pub Begins : ℕ → ℕ → ℕ → ℕ → List Entry → Result (RuntimeView J T) StartError → Type 0

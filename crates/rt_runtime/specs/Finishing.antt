@@ -1,5 +1,5 @@
 -- What workers leave that have ended.
-use Rattle.std.specs.Prelude.{◌≡◌, ℕ, ◌<◌, Bool, true, false, Option, Some, None, List, length, map, slice_index_or}
+use Rattle.std.specs.Prelude.{◌≡◌, ℕ, List, map}
 use Rattle.rt_ids.specs.Journal.{Journal}
 use Rattle.rt_jobs.specs.Meanings.{Meaning}
 use Rattle.rt_ring_mesh.specs.Ends.{EndsView}
@@ -7,11 +7,6 @@ use Rattle.rt_runtime_team.specs.Works.{Together}
 use Rattle.rt_runtime_worker.specs.Ended.{EndedView, HasEnded}
 use Rattle.rt_runtime.specs.declared.passed.ActorNotes.{ActorNotes}
 use Rattle.rt_runtime.specs.WithSinks.{KeepsRefused, notes_of}
-
--- no place before this one is open, and this one is; or none is
-abbrev pub IsFirstOpenOf : List Bool → Option ℕ → Type 0
-IsFirstOpenOf closing None = (core : ℕ) → core < length closing → slice_index_or closing core false ≡ true
-IsFirstOpenOf closing (Some core) = (core < length closing) × (slice_index_or closing core false ≡ false) × ((other : ℕ) → other < core → slice_index_or closing other false ≡ true)
 
 module _ {J S : Type 0} (meaning : Meaning J ℕ) (has : S → Journal ℕ) (refused : S → ℕ → Type 0) where
   -- the notes of this worker, which has ended: what its sink has, and what is kept behind it

@@ -1,12 +1,10 @@
 -- Laws over the definitions alone.
-use Rattle.std.specs.Prelude.{◌≡◌, ℕ, ◌+◌, ◌<◌, Bool, true, List, ◌∷◌, ◌++◌, Option, Some, Result, Ok, Err}
+use Rattle.std.specs.Prelude.{◌≡◌, ℕ, ◌+◌, ◌<◌, Bool, List, ◌∷◌, ◌++◌, Option, Some}
 use Rattle.rt_ids.specs.declared.names.JobId.{JobId}
 use Rattle.rt_ids.specs.declared.note.OutcomeNote.TheVariants.{Finished}
 use Rattle.rt_ids.specs.declared.order.Order.{Order}
 use Rattle.rt_ids.specs.declared.order.Order.TheVariants.{Job}
 use Rattle.rt_ids.specs.declared.order.Outcome.{Outcome}
-use Rattle.rt_ids.specs.declared.order.SendError.{SendError}
-use Rattle.rt_ids.specs.declared.order.SendError.TheVariants.{Closed}
 use Rattle.rt_ids.specs.Assembly.{Assembly, journal_of, outcome_of}
 use Rattle.rt_ids.specs.Journal.{Journal}
 use Rattle.rt_ids.specs.Outcomes.{outcome_note}
@@ -17,11 +15,8 @@ use Rattle.rt_jobs.specs.declared.job.Step.{Step}
 use Rattle.rt_core.specs.Whole.{settled_of}
 use Rattle.rt_journal.specs.OwedPolls.{IsPollOf}
 use Rattle.rt_journal.specs.Polls.{polls_made, settle_note}
-use Rattle.rt_runtime.specs.declared.error.SubmitError.{SubmitError}
-use Rattle.rt_runtime.specs.Errors.{refused_order}
 use Rattle.rt_runtime.specs.Outcomes.{TellsOrders, seen_at_end}
-use Rattle.rt_runtime.specs.Sends.{SendsTo, SubmitsTo}
-use Rattle.rt_runtime.specs.State.{RuntimeView, is_told_shut, submitted_under}
+use Rattle.actor_caller.specs.State.{RuntimeView, submitted_under}
 
 module _ {J : Type 0} where
   -- the caller submitted this job under this name, and the journals tell that it is done with this answer
@@ -73,21 +68,3 @@ module _ {J : Type 0} where
   SubmittedOrdersAreTold meaning =
       (view : RuntimeView J ℕ) (assembly : Assembly ℕ) (name : JobId) (order : Order J) → name.from ≡ view.desk.cores → name.to < view.desk.cores → 0 < name.number →
       submitted_under name view ≡ Some order → TellsOrders meaning view assembly → IsToldOf meaning assembly name order
-
-  -- the answer is that the core is closed
-  abbrev pub IsClosed : Result JobId (SendError J) → Type 0
-  IsClosed (Ok name) = ⊥
-  IsClosed (Err (Closed back final)) = Unit {0}
-  IsClosed (Err _) = ⊥
-
--- a send that is answered `Closed` found the gate shut, and each send behind one that found it shut is answered so
-abbrev pub ClosedStaysClosed : Type 0 → Type 0
-ClosedStaysClosed J =
-    (core : ℕ) (order : Order J) (old : RuntimeView J ℕ) (answer : Result JobId (SendError J)) (new : RuntimeView J ℕ) → SendsTo core order old answer new →
-    (IsClosed answer → is_told_shut core new ≡ true) × (is_told_shut core old ≡ true → IsClosed answer × (is_told_shut core new ≡ true))
-
--- a submission that is refused gives back the order that was handed in
-abbrev pub RefusedOrdersComeBack : Type 0 → Type 0
-RefusedOrdersComeBack J =
-    (each core : ℕ) (order : Order J) (old : RuntimeView J ℕ) (error : SubmitError J) (new : RuntimeView J ℕ) → SubmitsTo each core order old (Err error) new →
-    refused_order error ≡ order

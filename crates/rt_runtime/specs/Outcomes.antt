@@ -13,7 +13,7 @@ use Rattle.rt_jobs.specs.Meanings.{Meaning}
 use Rattle.rt_link.specs.Fits.{Fits}
 use Rattle.rt_journal.specs.OwedPolls.{PollsAreOwed}
 use Rattle.rt_journal.specs.RightAnswers.{Seen}
-use Rattle.rt_runtime.specs.State.{RuntimeView, submitted_under}
+use Rattle.actor_caller.specs.State.{RuntimeView, submitted_under}
 
 -- which order stands under a name, with its job
 abbrev pub Orders : Type 0 → Type 0

@@ -6,7 +6,7 @@ use Rattle.rt_jobs.specs.Meanings.{Meaning}
 use Rattle.rt_runtime_worker.specs.Rooms.{ActsByCommand}
 use Rattle.rt_runtime.specs.declared.passed.ActorNotes.{ActorNotes}
 use Rattle.rt_runtime.specs.declared.passed.Passed.{Passed}
-use Rattle.rt_runtime.specs.State.{RuntimeView}
+use Rattle.actor_caller.specs.State.{RuntimeView}
 use Rattle.rt_runtime.specs.WithSinks.{HasPassed, assembly_of}
 
 module _ {S : Type 0} (refused : S → ℕ → Type 0) where

@@ -1,5 +1,5 @@
 -- What is opened when a runtime is started.
-use Rattle.std.specs.Prelude.{◌≡◌, ℕ, ◌+◌, ◌<◌, ◌≤◌, List, [], ◌∷◌, ◌++◌, length, map}
+use Rattle.std.specs.Prelude.{◌≡◌, ℕ, ◌+◌, ◌<◌, ◌≤◌, List, [], ◌∷◌, ◌++◌, length, map, replicate}
 use Rattle.rt_runtime_config.specs.Configs.{Entry, least_room, queues_of}
 use Rattle.rt_ring_mesh.specs.Ends.{EndsView, AreFresh}
 use Rattle.rt_ring_mesh.specs.Grid.{IsGrid}
@@ -8,6 +8,9 @@ use Rattle.actor_seat.specs.Opening.{AreEndsOf, IsOpenedOver, IsWorkerOf}
 use Rattle.rt_runtime_worker.specs.Queues.{creations}
 use Rattle.actor_seat.specs.Together.{worker_at}
 use Rattle.rt_runtime_worker.specs.Workers.{WorkerView}
+use Rattle.rt_watch.specs.declared.watcher.Watching.{Watching}
+use Rattle.actor_caller.specs.State.{RuntimeView}
+use Rattle.actor_caller.specs.Watching.{IsUnseen}
 
 -- a journal has room for the queues that a core is to have, and for what a worker needs
 abbrev pub IsRoomFor : ℕ → ℕ → ℕ → ℕ → List Entry → ℕ → Type 0
@@ -32,6 +35,30 @@ module _ {J T : Type 0} where
     pub sink_is : worker.sink ≡ sink
     pub bells_are : worker.bells ≡ names
     pub tries_are : worker.tries ≡ 1024
+
+  -- so many workers have these clocks, gates and sinks in their order, ring the bells of these names, and try 1024 times before they park
+  pub record AreWired {C G S : Type 0} (count : ℕ) (clocks : List C) (gates : List G) (sinks : List S) (names : List ℕ) (workers : List (WorkerView J T C G S)) : Type 0 where
+    pub clocks_are : map (λ worker. worker.clock) workers ≡ clocks
+    pub gates_are : map (λ worker. worker.gate) workers ≡ gates
+    pub sinks_are : map (λ worker. worker.sink) workers ≡ sinks
+    pub bells_are : map (λ worker. worker.bells) workers ≡ replicate count names
+    pub tries_are : map (λ worker. worker.tries) workers ≡ replicate count 1024
+
+  -- The threads of this runtime were given these workers, which have these clocks and gates in their order. They have the sinks, too, and the last one is left.
+  pub record AreGiven {C G S : Type 0} (view : RuntimeView J T) (clocks : List C) (gates : List G) (sinks : List S) (given : List (WorkerView J T C G S)) : Type 0 where
+    pub workers_are : view.workers ≡ map (λ worker. worker.linked) given
+    pub bells_are : view.bells ≡ map (λ worker. worker.bells) given
+    pub tries_are : view.tries ≡ map (λ worker. worker.tries) given
+    pub clocks_are : map (λ worker. worker.clock) given ≡ clocks
+    pub gates_are : map (λ worker. worker.gate) given ≡ gates
+    pub last : S
+    pub sinks_are : sinks ≡ map (λ worker. worker.sink) given ++ last ∷ []
+
+  -- the watcher of this worker's board, which saw nothing yet
+  pub record IsWatcherOf {C G S : Type 0} (worker : WorkerView J T C G S) (watcher : Watching) : Type 0 where
+    pub board : watcher.board ≡ worker.shown.board
+    pub terms_are : watcher.terms ≡ worker.shown.terms
+    pub unseen : IsUnseen watcher
 
   -- the journal of each worker tells of the queues of its core and of nothing else
   abbrev pub HaveQueues : ℕ → List Entry → List (LinkedView J T) → Type 0

@@ -5,7 +5,7 @@ use Rattle.rt_runtime.specs.declared.error.StartError.{StartError}
 use Rattle.rt_runtime.specs.declared.error.StartError.TheVariants.{BadConfig}
 use Rattle.rt_runtime.specs.Calls.{Starts}
 use Rattle.rt_runtime.specs.WithSinks.{StartsWithSinks}
-use Rattle.rt_runtime.specs.State.{RuntimeView}
+use Rattle.actor_caller.specs.State.{RuntimeView}
 
 -- a start with so many states: one for each core is wanted, and otherwise the configuration is not good
 abbrev pub StartsWithLocals : {J T : Type 0} → ℕ → ℕ → ℕ → ℕ → List Entry → ℕ → ℕ → ℕ → Result (RuntimeView J T) StartError → Type 0

@@ -12,8 +12,9 @@ use Rattle.rt_runtime.specs.declared.error.StartError.{StartError}
 use Rattle.rt_runtime.specs.declared.error.StartError.TheVariants.{BadConfig}
 use Rattle.rt_runtime.specs.declared.passed.ActorNotes.{ActorNotes}
 use Rattle.rt_runtime.specs.declared.passed.Passed.{Passed}
-use Rattle.rt_runtime.specs.Calls.{HasFinishedBy, IsFirstOpen, Starts}
-use Rattle.rt_runtime.specs.State.{RuntimeView}
+use Rattle.rt_runtime.specs.Calls.{HasFinishedBy, Starts}
+use Rattle.actor_caller.specs.Closings.{IsFirstOpen}
+use Rattle.actor_caller.specs.State.{RuntimeView}
 
 -- a start with so many sinks: one for each core and one for the outside actor are wanted, and otherwise the configuration is not good
 abbrev pub StartsWithSinks : {J T : Type 0} → ℕ → ℕ → ℕ → ℕ → List Entry → ℕ → ℕ → ℕ → Result (RuntimeView J T) StartError → Type 0

@@ -5,9 +5,9 @@ ghost use Rattle.rt_ring_mesh.specs.Grid.{IsGrid, AreReunited};
 ghost use Rattle.rt_journal_notes.specs.Passing.{IsAsked};
 ghost use Rattle.rt_link.specs.Fits.{Fits};
 ghost use Rattle.rt_runtime.specs.Calls.{Finishes};
-ghost use Rattle.rt_runtime.specs.State.{closing_at};
-ghost use Rattle.rt_runtime.specs.Finishing.{IsFirstOpenOf, IsPart, Parts};
-ghost use Rattle.rt_runtime.specs.Watching.{watch_at};
+ghost use Rattle.actor_caller.specs.State.{closing_at};
+ghost use Rattle.rt_runtime.specs.Finishing.{IsPart, Parts};
+ghost use Rattle.actor_caller.specs.Watching.{watch_at};
 ghost use Rattle.actor_seat.specs.Together.{worker_at};
 ghost use Rattle.rt_watch.specs.Growth.{Grows};
 ghost use Rattle.rt_runtime.specs.WithLocals.{without_locals};
@@ -15,8 +15,7 @@ ghost use Rattle.rt_runtime.specs.WithSinks.{FinishesWithSinks, HasPassed, Keeps
 
 use crate::error::FinishError;
 use crate::passed::{ActorNotes, Passed};
-use crate::runtime::Runtime;
-use rt_ids::CoreNo;
+use crate::runtime::{Crew, Runtime};
 use rt_ids::laws::{joined_are_spelled, joining_is_sound};
 use rt_jobs::{Job, Task};
 use rt_journal::RecordedDesk;
@@ -117,19 +116,6 @@ fn part_outside<J: Task<Out = u64>, S: Sink>(desk: RecordedDesk<J>, sink: S) -> 
     ActorNotes { sink, kept }
 }
 
-/// The first core that the caller didn't close.
-fn first_open(cores: u8, closing: &[bool]) -> Option<u8>
-    requires { length closing.now ≡ cores }
-    ensures { IsFirstOpenOf closing.now result }
-{
-    for core in 0..cores {
-        if !closing[core as usize] {
-            return Some(core);
-        }
-    }
-    None
-}
-
 /// The journals of actors that passed nothing on, together.
 fn whole_assembly(passed: Passed<Whole>, journals: Vec<Journal<u64>>) -> Assembly
     requires none { journals.items ≡ [] }
@@ -157,29 +143,27 @@ type Over<S, L> = (Passed<S>, Vec<Journal<u64>>, Vec<L>);
 impl<J: Job + Task<Out = u64>, C: Clock + Drop, G: Gate + Drop, S: Sink> Runtime<J, C, G, S> {
     /// Waits until all workers have ended, and ends the links. Room for the journals comes back beside the notes.
     fn end<R: Threads + Wait>(self, rt: &R) -> Over<S, J::Local>
-        requires { (core : ℕ) → core < length self.closing → closing_at core self ≡ true }
+        requires { (core : ℕ) → core < self.desk.cores → closing_at core self ≡ true }
         ensures passed { HasPassed J.meaning S.has S.refused S.asks S.mark self result.0 }
         ensures none { result.1.items ≡ [] }
         ensures room { length result.0.actors.items ≤ vec_capacity result.1 }
         ensures locals { length result.2.items ≡ self.desk.cores }
     {
-        let Runtime {
-            cores,
-            cap,
-            outside,
-            sink,
+        let caller = self.into_caller();
+        let cores = caller.cores();
+        let (outside, sink, crew, watchers) = caller.into_parts();
+        let cap = outside.cap();
+        let Crew {
             team,
-            watchers,
-            spare_ends,
-            spare_actors,
-            spare_journals,
-            spare_locals,
-            ..
-        } = self;
+            ends,
+            actors,
+            journals,
+            locals,
+        } = crew;
         let mut watchers = watchers;
         let mut ended = team.join(rt);
         compare_all(&mut ended, &mut watchers);
-        let (mut all, mut actors, locals) = part_all(ended, spare_ends, spare_actors, spare_locals);
+        let (mut all, mut actors, locals) = part_all(ended, ends, actors, locals);
         let (desk, ends) = outside.into_parts();
         let burst = desk.burst();
         all.push_reserved(ends);
@@ -195,7 +179,7 @@ impl<J: Job + Task<Out = u64>, C: Clock + Drop, G: Gate + Drop, S: Sink> Runtime
             burst,
             actors,
         };
-        (passed, spare_journals, locals)
+        (passed, journals, locals)
     }
 
     /// Waits until all workers have ended. The notes of each actor come back: its sink, and what the sink refused. The body asks for no
@@ -210,12 +194,9 @@ impl<J: Job + Task<Out = u64>, C: Clock + Drop, G: Gate + Drop, S: Sink> Runtime
     ) -> Result<Passed<S>, FinishError<Self>>
         ensures { FinishesWithSinks J.meaning S.has S.refused S.asks S.mark self result }
     {
-        match first_open(self.cores, &self.closing) {
-            Some(core) => Err(FinishError::NotClosed(CoreNo(core), self)),
-            None => {
-                let (passed, _journals, _locals) = self.end(rt);
-                Ok(passed)
-            }
+        match self.finish_with_sinks_and_locals(rt) {
+            Ok((passed, _locals)) => Ok(passed),
+            Err(error) => Err(error),
         }
     }
 
@@ -231,8 +212,8 @@ impl<J: Job + Task<Out = u64>, C: Clock + Drop, G: Gate + Drop, S: Sink> Runtime
         ensures finishes { FinishesWithSinks J.meaning S.has S.refused S.asks S.mark self (without_locals result) }
         ensures locals { IfOk result (λ both. length both.1.items ≡ self.desk.cores) }
     {
-        match first_open(self.cores, &self.closing) {
-            Some(core) => Err(FinishError::NotClosed(CoreNo(core), self)),
+        match self.caller.first_open() {
+            Some(core) => Err(FinishError::NotClosed(core, self)),
             None => {
                 let (passed, _journals, locals) = self.end(rt);
                 Ok((passed, locals))
@@ -250,12 +231,9 @@ impl<J: Job + Task<Out = u64>, C: Clock + Drop, G: Gate + Drop> Runtime<J, C, G>
     pub fn finish<R: Threads + Wait>(self, rt: &R) -> Result<Assembly, FinishError<Self>>
         ensures { Finishes J.meaning self result }
     {
-        match first_open(self.cores, &self.closing) {
-            Some(core) => Err(FinishError::NotClosed(CoreNo(core), self)),
-            None => {
-                let (passed, journals, _locals) = self.end(rt);
-                Ok(whole_assembly(passed, journals))
-            }
+        match self.finish_with_locals(rt) {
+            Ok((assembly, _locals)) => Ok(assembly),
+            Err(error) => Err(error),
         }
     }
 
@@ -271,8 +249,8 @@ impl<J: Job + Task<Out = u64>, C: Clock + Drop, G: Gate + Drop> Runtime<J, C, G>
         ensures finishes { Finishes J.meaning self (without_locals result) }
         ensures locals { IfOk result (λ both. length both.1.items ≡ self.desk.cores) }
     {
-        match first_open(self.cores, &self.closing) {
-            Some(core) => Err(FinishError::NotClosed(CoreNo(core), self)),
+        match self.caller.first_open() {
+            Some(core) => Err(FinishError::NotClosed(core, self)),
             None => {
                 let (passed, journals, locals) = self.end(rt);
                 Ok((whole_assembly(passed, journals), locals))

@@ -6,15 +6,9 @@ pub mod error;
 mod finishing;
 pub mod laws;
 pub mod passed;
-mod passing;
-mod quiet;
-mod rings;
 pub mod runtime;
 mod starting;
 mod starts;
-mod tickets;
-mod waiting;
-mod watching;
 
 pub use error::{FinishError, StartError, SubmitError};
 pub use passed::{ActorNotes, Passed};

@@ -1,19 +1,18 @@
 //! How a house is opened, and its threads begin.
 
-ghost use Rattle.std.specs.Prelude.{◌≡◌, ◌+◌, ◌≤◌, ◌++◌, All, [], ◌∷◌, false, IfOk, length, map, replicate, vec_capacity};
+ghost use Rattle.std.specs.Prelude.{◌≡◌, ◌+◌, ◌<◌, ◌≤◌, All, [], ◌∷◌, false, IfOk, length, map, replicate, vec_capacity};
 ghost use Rattle.rt_runtime_config.specs.Configs.{IsGood};
 ghost use Rattle.rt_runtime_team.specs.Works.{Together};
 ghost use Rattle.rt_journal_desk.specs.Submissions.{IsWritten, opened_desk, terms_of_desk};
 ghost use Rattle.rt_runtime.specs.Calls.{Begins};
-ghost use Rattle.rt_runtime.specs.Starting.{AreOpening, IsHouse, IsOpenedWith, IsWiredWith};
-ghost use Rattle.rt_runtime.specs.Watching.{IsWatcherOf};
+ghost use Rattle.rt_runtime.specs.Starting.{AreGiven, AreOpening, AreWired, IsHouse, IsOpenedWith, IsWatcherOf, IsWiredWith};
 ghost use Rattle.rt_runtime.specs.WithLocals.{without_locals};
 ghost use Rattle.rt_runtime.specs.WithSinks.{HasSinks};
 
 use crate::error::StartError;
 use crate::passed::ActorNotes;
-use crate::rings::Rings;
-use crate::runtime::Runtime;
+use crate::runtime::{Crew, Runtime};
+use actor_caller::Caller;
 use rt_ids::ActorNo;
 use rt_jobs::{Job, Task};
 use rt_journal::RecordedDesk;
@@ -36,6 +35,37 @@ struct Seat<J: Task<Out = u64>, C: Drop, G: Drop, S: Sink> {
     gate: G,
     sink: S,
     local: J::Local,
+}
+
+/// The seat of these ends, with the first clock, gate, sink and shared state that are left.
+fn next_seat<J: Task<Out = u64>, C: Drop, G: Drop, S: Sink>(
+    ends: Ends<J>,
+    clocks: &mut Vec<C>,
+    gates: &mut Vec<G>,
+    sinks: &mut Vec<S>,
+    locals: &mut Vec<J::Local>,
+) -> Seat<J, C, G, S>
+    requires clocks { 0 < length clocks.old.items }
+    requires gates { 0 < length gates.old.items }
+    requires sinks { 0 < length sinks.old.items }
+    requires locals { 0 < length locals.old.items }
+    ensures ends { result.ends ≡ ends }
+    ensures clocks { clocks.old.items ≡ result.clock ∷ clocks.new.items }
+    ensures gates { gates.old.items ≡ result.gate ∷ gates.new.items }
+    ensures sinks { sinks.old.items ≡ result.sink ∷ sinks.new.items }
+    ensures locals { locals.old.items ≡ result.local ∷ locals.new.items }
+{
+    let clock = clocks.remove(0);
+    let gate = gates.remove(0);
+    let sink = sinks.remove(0);
+    let local = locals.remove(0);
+    Seat {
+        ends,
+        clock,
+        gate,
+        sink,
+        local,
+    }
 }
 
 /// Deals the clocks, the gates, the sinks and the shared states: the actor at each place gets those of its place.
@@ -61,16 +91,8 @@ fn deal<J: Task<Out = u64>, C: Drop, G: Drop, S: Sink>(
     let (mut clocks, mut gates, mut sinks) = (clocks, gates, sinks);
     let mut locals = locals;
     for ends in all {
-        let (clock, gate) = (clocks.remove(0), gates.remove(0));
-        let sink = sinks.remove(0);
-        let local = locals.remove(0);
-        seats.push_reserved(Seat {
-            ends,
-            clock,
-            gate,
-            sink,
-            local,
-        });
+        let seat = next_seat(ends, &mut clocks, &mut gates, &mut sinks, &mut locals);
+        seats.push_reserved(seat);
     }
     Ok(seats)
 }
@@ -127,11 +149,7 @@ fn open_workers<J: Task<Out = u64>, C: Drop, G: Drop, S: Sink>(
     requires locals { length locals.items ≡ length all.items }
     requires empty { All (λ sink. S.has sink ≡ []) sinks.items }
     ensures opened { IfOk result (λ opened. Together (IsOpenedWith config.now.cores config.now.cap config.now.burst config.now.room config.now.queues.items) all.items (map (λ worker. worker.linked) opened.0.items)) }
-    ensures clocks { IfOk result (λ opened. map (λ worker. worker.clock) opened.0.items ≡ clocks.items) }
-    ensures gates { IfOk result (λ opened. map (λ worker. worker.gate) opened.0.items ≡ gates.items) }
-    ensures sinks { IfOk result (λ opened. map (λ worker. worker.sink) opened.0.items ≡ sinks.items) }
-    ensures bells { IfOk result (λ opened. map (λ worker. worker.bells) opened.0.items ≡ map (λ ends. bells.now.names) all.items) }
-    ensures tries { IfOk result (λ opened. map (λ worker. worker.tries) opened.0.items ≡ map (λ ends. 1024) all.items) }
+    ensures wired { IfOk result (λ opened. AreWired (length all.items) clocks.items gates.items sinks.items bells.now.names opened.0.items) }
     ensures watchers { IfOk result (λ opened. Together IsWatcherOf opened.0.items opened.1.items) }
 {
     let seats = deal(alloc, all, clocks, gates, sinks, locals)?;
@@ -155,11 +173,7 @@ fn open_house<J: Task<Out = u64>, C: Drop, G: Drop, S: Sink>(
     requires locals { length locals.items ≡ config.now.cores }
     requires empty { All (λ sink. S.has sink ≡ []) sinks.items }
     ensures house { IfOk result (λ house. IsHouse config.now.cores config.now.cap config.now.burst config.now.room config.now.queues.items (map (λ worker. worker.linked) house.0.items) house.2) }
-    ensures clocks { IfOk result (λ house. map (λ worker. worker.clock) house.0.items ≡ clocks.items) }
-    ensures gates { IfOk result (λ house. map (λ worker. worker.gate) house.0.items ≡ gates.items) }
-    ensures sinks { IfOk result (λ house. map (λ worker. worker.sink) house.0.items ≡ sinks.items) }
-    ensures shared { IfOk result (λ house. map (λ worker. worker.bells) house.0.items ≡ replicate config.now.cores house.1.names) }
-    ensures tries { IfOk result (λ house. map (λ worker. worker.tries) house.0.items ≡ replicate config.now.cores 1024) }
+    ensures wired { IfOk result (λ house. AreWired config.now.cores clocks.items gates.items sinks.items house.1.names house.0.items) }
     ensures bells { IfOk result (λ house. house.1.rings ≡ replicate (config.now.cores + 1) 0) }
     ensures watchers { IfOk result (λ house. Together IsWatcherOf house.0.items house.3.items) }
 {
@@ -248,12 +262,7 @@ impl<J: Task<Out = u64>, C: Drop, G: Drop, S: Sink> Runtime<J, C, G, S> {
         requires empty { All (λ sink. S.has sink ≡ []) sinks.items }
         ensures begins { Begins config.now.cores config.now.cap config.now.burst config.now.room config.now.queues.items (without_locals result) }
         ensures dealt { IfOk result (λ begun. HasSinks S.asks S.mark sinks.items begun.0) }
-        ensures workers { IfOk result (λ begun. begun.0.workers ≡ map (λ worker. worker.linked) begun.1.value.items) }
-        ensures bells { IfOk result (λ begun. begun.0.bells ≡ map (λ worker. worker.bells) begun.1.value.items) }
-        ensures tries { IfOk result (λ begun. begun.0.tries ≡ map (λ worker. worker.tries) begun.1.value.items) }
-        ensures clocks { IfOk result (λ begun. map (λ worker. worker.clock) begun.1.value.items ≡ clocks.items) }
-        ensures gates { IfOk result (λ begun. map (λ worker. worker.gate) begun.1.value.items ≡ gates.items) }
-        ensures sinks { IfOk result (λ begun. (last : S) × (sinks.items ≡ map (λ worker. worker.sink) begun.1.value.items ++ last ∷ [])) }
+        ensures given { IfOk result (λ begun. AreGiven begun.0 clocks.items gates.items sinks.items begun.1.value.items) }
     {
         let mut sinks = sinks;
         let Some(sink) = sinks.pop() else {
@@ -273,29 +282,30 @@ impl<J: Task<Out = u64>, C: Drop, G: Drop, S: Sink> Runtime<J, C, G, S> {
         ) else {
             return Err(StartError::Memory);
         };
-        let bells = Rings::of(bells, &ends);
         let outside = OutsideSeat::of(desk, ends);
         let given = Snapshot::of(&workers);
         match Team::start(rt, alloc, workers) {
-            Ok(team) => Ok((
-                Runtime {
-                    cores: config.cores,
-                    cap: config.cap,
-                    room: config.room,
+            Ok(team) => {
+                let crew = Crew {
+                    team,
+                    ends: spare_ends,
+                    actors: spare_actors,
+                    journals: spare_journals,
+                    locals: spare_locals,
+                };
+                let caller = Caller::of(
+                    config.cores,
+                    config.cap,
+                    config.room,
                     outside,
                     sink,
-                    refused: false,
                     bells,
                     closing,
-                    team,
                     watchers,
-                    spare_ends,
-                    spare_actors,
-                    spare_journals,
-                    spare_locals,
-                },
-                given,
-            )),
+                    crew,
+                );
+                Ok((Runtime { caller }, given))
+            }
             Err(NotStarted::Memory(_)) => Err(StartError::Memory),
             Err(NotStarted::Thread(_)) => Err(StartError::Thread),
         }

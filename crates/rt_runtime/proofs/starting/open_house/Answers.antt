@@ -1,5 +1,5 @@
-use Rattle.std.proofs.Common.{◌∙◌, map}
-use Rattle.rt_runtime.proofs.Dealt.{same_of_each}
+use Rattle.std.proofs.Common.{map, subst}
+use Rattle.rt_runtime.specs.Starting.{AreWired}
 use Rattle.rt_runtime.proofs.Started.{front_count, may_open, opened_house}
 use Rattle.rt_runtime.proofs.starting.open_house.Goals as goal
 
@@ -13,14 +13,8 @@ returns-clause-house g c =
     opened_house c.args.config.now.cores c.args.config.now.cap c.args.config.now.burst c.args.config.now.room c.args.config.now.queues.items c.in-Ok.all.items c.pop.new.self.items c.in-Some.outside c.in-Some.ensures.items c.in-Ok.ensures.grid c.in-Ok.ensures.fresh
     (map (λ worker. worker.linked) c.in_ok-workers.workers.items) c.in_ok-workers.ensures.opened
 
-pub returns-clause-shared : goal.returns-clause-shared
-returns-clause-shared g c =
-    c.in_ok-workers.ensures.bells
-    ∙ same_of_each _ c.pop.new.self.items c.args.config.now.cores
+pub returns-clause-wired : goal.returns-clause-wired
+returns-clause-wired g c =
+    subst (λ count. AreWired count c.args.clocks.items c.args.gates.items c.args.sinks.items c.in_ok-bells.bells.names c.in_ok-workers.workers.items)
     (front_count c.args.config.now.cores c.args.config.now.cap c.args.config.now.burst c.args.config.now.room c.args.config.now.queues.items c.in-Ok.all.items c.pop.new.self.items c.in-Some.outside c.in-Some.ensures.items c.in-Ok.ensures.grid c.in-Ok.ensures.fresh)
-
-pub returns-clause-tries : goal.returns-clause-tries
-returns-clause-tries g c =
-    c.in_ok-workers.ensures.tries
-    ∙ same_of_each 1024 c.pop.new.self.items c.args.config.now.cores
-    (front_count c.args.config.now.cores c.args.config.now.cap c.args.config.now.burst c.args.config.now.room c.args.config.now.queues.items c.in-Ok.all.items c.pop.new.self.items c.in-Some.outside c.in-Some.ensures.items c.in-Ok.ensures.grid c.in-Ok.ensures.fresh)
+    c.in_ok-workers.ensures.wired

@@ -1,9 +1,8 @@
 use Rattle.std.proofs.Common.{◌≡◌, [], ◌∙◌, ap, sym, subst, arith}
 use Rattle.std.specs.Vec.Iter.{into_iter_items, into_iter_len}
 use Rattle.rt_runtime_team.proofs.Lists.{IsMade, made_all, made_first, made_more, together_length, together_more}
-use Rattle.rt_runtime.specs.Starting.{AreOpening, IsOpenedWith, IsWiredWith}
+use Rattle.rt_runtime.specs.Starting.{AreOpening, IsOpenedWith, IsWatcherOf, IsWiredWith}
 use Rattle.rt_runtime_team.specs.Works.{Together}
-use Rattle.rt_runtime.specs.Watching.{IsWatcherOf}
 use Rattle.rt_runtime.proofs.Started.{holds_next}
 use Rattle.rt_runtime.proofs.starting.open_seats.Goals as goal
 

@@ -1,8 +1,7 @@
 use Rattle.std.proofs.Common.{◌≤◌, length, vec_capacity}
 use Rattle.std.specs.Vec.Iter.{into_iter_items, into_iter_len}
 use Rattle.rt_runtime_team.proofs.Lists.{IsMade}
-use Rattle.rt_runtime.specs.Starting.{IsOpenedWith, IsWiredWith}
-use Rattle.rt_runtime.specs.Watching.{IsWatcherOf}
+use Rattle.rt_runtime.specs.Starting.{IsOpenedWith, IsWatcherOf, IsWiredWith}
 use Rattle.rt_runtime_team.specs.Works.{Together}
 use Rattle.rt_runtime.proofs.starting.open_seats.Given as goal
 

@@ -1,4 +1,4 @@
-use Rattle.std.proofs.Common.{◌≡◌, [], ◌∙◌, length, map, refl, sym, subst, ap}
+use Rattle.std.proofs.Common.{◌≡◌, [], ◌∙◌, length, map, sym, subst, ap}
 use Rattle.std.proofs.lemmas.List.{length-map}
 use Rattle.std.specs.Prelude.{All}
 use Rattle.rt_runtime_team.specs.Works.{Together}
@@ -23,34 +23,16 @@ returns-clause-opened g c =
     (together_maps (λ seat. seat.ends) (λ worker. worker.linked) _ opened_with (λ seat worker wired. wired.linked) c.in_ok-seats.seats.items opened.0.items both))
     c.open_seats.result c.open_seats.ensures.workers
 
-pub returns-clause-clocks : goal.returns-clause-clocks
-returns-clause-clocks g c =
-    if_ok _ _ (λ opened both. same_maps (λ seat. seat.clock) (λ worker. worker.clock) _ (λ seat worker wired. wired.clock_is) c.in_ok-seats.seats.items opened.0.items both ∙ c.in_ok-seats.ensures.clocks)
-    c.open_seats.result c.open_seats.ensures.workers
-
-pub returns-clause-gates : goal.returns-clause-gates
-returns-clause-gates g c =
-    if_ok _ _ (λ opened both. same_maps (λ seat. seat.gate) (λ worker. worker.gate) _ (λ seat worker wired. wired.gate_is) c.in_ok-seats.seats.items opened.0.items both ∙ c.in_ok-seats.ensures.gates)
-    c.open_seats.result c.open_seats.ensures.workers
-
-pub returns-clause-sinks : goal.returns-clause-sinks
-returns-clause-sinks g c =
-    if_ok _ _ (λ opened both. same_maps (λ seat. seat.sink) (λ worker. worker.sink) _ (λ seat worker wired. wired.sink_is) c.in_ok-seats.seats.items opened.0.items both ∙ c.in_ok-seats.ensures.sinks)
-    c.open_seats.result c.open_seats.ensures.workers
-
-pub returns-clause-bells : goal.returns-clause-bells
-returns-clause-bells g c =
+pub returns-clause-wired : goal.returns-clause-wired
+returns-clause-wired g c =
     let names = c.args.bells.now.names in
     let seats = c.in_ok-seats.seats.items in
     let count : length seats ≡ length c.args.all.items = sym (length-map seats (λ seat. seat.ends)) ∙ ap length c.in_ok-seats.ensures.ends in
-    if_ok _ _ (λ opened both. same_maps (λ seat. names) (λ worker. worker.bells) _ (λ seat worker wired. wired.bells_are) seats opened.0.items both
-    ∙ (same_of_each names seats (length c.args.all.items) count ∙ sym (same_of_each names c.args.all.items (length c.args.all.items) refl)))
-    c.open_seats.result c.open_seats.ensures.workers
-
-pub returns-clause-tries : goal.returns-clause-tries
-returns-clause-tries g c =
-    let seats = c.in_ok-seats.seats.items in
-    let count : length seats ≡ length c.args.all.items = sym (length-map seats (λ seat. seat.ends)) ∙ ap length c.in_ok-seats.ensures.ends in
-    if_ok _ _ (λ opened both. same_maps (λ seat. 1024) (λ worker. worker.tries) _ (λ seat worker wired. wired.tries_are) seats opened.0.items both
-    ∙ (same_of_each 1024 seats (length c.args.all.items) count ∙ sym (same_of_each 1024 c.args.all.items (length c.args.all.items) refl)))
+    if_ok _ _ (λ opened both. record {
+      clocks_are = same_maps (λ seat. seat.clock) (λ worker. worker.clock) _ (λ seat worker wired. wired.clock_is) seats opened.0.items both ∙ c.in_ok-seats.ensures.clocks;
+      gates_are = same_maps (λ seat. seat.gate) (λ worker. worker.gate) _ (λ seat worker wired. wired.gate_is) seats opened.0.items both ∙ c.in_ok-seats.ensures.gates;
+      sinks_are = same_maps (λ seat. seat.sink) (λ worker. worker.sink) _ (λ seat worker wired. wired.sink_is) seats opened.0.items both ∙ c.in_ok-seats.ensures.sinks;
+      bells_are = same_maps (λ seat. names) (λ worker. worker.bells) _ (λ seat worker wired. wired.bells_are) seats opened.0.items both ∙ same_of_each names seats (length c.args.all.items) count;
+      tries_are = same_maps (λ seat. 1024) (λ worker. worker.tries) _ (λ seat worker wired. wired.tries_are) seats opened.0.items both ∙ same_of_each 1024 seats (length c.args.all.items) count;
+    })
     c.open_seats.result c.open_seats.ensures.workers

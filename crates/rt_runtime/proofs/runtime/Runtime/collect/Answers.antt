@@ -1,29 +1,6 @@
-use Rattle.std.proofs.Common.{◌<◌, ◌≤◌, ap, arith}
-use Rattle.rt_journal_desk.specs.Spending.{booked}
-use Rattle.rt_runtime.proofs.Booked.{room_to_collect}
-use Rattle.rt_runtime.proofs.Collected.{collects_here}
-use Rattle.rt_runtime.proofs.Sent.{held_on}
+use Rattle.std.proofs.Common.{subst}
+use Rattle.actor_caller.specs.Tickets.{Collects}
 use Rattle.rt_runtime.proofs.runtime.Runtime.collect.Goals as goal
 
-pub collect_from-requires : goal.collect_from-requires
-collect_from-requires g c =
-    let low : c.args.core < c.self.inside.outside.desk.cores = omega (arith, c.if-core-self.false, c.core.view_is, c.self.invariant.2.cores_are) in
-    record { there = low; room = room_to_collect _ c.self.invariant.2.runtime c.args.core low }
-
-pub invariant_of-self : goal.invariant_of-self
-invariant_of-self g c =
-    let did = c.collect_from.ensures in
-    let books : booked c.collect_from.new.self.desk ≤ c.self.inside.outside.desk.journal.room = omega (arith, did.books, c.self.invariant.2.runtime.room_is) in (
-      c.self.invariant.0,
-      c.self.invariant.1,
-      held_on _ c.self.inside.sink c.self.invariant.2 c.args.core c.collect_from.new.self did.uses books c.self.inside.closing.items c.self.invariant.2.runtime.closings c.self.inside.bells c.self.invariant.2.runtime.bells,
-    )
-
 pub returns : goal.returns
-returns g c =
-    let low : c.args.core < c.self.inside.outside.desk.cores = omega (arith, c.if-core-self.false, c.core.view_is, c.self.invariant.2.cores_are) in
-    let did = c.collect_from.ensures in
-    record {
-      there = λ there. collects_here _ c.self.invariant.2.runtime c.args.core low c.collect_from.new.self did.uses c.collect_from.result did.collects did.shown c.args.self.now c.self.view_is;
-      missing = λ past. absurd (omega (arith, past, low, ap (λ view. view.desk.cores) c.self.view_is));
-    }
+returns g c = subst (λ view. Collects c.args.core view c.collect.result c.collect.new.self) c.self.view_is c.collect.ensures

@@ -1,18 +1,11 @@
-use Rattle.std.proofs.Common.{refl, subst}
-use Rattle.std.specs.Prelude.{Some, None}
-use Rattle.rt_runtime.specs.State.{RuntimeView}
-use Rattle.rt_runtime.specs.Finishing.{IsFirstOpenOf}
-use Rattle.rt_runtime.proofs.Finished.{first_open_of}
+use Rattle.std.proofs.Common.{◌≡◌, ◌<◌, ℕ, refl, subst}
+use Rattle.std.specs.Prelude.{true}
+use Rattle.actor_caller.specs.Closings.{IsFirstOpen}
+use Rattle.actor_caller.specs.State.{closing_at}
 use Rattle.rt_runtime.proofs.runtime.Runtime.finish_with_sinks_and_locals.Goals as goal
 
 pub returns-in-Some-clause-finishes : goal.returns-in-Some-clause-finishes
-returns-in-Some-clause-finishes g c = (
-  first_open_of _ c.args.self c.in-Some.core c.self.view_is c.self.invariant.2.runtime
-      (subst (λ closing. IsFirstOpenOf closing (Some c.in-Some.core)) c.deref.ensures.value c.in-Some.ensures),
-  refl,
-)
+returns-in-Some-clause-finishes g c = (subst (IsFirstOpen c.in-Some.core) c.self.view_is c.in-Some.ensures, refl)
 
 pub end-passed-requires : goal.end-passed-requires
-end-passed-requires g c =
-    subst (λ (view : RuntimeView _ _). IsFirstOpenOf view.closing None) c.self.view_is
-    (subst (λ closing. IsFirstOpenOf closing None) c.deref.ensures.value c.in-None.ensures)
+end-passed-requires g c = subst (λ view. (core : ℕ) → core < view.desk.cores → closing_at core view ≡ true) c.self.view_is c.in-None.ensures

@@ -1,17 +1,6 @@
-use Rattle.std.proofs.Common.{[], ◌∷◌, ◌++◌, map, ap}
-use Rattle.rt_runtime.proofs.HandedOn.{held_passed, passes_here}
+use Rattle.std.proofs.Common.{subst}
+use Rattle.actor_caller.specs.Passing.{PassesHere}
 use Rattle.rt_runtime.proofs.runtime.Runtime.pass_on.Goals as goal
 
-pub invariant_of-self : goal.invariant_of-self
-invariant_of-self g c =
-    let did = c.pass_on-answer.ensures in (
-      c.self.invariant.0,
-      c.self.invariant.1,
-      held_passed g.S.Sink.has g.S.Sink.refused _ c.pass_on-answer.new.self did.rest _ _ _ _ _ c.self.invariant.2 did.seated c.pass_on-answer.result c.is_err-self-inside.ensures.value did.passes,
-    )
-
 pub returns : goal.returns
-returns g c =
-    let did = c.pass_on-answer.ensures in
-    let marks = ap (λ mark. map (λ worker. g.S.Sink.mark worker.sink) c.self.inside.team ++ mark ∷ []) did.marked in
-    passes_here g.S.Sink.has g.S.Sink.refused _ c.pass_on-answer.new.self did.rest _ c.pass_on-answer.new.sink c.is_err-self-inside.result _ _ c.pass_on-answer.result c.is_err-self-inside.ensures.value did.passes did.asked marks c.args.self.now c.self.view_is
+returns g c = subst (λ view. PassesHere view c.pass_on.result c.pass_on.new.self) c.self.view_is c.pass_on.ensures

@@ -1,9 +1,7 @@
-use Rattle.rt_runtime.specs.Waiting.{AreAllPending}
-use Rattle.rt_runtime.proofs.InARow.{no_try, one_try}
+use Rattle.std.proofs.Common.{subst}
+use Rattle.rt_link.specs.Fits.{Fits}
+use Rattle.actor_caller.specs.Waiting.{WaitsForAny}
 use Rattle.rt_runtime.proofs.runtime.Runtime.wait_any.Goals as goal
 
-pub loop-init : goal.loop-init
-loop-init g c = no_try (AreAllPending c.args.tickets.now) c.args.self.now
-
-pub loop-preserved : goal.loop-preserved
-loop-preserved g c = one_try (AreAllPending c.args.tickets.now) c.args.self.now c.loop.self c.redeem_first.new.self c.rest.new.self c.loop.invariant c.in_default.ensures.none c.rest.ensures
+pub returns : goal.returns
+returns g c = subst (λ view. WaitsForAny (Fits g.J.Task.meaning) c.args.tickets.now view c.wait_any.result c.wait_any.new.self) c.self.view_is c.wait_any.ensures

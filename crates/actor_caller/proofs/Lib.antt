@@ -1,0 +1,17 @@
+pub mod Booked
+pub mod Sent
+pub mod HandedOn
+pub mod Collected
+pub mod Redeemed
+pub mod Watched
+pub mod Opened
+pub mod Idle
+pub mod InARow
+pub mod Vain
+pub mod WaitedOnce
+pub mod OrdersBack
+mod Closing
+mod WaitsRefused
+mod SendsRefused
+mod TicketsRefused
+mod WatchesRefused

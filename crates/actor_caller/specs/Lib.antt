@@ -1,0 +1,13 @@
+pub mod Teams
+pub mod Rings
+pub mod State
+pub mod Closings
+pub mod Watching
+pub mod Stored
+pub mod Passing
+pub mod Sends
+pub mod Tickets
+pub mod Waiting
+pub mod Errors
+pub mod Laws
+pub mod WaitingLaws

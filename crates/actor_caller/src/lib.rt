@@ -1,0 +1,25 @@
+//! The caller of a house: it submits, collects, redeems and waits, and watches the cores.
+//!
+//! # What is shared
+//!
+//! A caller is one thread's. Its journal, its sink and what it knows of closings are seen by nobody else. Others see of it its ends of the links,
+//! and the bells that it rings; it sees of the cores what they publish on their boards (rt_watch).
+//!
+//! # In which order
+//!
+//! 1. A submission: room is made in the journal, the order is accepted and noted, and then the bell of its core is rung.
+//! 2. A wait: the caller looks at all links 1024 times, lies down on its own bell, looks once more, and parks only if there was no outcome.
+#![tactic(auto)]
+
+pub mod caller;
+mod calls;
+pub mod error;
+pub mod laws;
+mod passing;
+mod rings;
+mod tickets;
+mod waiting;
+mod watching;
+
+pub use caller::{Beside, Caller};
+pub use error::SubmitError;

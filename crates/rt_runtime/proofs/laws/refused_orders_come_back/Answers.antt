@@ -1,5 +1,0 @@
-use Rattle.rt_runtime.proofs.OrdersBack.{refused_come_back}
-use Rattle.rt_runtime.proofs.laws.refused_orders_come_back.Goals as goal
-
-pub returns : goal.returns
-returns g c = refused_come_back

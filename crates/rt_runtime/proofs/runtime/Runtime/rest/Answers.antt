@@ -1,5 +1,0 @@
-use Rattle.rt_runtime.proofs.InARow.{looks_of, one_look}
-use Rattle.rt_runtime.proofs.runtime.Runtime.rest.Goals as goal
-
-pub returns : goal.returns
-returns g c = one_look c.args.self.now c.collects_soon.new.self c.rest_on-slept.new.self (looks_of c.args.self.now c.collects_soon.new.self c.collects_soon.ensures.looks) c.rest_on-slept.ensures.collects
