@@ -8,17 +8,19 @@ use Rattle.rt_desk.specs.declared.entry.Entry.TheVariants.{Pending, Detached, Co
 use Rattle.rt_desk.specs.declared.entry.Mark.{Mark}
 use Rattle.rt_desk.specs.declared.entry.Mark.TheVariants.{Waits, LetGo, Holds}
 
--- whether a mark has this key, any key, or waits
+-- whether a mark has this key
 abbrev pub has_key : ℕ → Mark → Bool
 has_key key Waits = false
 has_key key LetGo = false
 has_key key (Holds other) = eqb key other
 
+-- whether a mark has any key
 abbrev pub has_any : Mark → Bool
 has_any Waits = false
 has_any LetGo = false
 has_any (Holds key) = true
 
+-- whether a mark waits for its outcome
 abbrev pub is_waiting : Mark → Bool
 is_waiting Waits = true
 is_waiting LetGo = false
