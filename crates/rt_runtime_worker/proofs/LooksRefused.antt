@@ -1,5 +1,6 @@
 -- Looks of a small worker that are refused: gates that stay open, orders that are left, turns that are made up, too many notes.
 use Rattle.std.proofs.Common.{◌≡◌, ◌||◌, Bool, true, false, inl, inr, ℕ, [], ◌∷◌, replicate, refl, ap, subst, arith}
+use Rattle.std.specs.Prelude.{Option, Some, None}
 use Rattle.rt_ids.specs.declared.names.JobId.{JobId}
 use Rattle.rt_ids.specs.declared.note.Note.TheVariants.{CoreClosed, Created, Shut}
 use Rattle.rt_ids.specs.declared.order.Mode.TheVariants.{Return}
@@ -8,7 +9,7 @@ use Rattle.rt_jobs.specs.Meanings.{Meaning}
 use Rattle.rt_runtime_worker.specs.Ended.{ServedView}
 use Rattle.rt_runtime_worker.specs.Few.{RoundsFew}
 use Rattle.rt_runtime_worker.specs.Looks.{LooksAtAll, RoundView, leaves_turns, round_view, turns_after}
-use Rattle.rt_runtime_worker.specs.Readings.{WatchView}
+use Rattle.rt_runtime_worker.specs.Readings.{WatchView, kept_behind, watch_view}
 use Rattle.rt_runtime_worker.specs.Rounds.{HasShutGates, IsHeard, ShutsClosed}
 use Rattle.rt_runtime_worker.proofs.LinksRefused.{hearing, noted}
 
@@ -42,15 +43,24 @@ none_is_left : (worked back : Bool) → 16 ≡ turns_after (leaves_turns worked 
 none_is_left true back some = omega (arith, some)
 none_is_left false back some = omega (arith, some)
 
+-- where no turn was made no reading is kept
+is_kept : (worked came : Bool) (last : Option ℕ) → false ≡ (worked || came) → Some 3 ≡ kept_behind worked last → ⊥
+is_kept true came last told is = cc (told)
+is_kept false came last told is = cc (is)
+
 module _ (meaning : Meaning ℕ ℕ) (reads : ℕ → ℕ → ℕ → Type 0) (asked : ℕ → ℕ → JobId → ℕ → Type 0) where
   -- a look leaves five turns
   leaves_five_turns : (old new : RoundView ℕ ℕ ℕ ℕ) (some : Bool) → LooksAtAll meaning reads asked old some 5 new → ⊥
   leaves_five_turns old new some looks = are_other_turns _ looks.plans
 
   -- a look to which something came leaves turns though its core is closed, so that its gates stay open
-  passes_its_gates : (old : RoundView ℕ ℕ ℕ ℕ) (some : Bool) (looks : LooksAtAll meaning reads asked old some 16 (round_view (record { linked = noted half_shut; ending = false }) 0 0 0)) → looks.came ≡ true → ⊥
+  passes_its_gates : (old : RoundView ℕ ℕ ℕ ℕ) (some : Bool) (looks : LooksAtAll meaning reads asked old some 16 (round_view (record { linked = noted half_shut; ending = false }) (watch_view 0 None 0) 0)) → looks.came ≡ true → ⊥
   passes_its_gates old some looks came = none_is_left looks.worked looks.back (subst (λ one. 16 ≡ turns_after (leaves_turns looks.worked (one || looks.back) true)) came looks.plans)
 
   -- the time of polls isn't counted anew behind a look
-  keeps_the_time : (old : RoundView ℕ ℕ ℕ ℕ) (served : ServedView ℕ ℕ) (some : Bool) (turns : ℕ) → LooksAtAll meaning reads asked old some turns (round_view served 0 7 0) → ⊥
+  keeps_the_time : (old : RoundView ℕ ℕ ℕ ℕ) (served : ServedView ℕ ℕ) (some : Bool) (turns : ℕ) → LooksAtAll meaning reads asked old some turns (round_view served (watch_view 0 None 7) 0) → ⊥
   keeps_the_time old served some turns looks = let taken = ap (λ (watch : WatchView ℕ). watch.taken) looks.forgets in omega (arith, taken)
+
+  -- a look behind which a worker sleeps keeps the reading, so that the next poll pays for the sleep
+  sleep_is_charged : (old : RoundView ℕ ℕ ℕ ℕ) (served : ServedView ℕ ℕ) (turns : ℕ) → LooksAtAll meaning reads asked old false turns (round_view served (watch_view 0 (Some 3) 0) 0) → ⊥
+  sleep_is_charged old served turns looks = is_kept looks.worked _ looks.timed.last looks.tells (ap (λ (watch : WatchView ℕ). watch.last) looks.forgets)

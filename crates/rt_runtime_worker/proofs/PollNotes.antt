@@ -3,9 +3,7 @@ use Rattle.std.proofs.Common.{◌≡◌, ℕ, suc, ◌+◌, ◌∷◌, ◌++◌,
 use Rattle.std.specs.Prelude.{Bool, true, false, Option, Some, None}
 use Rattle.std.proofs.lemmas.List.{length-append}
 use Rattle.rt_ids.specs.declared.names.JobId.{JobId}
-use Rattle.rt_ids.specs.declared.note.Note.TheVariants as writes
 use Rattle.rt_ids.specs.Journal.{Journal, EachNote}
-use Rattle.rt_core.specs.declared.turn.Settled.TheVariants as came
 use Rattle.rt_journal.specs.Polls.{poll_note}
 use Rattle.rt_runtime_worker.specs.Asks.{polls_of}
 use Rattle.rt_runtime_worker.specs.Rooms.{MayAct}

@@ -17,9 +17,9 @@ use Rattle.rt_runtime_worker.proofs.Asking.{asks_none, asks_then}
 use Rattle.rt_runtime_worker.proofs.Supplied.{where_gate, where_notes, where_runs}
 
 -- a worker, put together
-abbrev pub worker_of : {J T C G S : Type 0} → LinkedView J T → Bool → C → G → ℕ → ℕ → ℕ → ℕ → List ℕ → S → ShownView T → ℕ → WorkerView J T C G S
-worker_of linked ending clock gate taken turns tries idle bells sink shown since =
-    record { linked = linked; ending = ending; clock = clock; gate = gate; taken = taken; turns = turns; tries = tries; idle = idle; bells = bells; sink = sink; shown = shown; since = since }
+abbrev pub worker_of : {J T C G S : Type 0} → LinkedView J T → Bool → C → G → Option ℕ → ℕ → ℕ → ℕ → ℕ → List ℕ → S → ShownView T → ℕ → WorkerView J T C G S
+worker_of linked ending clock gate last taken turns tries idle bells sink shown since =
+    record { linked = linked; ending = ending; clock = clock; gate = gate; last = last; taken = taken; turns = turns; tries = tries; idle = idle; bells = bells; sink = sink; shown = shown; since = since }
 
 module _ {J T C G S : Type 0} (meaning : Meaning J T) (reads : C → ℕ → C → Type 0) (asked : G → ℕ → JobId → G → Type 0) (has : S → Journal T) (refused : S → ℕ → Type 0) (asks : S → Option ℕ) where
   -- notes are passed on, then a round is made, and it is counted

@@ -1,5 +1,6 @@
 -- Small workers of one core, for the cases that are refused.
 use Rattle.std.proofs.Common.{false, ℕ, [], ◌∷◌}
+use Rattle.std.specs.Prelude.{None}
 use Rattle.rt_ids.specs.declared.note.Note.TheVariants.{Created}
 use Rattle.rt_ids.specs.Journal.{Journal}
 use Rattle.rt_journal.specs.Steps.{opened_beside}
@@ -34,6 +35,7 @@ small_worker linked sink tries = record {
   ending = false;
   clock = 0;
   gate = 0;
+  last = None;
   taken = 0;
   turns = 0;
   tries = tries;

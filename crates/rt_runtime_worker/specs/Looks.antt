@@ -5,7 +5,7 @@ use Rattle.rt_ids.specs.Closing.{core_mode}
 use Rattle.rt_jobs.specs.Meanings.{Meaning}
 use Rattle.rt_runtime_worker.specs.Asks.{NotesNoPoll}
 use Rattle.rt_runtime_worker.specs.Ended.{ServedView, IsServed}
-use Rattle.rt_runtime_worker.specs.Readings.{WatchView, watch_view}
+use Rattle.rt_runtime_worker.specs.Readings.{WatchView, kept_behind}
 use Rattle.rt_runtime_worker.specs.Rounds.{CollectsFirst, HearsAll, ShutsClosed, StepsServed}
 use Rattle.actor_seat.specs.Steps.{HasNoTurn}
 use Rattle.rt_runtime_worker.specs.Turns.{TurnsWith}
@@ -37,14 +37,14 @@ pub record RoundView (J T C G : Type 0) : Type 0 where
   pub gate : G
 
 -- the same, put together
-abbrev pub round_view : {J T C G : Type 0} → ServedView J T → C → ℕ → G → RoundView J T C G
-round_view served clock taken gate = record { served = served; watch = watch_view clock taken; gate = gate }
+abbrev pub round_view : {J T C G : Type 0} → ServedView J T → WatchView C → G → RoundView J T C G
+round_view served watch gate = record { served = served; watch = watch; gate = gate }
 
 module _ {J T C G : Type 0} (meaning : Meaning J T) (reads : C → ℕ → C → Type 0) (asked : G → ℕ → JobId → G → Type 0) where
   -- Each gate of a closed core is shut and each sender is heard, then a turn is made, and then the outcomes of each core are collected. Between these steps
   -- the core agrees with its journal and its ends, and each step leaves the notes that stand and what the ends have seen. It tells whether anything was
   -- done, and how many turns may be made without a look behind it. The clock is read for its turn and for nothing else, and the time of polls is counted
-  -- anew from there. No poll is noted before its turn or behind it.
+  -- anew from there. Behind a look that made no turn the next poll begins with a fresh reading. No poll is noted before its turn or behind it.
   pub record LooksAtAll (old : RoundView J T C G) (some : Bool) (turns : ℕ) (new : RoundView J T C G) : Type 0 where
     pub heard : ServedView J T
     pub turned : ServedView J T
@@ -64,7 +64,7 @@ module _ {J T C G : Type 0} (meaning : Meaning J T) (reads : C → ℕ → C →
     pub none_behind : NotesNoPoll turned.linked.recorded.journal.notes new.served.linked.recorded.journal.notes
     pub tells : some ≡ (worked || (came || back))
     pub plans : turns ≡ turns_after (leaves_turns worked (came || back) (is_some (core_mode new.served.linked.recorded.journal.notes)))
-    pub forgets : new.watch ≡ record timed { taken = 0 }
+    pub forgets : new.watch ≡ record timed { last = kept_behind worked timed.last; taken = 0 }
 
   -- no turn without a look, if it is time to look, and all is as it was; or one such turn, which counts, and it tells whether there was work
   abbrev pub TurnsAlone : ℕ → RoundView J T C G → Bool → ℕ → RoundView J T C G → Type 0

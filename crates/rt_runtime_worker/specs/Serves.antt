@@ -20,7 +20,7 @@ CountsIdle tries false idle false later = (tries ≤ idle) × (later ≡ idle)
 module _ {J T C G S : Type 0} where
   -- its core, and the watch and the gate that serve it
   abbrev pub round_of : WorkerView J T C G S → RoundView J T C G
-  round_of worker = record { served = served_of worker; watch = watch_view worker.clock worker.taken; gate = worker.gate }
+  round_of worker = record { served = served_of worker; watch = watch_view worker.clock worker.last worker.taken; gate = worker.gate }
 
   -- the worker tries as often as before, and rings the same bells; its sink isn't asked, and nothing is published
   pub record KeepsTries (old new : WorkerView J T C G S) : Type 0 where

@@ -1,12 +1,12 @@
 -- What is seen of a worker.
-use Rattle.std.specs.Prelude.{◌≡◌, ℕ, Bool, false, List, slice_index_or}
+use Rattle.std.specs.Prelude.{◌≡◌, ℕ, Bool, false, Option, None, List, slice_index_or}
 use Rattle.actor_seat.specs.Bells.{BellView}
 use Rattle.rt_runtime_worker.specs.Ended.{EndedView, ServedView}
 use Rattle.actor_seat.specs.Linked.{LinkedView, RunsOn}
 use Rattle.rt_runtime_worker.specs.Shown.{ShownView}
 
--- A core beside its journal and ends, with a clock and a gate of its own, and whether the worker is at its end. How long polls took since its last look at
--- its links, and how many turns it may make before the next. After how many rounds in which nothing was done it parks, and how many such rounds it made in a
+-- A core beside its journal and ends, with a clock and a gate of its own, and whether the worker is at its end. The reading behind its last poll, if the
+-- next poll begins with it. How long polls took since its last look at its links, and how many turns it may make before the next. After how many rounds in which nothing was done it parks, and how many such rounds it made in a
 -- row. The names of the bells that it rings, and the sink to which it passes on notes. Its board, and how many rounds in which something was done it counted
 -- since it published last.
 pub record WorkerView (J T C G S : Type 0) : Type 0 where
@@ -14,6 +14,7 @@ pub record WorkerView (J T C G S : Type 0) : Type 0 where
   pub ending : Bool
   pub clock : C
   pub gate : G
+  pub last : Option ℕ
   pub taken : ℕ
   pub turns : ℕ
   pub tries : ℕ
@@ -32,9 +33,10 @@ pub record IsBellOf (core : ℕ) (names : List ℕ) (bell : BellView) : Type 0 w
   pub actor : bell.actor ≡ core
   pub name : bell.name ≡ slice_index_or names core 0
 
--- a worker that has made no round yet: it isn't at its end, and it looks at its links first
+-- a worker that has made no round yet: it isn't at its end, it looks at its links first, and its clock wasn't read
 pub record HasNotBegun {J T C G S : Type 0} (worker : WorkerView J T C G S) : Type 0 where
   pub ending : worker.ending ≡ false
+  pub last : worker.last ≡ None
   pub taken : worker.taken ≡ 0
   pub turns : worker.turns ≡ 0
   pub idle : worker.idle ≡ 0

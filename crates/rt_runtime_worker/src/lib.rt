@@ -21,7 +21,8 @@
 //! 3. A round: turns alone, at most 16 behind a look and no more than 2 microseconds of polls. Or a look: it shuts the gates of a closed
 //!    core, delivers of each sender at most as many orders as a link holds, makes one turn, and collects of each core. It rings for the notes
 //!    of each of these steps. Behind a round in which nothing was done it only asks whether an end shows something.
-//! 4. A poll: the gate is asked, then the clock is read, then the job is polled, then the clock is read. Its outcome is given before the next poll.
+//! 4. A poll: the gate is asked, then the job is polled, then the clock is read. The next poll begins with that reading, unless a look made no
+//!    turn since: then the clock is read once more, right before the job is polled. A poll's outcome is given before the next poll.
 //! 5. A rest, behind as many idle rounds as it tries: it publishes, passes on what is kept, lies down, looks at everything once more, and
 //!    parks only if there was nothing.
 //! 6. Its end: it publishes right behind the round in which it came to it. When the core is drained, it publishes for the last time, and

@@ -86,7 +86,7 @@ pub(crate) fn look_again<'a, J: Job + Task<Out = u64>, C: Clock + Drop, G: Gate 
     ensures counts { rounds.new.looks ≡ once_more rounds.old.looks }
     ensures some { IfSome result (λ _. StepsServed rounds.old.served false rounds.new.served) }
     ensures none { IfNone result (StepsServed rounds.old.served true rounds.new.served) }
-    ensures looks { LooksAtAll J.meaning C.Reads G.Asked (round_view rounds.old.served rounds.old.watch.clock rounds.old.watch.taken rounds.old.gate) (is_none result) rounds.new.turns (round_view rounds.new.served rounds.new.watch.clock rounds.new.watch.taken rounds.new.gate) }
+    ensures looks { LooksAtAll J.meaning C.Reads G.Asked (round_view rounds.old.served rounds.old.watch rounds.old.gate) (is_none result) rounds.new.turns (round_view rounds.new.served rounds.new.watch rounds.new.gate) }
     ensures asks { AsksSince G.Asked rounds.old.served.linked.recorded.core.core rounds.old.served.linked.recorded.journal.notes rounds.new.served.linked.recorded.journal.notes rounds.old.gate rounds.new.gate }
     ensures stays { StaysLinked rounds.old.served.linked rounds.new.served.linked }
     ensures few { RoundsFew rounds.old.served rounds.new.served }

@@ -1,6 +1,6 @@
 //! What a worker does round by round. Each step rings the bells of those who have something from its notes.
 
-ghost use Rattle.std.specs.Prelude.{◌≡◌, ◌||◌, ◌+◌, ◌*◌, ◌≤◌, drop, false, length, reverse, true};
+ghost use Rattle.std.specs.Prelude.{◌≡◌, ◌||◌, ◌+◌, ◌*◌, ◌≤◌, None, drop, false, length, reverse, true};
 ghost use Rattle.rt_runtime_worker.specs.Rounds.{AreRung};
 ghost use Rattle.actor_seat.specs.Bells.{once_more, rung_for};
 ghost use Rattle.rt_runtime_worker.specs.Asks.{AsksSince, NotesNoPoll};
@@ -8,7 +8,7 @@ ghost use Rattle.rt_runtime_worker.specs.Ended.{IsServed};
 ghost use Rattle.rt_runtime_worker.specs.Few.{RoundsFew, TurnsFew, WritesFew};
 ghost use Rattle.rt_runtime_worker.specs.Looks.{LooksAtAll, MakesRound, PassesLinks, TurnsAlone, leaves_turns, round_view, turns_after};
 ghost use Rattle.rt_runtime_worker.specs.Passing.{HandsOn, HasPlaces};
-ghost use Rattle.rt_runtime_worker.specs.Readings.{watch_view};
+ghost use Rattle.rt_runtime_worker.specs.Readings.{kept_behind, watch_view};
 ghost use Rattle.rt_runtime_worker.specs.Rounds.{CollectsFirst, HearsAll, ShutsClosed, StepsServed};
 ghost use Rattle.actor_seat.specs.Steps.{HasNoTurn};
 ghost use Rattle.rt_runtime_worker.specs.Turns.{TurnsWith};
@@ -67,11 +67,10 @@ impl<J: Task<Out = u64>, C: Drop, G: Drop> Rounds<J, C, G> {
     /// Before the first round.
     pub(crate) fn of(served: Served<J>, clock: C, gate: G, bells: Bells) -> Self
         ensures served { result.served ≡ served }
-        ensures clock { result.watch.clock ≡ clock }
+        ensures watch { result.watch ≡ watch_view clock None 0 }
         ensures gate { result.gate ≡ gate }
         ensures bells { result.bells ≡ bells }
         ensures turns { result.turns ≡ 0 }
-        ensures taken { result.watch.taken ≡ 0 }
     {
         Rounds {
             served,
@@ -107,12 +106,12 @@ impl<J: Task<Out = u64>, C: Drop, G: Drop> Rounds<J, C, G> {
         self.served.hand_on(sink);
     }
 
-    /// Counts a look at the links, and plans the turns until the next one: some if it leaves turns, else none.
-    fn plan(&mut self, leaves: bool)
-        ensures { self.new ≡ record self.old { turns = turns_after leaves; watch = record self.old.watch { taken = 0 }; looks = once_more self.old.looks } }
+    /// Counts a look at the links, which made a turn or none, and plans the turns until the next one: some if it leaves turns, else none.
+    fn plan(&mut self, turned: bool, leaves: bool)
+        ensures { self.new ≡ record self.old { turns = turns_after leaves; watch = record self.old.watch { last = kept_behind turned self.old.watch.last; taken = 0 }; looks = once_more self.old.looks } }
     {
         self.looks = self.looks.saturating_add(1);
-        self.watch.forget();
+        self.watch.forget(turned);
         self.turns = if leaves { MOST_TURNS } else { 0 };
     }
 
@@ -191,7 +190,7 @@ impl<J: Job + Task<Out = u64>, C: Clock + Drop, G: Gate + Drop> Rounds<J, C, G> 
         requires rung { AreRung self.old.served self.old.bells }
         ensures steps { StepsServed self.old.served result self.new.served }
         ensures few { TurnsFew self.old.served self.new.served }
-        ensures takes { TurnsWith J.meaning C.Reads G.Asked (watch_view self.old.watch.clock self.old.watch.taken) (watch_view self.new.watch.clock self.new.watch.taken) self.old.gate self.new.gate self.old.served result self.new.served }
+        ensures takes { TurnsWith J.meaning C.Reads G.Asked self.old.watch self.new.watch self.old.gate self.new.gate self.old.served result self.new.served }
         ensures asks { AsksSince G.Asked self.old.served.linked.recorded.core.core self.old.served.linked.recorded.journal.notes self.new.served.linked.recorded.journal.notes self.old.gate self.new.gate }
         ensures rung { AreRung self.new.served self.new.bells }
         ensures names { self.new.bells.names ≡ self.old.bells.names }
@@ -211,7 +210,7 @@ impl<J: Job + Task<Out = u64>, C: Clock + Drop, G: Gate + Drop> Rounds<J, C, G> 
         requires rung { AreRung self.old.served self.old.bells }
         ensures steps { StepsServed self.old.served result self.new.served }
         ensures few { RoundsFew self.old.served self.new.served }
-        ensures looks { LooksAtAll J.meaning C.Reads G.Asked (round_view self.old.served self.old.watch.clock self.old.watch.taken self.old.gate) result self.new.turns (round_view self.new.served self.new.watch.clock self.new.watch.taken self.new.gate) }
+        ensures looks { LooksAtAll J.meaning C.Reads G.Asked (round_view self.old.served self.old.watch self.old.gate) result self.new.turns (round_view self.new.served self.new.watch self.new.gate) }
         ensures counts { self.new.looks ≡ once_more self.old.looks }
         ensures asks { AsksSince G.Asked self.old.served.linked.recorded.core.core self.old.served.linked.recorded.journal.notes self.new.served.linked.recorded.journal.notes self.old.gate self.new.gate }
         ensures rung { AreRung self.new.served self.new.bells }
@@ -222,7 +221,7 @@ impl<J: Job + Task<Out = u64>, C: Clock + Drop, G: Gate + Drop> Rounds<J, C, G> 
         let collected = self.gather();
         let came = either(taken, collected);
         let closed = self.served.is_closed();
-        self.plan(leaves(turned, came, closed));
+        self.plan(turned, leaves(turned, came, closed));
         either(turned, came)
     }
 
@@ -231,7 +230,7 @@ impl<J: Job + Task<Out = u64>, C: Clock + Drop, G: Gate + Drop> Rounds<J, C, G> 
         requires rung { AreRung self.old.served self.old.bells }
         ensures steps { StepsServed self.old.served result self.new.served }
         ensures few { TurnsFew self.old.served self.new.served }
-        ensures alone { TurnsAlone J.meaning C.Reads G.Asked self.old.turns (round_view self.old.served self.old.watch.clock self.old.watch.taken self.old.gate) result self.new.turns (round_view self.new.served self.new.watch.clock self.new.watch.taken self.new.gate) }
+        ensures alone { TurnsAlone J.meaning C.Reads G.Asked self.old.turns (round_view self.old.served self.old.watch self.old.gate) result self.new.turns (round_view self.new.served self.new.watch self.new.gate) }
         ensures asks { AsksSince G.Asked self.old.served.linked.recorded.core.core self.old.served.linked.recorded.journal.notes self.new.served.linked.recorded.journal.notes self.old.gate self.new.gate }
         ensures rung { AreRung self.new.served self.new.bells }
         ensures names { self.new.bells.names ≡ self.old.bells.names }
@@ -248,7 +247,7 @@ impl<J: Job + Task<Out = u64>, C: Clock + Drop, G: Gate + Drop> Rounds<J, C, G> 
         requires rung { AreRung self.old.served self.old.bells }
         ensures steps { StepsServed self.old.served result self.new.served }
         ensures few { RoundsFew self.old.served self.new.served }
-        ensures makes { MakesRound J.meaning C.Reads G.Asked was_idle self.old.turns (round_view self.old.served self.old.watch.clock self.old.watch.taken self.old.gate) result self.new.turns (round_view self.new.served self.new.watch.clock self.new.watch.taken self.new.gate) }
+        ensures makes { MakesRound J.meaning C.Reads G.Asked was_idle self.old.turns (round_view self.old.served self.old.watch self.old.gate) result self.new.turns (round_view self.new.served self.new.watch self.new.gate) }
         ensures asks { AsksSince G.Asked self.old.served.linked.recorded.core.core self.old.served.linked.recorded.journal.notes self.new.served.linked.recorded.journal.notes self.old.gate self.new.gate }
         ensures rung { AreRung self.new.served self.new.bells }
         ensures names { self.new.bells.names ≡ self.old.bells.names }

@@ -1,28 +1,38 @@
-//! How a worker measures a poll: two readings of its clock.
+//! How a worker measures its polls: by the readings of its clock, each from the end of the one before where it goes straight on.
 
-ghost use Rattle.std.specs.Prelude.{◌≡◌};
+ghost use Rattle.std.specs.Prelude.{◌≡◌, None};
+ghost use Rattle.rt_runtime_worker.specs.Readings.{kept_behind};
 
 use rt_runtime_config::{Clock, spent_between};
 use rt_taskqueue::Meter;
+use std::marker::Model;
 
-/// A worker's clock, and what it told at the start of the last poll.
+/// A worker's clock, and the reading with which its next poll begins.
 #[derive(Drop)]
 pub struct Stopwatch<C> {
     clock: C,
-    began: u64,
+    /// What the clock told behind the last poll, or before the one that goes on. None if the clock is to be read before the next poll.
+    last: Option<u64>,
     /// What the polls took together since `forget`.
     taken: u64,
+}
+
+impl<C> Model for Stopwatch<C> {
+    ghost use Rattle.rt_runtime_worker.specs.Readings.{WatchView, watch_view};
+
+    ghost Value = { WatchView C };
+
+    ghost view = { λ w. watch_view w.clock w.last w.taken };
 }
 
 impl<C> Stopwatch<C> {
     /// A clock that has not been read.
     pub fn new(clock: C) -> Self
-        ensures clock { result.clock ≡ clock }
-        ensures taken { result.taken ≡ 0 }
+        ensures { result ≡ record { clock = clock; last = None; taken = 0 } }
     {
         Stopwatch {
             clock,
-            began: 0,
+            last: None,
             taken: 0,
         }
     }
@@ -34,29 +44,37 @@ impl<C> Stopwatch<C> {
         self.taken
     }
 
-    /// Counts the polls from here on.
-    pub(crate) fn forget(&mut self)
-        ensures { self.new ≡ record self.old { taken = 0 } }
+    /// Counts the polls from here on. If no turn was made, the next poll begins with a fresh reading.
+    pub(crate) fn forget(&mut self, turned: bool)
+        ensures { self.new ≡ record self.old { last = kept_behind turned self.old.last; taken = 0 } }
     {
         self.taken = 0;
+        if !turned {
+            self.last = None;
+        }
     }
 }
 
-/// It is read just before a poll and just after it, and at no other time. A poll took what lies between two readings in a row.
+/// The clock is read behind each poll, and before it only where no reading was kept. A poll took what lies between two readings in a row, so it
+/// also pays for what its worker did since the poll before.
 impl<C: Clock> Meter for Stopwatch<C> {
-    ghost use Rattle.std.specs.Prelude.{◌≡◌};
-    ghost use Rattle.rt_runtime_worker.specs.Readings.{EndsNext, BeginsNext, taken_with};
+    ghost use Rattle.rt_runtime_worker.specs.Readings.{EndsNext, TimesNext};
 
-    ghost Tells = { λ watch spent after. BeginsNext C.Reads watch.clock spent after.clock × (after.taken ≡ taken_with watch.taken spent) };
+    ghost Tells = { λ watch spent after. TimesNext C.Reads watch spent after };
 
-    ghost TellsBegun = { λ watch spent after. EndsNext C.Reads watch.clock watch.began spent after.clock × (after.taken ≡ taken_with watch.taken spent) };
+    ghost TellsBegun = { λ begun spent after. EndsNext C.Reads begun spent after };
 
     fn start(&mut self) {
-        self.began = self.clock.now();
+        if self.last.is_none() {
+            let began = self.clock.now();
+            self.last = Some(began);
+        }
     }
 
     fn spent(&mut self) -> u64 {
-        let spent = spent_between(self.began, self.clock.now());
+        let told = self.clock.now();
+        let spent = spent_between(self.last.unwrap_or(told), told);
+        self.last = Some(told);
         self.taken = self.taken.saturating_add(spent);
         spent
     }

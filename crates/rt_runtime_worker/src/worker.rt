@@ -65,6 +65,7 @@ impl<J: Task<Out = u64>, C: Drop, G: Drop, S: Sink> Model for Worker<J, C, G, S>
           ending = w.rounds.served.ending;
           clock = w.rounds.watch.clock;
           gate = w.rounds.gate;
+          last = w.rounds.watch.last;
           taken = w.rounds.watch.taken;
           turns = w.rounds.turns;
           tries = w.tries;

@@ -13,14 +13,14 @@ pub returns-then-look-clause-looks : goal.returns-then-look-clause-looks
 returns-then-look-clause-looks g c =
     subst
     (λ some. LooksAtAll g.J.Task.meaning g.C.Clock.Reads g.G.Gate.Asked
-    (round_view c.args.rounds.now.served c.args.rounds.now.watch.clock c.args.rounds.now.watch.taken c.args.rounds.now.gate) some c.look.new.self.turns
-    (round_view c.look.new.self.served c.look.new.self.watch.clock c.look.new.self.watch.taken c.look.new.self.gate))
+    (round_view c.args.rounds.now.served c.args.rounds.now.watch c.args.rounds.now.gate) some c.look.new.self.turns
+    (round_view c.look.new.self.served c.look.new.self.watch c.look.new.self.gate))
     c.if-look.true c.look.ensures.looks
 
 pub returns-clause-looks : goal.returns-clause-looks
 returns-clause-looks g c =
     subst
     (λ some. LooksAtAll g.J.Task.meaning g.C.Clock.Reads g.G.Gate.Asked
-    (round_view c.args.rounds.now.served c.args.rounds.now.watch.clock c.args.rounds.now.watch.taken c.args.rounds.now.gate) some c.look.new.self.turns
-    (round_view c.look.new.self.served c.look.new.self.watch.clock c.look.new.self.watch.taken c.look.new.self.gate))
+    (round_view c.args.rounds.now.served c.args.rounds.now.watch c.args.rounds.now.gate) some c.look.new.self.turns
+    (round_view c.look.new.self.served c.look.new.self.watch c.look.new.self.gate))
     c.if-look.false c.look.ensures.looks

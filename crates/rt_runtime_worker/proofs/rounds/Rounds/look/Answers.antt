@@ -6,11 +6,11 @@ use Rattle.rt_runtime_worker.specs.Rounds.{AreRung}
 use Rattle.actor_seat.specs.Bells.{once_more}
 use Rattle.rt_runtime_worker.specs.Asks.{polls_of}
 use Rattle.rt_runtime_worker.specs.Few.{RoundsFew}
-use Rattle.rt_runtime_worker.specs.Readings.{watch_view}
+use Rattle.rt_runtime_worker.specs.Readings.{kept_behind, watch_view}
 use Rattle.rt_runtime_worker.specs.Looks.{leaves_turns, turns_after}
 use Rattle.rt_runtime_worker.proofs.Asking.{asks_between}
 use Rattle.rt_runtime_worker.proofs.Fewer.{look_few}
-use Rattle.rt_runtime_worker.proofs.Looked.{turns_same, watch_of}
+use Rattle.rt_runtime_worker.proofs.Looked.{turns_same}
 use Rattle.rt_runtime_worker.proofs.Telling.{steps_cores, steps_three}
 use Rattle.rt_runtime_worker.proofs.rounds.Rounds.look.Goals as goal
 
@@ -34,10 +34,10 @@ returns-clause-looks g c = record {
   hears = c.take_in-taken.ensures.hears;
   sound = c.take_in-taken.ensures.sound;
   none_before = c.take_in-taken.ensures.polls;
-  timed = watch_of c.take_turn-turned.new.self.watch;
+  timed = c.take_turn-turned.new.self.watch;
   turn =
-      turns_same g.J.Task.meaning g.C.Clock.Reads g.G.Gate.Asked (watch_of c.args.self.now.watch) (watch_of c.take_in-taken.new.self.watch) (watch_of c.take_turn-turned.new.self.watch) c.args.self.now.gate c.take_in-taken.new.self.gate
-      c.plan.new.self.gate c.take_turn-turned.new.self.gate c.take_in-taken.new.self.served c.take_turn-turned.new.self.served c.take_turn-turned.result (ap (λ rounds. watch_of rounds.watch) c.take_in-taken.ensures.rest)
+      turns_same g.J.Task.meaning g.C.Clock.Reads g.G.Gate.Asked c.args.self.now.watch c.take_in-taken.new.self.watch c.take_turn-turned.new.self.watch c.args.self.now.gate c.take_in-taken.new.self.gate
+      c.plan.new.self.gate c.take_turn-turned.new.self.gate c.take_in-taken.new.self.served c.take_turn-turned.new.self.served c.take_turn-turned.result (ap (λ rounds. rounds.watch) c.take_in-taken.ensures.rest)
       (ap (λ rounds. rounds.gate) c.take_in-taken.ensures.rest) (sym (ap (λ rounds. rounds.gate) c.plan.ensures ∙ ap (λ rounds. rounds.gate) c.gather-collected.ensures.rest)) c.take_turn-turned.ensures.takes;
   turn_steps = c.take_turn-turned.ensures.steps;
   gathers = subst (λ served. StepsServed c.take_turn-turned.new.self.served c.gather-collected.result served) (sym (ap (λ rounds. rounds.served) c.plan.ensures)) c.gather-collected.ensures.steps;
@@ -52,7 +52,7 @@ returns-clause-looks g c = record {
       ∙ (ap (λ came. leaves_turns c.take_turn-turned.result came c.is_closed-closed.result) c.either-came.ensures
       ∙ ap (leaves_turns c.take_turn-turned.result (c.take_in-taken.result || c.gather-collected.result))
       (c.is_closed-closed.ensures ∙ sym (ap (λ rounds. is_some (core_mode rounds.served.linked.recorded.journal.notes)) c.plan.ensures))));
-  forgets = ap (λ rounds. watch_of rounds.watch) c.plan.ensures ∙ ap (λ rounds. watch_view rounds.watch.clock 0) c.gather-collected.ensures.rest;
+  forgets = ap (λ rounds. rounds.watch) c.plan.ensures ∙ ap (λ rounds. watch_view rounds.watch.clock (kept_behind c.take_turn-turned.result rounds.watch.last) 0) c.gather-collected.ensures.rest;
 }
 
 pub returns-clause-counts : goal.returns-clause-counts

@@ -16,8 +16,8 @@ returns-then-turn_alone-clause-makes g c =
     inl (
       refl,
       subst
-          (λ some. TurnsAlone g.J.Task.meaning g.C.Clock.Reads g.G.Gate.Asked c.args.self.now.turns (round_view c.args.self.now.served c.args.self.now.watch.clock c.args.self.now.watch.taken c.args.self.now.gate)
-          some c.turn_alone.new.self.turns (round_view c.turn_alone.new.self.served c.turn_alone.new.self.watch.clock c.turn_alone.new.self.watch.taken c.turn_alone.new.self.gate))
+          (λ some. TurnsAlone g.J.Task.meaning g.C.Clock.Reads g.G.Gate.Asked c.args.self.now.turns (round_view c.args.self.now.served c.args.self.now.watch c.args.self.now.gate)
+          some c.turn_alone.new.self.turns (round_view c.turn_alone.new.self.served c.turn_alone.new.self.watch c.turn_alone.new.self.gate))
           c.if-turn_alone.true c.turn_alone.ensures.alone,
     )
 
@@ -27,11 +27,11 @@ returns-then-has_nothing-clause-steps g c = subst (λ some. StepsServed c.args.s
 pub returns-then-has_nothing-clause-makes : goal.returns-then-has_nothing-clause-makes
 returns-then-has_nothing-clause-makes g c =
     inr (
-      round_view c.turn_alone.new.self.served c.turn_alone.new.self.watch.clock c.turn_alone.new.self.watch.taken c.turn_alone.new.self.gate,
+      round_view c.turn_alone.new.self.served c.turn_alone.new.self.watch c.turn_alone.new.self.gate,
       c.turn_alone.new.self.turns,
       subst
-          (λ some. TurnsAlone g.J.Task.meaning g.C.Clock.Reads g.G.Gate.Asked c.args.self.now.turns (round_view c.args.self.now.served c.args.self.now.watch.clock c.args.self.now.watch.taken c.args.self.now.gate)
-          some c.turn_alone.new.self.turns (round_view c.turn_alone.new.self.served c.turn_alone.new.self.watch.clock c.turn_alone.new.self.watch.taken c.turn_alone.new.self.gate))
+          (λ some. TurnsAlone g.J.Task.meaning g.C.Clock.Reads g.G.Gate.Asked c.args.self.now.turns (round_view c.args.self.now.served c.args.self.now.watch c.args.self.now.gate)
+          some c.turn_alone.new.self.turns (round_view c.turn_alone.new.self.served c.turn_alone.new.self.watch c.turn_alone.new.self.gate))
           c.if-turn_alone.false c.turn_alone.ensures.alone,
       inr (c.has_nothing.ensures.idle c.if-has_nothing.true, c.has_nothing.ensures.no_turn c.if-has_nothing.true, refl, refl, refl),
     )
@@ -44,11 +44,11 @@ returns-clause-steps g c =
 pub returns-clause-makes : goal.returns-clause-makes
 returns-clause-makes g c =
     inr (
-      round_view c.turn_alone.new.self.served c.turn_alone.new.self.watch.clock c.turn_alone.new.self.watch.taken c.turn_alone.new.self.gate,
+      round_view c.turn_alone.new.self.served c.turn_alone.new.self.watch c.turn_alone.new.self.gate,
       c.turn_alone.new.self.turns,
       subst
-          (λ some. TurnsAlone g.J.Task.meaning g.C.Clock.Reads g.G.Gate.Asked c.args.self.now.turns (round_view c.args.self.now.served c.args.self.now.watch.clock c.args.self.now.watch.taken c.args.self.now.gate)
-          some c.turn_alone.new.self.turns (round_view c.turn_alone.new.self.served c.turn_alone.new.self.watch.clock c.turn_alone.new.self.watch.taken c.turn_alone.new.self.gate))
+          (λ some. TurnsAlone g.J.Task.meaning g.C.Clock.Reads g.G.Gate.Asked c.args.self.now.turns (round_view c.args.self.now.served c.args.self.now.watch c.args.self.now.gate)
+          some c.turn_alone.new.self.turns (round_view c.turn_alone.new.self.served c.turn_alone.new.self.watch c.turn_alone.new.self.gate))
           c.if-turn_alone.false c.turn_alone.ensures.alone,
       inl c.look.ensures.looks,
     )
@@ -70,23 +70,23 @@ pub returns-then-has_nothing-clause-few : goal.returns-then-has_nothing-clause-f
 returns-then-has_nothing-clause-few g c =
     few_more 0 _ c.args.self.now.served c.turn_alone.new.self.served (omega arith)
     (alone_none g.J.Task.meaning g.C.Clock.Reads g.G.Gate.Asked c.args.self.now.turns c.turn_alone.new.self.turns
-    (round_view c.args.self.now.served c.args.self.now.watch.clock c.args.self.now.watch.taken c.args.self.now.gate)
-    (round_view c.turn_alone.new.self.served c.turn_alone.new.self.watch.clock c.turn_alone.new.self.watch.taken c.turn_alone.new.self.gate)
+    (round_view c.args.self.now.served c.args.self.now.watch c.args.self.now.gate)
+    (round_view c.turn_alone.new.self.served c.turn_alone.new.self.watch c.turn_alone.new.self.gate)
     (subst
     (λ some. TurnsAlone g.J.Task.meaning g.C.Clock.Reads g.G.Gate.Asked c.args.self.now.turns
-    (round_view c.args.self.now.served c.args.self.now.watch.clock c.args.self.now.watch.taken c.args.self.now.gate) some c.turn_alone.new.self.turns
-    (round_view c.turn_alone.new.self.served c.turn_alone.new.self.watch.clock c.turn_alone.new.self.watch.taken c.turn_alone.new.self.gate))
+    (round_view c.args.self.now.served c.args.self.now.watch c.args.self.now.gate) some c.turn_alone.new.self.turns
+    (round_view c.turn_alone.new.self.served c.turn_alone.new.self.watch c.turn_alone.new.self.gate))
     c.if-turn_alone.false c.turn_alone.ensures.alone))
 
 pub returns-clause-few : goal.returns-clause-few
 returns-clause-few g c =
     few_along 0 _ _ _ _ c.args.self.now.served c.turn_alone.new.self.served c.look.new.self.served c.turn_alone.ensures.steps c.look.ensures.steps
     (alone_none g.J.Task.meaning g.C.Clock.Reads g.G.Gate.Asked c.args.self.now.turns c.turn_alone.new.self.turns
-    (round_view c.args.self.now.served c.args.self.now.watch.clock c.args.self.now.watch.taken c.args.self.now.gate)
-    (round_view c.turn_alone.new.self.served c.turn_alone.new.self.watch.clock c.turn_alone.new.self.watch.taken c.turn_alone.new.self.gate)
+    (round_view c.args.self.now.served c.args.self.now.watch c.args.self.now.gate)
+    (round_view c.turn_alone.new.self.served c.turn_alone.new.self.watch c.turn_alone.new.self.gate)
     (subst
     (λ some. TurnsAlone g.J.Task.meaning g.C.Clock.Reads g.G.Gate.Asked c.args.self.now.turns
-    (round_view c.args.self.now.served c.args.self.now.watch.clock c.args.self.now.watch.taken c.args.self.now.gate) some c.turn_alone.new.self.turns
-    (round_view c.turn_alone.new.self.served c.turn_alone.new.self.watch.clock c.turn_alone.new.self.watch.taken c.turn_alone.new.self.gate))
+    (round_view c.args.self.now.served c.args.self.now.watch c.args.self.now.gate) some c.turn_alone.new.self.turns
+    (round_view c.turn_alone.new.self.served c.turn_alone.new.self.watch c.turn_alone.new.self.gate))
     c.if-turn_alone.false c.turn_alone.ensures.alone))
     c.look.ensures.few (omega (arith, least_along c.args.self.now.served.linked.recorded c.turn_alone.new.self.served.linked.recorded c.turn_alone.ensures.steps.stays.seat))

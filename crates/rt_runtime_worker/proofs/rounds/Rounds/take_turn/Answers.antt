@@ -1,7 +1,5 @@
 use Rattle.std.proofs.Common.{ap}
 use Rattle.actor_seat.specs.Bells.{BellsView}
-use Rattle.rt_runtime_worker.specs.Readings.{TimesNext}
-use Rattle.rt_runtime_worker.proofs.Looked.{turns_seen, watch_of}
 use Rattle.rt_runtime_worker.proofs.Rung.{since_rung, since_within}
 use Rattle.rt_runtime_worker.proofs.rounds.Rounds.take_turn.Goals as goal
 
@@ -16,5 +14,4 @@ returns-clause-rung g c =
     c.take_turn-turned.ensures.steps c.args.self.now.bells c.ring_since.new.bells c.requires.rung (ap (λ (bells : BellsView). bells.rings) c.ring_since.ensures)
 
 pub returns-clause-takes : goal.returns-clause-takes
-returns-clause-takes g c =
-    turns_seen g.J.Task.meaning _ (TimesNext g.C.Clock.Reads) g.G.Gate.Asked watch_of (λ meter time later told. told) c.args.self.now.watch c.take_turn-turned.new.meter c.args.self.now.gate c.take_turn-turned.new.gate c.take_turn-turned.ensures.takes
+returns-clause-takes g c = c.take_turn-turned.ensures.takes

@@ -8,7 +8,7 @@ use Rattle.rt_runtime_worker.specs.Turns.{TurnsWith}
 use Rattle.rt_runtime_worker.proofs.Asking.{asks_between, asks_none}
 use Rattle.rt_runtime_worker.specs.Few.{TurnsFew}
 use Rattle.rt_runtime_worker.proofs.Fewer.{few_none}
-use Rattle.rt_runtime_worker.proofs.Looked.{turns_same, watch_of}
+use Rattle.rt_runtime_worker.proofs.Looked.{turns_same}
 use Rattle.rt_runtime_worker.proofs.Telling.{steps_none}
 use Rattle.rt_runtime_worker.proofs.rounds.Rounds.turn_alone.Goals as goal
 
@@ -30,7 +30,7 @@ returns-then-not-passes_links-clause-alone g c =
     inl (
       subst (λ passes. PassesLinks c.args.self.now.watch.taken c.args.self.now.turns passes c.passes_links.new.self.turns) c.if-not-passes_links.true c.passes_links.ensures.passes,
       refl,
-      ap (λ rounds. round_view rounds.served rounds.watch.clock rounds.watch.taken rounds.gate) c.passes_links.ensures.rest,
+      ap (λ rounds. round_view rounds.served rounds.watch rounds.gate) c.passes_links.ensures.rest,
     )
 
 pub returns-then-not-passes_links-clause-asks : goal.returns-then-not-passes_links-clause-asks
@@ -43,10 +43,10 @@ returns-clause-alone g c =
     inr (
       subst (PassesLinks c.args.self.now.watch.taken c.args.self.now.turns true) (sym c.take_turn.ensures.turns)
           (subst (λ passes. PassesLinks c.args.self.now.watch.taken c.args.self.now.turns passes c.passes_links.new.self.turns) c.if-not-passes_links.false c.passes_links.ensures.passes),
-      turns_same g.J.Task.meaning g.C.Clock.Reads g.G.Gate.Asked (watch_of c.args.self.now.watch) (watch_of c.passes_links.new.self.watch) (watch_of c.take_turn.new.self.watch) c.args.self.now.gate c.passes_links.new.self.gate
-          c.take_turn.new.self.gate c.take_turn.new.self.gate c.args.self.now.served c.take_turn.new.self.served c.take_turn.result (ap (λ rounds. watch_of rounds.watch) c.passes_links.ensures.rest)
+      turns_same g.J.Task.meaning g.C.Clock.Reads g.G.Gate.Asked c.args.self.now.watch c.passes_links.new.self.watch c.take_turn.new.self.watch c.args.self.now.gate c.passes_links.new.self.gate
+          c.take_turn.new.self.gate c.take_turn.new.self.gate c.args.self.now.served c.take_turn.new.self.served c.take_turn.result (ap (λ rounds. rounds.watch) c.passes_links.ensures.rest)
           (ap (λ rounds. rounds.gate) c.passes_links.ensures.rest) refl
-          (subst (λ served. TurnsWith g.J.Task.meaning g.C.Clock.Reads g.G.Gate.Asked (watch_of c.passes_links.new.self.watch) (watch_of c.take_turn.new.self.watch) c.passes_links.new.self.gate c.take_turn.new.self.gate served c.take_turn.result
+          (subst (λ served. TurnsWith g.J.Task.meaning g.C.Clock.Reads g.G.Gate.Asked c.passes_links.new.self.watch c.take_turn.new.self.watch c.passes_links.new.self.gate c.take_turn.new.self.gate served c.take_turn.result
           c.take_turn.new.self.served) (ap (λ rounds. rounds.served) c.passes_links.ensures.rest) c.take_turn.ensures.takes),
       subst (λ served. StepsServed served c.take_turn.result c.take_turn.new.self.served) (ap (λ rounds. rounds.served) c.passes_links.ensures.rest) c.take_turn.ensures.steps,
     )

@@ -31,8 +31,8 @@ pub returns-in-Some-clause-rests : goal.returns-in-Some-clause-rests
 returns-in-Some-clause-rests g c =
     rests g.J.Task.meaning g.C.Clock.Reads g.G.Gate.Asked g.S.Sink.has g.S.Sink.refused g.S.Sink.asks c.args.self.now c.hand_on_if_kept.new.self _ _ true c.self.view_is c.hand_on_if_kept.ensures.hands
     (subst
-    (λ none. LooksAtAll g.J.Task.meaning g.C.Clock.Reads g.G.Gate.Asked (round_view c.self.inside.rounds.served c.self.inside.rounds.watch.clock c.self.inside.rounds.watch.taken c.self.inside.rounds.gate) none c.rest.new.rounds.turns
-    (round_view c.rest.new.rounds.served c.rest.new.rounds.watch.clock c.rest.new.rounds.watch.taken c.rest.new.rounds.gate))
+    (λ none. LooksAtAll g.J.Task.meaning g.C.Clock.Reads g.G.Gate.Asked (round_view c.self.inside.rounds.served c.self.inside.rounds.watch c.self.inside.rounds.gate) none c.rest.new.rounds.turns
+    (round_view c.rest.new.rounds.served c.rest.new.rounds.watch c.rest.new.rounds.gate))
     (ap is_none c.in-Some.is) c.rest.ensures.looks) refl refl c.rest.ensures.names refl refl refl
 
 pub returns-in-Some-clause-runs : goal.returns-in-Some-clause-runs
@@ -46,8 +46,8 @@ pub returns-in-None-clause-rests : goal.returns-in-None-clause-rests
 returns-in-None-clause-rests g c =
     rests g.J.Task.meaning g.C.Clock.Reads g.G.Gate.Asked g.S.Sink.has g.S.Sink.refused g.S.Sink.asks c.args.self.now c.hand_on_if_kept.new.self _ _ false c.self.view_is c.hand_on_if_kept.ensures.hands
     (subst
-    (λ none. LooksAtAll g.J.Task.meaning g.C.Clock.Reads g.G.Gate.Asked (round_view c.self.inside.rounds.served c.self.inside.rounds.watch.clock c.self.inside.rounds.watch.taken c.self.inside.rounds.gate) none c.rest.new.rounds.turns
-    (round_view c.rest.new.rounds.served c.rest.new.rounds.watch.clock c.rest.new.rounds.watch.taken c.rest.new.rounds.gate))
+    (λ none. LooksAtAll g.J.Task.meaning g.C.Clock.Reads g.G.Gate.Asked (round_view c.self.inside.rounds.served c.self.inside.rounds.watch c.self.inside.rounds.gate) none c.rest.new.rounds.turns
+    (round_view c.rest.new.rounds.served c.rest.new.rounds.watch c.rest.new.rounds.gate))
     (ap is_none c.in-None.is) c.rest.ensures.looks) refl refl c.rest.ensures.names refl refl refl
 
 pub returns-in-None-clause-runs : goal.returns-in-None-clause-runs

@@ -16,7 +16,7 @@ loop-init g c = (
   tt,
   (
     [],
-    ap (λ served. worker_of served.linked served.ending c.worker.inside.rounds.watch.clock c.worker.inside.rounds.gate c.worker.inside.rounds.watch.taken c.worker.inside.rounds.turns c.worker.inside.tries c.worker.inside.idle
+    ap (λ served. worker_of served.linked served.ending c.worker.inside.rounds.watch.clock c.worker.inside.rounds.gate c.worker.inside.rounds.watch.last c.worker.inside.rounds.watch.taken c.worker.inside.rounds.turns c.worker.inside.tries c.worker.inside.idle
         c.worker.inside.rounds.bells.names c.worker.inside.sink (shown_of c.worker.inside.publisher) c.worker.inside.since) c.prefault.ensures
         ∙ c.worker.view_is,
   ),
