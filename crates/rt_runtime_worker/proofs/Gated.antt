@@ -195,20 +195,16 @@ module _ {J T : Type 0} where
     taken = taken;
   }
 
-  module _ {meaning : Meaning J T} (sender : ℕ) (old new inside : LinkedView J T) (seen : inside ≡ new) (known : sender ≤ old.recorded.core.cores)
-      (linked : IsLinked meaning inside) (sound : SoundIn (in_at sender inside.ends).inward) where
-    leaves_here : WritesShut sender old.recorded.journal new.recorded.journal → StaysLinked old new → KeepsTaken old new → IsSome (final_count sender new.recorded.journal.notes) → LeavesShut sender old new
-    leaves_here wrote stays taken some =
-        leaves_shut sender old new wrote stays taken some known (subst (IsLinked meaning) seen linked) (subst (λ (view : LinkedView J T). SoundIn (in_at sender view.ends).inward) seen sound)
-
+  module _ {meaning : Meaning J T} (sender : ℕ) (old new : LinkedView J T) (known : sender ≤ old.recorded.core.cores) (sound : SoundIn (in_at sender new.ends).inward) where
     -- it was shut just now
-    pub leaves_then : (did : LinkedView J T) → new ≡ did → ShutsGate sender old did → LeavesShut sender old new
-    leaves_then did is shuts =
-        let now = shut_now sender old new (subst (ShutsGate sender old) (sym is) shuts) in
-        leaves_here now.0 (subst (ShutsGate sender old) (sym is) shuts).stays (taken_same sender old new (subst (ShutsGate sender old) (sym is) shuts)) now.1
+    pub leaves_then : (did : LinkedView J T) → new ≡ did → IsLinked meaning did → ShutsGate sender old did → LeavesShut sender old new
+    leaves_then did is linked does =
+        let shuts = subst (ShutsGate sender old) (sym is) does in
+        let now = shut_now sender old new shuts in
+        leaves_shut sender old new now.0 shuts.stays (taken_same sender old new shuts) now.1 known (subst (IsLinked meaning) (sym is) linked) sound
 
     -- it was shut before
-    pub leaves_else : new ≡ old → IsSome (final_count sender old.recorded.journal.notes) → LeavesShut sender old new
-    leaves_else is some =
-        leaves_here (inl (ap (λ view. view.recorded.journal) is)) (subst (StaysLinked old) (sym is) (stays_same old)) (λ other. ap (λ (view : LinkedView J T). (in_at other view.ends).inward.taken) is)
-        (subst (λ (view : LinkedView J T). IsSome (final_count sender view.recorded.journal.notes)) (sym is) some)
+    pub leaves_else : new ≡ old → IsLinked meaning old → IsSome (final_count sender old.recorded.journal.notes) → LeavesShut sender old new
+    leaves_else is linked some =
+        leaves_shut sender old new (inl (ap (λ view. view.recorded.journal) is)) (subst (StaysLinked old) (sym is) (stays_same old)) (λ other. ap (λ (view : LinkedView J T). (in_at other view.ends).inward.taken) is)
+        (subst (λ (view : LinkedView J T). IsSome (final_count sender view.recorded.journal.notes)) (sym is) some) known (subst (IsLinked meaning) (sym is) linked) sound

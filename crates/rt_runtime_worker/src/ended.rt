@@ -6,6 +6,7 @@ ghost use Rattle.rt_runtime_worker.specs.Ended.{HasEnded};
 ghost use Rattle.rt_runtime_worker.specs.Shown.{shown_of};
 
 use crate::linked::Linked;
+use actor_seat::Seat;
 use rt_jobs::Task;
 use rt_journal_notes::{Sink, Whole};
 use rt_watch::{Publisher, Watcher, compare};
@@ -30,16 +31,16 @@ impl<J: Task<Out = u64>, S: Sink> Model for Ended<J, S> {
     ghost use Rattle.rt_runtime_worker.specs.Ended.{HasEnded};
     ghost use Rattle.rt_runtime_worker.specs.Shown.{shown_of};
 
-    ghost view = { λ e. record { linked = e.linked; sink = e.sink; shown = shown_of e.publisher } };
+    ghost view = { λ e. record { linked = e.linked.seat; sink = e.sink; shown = shown_of e.publisher } };
 
-    ghost invariant = { λ e. HasEnded J.meaning S.has S.refused (record { linked = e.linked; sink = e.sink; shown = shown_of e.publisher }) };
+    ghost invariant = { λ e. HasEnded J.meaning S.has S.refused (record { linked = e.linked.seat; sink = e.sink; shown = shown_of e.publisher }) };
 }
 
 impl<J: Task<Out = u64>, S: Sink> Ended<J, S> {
     /// What a worker gives back at its end.
     pub fn of(linked: Linked<J>, sink: S, local: J::Local, publisher: Publisher) -> Self
-        requires { HasEnded J.meaning S.has S.refused (record { linked = linked; sink = sink; shown = shown_of publisher }) }
-        ensures { result ≡ record { linked = linked; sink = sink; shown = shown_of publisher } }
+        requires { HasEnded J.meaning S.has S.refused (record { linked = linked.seat; sink = sink; shown = shown_of publisher }) }
+        ensures { result ≡ record { linked = linked.seat; sink = sink; shown = shown_of publisher } }
     {
         Ended {
             linked,
@@ -60,7 +61,7 @@ impl<J: Task<Out = u64>, S: Sink> Ended<J, S> {
     }
 
     /// The core with its journal and ends, the sink, and what the jobs of the core shared.
-    pub fn into_all(self) -> (Linked<J>, S, J::Local)
+    pub fn into_all(self) -> (Seat<J>, S, J::Local)
         ensures linked { result.0 ≡ self.linked }
         ensures sink { result.1 ≡ self.sink }
         ensures ended { HasEnded J.meaning S.has S.refused self }
@@ -71,25 +72,25 @@ impl<J: Task<Out = u64>, S: Sink> Ended<J, S> {
             local,
             ..
         } = self;
-        (linked, sink, local)
+        (linked.seat, sink, local)
     }
 
     /// The core with its journal and ends, and the sink.
-    pub fn into_parts(self) -> (Linked<J>, S)
+    pub fn into_parts(self) -> (Seat<J>, S)
         ensures linked { result.0 ≡ self.linked }
         ensures sink { result.1 ≡ self.sink }
         ensures ended { HasEnded J.meaning S.has S.refused self }
     {
         let Ended { linked, sink, .. } = self;
-        (linked, sink)
+        (linked.seat, sink)
     }
 
     /// The core with its journal and ends, where the sink isn't asked for.
-    pub fn into_linked(self) -> Linked<J>
+    pub fn into_linked(self) -> Seat<J>
         ensures same { result ≡ self.linked }
         ensures ended { HasEnded J.meaning S.has S.refused self }
     {
         let Ended { linked, .. } = self;
-        linked
+        linked.seat
     }
 }

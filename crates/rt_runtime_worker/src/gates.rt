@@ -3,82 +3,72 @@
 ghost use Rattle.std.specs.Prelude.{◌≡◌, ◌+◌, ◌<◌, ◌≤◌, IsSome, length, true};
 ghost use Rattle.rt_ids.specs.Closing.{core_mode};
 ghost use Rattle.rt_runtime_worker.specs.Asks.{NotesNoPoll};
-ghost use Rattle.actor_seat.specs.Linked.{IsBetweenTurns, IsLinked, StaysLinked};
-ghost use Rattle.rt_runtime_worker.specs.Gates.{LeavesShut, LeavesReturning, ShutsFirst};
+ghost use Rattle.actor_seat.specs.Linked.{IsLinked, StaysLinked};
+ghost use Rattle.rt_runtime_worker.specs.Gates.{LeavesShut, ShutsFirst};
 ghost use Rattle.rt_runtime_worker.specs.Rooms.{ActsAsItMay, ActsByCommand, HasSpare, IsEnding, IsShort};
 ghost use Rattle.rt_runtime_worker.specs.Rounds.{TellsNotes};
 ghost use Rattle.rt_runtime_worker.specs.Shown.{TellsAlone};
 
-use crate::linked::Linked;
+use actor_seat::Seat;
 use rt_ids::{ActorNo, Mode};
 use rt_jobs::Task;
 
-impl<J: Task<Out = u64>> Linked<J> {
-    /// Shuts the gate of this sender in a closed core, if it is open. Whether it was.
-    fn shut_if_open(&mut self, sender: ActorNo) -> bool
-        requires known { sender ≤ self.old.recorded.core.cores }
-        requires closed { IsSome (core_mode self.old.recorded.journal.notes) }
-        requires room { length self.old.recorded.journal.notes < self.old.recorded.journal.room }
-        ensures leaves { LeavesShut sender self.old self.new }
-        ensures tells { TellsNotes result self.old.recorded.journal.notes self.new.recorded.journal.notes }
-        ensures linked { IsLinked J.meaning self.new }
-        ensures between { IsBetweenTurns self.new.recorded }
-    {
-        let shut = self.is_shut(sender);
-        if !shut {
-            self.shut_one(sender);
+/// Shuts the gate of this sender in a closed core, if it is open. Whether it was.
+fn shut_if_open<J: Task<Out = u64>>(seat: &mut Seat<J>, sender: ActorNo) -> bool
+    requires known { sender ≤ seat.old.recorded.core.cores }
+    requires closed { IsSome (core_mode seat.old.recorded.journal.notes) }
+    requires room { length seat.old.recorded.journal.notes < seat.old.recorded.journal.room }
+    requires linked { IsLinked J.meaning seat.old }
+    ensures leaves { LeavesShut sender seat.old seat.new }
+    ensures tells { TellsNotes result seat.old.recorded.journal.notes seat.new.recorded.journal.notes }
+    ensures linked { IsLinked J.meaning seat.new }
+{
+    let shut = seat.recorded().gate(sender).is_some();
+    if !shut {
+        seat.shut(sender);
+    }
+    // The end tells how many orders may be without an outcome.
+    seat.look_at(sender);
+    !shut
+}
+
+/// Shuts each gate that is open, in a closed core of a house of so many. Whether there was one.
+pub(crate) fn shut_gates<J: Task<Out = u64>>(seat: &mut Seat<J>, cores: u8) -> bool
+    requires closed { IsSome (core_mode seat.old.recorded.journal.notes) }
+    requires room { length seat.old.recorded.journal.notes + seat.old.recorded.core.cores + 1 ≤ seat.old.recorded.journal.room }
+    requires linked { IsLinked J.meaning seat.old }
+    requires cores { cores ≡ seat.old.recorded.core.cores }
+    ensures shuts { ShutsFirst (seat.old.recorded.core.cores + 1) seat.old seat.new }
+    ensures tells { TellsNotes result seat.old.recorded.journal.notes seat.new.recorded.journal.notes }
+    ensures linked { IsLinked J.meaning seat.new }
+{
+    let mut some = false;
+    for sender in 0..cores as usize + 1 {
+        if shut_if_open(seat, ActorNo(sender as u8)) {
+            some = true;
         }
-        // The end tells how many orders may be without an outcome.
-        self.seat.look_at(sender);
-        !shut
     }
+    some
+}
 
-    /// Shuts each gate that is open, in a closed core. Whether there was one.
-    pub(crate) fn shut_gates(&mut self) -> bool
-        requires closed { IsSome (core_mode self.old.recorded.journal.notes) }
-        requires room { length self.old.recorded.journal.notes + self.old.recorded.core.cores + 1 ≤ self.old.recorded.journal.room }
-        ensures shuts { ShutsFirst (self.old.recorded.core.cores + 1) self.old self.new }
-        ensures tells { TellsNotes result self.old.recorded.journal.notes self.new.recorded.journal.notes }
-        ensures linked { IsLinked J.meaning self.new }
-        ensures between { IsBetweenTurns self.new.recorded }
-    {
-        let mut some = false;
-        for sender in 0..self.cores as usize + 1 {
-            if self.shut_if_open(ActorNo(sender as u8)) {
-                some = true;
-            }
-        }
-        some
-    }
-
-    /// Closes the core in mode `Return`. Whether it wasn't in that mode, so that it closed by itself.
-    fn close_returning(&mut self) -> bool
-        requires { length self.old.recorded.journal.notes < self.old.recorded.journal.room }
-        ensures leaves { LeavesReturning self.old self.new }
-        ensures alone { TellsAlone result self.new.recorded.journal.notes }
-    {
-        self.seat.close(Mode::Return)
-    }
-
-    /// Closes the core in mode `Return` and shuts each gate, where the journal is short. Whether it closed by itself.
-    ///
-    /// Once in a worker's life: it stands apart, so that the look at the room before each step stays short.
-    #[cold]
-    pub(crate) fn end(&mut self) -> bool
-        requires spare { HasSpare self.old.recorded }
-        requires short { IsShort self.old.recorded }
-        requires acts { ActsByCommand self.old.recorded.journal.notes }
-        ensures alone { TellsAlone result self.new.recorded.journal.notes }
-        ensures ending { IsEnding self.new.recorded }
-        ensures acts { ActsAsItMay true self.new.recorded }
-        ensures polls { NotesNoPoll self.old.recorded.journal.notes self.new.recorded.journal.notes }
-        ensures stays { StaysLinked self.old self.new }
-        ensures linked { IsLinked J.meaning self.new }
-        ensures between { IsBetweenTurns self.new.recorded }
-    {
-        let _cores = self.cores;
-        let alone = self.close_returning();
-        self.shut_gates();
-        alone
-    }
+/// Closes the core in mode `Return` and shuts each gate, where the journal is short. Whether it closed by itself.
+///
+/// Once in a worker's life: it stands apart, so that the look at the room before each step stays short.
+#[cold]
+pub(crate) fn end<J: Task<Out = u64>>(seat: &mut Seat<J>, cores: u8) -> bool
+    requires spare { HasSpare seat.old.recorded }
+    requires short { IsShort seat.old.recorded }
+    requires acts { ActsByCommand seat.old.recorded.journal.notes }
+    requires linked { IsLinked J.meaning seat.old }
+    requires cores { cores ≡ seat.old.recorded.core.cores }
+    ensures alone { TellsAlone result seat.new.recorded.journal.notes }
+    ensures ending { IsEnding seat.new.recorded }
+    ensures acts { ActsAsItMay true seat.new.recorded }
+    ensures polls { NotesNoPoll seat.old.recorded.journal.notes seat.new.recorded.journal.notes }
+    ensures stays { StaysLinked seat.old seat.new }
+    ensures linked { IsLinked J.meaning seat.new }
+{
+    let alone = seat.close(Mode::Return);
+    shut_gates(seat, cores);
+    alone
 }

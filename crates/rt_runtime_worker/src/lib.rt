@@ -10,8 +10,8 @@
 //!
 //! # Who may touch it
 //!
-//! Four types stand round each other, each with a promise more: a `Seat`; a `Linked`, of which no job is out and no turn open; a `Served`,
-//! which keeps room for its end; and the rounds, which ring a bell for each note. A step looks at the room first. If the journal is short, it closes
+//! Three types stand round each other, each with a promise more: a `Seat`; a `Served`, of which no job is out and no turn open between its
+//! steps, and which keeps room for its end; and the rounds, which ring a bell for each note. A step looks at the room first. If the journal is short, it closes
 //! the core, shuts each gate, and writes two notes a step from then on. Nothing else here closes a core by itself.
 //!
 //! # In which order
@@ -40,7 +40,6 @@ mod rounds;
 pub mod served;
 mod showing;
 pub mod stopwatch;
-mod turn;
 pub mod worker;
 
 pub use actor_seat::{Bell, Bells, Key, MaySleep, OutsideSeat, Seat, Taken, Turned, Woken, sleep};

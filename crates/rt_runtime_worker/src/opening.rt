@@ -10,7 +10,6 @@ ghost use Rattle.actor_seat.specs.Opening.{AreEndsOf, CreatesSince, IsOpenedOver
 ghost use Rattle.rt_runtime_worker.specs.Queues.{behind_entries, creations};
 ghost use Rattle.rt_runtime_worker.specs.Workers.{HasNotBegun};
 
-use crate::linked::Linked;
 use crate::served::Served;
 use crate::showing::PLACES;
 use crate::worker::Worker;
@@ -104,7 +103,7 @@ fn serve_core<J: Task<Out = u64>>(
         config.room,
         &config.queues,
     )?;
-    Ok(Served::of(Linked::of(config.cores, recorded, ends)))
+    Ok(Served::of(config.cores, recorded, ends))
 }
 
 impl<J: Task<Out = u64>, C: Drop, G: Drop, S: Sink> Worker<J, C, G, S> {

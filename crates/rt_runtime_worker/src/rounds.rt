@@ -84,7 +84,7 @@ impl<J: Task<Out = u64>, C: Drop, G: Drop> Rounds<J, C, G> {
 
     /// The linked core.
     pub(crate) fn into_linked(self) -> Linked<J>
-        ensures same { result ≡ self.served.linked }
+        ensures same { result.seat ≡ self.served.linked }
         ensures sound { IsServed J.meaning self.served }
     {
         let Rounds { served, .. } = self;

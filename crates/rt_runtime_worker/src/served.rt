@@ -6,21 +6,25 @@ ghost use Rattle.rt_journal.specs.Recorded.{IsRecorded};
 ghost use Rattle.rt_runtime_worker.specs.Asks.{AsksSince, NotesNoPoll};
 ghost use Rattle.rt_runtime_worker.specs.Ended.{IsServed};
 ghost use Rattle.rt_runtime_worker.specs.Few.{TurnsFew, WritesFew};
-ghost use Rattle.actor_seat.specs.Linked.{StaysLinked};
+ghost use Rattle.actor_seat.specs.Linked.{IsBetweenTurns, IsLinked, StaysLinked};
 ghost use Rattle.rt_runtime_worker.specs.Gates.{KeepsTaken};
-ghost use Rattle.rt_runtime_worker.specs.Passing.{HandsOn, HasPlaces, IsDue, IsDueAtRest};
-ghost use Rattle.rt_runtime_worker.specs.Rooms.{ActsByCommand, HasSpare, IsReady};
+ghost use Rattle.rt_runtime_worker.specs.Passing.{HandsOn, HasPlaces, IsDue, IsDueAtRest, IsLow};
+ghost use Rattle.rt_runtime_worker.specs.Rooms.{ActsByCommand, HasSpare, IsReady, IsShort, least_free};
 ghost use Rattle.rt_runtime_worker.specs.Rounds.{CollectsFirst, CollectsNext, HasShutGates, HearsFirst, HearsOne, HearsSome, LooksAtRoom, StepsServed, is_turn};
 ghost use Rattle.actor_seat.specs.Steps.{HasNoTurn};
 ghost use Rattle.rt_runtime_worker.specs.Shown.{TellsAlone};
 ghost use Rattle.rt_runtime_worker.specs.Turns.{TakesTurn};
 
-use crate::linked::Linked;
+use crate::gates::{end, shut_gates};
+use crate::linked::{Linked, hand_on, least_of};
+use actor_seat::Seat;
+use rt_core::{Ahead, PickError};
 use rt_ids::{ActorNo, CoreNo};
-use rt_jobs::{Job, Task};
+use rt_jobs::{CoreState, Job, Task};
 use rt_journal::Recorded;
 use rt_journal_notes::{RunningJournal, Sink};
 use rt_journal_turn::Turned;
+use rt_ring_mesh::Ends;
 use rt_runtime_config::Gate;
 use rt_taskqueue::Meter;
 use std::marker::Model;
@@ -35,7 +39,8 @@ fn is_work(made: Turned) -> bool
     }
 }
 
-/// A linked core, and whether its worker is at its end: then each gate is shut, and nothing is polled any more.
+/// A linked core, and whether its worker is at its end: then each gate is shut, and nothing is polled any more. No job of it is out, and no
+/// turn is open.
 #[derive(Drop)]
 pub struct Served<J: Task<Out = u64>> {
     linked: Linked<J>,
@@ -50,24 +55,32 @@ impl<J: Task<Out = u64>> Model for Served<J> {
 
     ghost Value = { ServedView J ℕ };
 
+    ghost use Rattle.std.specs.Prelude.{◌≡◌};
     ghost use Rattle.rt_runtime_worker.specs.Ended.{IsServed};
+    ghost use Rattle.rt_runtime_worker.specs.Rooms.{least_free};
     ghost use Rattle.rt_runtime_worker.specs.Shown.{TellsAlone};
 
-    ghost view = { λ s. record { linked = s.linked; ending = s.ending } };
+    ghost view = { λ s. record { linked = s.linked.seat; ending = s.ending } };
 
-    ghost invariant = { λ s. IsServed J.meaning (record { linked = s.linked; ending = s.ending }) × TellsAlone s.alone s.linked.recorded.journal.notes };
+    ghost invariant = { λ s.
+        IsServed J.meaning (record { linked = s.linked.seat; ending = s.ending }) × TellsAlone s.alone s.linked.seat.recorded.journal.notes
+        × (s.linked.cores ≡ s.linked.seat.recorded.core.cores) × (s.linked.least ≡ least_free s.linked.seat.recorded.core.cores s.linked.seat.recorded.cap s.linked.seat.recorded.core.bursts.burst) };
 }
 
 impl<J: Task<Out = u64>> Served<J> {
-    /// A linked core that has room for its end, and no more. It never closed by itself.
-    pub fn of(linked: Linked<J>) -> Self
-        requires spare { HasSpare linked.recorded }
-        requires acts { ActsByCommand linked.recorded.journal.notes }
-        ensures { result ≡ record { linked = linked; ending = false } }
+    /// A core at its ends that has room for its end, in a house of so many cores. It never closed by itself.
+    pub(crate) fn of(cores: u8, recorded: Recorded<J>, ends: Ends<J>) -> Self
+        requires linked { IsLinked J.meaning (record { recorded = recorded; ends = ends }) }
+        requires between { IsBetweenTurns recorded }
+        requires cores { cores ≡ recorded.core.cores }
+        requires spare { HasSpare recorded }
+        requires acts { ActsByCommand recorded.journal.notes }
+        ensures { result ≡ record { linked = record { recorded = recorded; ends = ends }; ending = false } }
     {
-        let _seat = &linked.seat;
+        let least = least_of(cores, recorded.cap(), recorded.burst());
+        let seat = Seat::of(recorded, ends);
         Served {
-            linked,
+            linked: Linked { cores, least, seat },
             ending: false,
             alone: false,
         }
@@ -77,26 +90,26 @@ impl<J: Task<Out = u64>> Served<J> {
     pub(crate) fn is_closed(&self) -> bool
         ensures { result ≡ is_some (core_mode self.now.linked.recorded.journal.notes) }
     {
-        self.linked.is_closed()
+        self.recorded().is_closed()
     }
 
     /// Whether every gate is shut, all behind it was delivered, no queue has work, and no job is parked.
     pub(crate) fn is_drained(&self) -> bool
         ensures { IsTrue result ↔ IsDrained self.now.linked.recorded.core.cores self.now.linked.recorded.journal.notes }
     {
-        self.linked.is_drained()
+        self.recorded().is_drained()
     }
 
     /// Writes to the memory of all notes that there may be. Nothing is noted.
     pub(crate) fn prefault(&mut self)
         ensures { self.new ≡ self.old }
     {
-        self.linked.prefault();
+        self.linked.seat.prefault();
     }
 
     /// Makes what is still to be made of what the jobs of the core share.
     pub(crate) fn begin(&self, local: &mut J::Local) {
-        self.linked.begin(local);
+        local.begin(CoreNo(self.linked.seat.actor().0));
     }
 
     /// Whether the worker is at its end.
@@ -115,25 +128,40 @@ impl<J: Task<Out = u64>> Served<J> {
 
     /// The linked core.
     pub(crate) fn into_linked(self) -> Linked<J>
-        ensures same { result ≡ self.linked }
+        ensures same { result.seat ≡ self.linked }
         ensures sound { IsServed J.meaning self }
     {
         let Served { linked, .. } = self;
         linked
     }
 
+    /// Whether fewer notes are free than a worker keeps for its end.
+    fn is_short(&self) -> bool
+        ensures { IsTrue result ↔ IsShort self.now.linked.recorded }
+    {
+        self.recorded().journal().free() < self.linked.least
+    }
+
+    /// Whether fewer notes are free than two rounds may write, or half the places are used.
+    fn is_low(&self) -> bool
+        ensures { IsTrue result ↔ IsLow self.now.linked.recorded }
+    {
+        let free = self.recorded().journal().free() as usize;
+        free < 2 * (self.linked.least as usize) || free <= self.journal().kept_count()
+    }
+
     /// Whether notes are due to be passed on before a round.
     pub(crate) fn is_due(&self) -> bool
         ensures { IsTrue result ↔ IsDue self.now }
     {
-        !self.ending && self.linked.is_low()
+        !self.ending && self.is_low()
     }
 
     /// Whether notes are due to be passed on before a rest.
     pub(crate) fn is_due_at_rest(&self) -> bool
         ensures { IsTrue result ↔ IsDueAtRest self.now }
     {
-        !self.ending && self.linked.has_kept()
+        !self.ending && self.journal().kept_count() > 0
     }
 
     /// Hands all notes that are kept to the sink, if the worker isn't at its end.
@@ -145,7 +173,7 @@ impl<J: Task<Out = u64>> Served<J> {
         ensures marked { S.mark sink.new ≡ S.mark sink.old }
         ensures going { self.new.ending ≡ false }
     {
-        let _answer = self.linked.hand_on(sink);
+        hand_on(&mut self.linked.seat, sink);
     }
 
     /// Looks at the room before a step: a journal that is short is at its end.
@@ -155,8 +183,8 @@ impl<J: Task<Out = u64>> Served<J> {
         ensures ready { IsReady self.new.ending self.new.linked.recorded }
         ensures polls { NotesNoPoll self.old.linked.recorded.journal.notes self.new.linked.recorded.journal.notes }
     {
-        if !self.ending && self.linked.is_short() {
-            self.alone = self.linked.end();
+        if !self.ending && self.is_short() {
+            self.alone = end(&mut self.linked.seat, self.linked.cores);
             self.ending = true;
         }
     }
@@ -170,7 +198,7 @@ impl<J: Task<Out = u64>> Served<J> {
         ensures polls { NotesNoPoll self.old.linked.recorded.journal.notes self.new.linked.recorded.journal.notes }
     {
         self.look();
-        self.linked.deliver_from(sender)
+        self.linked.seat.deliver(sender)
     }
 
     /// Delivers at most as many orders of this sender as its link holds. Whether there was one.
@@ -181,7 +209,7 @@ impl<J: Task<Out = u64>> Served<J> {
         ensures hears { HearsSome sender self.old self.new }
         ensures polls { NotesNoPoll self.old.linked.recorded.journal.notes self.new.linked.recorded.journal.notes }
     {
-        let cap = self.linked.recorded().cap();
+        let cap = self.recorded().cap();
         for count in 0..cap {
             if !self.deliver_one(sender) {
                 return count > 0;
@@ -218,7 +246,7 @@ impl<J: Task<Out = u64>> Served<J> {
         if self.ending {
             return false;
         }
-        self.linked.collect_from(core) > 0
+        self.linked.seat.collect_from(core) > 0
     }
 
     /// Collects what the links to all cores show. Whether there was anything.
@@ -239,7 +267,7 @@ impl<J: Task<Out = u64>> Served<J> {
 
     /// Whether a link shows what wasn't seen yet. No clause says that the answer is right.
     pub(crate) fn shows(&self) -> bool {
-        self.linked.shows()
+        self.linked.seat.shows()
     }
 
     /// Whether a turn would poll a job or hand one back.
@@ -247,7 +275,13 @@ impl<J: Task<Out = u64>> Served<J> {
         ensures none { result ≡ false → HasNoTurn self.now.linked.recorded.journal.notes }
         ensures rightly { result ≡ true → HasNoTurn self.now.linked.recorded.journal.notes → ⊥ }
     {
-        self.linked.has_turn()
+        match self.linked.seat.ahead() {
+            Ok(Ahead::Job(_)) => true,
+            Ok(Ahead::Back) => true,
+            Ok(Ahead::Idle) => false,
+            Err(PickError::Spent) => false,
+            Err(PickError::Busy) => unreachable!(),
+        }
     }
 
     /// The core beside its journal.
@@ -255,7 +289,7 @@ impl<J: Task<Out = u64>> Served<J> {
         ensures recorded { result.now ≡ self.now.linked.recorded }
         ensures sound { IsRecorded J.meaning self.now.linked.recorded }
     {
-        self.linked.recorded()
+        self.linked.seat.recorded()
     }
 
     /// The notes of this worker.
@@ -263,7 +297,7 @@ impl<J: Task<Out = u64>> Served<J> {
         ensures journal { result.now ≡ self.now.linked.recorded.journal }
         ensures sound { IsServed J.meaning self.now }
     {
-        self.linked.recorded().journal()
+        self.linked.seat.recorded().journal()
     }
 
     /// Shuts the open gates of a core that was closed. Whether there was one. In an open core nothing is done.
@@ -274,7 +308,7 @@ impl<J: Task<Out = u64>> Served<J> {
         ensures taken { self.new.ending ≡ self.old.ending → KeepsTaken self.old.linked self.new.linked }
         ensures polls { NotesNoPoll self.old.linked.recorded.journal.notes self.new.linked.recorded.journal.notes }
     {
-        let closed = self.linked.is_closed();
+        let closed = self.is_closed();
         if !closed {
             return false;
         }
@@ -295,15 +329,16 @@ impl<J: Task<Out = u64>> Served<J> {
         if self.ending {
             return false;
         }
-        if !self.linked.is_closed() {
+        if !self.is_closed() {
             return false;
         }
-        self.linked.shut_gates()
+        shut_gates(&mut self.linked.seat, self.linked.cores)
     }
 }
 
 impl<J: Job + Task<Out = u64>> Served<J> {
-    /// Makes one turn. Whether there was work.
+    /// Makes one turn. Whether there was work. A job that is polled may submit, redeem and detach as this core, and is lent what the jobs of the
+    /// core share. The gate is asked just before each poll, and the meter is told that the poll begins, and asked how long it took.
     pub(crate) fn take_turn<M: Meter, G: Gate>(
         &mut self,
         local: &mut J::Local,
@@ -316,6 +351,6 @@ impl<J: Job + Task<Out = u64>> Served<J> {
         ensures asks { AsksSince G.Asked self.old.linked.recorded.core.core self.old.linked.recorded.journal.notes self.new.linked.recorded.journal.notes gate.old gate.new }
     {
         self.look();
-        is_work(self.linked.turn(local, meter, gate))
+        is_work(self.linked.seat.turn(local, meter, gate))
     }
 }

@@ -11,6 +11,7 @@ ghost use Rattle.rt_runtime_worker.specs.Serves.{GoesOn, Rests, Serves, ServesOn
 ghost use Rattle.rt_runtime_worker.specs.Workers.{HasNotBegun, IsBellOf, KeepsOn, served_of};
 
 use crate::ended::Ended;
+use crate::linked::hand_on;
 use crate::quiet::rest;
 use crate::rounds::Rounds;
 use crate::served::Served;
@@ -208,7 +209,7 @@ impl<J: Task<Out = u64>, C: Drop, G: Drop, S: Sink> Worker<J, C, G, S> {
         let alone = rounds.served.closed_alone();
         show_on(rounds.served.recorded(), alone, &mut publisher);
         let mut linked = rounds.into_linked();
-        let _answer = linked.hand_on(&mut sink);
+        hand_on(&mut linked.seat, &mut sink);
         Ended::of(linked, sink, local, publisher)
     }
 }

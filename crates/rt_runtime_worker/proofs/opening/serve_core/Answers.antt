@@ -1,6 +1,5 @@
-use Rattle.std.proofs.Common.{◌∙◌, sym, subst, ap}
+use Rattle.std.proofs.Common.{◌∙◌, sym, ap}
 use Rattle.rt_runtime_worker.specs.Queues.{creations}
-use Rattle.rt_runtime_worker.specs.Rooms.{ActsByCommand}
 use Rattle.actor_seat.proofs.Opened.{opened_linked}
 use Rattle.rt_runtime_worker.proofs.Opened.{opened_between, opened_acts}
 use Rattle.rt_runtime_worker.proofs.opening.serve_core.Goals as goal
@@ -10,16 +9,13 @@ of-requires-clause-linked g c =
     opened_linked _ _ _ _ _ _ c.in_ok-recorded.recorded c.args.ends c.in_ok-recorded.ensures.since c.requires.ends (ap (λ ends. ends.number) (sym c.ends.view_is) ∙ sym c.number.view_is)
 
 pub of-requires-clause-between : goal.of-requires-clause-between
-of-requires-clause-between g c =
-    opened_between _ _ _ _ _ _ c.in_ok-recorded.recorded c.in_ok-recorded.ensures.since
+of-requires-clause-between g c = opened_between _ _ _ _ _ _ c.in_ok-recorded.recorded c.in_ok-recorded.ensures.since
 
-pub of-requires-2-clause-acts : goal.of-requires-2-clause-acts
-of-requires-2-clause-acts g c =
-    subst (λ linked. ActsByCommand linked.recorded.journal.notes) (sym c.of.ensures)
-    (opened_acts _ _ _ _ _ _ c.in_ok-recorded.recorded c.in_ok-recorded.ensures.since)
+pub of-requires-clause-acts : goal.of-requires-clause-acts
+of-requires-clause-acts g c = opened_acts _ _ _ _ _ _ c.in_ok-recorded.recorded c.in_ok-recorded.ensures.since
 
 pub returns-clause-queues : goal.returns-clause-queues
 returns-clause-queues g c =
-    ap (λ served. served.linked.recorded.journal.notes) c.of-2.ensures ∙ (ap (λ linked. linked.recorded.journal.notes) c.of.ensures ∙ (c.in_ok-recorded.ensures.noted
+    ap (λ served. served.linked.recorded.journal.notes) c.of.ensures ∙ (c.in_ok-recorded.ensures.noted
     ∙ (ap (λ core. creations core c.deref.result.now) (sym (ap (λ ends. ends.number) (sym c.ends.view_is) ∙ sym c.number.view_is))
-    ∙ ap (creations c.args.ends.number) c.deref.ensures.value)))
+    ∙ ap (creations c.args.ends.number) c.deref.ensures.value))

@@ -15,7 +15,7 @@ loop-count-init g c = record {
   steps = steps_none c.args.self.now;
   few = few_none 0 c.args.self.now;
   many = none_heard c.args.sender c.args.self.now;
-  cap_is = c.cap-cap.ensures.cap ∙ (ap (λ recorded. recorded.cap) c.recorded.ensures ∙ ap (λ view. view.linked.recorded.cap) c.self.view_is);
+  cap_is = c.cap-cap.ensures.cap ∙ ap (λ recorded. recorded.cap) c.recorded.ensures.recorded;
   polls = refl;
 }
 

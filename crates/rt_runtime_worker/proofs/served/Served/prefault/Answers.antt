@@ -1,8 +1,11 @@
-use Rattle.std.proofs.Common.{sym, subst}
+use Rattle.std.proofs.Common.{◌≡◌, sym, subst}
 use Rattle.rt_runtime_worker.specs.Ended.{IsServed}
+use Rattle.rt_runtime_worker.specs.Rooms.{least_free}
 use Rattle.rt_runtime_worker.specs.Shown.{TellsAlone}
 use Rattle.rt_runtime_worker.proofs.served.Served.prefault.Goals as goal
 
 pub invariant_of-self : goal.invariant_of-self
 invariant_of-self g c =
-    subst (λ linked. IsServed g.J.Task.meaning (record { linked = linked; ending = c.self.inside.ending }) × TellsAlone c.self.inside.alone linked.recorded.journal.notes) (sym c.prefault.ensures) c.self.invariant
+    subst
+    (λ seat. IsServed g.J.Task.meaning (record { linked = seat; ending = c.self.inside.ending }) × TellsAlone c.self.inside.alone seat.recorded.journal.notes × (c.self.inside.linked.cores ≡ seat.recorded.core.cores)
+    × (c.self.inside.linked.least ≡ least_free seat.recorded.core.cores seat.recorded.cap seat.recorded.core.bursts.burst)) (sym c.prefault.ensures) c.self.invariant
