@@ -22,7 +22,6 @@ use Rattle.rt_journal.specs.contracts.recorded.Recorded.{the_row as recorded}
 use Rattle.actor_seat.proofs.bell.Bell.TheSendSync as bell
 use Rattle.rt_watch.proofs.publisher.Publisher.TheSendSync as publisher
 use Rattle.actor_seat.specs.contracts.seat.Seat.{the_row as seat}
-use Rattle.rt_runtime_worker.specs.contracts.linked.Linked.{the_row as linked}
 use Rattle.rt_runtime_worker.specs.contracts.ended.Ended.{the_row as ended}
 use Rattle.rt_runtime_worker.specs.contracts.worker.Worker.{the_row as worker}
 
@@ -43,12 +42,9 @@ module _ (T L : RattleType) (n : ℕ) (t : Ghosts (param 0 T).Denot ℕ (param n
   seat_send : IsSend (seat (param 0 T) (param n L) t b)
   seat_send = search (recorded_send, ends.the_send, crosses, sendable) depth 60 fits 20000
 
-  linked_send : IsSend (linked (param 0 T) (param n L) t b)
-  linked_send = search (seat_send, crosses, sendable) depth 60 fits 20000
-
   module _ (S : RattleType) (sink : Passes (param 3 S).Denot) (s : IsSend (param 3 S)) where
     pub ended_send : IsSend (ended (param 0 T) (param 3 S) (param n L) t b sink)
-    ended_send = search (linked_send, publisher.the_send, crosses, sendable) depth 60 fits 20000
+    ended_send = search (seat_send, publisher.the_send, crosses, sendable) depth 60 fits 20000
 
     pub worker_send : (C G : RattleType) → IsSend (param 1 C) → IsSend (param 2 G) → IsSend (worker (param 0 T) (param 1 C) (param 2 G) (param 3 S) (param n L) t b sink)
-    worker_send C G c g = search (linked_send, bell.the_send, publisher.the_send, crosses, sendable) depth 60 fits 20000
+    worker_send C G c g = search (seat_send, bell.the_send, publisher.the_send, crosses, sendable) depth 60 fits 20000
