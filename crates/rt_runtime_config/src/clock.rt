@@ -4,7 +4,8 @@ ghost use Rattle.std.specs.Prelude.{◌≡◌, ℕ, ◌-◌, ◌≤◌};
 
 use std::time;
 
-/// A worker's own clock, read just before and just after each poll.
+/// A worker's own clock, read behind each poll. The next poll begins with that reading, unless a look at the links made no turn since: then the
+/// clock is read once more, right before the poll.
 ///
 /// It may tell any number: a poll counts with the time that its clock tells.
 pub trait Clock {
@@ -55,7 +56,7 @@ impl<R: time::Clock> Clock for SystemClock<R> {
         ensures { (self.old.last ≤ result) × (self.new.last ≡ result) }
     {
         if let Ok(time) = self.clock.monotonic() {
-            // In 64 bits, since this is read twice a poll. Past 584 years the sum wraps, and the clock tells its last reading.
+            // In 64 bits, since this is read at each poll. Past 584 years the sum wraps, and the clock tells its last reading.
             let whole = time.as_secs().wrapping_mul(1_000_000_000);
             let nanos = whole.wrapping_add(u64::from(time.subsec_nanos()));
             if nanos > self.last {
