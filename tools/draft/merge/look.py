@@ -2,7 +2,6 @@
 import re
 import subprocess
 import sys
-from pathlib import Path
 
 import names
 import plan as plans
@@ -49,7 +48,6 @@ class Names:
     def __init__(self, root):
         self.root = root
         self.plan = plans.Plan(root)
-        self.kit = Path("/opt/rattle/rattle")
         self.missing = {}
 
     def miss(self, file, name):
@@ -164,7 +162,7 @@ def look(root, before, tell):
     check(f"at most {names.MOST_CRATES} crates", len(order) <= names.MOST_CRATES, len(order))
     below = [(name, it) for at, name in enumerate(order) for it in seen.plan.uses[name] if it in order[at:]]
     check("each crate stands behind those that it uses", not below, below)
-    merged = [it for it in order if len(names.TARGETS.get(it, "").split()) > 1]
+    merged = [it for it in order if it in names.SAYS or any(it == into for into, _ in names.JOINS.values())]
     large = {it: plans.functions(root / "crates" / it) for it in merged if plans.functions(root / "crates" / it) > names.MOST_FUNCTIONS}
     print("    functions:", *(f"{it} {plans.functions(root / 'crates' / it)}" for it in merged))
     check(f"no merged crate has more than {names.MOST_FUNCTIONS} functions", not large, large)

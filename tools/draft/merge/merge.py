@@ -6,7 +6,7 @@
 
 Run it on a clone, so that the other one stays:
 
-  git clone /path/to/main /tmp/merged && tools/draft/merge/merge.py /tmp/merged && cd /tmp/merged && git add -A && git commit
+  git clone MAIN MERGED && tools/draft/merge/merge.py MERGED && cd MERGED && git add -A && git commit
 
 It takes about a minute. names.py says which crate becomes which, prose.py has the sentences that a rule can't find. Whatever it couldn't do
 it tells in lines that begin with 'by hand:'. It needs `rt` for the layout alone, and proves nothing. The last line is 'N passed, M failed'.
@@ -203,8 +203,14 @@ class Merge:
                 line = f"{new}: {names.REASONS.get(new, reason.strip()) if merged else reason.strip()}"
             lines.append(self.pages.page(line))
         place = next((at for at, it in enumerate(lines) if it.startswith(("chain:", "gate:", "edits:", "two:"))), len(lines))
-        lines[place:place] = [f"{new}: {names.REASONS[new]}" for new in self.plan.parts if new in names.REASONS and new not in seen and len(self.plan.parts[new]) > 1]
+        lines[place:place] = [f"{new}: {names.REASONS[new]}" for new in self.plan.parts if new in names.REASONS and new not in seen and self.is_over(new)]
         return "\n".join(lines) + "\n"
+
+    def is_over(self, new):
+        """Whether a merged crate is over the budget of docs/GATE.md."""
+        most = dict(re.findall(r"^\| .*`(\w+)` *\| *(\d+) *\|$", (self.root / "docs/GATE.md").read_text(), re.MULTILINE))
+        has_edits = self.keeps_edits(new) and any((self.root / "crates" / it / "must-fail").is_dir() for it in self.plan.parts[new])
+        return len(self.plan.parts[new]) > 1 and self.seconds[new] > int(most["edited" if has_edits else "crate"])
 
     def run(self):
         for file in self.plan.files:
@@ -290,7 +296,7 @@ def main(words):
         were = {file for file, text in laid_out(root).items() if file.read_text() == text}
         merge = Merge(root)
         merge.run()
-        prose.mend(root, tell)
+        prose.mend(root)
         lay_out(root, merge.plan.parts, were)
         for new in merge.plan.parts:
             listed.mend(root / "crates" / new, tell)

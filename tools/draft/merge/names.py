@@ -67,6 +67,11 @@ SAYS = {
 # A part that stands alone under this name, if the merged crate would have more functions than MOST_FUNCTIONS, and the sentence of the rest then.
 APART = {"judge_audit": ("rt_audit_picks", "judge_picks", "The verdict over the journals of all actors, and the walks for rules 1 to 4")}
 
+# A crate that goes into another one, if there would be more than MOST_CRATES, and the sentence of both then.
+JOINS = {
+    "base_answers": ("base_jobs", "Work in polls, what each poll owes, the kinds of job, and a place for an answer of any type"),
+}
+
 # The module for what stands in lib.rt itself, if the crate is merged with others.
 ROOT_MODULES = {"rt_shares": "shares"}
 
@@ -95,6 +100,7 @@ CLASHES = {
 WORDS = {
     "fairexec_threads_script": "threads",
     "rt_taskqueue_index": "index",
+    "rt_answers": "answer",
     "rt_link_ends": "around",
     "rt_ring_mesh": "mesh",
     "rt_sinks": "sinks",

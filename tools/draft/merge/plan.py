@@ -89,6 +89,13 @@ class Plan:
                 targets[alone] = [part]
                 self.says[new] = rest
                 self.told.append(f"{part} is {alone}: {new} would have {count} functions")
+        named = {it for olds in targets.values() for it in olds}
+        for gone, (into, both) in names.JOINS.items():
+            count = sum(1 for olds in targets.values() if olds) + sum(1 for it in self.order if it not in named)
+            if count > names.MOST_CRATES and targets[gone]:
+                targets[into] += targets.pop(gone)
+                self.says[into] = both
+                self.told.append(f"{gone} goes into {into}: there would be {count} crates")
         of = {old: new for new, olds in targets.items() for old in olds}
         self.parts = {}
         for name, crate in self.crates.items():
