@@ -130,7 +130,11 @@ class Merge:
                     taken[fresh] = old
             bodies.append(body.strip("\n"))
         head = next((it for it in heads if it), f"# Wrong bodies of {new}, in the order of its sources. A proof or a test refuses each (tests/edits --help).\n")
-        return head + "\n" + "\n\n".join(it for it in bodies if it) + "\n"
+        blocks = [it for body in bodies for it in re.split(r"\n{2,}", body) if it]
+        heads = [re.search(r"^\w+: ((?:src|specs|proofs)/\S+)$", it, re.MULTILINE) for it in blocks]
+        if len(parts) > 1 and all(heads):
+            blocks = [it for _, it in sorted(zip(heads, blocks), key=lambda it: (("src", "specs", "proofs").index(it[0][1].split("/")[0]), it[0][1]))]
+        return head + "\n" + "\n\n".join(blocks) + "\n"
 
     def merged_crate(self, new, parts):
         """What a merged crate has of all its parts."""
