@@ -121,6 +121,7 @@ class Merge:
             heads.append(self.pages.anywhere.sub(lambda it: self.pages.new(it[1]), head))
             body, found = self.pages.edits(text[len(head) :], old)
             for path in [] if self.keeps_edits(new) else sorted((folder / "must-fail").glob("*.edit")):
+                print(f"{old}: must-fail/{path.name} stands in edits.txt of {new}, whose proof takes {self.seconds[new]} s")
                 body += "\n\n" + self.pages.as_listed(path.stem, self.pages.edit(path.read_text(), old))
                 found.append(path.stem)
             for name in found:
