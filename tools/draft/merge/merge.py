@@ -230,6 +230,9 @@ class Merge:
                 self.merged_crate(new, parts)
         for told in self.plan.told:
             print(told)
+        for new in self.plan.parts:
+            if new.startswith("rt_"):
+                tell(f"names.py has no name of a layer for {new}")
         self.write()
 
     def write(self):
