@@ -1,4 +1,5 @@
 """Looks at a checkout by its text: whether each name of another module resolves, and whether the crates keep their bounds."""
+import ast
 import re
 import subprocess
 import sys
@@ -15,6 +16,23 @@ def chain(root):
     said = subprocess.run([sys.executable, "-c", "import gate; u = gate.crates(); s, c = gate.chain(gate.whole_table(u), u); print(s, *c)"], cwd=root / "tools", capture_output=True, text=True, check=True)
     seconds, *crates = said.stdout.split()
     return int(seconds), crates
+
+
+def rows_of(root):
+    """The seconds of each crate's proof, also of one that isn't measured yet."""
+    said = subprocess.run([sys.executable, "-c", "import gate; print({k: v['proof'] for k, v in gate.whole_table(gate.crates()).items()})"], cwd=root / "tools", capture_output=True, text=True, check=True)
+    return ast.literal_eval(said.stdout)
+
+
+def longest(rows, uses):
+    found = {}
+
+    def visit(name):
+        if name not in found:
+            found[name] = rows[name] + max((visit(it) for it in uses[name] if it in rows), default=0)
+        return found[name]
+
+    return max(map(visit, rows))
 
 
 def old_names(root, olds, tell):
@@ -178,6 +196,9 @@ def look(root, before, tell):
     after, crates = chain(root)
     print(f"    chain: {after} s: {' '.join(crates)}")
     if before:
-        check(f"the longest chain is no longer than {before[0]} s", after <= before[0], after)
+        # The rows of before, added up: what a line of a crate that isn't measured costs is guessed anew after the merge.
+        rows, uses, parts = before
+        was, is_now = longest(rows, uses), longest({new: sum(rows[it] for it in olds) for new, olds in parts.items()}, seen.plan.uses)
+        check(f"the longest chain is no longer than {was} s", is_now <= was, is_now)
     print(f"{passed} passed, {failed} failed")
     return 1 if failed else 0

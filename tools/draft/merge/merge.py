@@ -300,7 +300,7 @@ def main(words):
         if dirty:
             print(f"merge: {root} has changes that aren't committed", file=sys.stderr)
             return 2
-        chain = look.chain(root)
+        rows = look.rows_of(root)
         were = {file for file, text in laid_out(root).items() if file.read_text() == text}
         merge = Merge(root)
         merge.run()
@@ -310,7 +310,7 @@ def main(words):
             listed.mend(root / "crates" / new, tell)
         subprocess.run([root / "tools/map", "--write"], check=True)
         look.old_names(root, [it for it in merge.plan.crates if merge.plan.crates[it].new != it and it not in merge.plan.parts], tell)
-        return look.look(root, chain, tell)
+        return look.look(root, (rows, merge.plan.uses, merge.plan.parts), tell)
     return look.look(root, None, tell)
 
 

@@ -70,6 +70,7 @@ APART = {"judge_audit": ("rt_audit_picks", "judge_picks", "The verdict over the 
 # A crate that goes into another one, if there would be more than MOST_CRATES, and the sentence of both then.
 JOINS = {
     "base_answers": ("base_jobs", "Work in polls, what each poll owes, the kinds of job, and a place for an answer of any type"),
+    "host_loose": ("base_sealed", "A vector and a slab that allocate no more, a list that only proofs read, and a box as its address"),
 }
 
 # The module for what stands in lib.rt itself, if the crate is merged with others.
