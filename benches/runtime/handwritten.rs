@@ -339,20 +339,21 @@ struct Queue {
     runtime: u64,
 }
 
-// Queues with shares, of which the one of least virtual runtime, then least number, is picked; a clock; and a journal, with a note for
-// what was taken and three for a poll.
+// Queues with shares, of which the one of least virtual runtime, then least number, is picked; a clock, whose reading behind a poll is the
+// next one's start unless a look found no turn since; and a journal, with a note for what was taken and three for a poll.
 struct Fair {
     queues: Vec<Queue>,
     active: BTreeSet<(u64, usize)>,
     floor: u64,
     journal: Vec<Note>,
     base: Instant,
+    last: Option<u64>,
 }
 
 impl Fair {
     fn new(notes: u64) -> Self {
         let queue = Queue { jobs: VecDeque::with_capacity(PLACES), shares: 1000, runtime: 0 };
-        Fair { queues: vec![queue], active: BTreeSet::new(), floor: 0, journal: touched(notes), base: Instant::now() }
+        Fair { queues: vec![queue], active: BTreeSet::new(), floor: 0, journal: touched(notes), base: Instant::now(), last: None }
     }
 
     fn now(&self) -> u64 {
@@ -372,14 +373,17 @@ impl Turns for Fair {
     }
 
     fn turn(&mut self) -> Option<Turn> {
+        let last = self.last.take();
         let (runtime, place) = self.active.pop_first()?;
         self.floor = self.floor.max(runtime);
         let (number, mut job) = self.queues[place].jobs.pop_front()?;
         self.journal.push([0, place as u64, runtime, 0, 0, 0]);
         self.journal.push([1, number, 0, 0, 0, 0]);
-        let before = self.now();
+        let before = last.unwrap_or_else(|| self.now());
         let answer = job.poll();
-        let spent = (self.now() - before).max(1);
+        let after = self.now();
+        self.last = Some(after);
+        let spent = (after - before).max(1);
         let queue = &mut self.queues[place];
         queue.runtime = runtime + (spent * 1000).div_ceil(queue.shares);
         let turn = match answer {
