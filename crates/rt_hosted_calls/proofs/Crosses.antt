@@ -9,6 +9,7 @@ use Rattle.rt_jobs.specs.contracts.state.UnitCoreState.TheImpl.{ghosts as local}
 use Rattle.rt_timeline.proofs.tree.Tree.TheLaws.TheKnot as tree
 use Rattle.rt_desk.proofs.trie.Trie.TheLaws.TheKnot as trie
 use Rattle.rt_desk.specs.contracts.lane.Lane.{the_row as lane}
+use Rattle.rt_desk.specs.contracts.shelf.Shelf.{the_row as shelf}
 use Rattle.rt_journal_notes.proofs.running.RunningJournal.TheSendSync as journal
 use Rattle.rt_journal_notes.proofs.journal.Journal.TheSendSync as notes
 use Rattle.rt_ring_mesh.proofs.ends.Ends.TheSendSync as ends
@@ -32,8 +33,11 @@ job_send = search (crosses, sendable) depth 60 fits 20000
 core_send : IsSend (core job global u64-field.row unit-field.row task its_alloc (copied global))
 core_send = search (job_send, crosses, tree.crosses, sendable) depth 60 fits 20000
 
+shelf_send : IsSend (shelf job u64-field.row)
+shelf_send = search (job_send, crosses, trie.crosses, sendable) depth 60 fits 20000
+
 lane_send : IsSend (lane job u64-field.row unit-field.row task)
-lane_send = search (job_send, crosses, trie.crosses, sendable) depth 60 fits 20000
+lane_send = search (shelf_send, crosses, sendable) depth 60 fits 20000
 
 desk_send : IsSend (desk job unit-field.row task)
 desk_send = search (lane_send, journal.the_send, crosses, sendable) depth 60 fits 20000

@@ -13,6 +13,7 @@ use Rattle.std.below.core.specs.contracts.clone.Clone+copy.TheImpl.{ghosts as co
 use Rattle.rt_timeline.proofs.tree.Tree.TheLaws.TheKnot as tree
 use Rattle.rt_desk.proofs.trie.Trie.TheLaws.TheKnot as trie
 use Rattle.rt_desk.specs.contracts.lane.Lane.{the_row as lane}
+use Rattle.rt_desk.specs.contracts.shelf.Shelf.{the_row as shelf}
 use Rattle.rt_journal_notes.specs.declared.sink.Sink.{Ghosts as Passes}
 use Rattle.rt_journal_notes.proofs.running.RunningJournal.TheSendSync as journal
 use Rattle.rt_ring_mesh.proofs.ends.Ends.TheSendSync as ends
@@ -30,8 +31,11 @@ module _ (T L : RattleType) (n : ℕ) (t : Ghosts (param 0 T).Denot ℕ (param n
   core_send : IsSend (core (param 0 T) global u64-field.row (param n L) t its_alloc (copied global))
   core_send = search (crosses, tree.crosses, sendable) depth 60 fits 20000
 
+  shelf_send : IsSend (shelf (param 0 T) u64-field.row)
+  shelf_send = search (crosses, trie.crosses, sendable) depth 60 fits 20000
+
   lane_send : IsSend (lane (param 0 T) u64-field.row (param n L) t)
-  lane_send = search (crosses, trie.crosses, sendable) depth 60 fits 20000
+  lane_send = search (shelf_send, crosses, sendable) depth 60 fits 20000
 
   desk_send : IsSend (desk (param 0 T) (param n L) t)
   desk_send = search (lane_send, journal.the_send, crosses, sendable) depth 60 fits 20000
