@@ -5,7 +5,7 @@ use Rattle.rt_ids.specs.declared.order.Mode.{Mode}
 use Rattle.rt_ids.specs.declared.order.Order.TheVariants.{CloseCore}
 use Rattle.rt_runtime.specs.declared.error.FinishError.{FinishError}
 use Rattle.rt_runtime.specs.declared.error.FinishError.TheVariants.{NotClosed}
-use Rattle.rt_runtime.specs.declared.error.SubmitError.{SubmitError}
+use Rattle.actor_caller.specs.declared.error.SubmitError.{SubmitError}
 use Rattle.rt_runtime.specs.Sends.{SubmitsTo}
 use Rattle.rt_runtime.specs.State.{RuntimeView}
 

@@ -3,7 +3,7 @@
 //! Each error is a struct with a model, so that a program that hands it on needn't know what it holds.
 
 ghost use Rattle.std.specs.Prelude.{◌≡◌, Some};
-ghost use Rattle.rt_runtime.specs.Errors.{submit_text};
+ghost use Rattle.actor_caller.specs.Errors.{submit_text};
 ghost use Rattle.duthlwyran.specs.Waits.{wait_text};
 
 use rt_ids::{Answer, Order, Reason, TicketError};
@@ -18,7 +18,7 @@ pub struct NotSubmitted<J> {
 }
 
 impl<J> Model for NotSubmitted<J> {
-    ghost use Rattle.rt_runtime.specs.declared.error.SubmitError.{SubmitError};
+    ghost use Rattle.actor_caller.specs.declared.error.SubmitError.{SubmitError};
 
     ghost Value = { SubmitError J };
 
