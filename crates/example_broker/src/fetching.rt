@@ -2,33 +2,21 @@
 
 ghost use Rattle.std.specs.Prelude.{◌≡◌, sum, IfSome};
 
+use crate::Node;
 use crate::batch::Batch;
 use crate::work::{COMPACTION, Work};
-use crate::{Node, answer};
-use rt_answers::{Asked, Reply, open};
-use rt_ids::{CoreNo, Mode, Order, Outcome, Ticket};
-use std::alloc::{AllocError, Global};
+use duthlwyran::{CoreNo, Mode, Order, Queue, Result, Ticket, WaitError};
+use rt_answers::{Asked, open};
+use std::alloc::Global;
 use std::sync::Wait;
 
 /// So many places make a batch.
 const COUNT: u64 = 100;
 
-/// What became of the batches.
-#[derive(Drop)]
-pub struct Fetched {
-    /// The last place of a batch that a job of another core read.
-    pub last: u64,
-    /// The sum of the places that the caller took.
-    pub taken: u64,
-    /// How many places came back in a job.
-    pub returned: usize,
-}
-
-/// What a fetch is made of: an empty batch with room for all, and the two ends of a place for it.
-fn parts(alloc: Global) -> Result<(Batch, Reply<Batch>, Asked<Batch>), AllocError> {
-    let batch = Batch::try_with_room(alloc, COUNT)?;
-    let (reply, asked) = open(alloc)?;
-    Ok((batch, reply, asked))
+/// Submits a job to a core, behind its compaction.
+fn submit<R: Drop>(node: &mut Node<R>, core: CoreNo, job: Work) -> Result<Ticket> {
+    let queue = COMPACTION;
+    Ok(node.submit(Queue { core, queue }, job)?)
 }
 
 /// Has a job of this core fetch a batch. The number that it answered, and where the batch is.
@@ -37,24 +25,23 @@ fn fetch<R: Wait + Drop>(
     node: &mut Node<R>,
     alloc: Global,
     core: CoreNo,
-) -> Option<(u64, Asked<Batch>)> {
-    let (batch, reply, asked) = parts(alloc).ok()?;
+) -> Result<(u64, Asked<Batch>)> {
+    let (count, batch) = (COUNT, Batch::try_with_room(alloc, COUNT)?);
+    let (reply, asked) = open(alloc)?;
     let job = Work::Fetch {
-        count: COUNT,
+        count,
         batch,
         reply,
     };
-    let ticket = node.submit(core, Order::Job(COMPACTION, job)).ok()?;
-    let number = answer(rt, node, ticket)?;
-    Some((number, asked))
+    let ticket = submit(node, core, job)?;
+    Ok((node.wait(rt, ticket)?, asked))
 }
 
 /// Has a job of core 0 read the batch that one of core 1 fetched. Its last place.
-fn read_over<R: Wait + Drop>(rt: &R, node: &mut Node<R>, alloc: Global) -> Option<u64> {
+fn read_over<R: Wait + Drop>(rt: &R, node: &mut Node<R>, alloc: Global) -> Result<u64> {
     let (number, asked) = fetch(rt, node, alloc, CoreNo(1))?;
-    let job = Work::Read { number, asked };
-    let ticket = node.submit(CoreNo(0), Order::Job(COMPACTION, job)).ok()?;
-    answer(rt, node, ticket)
+    let ticket = submit(node, CoreNo(0), Work::Read { number, asked })?;
+    Ok(node.wait(rt, ticket)?)
 }
 
 /// Takes a batch from its place. Its sum is the number that was redeemed.
@@ -64,41 +51,46 @@ fn taken(asked: &mut Asked<Batch>, number: u64) -> Option<Vec<u64>>
     Some(asked.take(number)?.into_places())
 }
 
-/// Takes a batch that a job of core 0 fetched. The sum of its places.
-fn take<R: Wait + Drop>(rt: &R, node: &mut Node<R>, alloc: Global) -> Option<u64> {
+/// Takes a batch that a job of core 0 fetched. The sum of its places, and 0 if it isn't there.
+fn take<R: Wait + Drop>(rt: &R, node: &mut Node<R>, alloc: Global) -> Result<u64> {
     let (number, mut asked) = fetch(rt, node, alloc, CoreNo(0))?;
-    let _places = taken(&mut asked, number)?;
-    Some(number)
+    Ok(if taken(&mut asked, number).is_some() {
+        number
+    } else {
+        0
+    })
 }
 
 /// Reads a batch in the job that held it, which comes back once its queue is closed. How many places it has.
-fn read_back<R: Wait + Drop>(rt: &R, node: &mut Node<R>, ticket: Ticket) -> Option<usize> {
+fn read_back<R: Wait + Drop>(rt: &R, node: &mut Node<R>, ticket: Ticket) -> Result<usize> {
     let closing = Order::Close(COMPACTION, Mode::Return);
-    let closed = node.submit(CoreNo(0), closing).ok()?;
-    node.detach(closed).ok()?;
-    match node.wait(rt, ticket) {
-        Ok(Outcome::Returned(_, Order::Job(_, Work::Hold { batch, .. }))) => {
-            Some(batch.into_places().len())
+    let closed = node.runtime.submit(CoreNo(0), closing)?;
+    node.runtime.detach(closed)?;
+    let Err(back) = node.wait(rt, ticket) else {
+        return Ok(0);
+    };
+    match back.into_error() {
+        WaitError::Returned(_, Order::Job(_, Work::Hold { batch, .. })) => {
+            Ok(batch.into_places().len())
         }
-        _ => None,
+        _ => Ok(0),
     }
 }
 
 /// Fetches batches in each way. A job that holds one and a job that fetches one are polled by turns, so the first has its batch when the
 /// second has answered.
-pub fn fetch_all<R: Wait + Drop>(rt: &R, node: &mut Node<R>, alloc: Global) -> Option<Fetched> {
+pub fn fetch_all<R: Wait + Print + Drop>(rt: &R, node: &mut Node<R>, alloc: Global) -> Result<()> {
     let last = read_over(rt, node, alloc)?;
-    let batch = Batch::try_with_room(alloc, COUNT).ok()?;
-    let job = Work::Hold {
-        count: COUNT,
-        batch,
-    };
-    let ticket = node.submit(CoreNo(0), Order::Job(COMPACTION, job)).ok()?;
-    let taken = take(rt, node, alloc)?;
-    let returned = read_back(rt, node, ticket)?;
-    Some(Fetched {
-        last,
-        taken,
-        returned,
-    })
+    println!(rt; "core 0 read the batch of core 1: its last place is {last}")?;
+    let (count, batch) = (COUNT, Batch::try_with_room(alloc, COUNT)?);
+    let ticket = submit(node, CoreNo(0), Work::Hold { count, batch })?;
+    println!(rt;
+        "the caller took a batch: its sum is {}",
+        take(rt, node, alloc)?
+    )?;
+    println!(rt;
+        "a job came back with {} places",
+        read_back(rt, node, ticket)?
+    )?;
+    Ok(())
 }

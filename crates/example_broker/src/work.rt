@@ -3,16 +3,14 @@
 
 ghost use Rattle.std.specs.Prelude.{◌≡◌, true};
 ghost use Rattle.example_broker.specs.Over.{is_over};
-ghost use Rattle.rt_jobs.specs.Steps.{is_done_step};
-ghost use Rattle.rt_jobs.specs.declared.job.Step.TheVariants.{Done};
+ghost use Rattle.duthlwyran.specs.Jobs.{is_done_step, Done};
 
 use crate::batch::Batch;
-use rt_answers::{Asked, Reply};
-use rt_ids::{CoreNo, JobId, Order, Outcome, QueueNo, SendError, Ticket};
-use rt_jobs::{
-    Asks, Job, Post, Redeemed, Step, Task, poll_asking, redeem_if_there, submit_and_detach,
-    submit_and_keep,
+use duthlwyran::{
+    Asks, CoreNo, Job, JobId, Order, Outcome, Post, QueueNo, Redeemed, SendError, Step, Task,
+    Ticket, poll_asking, redeem_if_there, submit_and_detach, submit_and_keep,
 };
+use rt_answers::{Asked, Reply};
 use std::mem;
 use std::snapshot::Snapshot;
 
@@ -24,7 +22,7 @@ pub const INDEX: QueueNo = QueueNo(2);
 pub const COMPACTION: QueueNo = QueueNo(3);
 
 /// The answer of a message for which no index came back.
-pub const NOT_INDEXED: u64 = u64::MAX;
+const NOT_INDEXED: u64 = u64::MAX;
 
 /// What is submitted to a core.
 #[derive(Drop)]
@@ -118,7 +116,7 @@ fn last_of(batch: Option<&Batch>) -> u64 {
 
 impl Task for Work {
     ghost use Rattle.example_broker.specs.Over.{is_over};
-    ghost use Rattle.rt_jobs.specs.Plain.{plain_meaning, plain_laws};
+    ghost use Rattle.duthlwyran.specs.Jobs.{plain_meaning, plain_laws};
 
     type Out = u64;
 
