@@ -1,4 +1,4 @@
-// A link of two words by hand in Rust: the same protocol as rt_ring, as one writes it without proofs. It stands in four forms:
+// A link of two words by hand in Rust: the same protocol as link_ring, as one writes it without proofs. It stands in four forms:
 // with acquire and release, or with sequentially consistent steps as the kit's; with both words on one cache line, or apart. In two
 // more forms, with the words apart, an end remembers what it saw, and looks again only once that is used up.
 use std::cell::UnsafeCell;

@@ -18,20 +18,20 @@
  *
  * Each function but fx_version and fx_text answers an fx_code. Where more than one code could be answered, the one that its comment
  * names first is. A call that answers FX_IDLE or a code above it, except FX_PARKED, changes nothing but the count for FX_SPENT, and writes
- * nothing to what its pointers point to, except the wanted count behind FX_SHORT.
+ * nothing to what its pointers point to, except the wanted count behind FX_SHORT. fx_seat_step is two calls, and the first may be done then.
  *
  * Null: a call with a null among its pointers is answered FX_NULL before any other code, and the library isn't called. fairexec_null.h, which
  * stands beside this header, tests each pointer that the compiler doesn't know not to be null. A host that defines FX_NO_NULL_CHECKS before it
- * includes this header calls the library itself, which tests none. fx_house_text and fx_seat_pass_on take no null for no room either.
+ * includes this header calls the library itself, which tests none. fx_house_text, fx_seat_pass_on and fx_seat_copy take no null for no room either.
  *
  * Threads: at most one call at a time runs on a handle. A handle may go to another thread between two calls. Between them stands a lock, the
  * start or the join of a thread, or a sequentially consistent atomic. Calls on different handles need no order, those on the seats of one
  * house neither. No call blocks, calls the host back, or knows a clock. No call may be made from a signal handler.
  *
  * Memory: of the calls on one core fx_open and fx_create alone ask for memory, by malloc, and fx_free gives it back, by free. Of those on a
- * house fx_house_open, fx_house_take, fx_house_audit and fx_house_text do, fx_seat_deliver where an order makes a queue, and fx_seat_pass_on,
- * which gives it back before it answers; fx_house_end, fx_house_free and fx_seat_free give back what the others took. The library is for
- * x86-64-v2.
+ * house fx_house_open, fx_house_take, fx_house_audit and fx_house_text do, fx_seat_deliver where an order makes a queue, and fx_seat_pass_on and
+ * fx_seat_copy, which give it back before they answer; fx_house_end, fx_house_free and fx_seat_free give back what the others took. The library is
+ * for x86-64-v2.
  *
  * What no call can test is the host's duty, beside the threads' order above:
  * - Each pointer points to a value of its type, or to as many bytes as `room` tells. Two pointers of one call don't overlap.
@@ -105,7 +105,7 @@ enum fx_code {
     FX_NOT_DRAINED = 28,  /* the core isn't drained, or a job of it runs, or a turn of it is open */
     FX_MIXED = 29,        /* the journals can't be those of one house, and have no text */
     FX_SHORT = 30,        /* the text has more bytes than there is room for */
-    FX_PASSED_ON = 31,    /* notes were passed on: the house can't judge journals that lack them */
+    FX_PASSED_ON = 31,    /* notes were passed on or forgotten: the house can't judge journals that lack them */
     FX_NULL = 32          /* a pointer is null. The test of this header tells it, and no call of the library */
 };
 
@@ -375,7 +375,7 @@ uint32_t fx_house_end(fx_house *house, fx_seat *seat) FX_NOT_NULL;
 
 /*
  * Audits the journals, once all are handed in. An audit needs all notes of all actors: if fx_seat_pass_on handed notes on, the house doesn't
- * have them, and nothing is judged. The command `fairexec audit` judges the joined text then.
+ * have them, and nothing is judged. The command `fairexec audit` judges the joined text then. What fx_seat_forget forgot nobody judges.
  * FX_EMPTY; FX_BAD_NUMBER: size; FX_PENDING; FX_PASSED_ON; FX_NO_MEMORY; FX_OK.
  */
 uint32_t fx_house_audit(fx_house *house, fx_verdict *verdict) FX_NOT_NULL;
@@ -414,6 +414,13 @@ uint32_t fx_seat_next(fx_seat *seat, fx_turn *turn) FX_NOT_NULL;
  * FX_EMPTY: no core; FX_BAD_NUMBER: step; FX_NO_JOB; FX_DONE, FX_OK or FX_PARKED, as fx_settle.
  */
 uint32_t fx_seat_settle(fx_seat *seat, uint32_t step, uint64_t answer, uint64_t spent) FX_NOT_NULL;
+
+/*
+ * Settles the run of the job that was told, as fx_seat_settle, and then tells what to run now, as fx_seat_next. If the run isn't settled, that is
+ * told, and nothing else happens. Behind FX_JOURNAL_FULL, FX_IDLE and FX_SPENT it is settled. Whether its job is parked isn't told.
+ * FX_EMPTY: no core; FX_BAD_NUMBER: size or step; FX_NO_JOB; then as fx_seat_next from FX_JOURNAL_FULL on.
+ */
+uint32_t fx_seat_step(fx_seat *seat, uint32_t step, uint64_t answer, uint64_t spent, fx_turn *turn) FX_NOT_NULL;
 
 /*
  * Delivers the next order of this actor to the core, if one shows. The host may run a job of the core meanwhile.
@@ -473,6 +480,29 @@ uint32_t fx_seat_detach(fx_seat *seat, const fx_name *name) FX_NOT_NULL;
  * FX_EMPTY; FX_NO_MEMORY; FX_SHORT; FX_OK.
  */
 uint32_t fx_seat_pass_on(fx_seat *seat, uint8_t *bytes, size_t room, uint64_t *count) FX_NOT_NULL;
+
+/*
+ * Writes how many notes the journal of the actor keeps, and how many more it has room for. One of these is for the settling of a job that runs.
+ * FX_EMPTY; FX_OK.
+ */
+uint32_t fx_seat_notes(fx_seat *seat, uint64_t *kept, uint64_t *free_notes) FX_NOT_NULL;
+
+/*
+ * Copies the text of notes that the journal of the actor keeps to `bytes`, which has room for `room`: from the place `from` on, which is 0 for the
+ * oldest note, and of `most` notes at most. `count` tells how many bytes it has, and `notes` of how many notes it is. The journal keeps them all.
+ * The pieces from place 0 on, each from where the one before ended, until one has no notes, are together what fx_seat_pass_on would write. So a
+ * journal of many notes goes on in short calls, of which fx_seat_forget is the last; behind that the places begin at 0 again.
+ * Behind FX_SHORT `count` tells how many bytes are wanted, and nothing else changed.
+ * FX_EMPTY; FX_NO_MEMORY; FX_SHORT; FX_OK.
+ */
+uint32_t fx_seat_copy(fx_seat *seat, uint64_t from, uint64_t most, uint8_t *bytes, size_t room, uint64_t *count, uint64_t *notes) FX_NOT_NULL;
+
+/*
+ * Forgets the notes that the journal of the actor keeps, and writes how many they were. All its notes are free from then on, as behind
+ * fx_seat_pass_on. The host may do so at any time. What it didn't copy is nowhere then.
+ * FX_EMPTY; FX_OK.
+ */
+uint32_t fx_seat_forget(fx_seat *seat, uint64_t *count) FX_NOT_NULL;
 
 /*
  * Closes the core by itself, by an fx_mode. A core that finishes may be closed once more, with FX_MODE_RETURN.

@@ -139,6 +139,12 @@ static inline uint32_t fx_checked_seat_settle(fx_seat *seat, uint32_t step, uint
 }
 #define fx_seat_settle fx_checked_seat_settle
 
+static inline uint32_t fx_checked_seat_step(fx_seat *seat, uint32_t step, uint64_t answer, uint64_t spent, fx_turn *turn) {
+    if (!seat || !turn) return FX_NULL;
+    return fx_seat_step(seat, step, answer, spent, turn);
+}
+#define fx_seat_step fx_checked_seat_step
+
 static inline uint32_t fx_checked_seat_deliver(fx_seat *seat, uint32_t sender) {
     if (!seat) return FX_NULL;
     return fx_seat_deliver(seat, sender);
@@ -204,6 +210,24 @@ static inline uint32_t fx_checked_seat_pass_on(fx_seat *seat, uint8_t *bytes, si
     return fx_seat_pass_on(seat, bytes, room, count);
 }
 #define fx_seat_pass_on fx_checked_seat_pass_on
+
+static inline uint32_t fx_checked_seat_notes(fx_seat *seat, uint64_t *kept, uint64_t *free_notes) {
+    if (!seat || !kept || !free_notes) return FX_NULL;
+    return fx_seat_notes(seat, kept, free_notes);
+}
+#define fx_seat_notes fx_checked_seat_notes
+
+static inline uint32_t fx_checked_seat_copy(fx_seat *seat, uint64_t from, uint64_t most, uint8_t *bytes, size_t room, uint64_t *count, uint64_t *notes) {
+    if (!seat || !bytes || !count || !notes) return FX_NULL;
+    return fx_seat_copy(seat, from, most, bytes, room, count, notes);
+}
+#define fx_seat_copy fx_checked_seat_copy
+
+static inline uint32_t fx_checked_seat_forget(fx_seat *seat, uint64_t *count) {
+    if (!seat || !count) return FX_NULL;
+    return fx_seat_forget(seat, count);
+}
+#define fx_seat_forget fx_checked_seat_forget
 
 static inline uint32_t fx_checked_seat_close(fx_seat *seat, uint32_t mode) {
     if (!seat) return FX_NULL;

@@ -198,18 +198,21 @@ template <class Job> class actor {
         }
     }
 
-    // Puts the text of what the journal keeps behind this text. An exception of the string leaves all as it was.
-    fx_code put_behind(std::string &text) {
+    // Puts what this call writes behind this text. An exception of the string leaves all as it was.
+    template <class Call> static fx_code put_behind(std::string &text, Call call) {
         std::size_t had = text.size();
         uint64_t count = 0;
         uint32_t code;
         text.resize(std::max(text.capacity(), had + 1));
-        while ((code = fx_seat_pass_on(&seat, reinterpret_cast<uint8_t *>(&text[had]), text.size() - had, &count)) == FX_SHORT) {
+        while ((code = call(reinterpret_cast<uint8_t *>(&text[had]), text.size() - had, &count)) == FX_SHORT) {
             text.resize(had);
             text.resize(had + static_cast<std::size_t>(count));
         }
         text.resize(code == FX_OK ? had + static_cast<std::size_t>(count) : had);
         return static_cast<fx_code>(code);
+    }
+    fx_code put_behind(std::string &text) {
+        return put_behind(text, [&](uint8_t *bytes, std::size_t room, uint64_t *count) { return fx_seat_pass_on(&seat, bytes, room, count); });
     }
     // Hands the notes to whoever takes them, behind those that an exception of his left. Whether anybody took them.
     bool hand_on() {
@@ -361,6 +364,16 @@ public:
         notes.clear();
         return FX_OK;
     }
+    // How many notes the journal keeps, and how many more it has room for: FX_OK, or FX_EMPTY behind the end.
+    [[nodiscard]] fx_code notes_kept(uint64_t &kept, uint64_t &free_notes) noexcept { return static_cast<fx_code>(fx_seat_notes(&seat, &kept, &free_notes)); }
+    // Puts the text of so many notes at most behind this text, from the place `from` on of those that the journal keeps, and writes how many they are:
+    // FX_OK, FX_NO_MEMORY or FX_EMPTY. All of them stay. An exception of the string leaves all as it was.
+    [[nodiscard]] fx_code copy(uint64_t from, uint64_t most, std::string &text, uint64_t &notes_copied) {
+        return put_behind(text, [&](uint8_t *bytes, std::size_t room, uint64_t *count) { return fx_seat_copy(&seat, from, most, bytes, room, count, &notes_copied); });
+    }
+    // Forgets the notes that the journal keeps, and writes how many they were. All its notes are free then, and the house can't judge.
+    [[nodiscard]] fx_code forget(uint64_t &count) noexcept { return static_cast<fx_code>(fx_seat_forget(&seat, &count)); }
+
     // Whenever the journal is full from now on, the text of its notes goes to `takes`, and the call that needs room is made again. So
     // FX_JOURNAL_FULL comes only if the journal has room for fewer notes than one call may need. What is kept at the end goes out by `pass_on`.
     // An exception of `takes` leaves that call, which wasn't made; a job that was handed in with it is destroyed. The text is kept: it goes first

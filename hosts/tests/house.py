@@ -59,6 +59,22 @@ class Actor:
         self.notes, self.passed = [], self.passed + len(lines)
         return "FX_OK", [wanted], lines
 
+    def counts(self):
+        return [len(self.notes), self.house.room - len(self.notes)]
+
+    def copy(self, first, most, room):
+        """The text of some notes, if there is room for it. What is written, and the lines."""
+        lines = self.notes[first : first + most]
+        wanted = sum(len(line) + 1 for line in lines)
+        if wanted > room:
+            return "FX_SHORT", [wanted], []
+        return "FX_OK", [wanted, len(lines)], lines
+
+    def forget(self):
+        count = len(self.notes)
+        self.notes, self.passed = [], self.passed + count
+        return [count]
+
     def kept(self):
         return 0
 

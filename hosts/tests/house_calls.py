@@ -54,6 +54,17 @@ class Caller:
         self.lines = iter(lines)
         return code, written
 
+    def notes(self, actor):
+        return "FX_OK", self.actor(actor).counts()
+
+    def copy(self, actor, first, most, room):
+        code, written, lines = self.actor(actor).copy(first, most, room)
+        self.lines = iter(lines)
+        return code, written
+
+    def forget(self, actor):
+        return "FX_OK", self.actor(actor).forget()
+
     def text(self):
         self.lines = iter(self.house.text())
 
@@ -120,6 +131,12 @@ class Caller:
 
     def settle(self, core, step, answer, spent):
         return self.core(core).settle(step, answer, spent), []
+
+    def step(self, core, step, answer, spent, wrong_size):
+        it = self.core(core)
+        self.in_size(wrong_size)
+        it.settle(step, answer, spent)
+        return it.next()
 
     def deliver(self, core, sender):
         return "FX_OK" if self.core(core).deliver(sender) else "FX_IDLE", []

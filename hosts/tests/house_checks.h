@@ -75,7 +75,7 @@ static struct {
     fx_outcome outcome;
     fx_core_stats core;
     fx_queue_stats queue;
-    uint64_t count;
+    uint64_t count, second;
 } out;
 
 static void poison(void) {
@@ -105,6 +105,7 @@ static void no_core(fx_seat *seat) {
     poison();
     IS(fx_seat_next(seat, &out.turn), FX_EMPTY);
     IS(fx_seat_settle(seat, 3, 0, 0), FX_EMPTY);
+    IS(fx_seat_step(seat, 3, 0, 0, &out.turn), FX_EMPTY);
     IS(fx_seat_deliver(seat, 99), FX_EMPTY);
     IS(fx_seat_close(seat, 2), FX_EMPTY);
     IS(fx_seat_shut(seat, 99), FX_EMPTY);
@@ -129,6 +130,9 @@ static void empty(fx_seat *seat) {
     IS(fx_seat_detach(seat, &first_of_outside), FX_EMPTY);
     IS(fx_seat_shows(seat), FX_EMPTY);
     IS(fx_seat_pass_on(seat, (uint8_t *)&out.turn, sizeof out.turn, &out.count), FX_EMPTY);
+    IS(fx_seat_notes(seat, &out.count, &out.second), FX_EMPTY);
+    IS(fx_seat_copy(seat, 0, 9, (uint8_t *)&out.turn, sizeof out.turn, &out.count, &out.second), FX_EMPTY);
+    IS(fx_seat_forget(seat, &out.count), FX_EMPTY);
     is_poisoned();
 }
 

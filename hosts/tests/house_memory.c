@@ -1,5 +1,5 @@
 /*
- * Calls on a house for memory that fail: linked with --wrap for malloc, realloc and free. An opening, a taking, an audit, a text or a passing
+ * Calls on a house for memory that fail: linked with --wrap for malloc, realloc and free. An opening, a taking, an audit, a text, a piece or a passing
  * on that finds no memory answers FX_NO_MEMORY, changes nothing and keeps nothing, and an order that makes a queue is answered so. No other call asks for
  * memory, and the ends of all handles give all of it back.
  * The last line is 'N passed, M failed', and the status is 0 if nothing failed.
@@ -123,18 +123,25 @@ static void judging(void) {
 /* What is passed on is kept where there is no memory for its text, and the text is kept nowhere. */
 static void passing(void) {
     static uint8_t bytes[100000];
-    uint64_t count = 0, whole = 0;
+    uint64_t count = 0, whole = 0, notes = 0;
     long before = 0;
     left = 0;
     for (uint32_t each = 0; each < 100; each++) is("a round", round_of(each), 0);
     is("without memory nothing is told", fx_seat_pass_on(&seats[0], bytes, 0, &whole), FX_NO_MEMORY);
+    is("and no piece", fx_seat_copy(&seats[0], 0, 9, bytes, sizeof bytes, &count, &notes), FX_NO_MEMORY);
     for (int seat = 0; seat <= CORES; seat++) {
         before = used;
         left = 100000;
         is("with memory", fx_seat_pass_on(&seats[seat], bytes, 0, &whole), FX_SHORT);
+        WITH_LITTLE(fx_seat_copy(&seats[seat], 9, 50, bytes, sizeof bytes, &count, &notes), FX_OK);
+        is("a piece is copied", notes, 50);
+        left = 100000;
         WITH_LITTLE(fx_seat_pass_on(&seats[seat], bytes, sizeof bytes, &count), FX_OK);
         is("all of it went on", count == whole && whole > 100, 1);
         is("and its text is kept nowhere", (unsigned long)used, (unsigned long)before);
+        left = 0;
+        is("nothing is left to forget", fx_seat_forget(&seats[seat], &count) == FX_OK && count == 0, 1);
+        is("that asks for no memory, nor do counts", fx_seat_notes(&seats[seat], &count, &notes) == FX_OK && count == 0 && notes == 12 * ROUNDS, 1);
         is("a seat is freed", fx_seat_free(&seats[seat]), FX_OK);
     }
 }

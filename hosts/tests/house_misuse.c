@@ -236,6 +236,99 @@ static void passing(void) {
     freed(&of);
 }
 
+static void has_notes(fx_seat *seat, uint32_t kept, uint32_t free_notes) {
+    IS(fx_seat_notes(seat, &out.count, &out.second), FX_OK);
+    is("so many notes are kept", (uint32_t)out.count, kept);
+    is("and so many are free", (uint32_t)out.second, free_notes);
+}
+
+/* A piece of so many notes, whose text is this. */
+static void copies(fx_seat *seat, uint64_t from, uint64_t most, uint32_t notes, const char *text) {
+    uint8_t bytes[200];
+    size_t long_ = strlen(text);
+    memset(bytes, POISON, sizeof bytes);
+    IS(fx_seat_copy(seat, from, most, bytes, long_, &out.count, &out.second), FX_OK);
+    is("a piece has its notes", out.count == long_ && out.second == notes, 1);
+    is("and their text alone", memcmp(bytes, text, long_) == 0 && bytes[long_] == POISON, 1);
+}
+
+/* Notes are copied piece by piece, or not at all, and forgotten: then all places of the journal are free. */
+static void copying(void) {
+    all of = opened(2, 1, 5);
+    fx_seat *core = &of.seats[0], *outside = &of.seats[OUTSIDE];
+    uint8_t bytes[200];
+    fx_name name;
+    poison();
+    has_notes(core, 0, 5);
+    copies(core, 0, 9, 0, "");
+    IS(fx_seat_submit(outside, 0, 0, 7, &name), FX_OK);
+    IS(fx_seat_deliver(core, OUTSIDE), FX_OK);
+    IS(fx_seat_next(core, &out.turn), FX_START);
+    has_notes(core, 3, 2);
+    copies(core, 0, 1, 1, "0 took 2>0#1 q0\n");
+    copies(core, 1, 1, 1, "0 pick q0 at 0\n");
+    copies(core, 2, 9, 1, "0 start 2>0#1\n");
+    copies(core, 3, 9, 0, "");
+    copies(core, 1, UINT64_MAX, 2, "0 pick q0 at 0\n0 start 2>0#1\n");
+    copies(core, 0, 0, 0, "");
+    copies(core, UINT64_MAX, UINT64_MAX, 0, "");
+    out.second = 7;
+    memset(bytes, POISON, sizeof bytes);
+    REFUSES(&of, fx_seat_copy(core, 0, 2, bytes, 30, &out.count, &out.second), FX_SHORT);
+    is("the wanted room is told, and nothing else", out.count == 31 && out.second == 7 && bytes[0] == POISON, 1);
+    has_notes(core, 3, 2);
+    REFUSES(&of, fx_seat_forget(core, &out.count), FX_OK);
+    is("while a job runs three are forgotten", (uint32_t)out.count, 3);
+    has_notes(core, 0, 5);
+    IS(fx_seat_settle(core, FX_STEP_DONE, 1, 1), FX_DONE);
+    copies(core, 0, 9, 1, "0 done 2>0#1 1 = 1\n");
+    copies(outside, 0, 9, 1, "2 sent 2>0#1 job q0\n");
+    IS(fx_seat_forget(outside, &out.count), FX_OK);
+    is("the outside actor forgets, too", (uint32_t)out.count, 1);
+    has_notes(outside, 0, 5);
+    IS(fx_seat_forget(outside, &out.count), FX_OK);
+    is("and has nothing to forget then", (uint32_t)out.count, 0);
+    freed(&of);
+}
+
+/* A step settles and goes on, or does neither. */
+static void steps(void) {
+    all of = opened(2, 1, 13);
+    fx_seat *core = &of.seats[0], *outside = &of.seats[OUTSIDE];
+    fx_name name;
+    poison();
+    REFUSES(&of, fx_seat_step(core, FX_STEP_DONE, 1, 1, &out.turn), FX_NO_JOB);
+    for (uint64_t job = 6; job < 8; job++) IS(fx_seat_submit(outside, 0, 0, job, &name), FX_OK);
+    for (int each = 0; each < 2; each++) IS(fx_seat_deliver(core, OUTSIDE), FX_OK);
+    IS(fx_seat_next(core, &out.turn), FX_START);
+    poison();
+    REFUSES(&of, fx_seat_step(core, 3, 1, 1, &out.turn), FX_BAD_NUMBER);
+    out.turn.size = 7;
+    REFUSES(&of, fx_seat_step(core, FX_STEP_DONE, 1, 1, &out.turn), FX_BAD_NUMBER);
+    out.turn.size = sizeof out.turn;
+    is_poisoned();
+    IS(fx_seat_step(core, FX_STEP_DONE, 42, 10, &out.turn), FX_START);
+    is("the next job is told", out.turn.job == 7 && out.turn.name.number == 2, 1);
+    IS(fx_seat_step(core, FX_STEP_YIELD, 0, 10, &out.turn), FX_RESUME);
+    is("one that yields is told again", out.turn.job == 7 && out.turn.name.number == 2, 1);
+    /* 10 notes are kept, the settling makes them 11, and the turn behind it wants 4 more. */
+    poison();
+    IS(fx_seat_step(core, FX_STEP_YIELD, 0, 10, &out.turn), FX_JOURNAL_FULL);
+    REFUSES(&of, fx_seat_step(core, FX_STEP_YIELD, 0, 10, &out.turn), FX_NO_JOB);
+    is_poisoned();
+    IS(fx_seat_forget(core, &out.count), FX_OK);
+    is("the run was settled", (uint32_t)out.count, 11);
+    IS(fx_seat_next(core, &out.turn), FX_RESUME);
+    poison();
+    IS(fx_seat_step(core, FX_STEP_DONE, 43, 10, &out.turn), FX_IDLE);
+    is_poisoned();
+    IS(fx_seat_collect(outside, 0, &out.count), FX_OK);
+    name.number = 1;
+    IS(fx_seat_redeem(outside, &name, &out.outcome), FX_OK);
+    is("the first has its answer", (uint32_t)out.outcome.answer, 42);
+    freed(&of);
+}
+
 static void drain(all *of) {
     for (int each = 0; each < 2; each++) {
         IS(fx_seat_close(&of->seats[each], FX_MODE_RETURN), FX_OK);
@@ -300,7 +393,8 @@ static void ending_with_less(void) {
     uint8_t bytes[200];
     uint64_t count = 7;
     drain(&of);
-    for (int each = 1; each < 3; each++) IS(fx_seat_pass_on(&of.seats[each], bytes, sizeof bytes, &count), FX_OK);
+    IS(fx_seat_pass_on(&of.seats[OUTSIDE], bytes, sizeof bytes, &count), FX_OK);
+    IS(fx_seat_forget(&of.seats[1], &count), FX_OK);
     for (int each = 0; each < 3; each++) IS(fx_house_end(&of.house, &of.seats[each]), FX_OK);
     verdict.size++;
     IS(fx_house_audit(&of.house, &verdict), FX_BAD_NUMBER);
@@ -382,6 +476,8 @@ int main(void) {
     submissions();
     full_journals();
     passing();
+    copying();
+    steps();
     ending();
     ending_with_less();
     moving();

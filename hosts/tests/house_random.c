@@ -95,19 +95,36 @@ static void order(uint32_t actor, uint32_t kind) {
     submitted(actor, code, &name);
 }
 
+/* What a turn came to, and what it wrote. */
+static void turned(uint32_t core, uint32_t code, const fx_turn *turn) {
+    bool starts = code == FX_START || code == FX_RESUME;
+    if (starts) runs[core] = true;
+    printf(" %" PRIu32 " = %" PRIu32 "%s", turn->size != sizeof *turn, code, wrote((const char *)turn + sizeof turn->size, sizeof *turn - sizeof turn->size, starts || code == FX_BACK));
+    if (starts || code == FX_BACK) printf(" %" PRIu32 " %" PRIu32 " %" PRIu64, turn->name.from, turn->name.to, turn->name.number);
+    if (starts || code == FX_BACK) printf(" %" PRIu32 " %" PRIu64 " %" PRIu32, turn->queue, turn->job, turn->reason);
+    printf("\n");
+}
+
 static uint32_t next(uint32_t core) {
     fx_turn turn;
     poison(&turn, sizeof turn);
     turn.size = rarely(200) ? 7 : sizeof turn;
     uint32_t code = fx_seat_next(at(&seats[core]), at(&turn));
-    bool starts = code == FX_START || code == FX_RESUME;
-    if (starts) runs[core] = true;
-    PRINT("next %" PRIu32 " %" PRIu32 " = %" PRIu32 "%s", core, turn.size != sizeof turn, code,
-          wrote((char *)&turn + sizeof turn.size, sizeof turn - sizeof turn.size, starts || code == FX_BACK));
-    if (starts || code == FX_BACK) printf(" %" PRIu32 " %" PRIu32 " %" PRIu64, turn.name.from, turn.name.to, turn.name.number);
-    if (starts || code == FX_BACK) printf(" %" PRIu32 " %" PRIu64 " %" PRIu32, turn.queue, turn.job, turn.reason);
-    printf("\n");
+    PRINT("next %" PRIu32, core);
+    turned(core, code, &turn);
     return code;
+}
+
+/* Both in one call. If that is answered a turn or why there is none, the run is settled. */
+static void step(uint32_t core, uint32_t came_to) {
+    uint64_t answer = any(), spent = below(3000);
+    fx_turn turn;
+    poison(&turn, sizeof turn);
+    turn.size = rarely(100) ? 7 : sizeof turn;
+    uint32_t code = fx_seat_step(at(&seats[core]), came_to, answer, spent, at(&turn));
+    if (code == FX_BACK || code == FX_IDLE || code == FX_JOURNAL_FULL) runs[core] = false;
+    PRINT("step %" PRIu32 " %" PRIu32 " %" PRIu64 " %" PRIu64, core, came_to, answer, spent);
+    turned(core, code, &turn);
 }
 
 static void settle(uint32_t core, uint32_t step) {
@@ -215,11 +232,40 @@ static void pass_on(uint32_t actor) {
     if (code == FX_OK) print_text(text_bytes, count, &begins);
 }
 
+/* Notes of an actor are copied, from any place, to a buffer of any room. Those of a house that passes notes on are forgotten at times. */
+static void copy(uint32_t actor) {
+    uint64_t kept = 0x5a5a5a5a5a5a5a5a, free_notes = kept, count = kept, notes = kept;
+    uint32_t code = fx_seat_notes(at(&seats[actor]), at(&kept), at(&free_notes));
+    PRINT("notes %" PRIu32 " = %" PRIu32 "%s%s", actor, code, wrote(&kept, sizeof kept, code == FX_OK), wrote(&free_notes, sizeof free_notes, code == FX_OK));
+    if (code == FX_OK) printf(" %" PRIu64 " %" PRIu64, kept, free_notes);
+    printf("\n");
+    uint64_t first = rarely(20) ? any() >> below(64) : below(code == FX_OK ? (uint32_t)kept + 2 : 9), most = rarely(20) ? any() >> below(64) : below(40);
+    size_t room = rarely(3) ? below(400) : 4000, checked = room + 100;
+    bool begins = true;
+    poison(text_bytes, checked);
+    code = fx_seat_copy(at(&seats[actor]), first, most, at(text_bytes), room, at(&count), at(&notes));
+    size_t from = code == FX_OK ? (size_t)count : 0;
+    PRINT("copy %" PRIu32 " %" PRIu64 " %" PRIu64 " %zu = %" PRIu32 "%s%s%s", actor, first, most, room, code, wrote(text_bytes + from, checked - from, false),
+          wrote(&count, sizeof count, code == FX_OK || code == FX_SHORT), wrote(&notes, sizeof notes, code == FX_OK));
+    if (code == FX_OK || code == FX_SHORT) printf(" %" PRIu64, count);
+    if (code == FX_OK) printf(" %" PRIu64, notes);
+    printf("\n");
+    if (code == FX_OK) print_text(text_bytes, count, &begins);
+    if (!passes || !rarely(3)) return;
+    count = 0x5a5a5a5a5a5a5a5a;
+    code = fx_seat_forget(at(&seats[actor]), at(&count));
+    PRINT("forget %" PRIu32 " = %" PRIu32 "%s", actor, code, wrote(&count, sizeof count, code == FX_OK));
+    if (code == FX_OK) printf(" %" PRIu64, count);
+    printf("\n");
+}
+
 static void any_call(void) {
     uint32_t actor = below(config.cores + 1), core = below(config.cores), kind = below(1000);
     if (rarely(100)) core = config.cores; /* the outside actor has no core */
     if (passes && rarely(config.notes < 400 ? 30 : 300)) pass_on(actor);
-    if (kind < 300) runs[core] == !rarely(40) ? settle(core, rarely(50) ? 3 + below(9) : rarely(3) ? below(3) : FX_STEP_DONE) : (void)next(core);
+    if (rarely(config.notes < 400 ? 60 : 600)) copy(actor);
+    if (kind < 60 && runs[core] == !rarely(40)) step(core, rarely(50) ? 3 + below(9) : rarely(3) ? below(3) : FX_STEP_DONE);
+    else if (kind < 300) runs[core] == !rarely(40) ? settle(core, rarely(50) ? 3 + below(9) : rarely(3) ? below(3) : FX_STEP_DONE) : (void)next(core);
     else if (kind < 500) deliver(core, about(config.cores + 1));
     else if (kind < 580) collect(actor, about(config.cores));
     else if (kind < 700) order(actor, 0);

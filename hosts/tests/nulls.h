@@ -25,7 +25,7 @@ typedef struct {
     fx_verdict verdict;
     fx_core_stats core_stats;
     fx_queue_stats queue_stats;
-    uint64_t count;
+    uint64_t count, second;
     uint32_t number;
     uint8_t bytes[500];
 } places;

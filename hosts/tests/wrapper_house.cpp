@@ -271,6 +271,23 @@ static void notes_go_on() {
     is("and has nothing left", house.text() == "journal 1\ncores 2 cap 4\nend\n", 1);
 }
 
+// Notes are counted, copied whole and in pieces, and forgotten.
+static void notes_are_forgotten() {
+    linked::house<counted> house({1, 2, 1, 40});
+    auto &core = house.cores[0];
+    uint64_t kept = 0, free_notes = 0, count = 0;
+    std::string whole, pieces;
+    auto sent = house.outside.submit(0, 0, counted(4));
+    while (core.round(twice) == FX_OK) {}
+    is("four notes are kept", core.notes_kept(kept, free_notes) == FX_OK && kept == 4 && free_notes == 36, 1);
+    is("they are copied", core.copy(0, 9, whole, count) == FX_OK && count == 4, 1);
+    for (uint64_t from = 0; from < 4; from++) is("one by one, too", core.copy(from, 1, pieces, count) == FX_OK && count == 1, 1);
+    is("alike", whole == pieces && whole.substr(0, 16) == "0 took 1>0#1 q0\n", 1);
+    is("and forgotten", core.forget(count) == FX_OK && count == 4, 1);
+    is("then none is kept", core.notes_kept(kept, free_notes) == FX_OK && kept == 0 && free_notes == 40, 1);
+    is("the outcome comes all the same", house.outside.wait_for(*sent.ticket).answer, 8);
+}
+
 // Who takes notes throws each second time. A call that this leaves is made again.
 template <class Job> struct fails_often {
     linked::house<Job> house;
@@ -420,6 +437,7 @@ int main() {
     one_core();
     what_comes_back();
     notes_go_on();
+    notes_are_forgotten();
     no_note_is_lost();
     exceptions();
     two_cores();

@@ -3,25 +3,25 @@ use Rattle.std.proofs.Common.{◌≡◌, ℕ, zero, suc, ◌+◌, ◌*◌, ◌<�
 use Rattle.std.specs.Prelude.{IfOk, IsSome, Result, Ok, Err, slice_get, sum_by}
 use Rattle.std.proofs.lemmas.List.Sums.{get_or-le-sum_by, sum_by-cons, sum_by-set}
 use Rattle.std.proofs.lemmas.Option.{slice_get_within, get_or_from_slice_get}
-use Rattle.rt_ids.specs.declared.names.JobId.{JobId}
-use Rattle.rt_ids.specs.declared.names.TicketError.{TicketError}
-use Rattle.rt_ids.specs.declared.names.TicketError.TheVariants.{Unknown, Gone, Pending}
-use Rattle.rt_ids.specs.declared.order.Order.{Order}
-use Rattle.rt_ids.specs.declared.order.Outcome.{Outcome}
-use Rattle.rt_ids.specs.declared.order.SendError.{SendError}
-use Rattle.rt_ids.specs.declared.order.SendError.TheVariants.{Closed, Full, Spent, NoCore}
-use Rattle.rt_ids.specs.Journal.{Journal}
-use Rattle.rt_ids.specs.Outstanding.{outstanding_count}
-use Rattle.rt_journal_notes.specs.Journals.{free_notes}
-use Rattle.rt_desk.specs.Held.{at, count_of}
-use Rattle.rt_desk.specs.Lanes.{Lane}
-use Rattle.rt_desk.specs.declared.entry.Entry.{Entry}
-use Rattle.rt_journal_desk.specs.Submissions.{DeskView, Submits}
-use Rattle.rt_journal_desk.specs.Spending.{HoldsSome, Spends, booked, due_of}
-use Rattle.rt_journal_desk.specs.Tickets.{DetachesTicket, RedeemsTicket}
-use Rattle.rt_journal_desk.proofs.Spending.{all_three}
-use Rattle.rt_ring.proofs.SeatViews.{true-not_false}
-use Rattle.rt_ring_mesh.specs.Ends.{out_at}
+use Rattle.base_words.specs.declared.names.JobId.{JobId}
+use Rattle.base_words.specs.declared.names.TicketError.{TicketError}
+use Rattle.base_words.specs.declared.names.TicketError.TheVariants.{Unknown, Gone, Pending}
+use Rattle.base_words.specs.declared.order.Order.{Order}
+use Rattle.base_words.specs.declared.order.Outcome.{Outcome}
+use Rattle.base_words.specs.declared.order.SendError.{SendError}
+use Rattle.base_words.specs.declared.order.SendError.TheVariants.{Closed, Full, Spent, NoCore}
+use Rattle.base_words.specs.Journal.{Journal}
+use Rattle.base_words.specs.Outstanding.{outstanding_count}
+use Rattle.note_journal.specs.Journals.{free_notes}
+use Rattle.actor_desk.specs.Held.{at, count_of}
+use Rattle.actor_desk.specs.Lanes.{Lane}
+use Rattle.actor_desk.specs.declared.entry.Entry.{Entry}
+use Rattle.actor_desk.specs.Submissions.{DeskView, Submits}
+use Rattle.actor_desk.specs.Spending.{HoldsSome, Spends, booked, due_of}
+use Rattle.actor_desk.specs.Tickets.{DetachesTicket, RedeemsTicket}
+use Rattle.actor_desk.proofs.Spending.{all_three}
+use Rattle.link_ring.proofs.SeatViews.{true-not_false}
+use Rattle.link_ring.specs.Ends.{out_at}
 use Rattle.actor_caller.specs.Sends.{outstanding_upto}
 use Rattle.actor_caller.specs.State.{RuntimeView}
 use Rattle.actor_caller.specs.Stored.{IsRuntime}

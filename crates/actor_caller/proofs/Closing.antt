@@ -1,13 +1,13 @@
 -- A gate that a send found shut stays shut for each later send.
 use Rattle.std.proofs.Common.{◌≡◌, ℕ, ap}
 use Rattle.std.specs.Prelude.{true, Result, Ok, Err}
-use Rattle.rt_ids.specs.declared.names.JobId.{JobId}
-use Rattle.rt_ids.specs.declared.order.Order.{Order}
-use Rattle.rt_ids.specs.declared.order.SendError.{SendError}
-use Rattle.rt_ids.specs.declared.order.SendError.TheVariants.{Closed, Full, Spent, NoCore}
-use Rattle.rt_link.specs.declared.ends.Outward.{Outward}
-use Rattle.rt_link.specs.Calls.{Sends}
-use Rattle.rt_journal_desk.specs.Submissions.{numbered}
+use Rattle.base_words.specs.declared.names.JobId.{JobId}
+use Rattle.base_words.specs.declared.order.Order.{Order}
+use Rattle.base_words.specs.declared.order.SendError.{SendError}
+use Rattle.base_words.specs.declared.order.SendError.TheVariants.{Closed, Full, Spent, NoCore}
+use Rattle.link_ends.specs.declared.ends.Outward.{Outward}
+use Rattle.link_ends.specs.Calls.{Sends}
+use Rattle.actor_desk.specs.Submissions.{numbered}
 use Rattle.actor_caller.specs.Laws.{ClosedStaysClosed, IsClosed}
 
 module _ {J : Type 0} (out later : Outward J ℕ) (credited : ℕ) (order : Order J) where

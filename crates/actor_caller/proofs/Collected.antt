@@ -3,17 +3,17 @@ use Rattle.std.proofs.Common.{◌≡◌, ℕ, ◌+◌, ◌<◌, List, [], ◌∷
 use Rattle.std.proofs.lemmas.List.{length-map, length-take-le, take_all}
 use Rattle.std.proofs.lemmas.Bool.{eq-eqb}
 use Rattle.std.specs.Prelude.{cond}
-use Rattle.rt_ids.specs.declared.note.Note.{Note}
-use Rattle.rt_ids.specs.declared.note.Note.TheVariants as writes
-use Rattle.rt_ids.specs.Filters.{collected_outcomes}
-use Rattle.rt_ids.specs.Journal.{Journal, with_last}
-use Rattle.rt_link.specs.declared.ends.Outward.{Outward}
-use Rattle.rt_journal_desk.specs.Ends.{IsOutOf, named_outcomes}
-use Rattle.rt_journal_desk.specs.Submissions.{DeskView}
-use Rattle.rt_journal_desk.specs.Tickets.{AreCollected, CollectsFrom, GetsAll}
-use Rattle.rt_ids.specs.declared.order.Order.{Order}
-use Rattle.rt_ids.specs.declared.order.Outcome.{Outcome}
-use Rattle.rt_ring_mesh.specs.Ends.{out_at}
+use Rattle.base_words.specs.declared.note.Note.{Note}
+use Rattle.base_words.specs.declared.note.Note.TheVariants as writes
+use Rattle.base_words.specs.Filters.{collected_outcomes}
+use Rattle.base_words.specs.Journal.{Journal, with_last}
+use Rattle.link_ends.specs.declared.ends.Outward.{Outward}
+use Rattle.actor_desk.specs.Ends.{IsOutOf, named_outcomes}
+use Rattle.actor_desk.specs.Submissions.{DeskView}
+use Rattle.actor_desk.specs.Tickets.{AreCollected, CollectsFrom, GetsAll}
+use Rattle.base_words.specs.declared.order.Order.{Order}
+use Rattle.base_words.specs.declared.order.Outcome.{Outcome}
+use Rattle.link_ring.specs.Ends.{out_at}
 use Rattle.actor_seat.specs.OutsideSeats.{UsesOutside}
 use Rattle.actor_seat.specs.OutsideSeats.{OutsideView}
 use Rattle.actor_caller.specs.State.{RuntimeView, outside_of}

@@ -1,17 +1,17 @@
 -- The outside actor after it passed on what is kept, and the room that there is then.
 use Rattle.std.proofs.Common.{◌≡◌, ℕ, zero, suc, ◌+◌, ◌*◌, ◌<◌, ◌≤◌, Bool, true, List, length, sym, ◌∙◌, ap, subst, arith, inr, Result, Ok, Err}
 use Rattle.std.specs.Prelude.{OnErr, OnOk, Option, is_err, sum_by}
-use Rattle.rt_ids.specs.declared.order.Order.{Order}
-use Rattle.rt_ids.specs.declared.order.Outcome.{Outcome}
-use Rattle.rt_ids.specs.Journal.{Journal}
-use Rattle.rt_ids.specs.Outstanding.{outstanding_count}
-use Rattle.rt_journal_notes.specs.Journals.{JournalView, free_notes, passed_all, places_of}
-use Rattle.rt_journal_notes.specs.Passing.{IsAsked, PassesOn}
-use Rattle.rt_journal_notes.specs.declared.sink.Refused.{Refused}
-use Rattle.rt_journal_desk.specs.Spending.{booked, due_of}
-use Rattle.rt_journal_desk.proofs.Passed.{passed_holds}
-use Rattle.rt_journal_desk.proofs.Spending.{within_room}
-use Rattle.rt_runtime_config.specs.Configs.{least_room}
+use Rattle.base_words.specs.declared.order.Order.{Order}
+use Rattle.base_words.specs.declared.order.Outcome.{Outcome}
+use Rattle.base_words.specs.Journal.{Journal}
+use Rattle.base_words.specs.Outstanding.{outstanding_count}
+use Rattle.note_journal.specs.Journals.{JournalView, free_notes, passed_all, places_of}
+use Rattle.note_journal.specs.Passing.{IsAsked, PassesOn}
+use Rattle.note_journal.specs.declared.sink.Refused.{Refused}
+use Rattle.actor_desk.specs.Spending.{booked, due_of}
+use Rattle.actor_desk.proofs.Passed.{passed_holds}
+use Rattle.actor_desk.proofs.Spending.{within_room}
+use Rattle.run_config.specs.Configs.{least_room}
 use Rattle.actor_seat.specs.OutsideSeats.{IsSeatedOutside}
 use Rattle.actor_seat.specs.OutsideSeats.{OutsideView}
 use Rattle.actor_caller.specs.Passing.{AsksOnce, PassesHere, passed_on, refused_of}

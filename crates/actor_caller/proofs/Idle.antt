@@ -3,14 +3,14 @@ use Rattle.std.proofs.Common.{◌≡◌, ℕ, ◌+◌, ◌<◌, List, [], ◌∷
 use Rattle.std.proofs.lemmas.List.Elements.{All-nil, All-push}
 use Rattle.std.proofs.Math.Seq.{take-suc}
 use Rattle.std.specs.Prelude.{All}
-use Rattle.rt_ids.specs.declared.names.JobId.{JobId}
-use Rattle.rt_ids.specs.declared.names.TicketError.TheVariants.{Pending}
-use Rattle.rt_ids.specs.declared.order.Order.{Order}
-use Rattle.rt_ids.specs.declared.order.Outcome.{Outcome}
-use Rattle.rt_ids.specs.declared.note.Note.{Note}
-use Rattle.rt_journal_notes.specs.Journals.{JournalView}
-use Rattle.rt_journal_desk.specs.Submissions.{DeskView}
-use Rattle.rt_journal_desk.specs.Tickets.{RefusesTicket}
+use Rattle.base_words.specs.declared.names.JobId.{JobId}
+use Rattle.base_words.specs.declared.names.TicketError.TheVariants.{Pending}
+use Rattle.base_words.specs.declared.order.Order.{Order}
+use Rattle.base_words.specs.declared.order.Outcome.{Outcome}
+use Rattle.base_words.specs.declared.note.Note.{Note}
+use Rattle.note_journal.specs.Journals.{JournalView}
+use Rattle.actor_desk.specs.Submissions.{DeskView}
+use Rattle.actor_desk.specs.Tickets.{RefusesTicket}
 use Rattle.actor_seat.specs.Linked.{Grows}
 use Rattle.actor_caller.specs.State.{RuntimeView, StaysRunning, SubmitsNothing}
 use Rattle.actor_caller.specs.Tickets.{RedeemsHere}

@@ -1,8 +1,8 @@
 -- Which core the caller didn't close, as it is found.
 use Rattle.std.proofs.Common.{◌≡◌, ℕ, ◌<◌, subst, arith}
 use Rattle.std.specs.Prelude.{Some, None, true}
-use Rattle.rt_ids.specs.declared.order.Order.{Order}
-use Rattle.rt_ids.specs.declared.order.Outcome.{Outcome}
+use Rattle.base_words.specs.declared.order.Order.{Order}
+use Rattle.base_words.specs.declared.order.Outcome.{Outcome}
 use Rattle.actor_caller.specs.Closings.{IsFirstOpen, IsFirstOpenOf}
 use Rattle.actor_caller.specs.State.{RuntimeView, closing_at}
 use Rattle.actor_caller.specs.Stored.{IsRuntime}

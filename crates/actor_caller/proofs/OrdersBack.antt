@@ -2,12 +2,12 @@
 use Rattle.std.proofs.Common.{◌≡◌, ℕ, ◌<◌, ◌≤◌, ⊎_elim}
 use Rattle.std.proofs.lemmas.Bool.{cases_lt}
 use Rattle.std.specs.Prelude.{Result, Err}
-use Rattle.rt_ids.specs.declared.names.JobId.{JobId}
-use Rattle.rt_ids.specs.declared.order.Order.{Order}
-use Rattle.rt_ids.specs.declared.order.SendError.{SendError}
-use Rattle.rt_ids.specs.declared.order.SendError.TheVariants.{Closed, Full, Spent, NoCore}
-use Rattle.rt_jobs.specs.Posts.{order_back}
-use Rattle.rt_journal_desk.specs.Submissions.{DeskView, Submits}
+use Rattle.base_words.specs.declared.names.JobId.{JobId}
+use Rattle.base_words.specs.declared.order.Order.{Order}
+use Rattle.base_words.specs.declared.order.SendError.{SendError}
+use Rattle.base_words.specs.declared.order.SendError.TheVariants.{Closed, Full, Spent, NoCore}
+use Rattle.base_jobs.specs.Posts.{order_back}
+use Rattle.actor_desk.specs.Submissions.{DeskView, Submits}
 use Rattle.actor_caller.specs.declared.error.SubmitError.TheVariants.{JournalFull, Send}
 use Rattle.actor_caller.specs.Laws.{RefusedOrdersComeBack}
 use Rattle.actor_caller.specs.Sends.{Sends}

@@ -1,15 +1,16 @@
 -- A runtime after a ticket was redeemed or detached.
 use Rattle.std.proofs.Common.{◌≡◌, ◌-◌, ◌<◌, Some, length, ap, subst, arith}
-use Rattle.std.specs.Prelude.{IfOk, IfSome, Result, Ok, Err, slice_get}
-use Rattle.rt_ids.specs.declared.names.JobId.{JobId}
-use Rattle.rt_ids.specs.declared.names.TicketError.{TicketError}
-use Rattle.rt_ids.specs.declared.order.Order.{Order}
-use Rattle.rt_ids.specs.declared.order.Outcome.{Outcome}
-use Rattle.rt_ring.proofs.Fronts.{slice_get-there}
-use Rattle.rt_desk.specs.Lanes.{FitsSent, IsGot}
-use Rattle.rt_desk.proofs.Taken.{taken-get}
-use Rattle.rt_journal_desk.specs.Tickets.{DetachesTicket, RedeemsTicket}
-use Rattle.rt_ring_mesh.specs.Ends.{out_at}
+use Rattle.std.specs.Prelude.{IfOk, IfSome, OnErr, Result, Ok, Err, slice_get}
+use Rattle.std.proofs.lemmas.Result.{on_err_weaker}
+use Rattle.base_words.specs.declared.names.JobId.{JobId}
+use Rattle.base_words.specs.declared.names.TicketError.{TicketError}
+use Rattle.base_words.specs.declared.order.Order.{Order}
+use Rattle.base_words.specs.declared.order.Outcome.{Outcome}
+use Rattle.link_ring.proofs.Fronts.{slice_get-there}
+use Rattle.actor_desk.specs.Lanes.{FitsSent, IsGot}
+use Rattle.actor_desk.proofs.Taken.{taken-get}
+use Rattle.actor_desk.specs.Tickets.{DetachesTicket, RedeemsTicket}
+use Rattle.link_ring.specs.Ends.{out_at}
 use Rattle.actor_seat.specs.OutsideSeats.{UsesOutside}
 use Rattle.actor_seat.specs.OutsideSeats.{OutsideView}
 use Rattle.actor_caller.specs.State.{RuntimeView, SubmitsNothing, outside_of, submitted}
@@ -41,11 +42,15 @@ module _ {J T : Type 0} {fits : Order J → Outcome J T → Type 0} where
     nothing : SubmitsNothing inside new
     nothing = nothing_on inside name.to outside uses (ap (λ out. out.sent) out) (ap (λ out. out.closed) out)
 
-    pub redeemed_here : (answer : Result (Outcome J T) TicketError) → RedeemsTicket name inside.desk answer outside.desk → IfOk answer (IsGot (out_at name.to inside.ends).out name.number) →
-        IfOk answer (FitsSent fits (out_at name.to inside.ends).out name.number) → RedeemsHere fits name view answer new
-    redeemed_here answer redeems got fit =
-        subst (λ view. RedeemsHere fits name view answer new) seen
-        (record { redeems = redeems; given = got; fitting = fits_submitted inside is name low answer got fit; nothing = nothing })
+    -- where the outside actor is as it was, all is
+    same_here : {A : Type 0} (answer : Result A TicketError) → OnErr answer (outside ≡ outside_of inside) → OnErr answer (new ≡ inside)
+    same_here answer = on_err_weaker answer (ap (λ (outside : OutsideView J T). record inside { desk = outside.desk; ends = outside.ends }))
 
-    pub detached_here : (answer : Result (Unit {0}) TicketError) → DetachesTicket name inside.desk answer outside.desk → DetachesHere name view answer new
-    detached_here answer detaches = subst (λ view. DetachesHere name view answer new) seen (record { detaches = detaches; nothing = nothing })
+    pub redeemed_here : (answer : Result (Outcome J T) TicketError) → RedeemsTicket name inside.desk answer outside.desk → IfOk answer (IsGot (out_at name.to inside.ends).out name.number) →
+        IfOk answer (FitsSent fits (out_at name.to inside.ends).out name.number) → OnErr answer (outside ≡ outside_of inside) → RedeemsHere fits name view answer new
+    redeemed_here answer redeems got fit refused =
+        subst (λ view. RedeemsHere fits name view answer new) seen
+        (record { redeems = redeems; given = got; fitting = fits_submitted inside is name low answer got fit; refused = same_here answer refused; nothing = nothing })
+
+    pub detached_here : (answer : Result (Unit {0}) TicketError) → DetachesTicket name inside.desk answer outside.desk → OnErr answer (outside ≡ outside_of inside) → DetachesHere name view answer new
+    detached_here answer detaches refused = subst (λ view. DetachesHere name view answer new) seen (record { detaches = detaches; refused = same_here answer refused; nothing = nothing })

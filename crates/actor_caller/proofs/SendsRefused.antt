@@ -2,12 +2,12 @@
 -- or asked twice.
 use Rattle.std.proofs.Common.{◌≡◌, ℕ, ◌<◌, ◌≤◌, [], ◌∷◌, ◌++◌, length, ap, sym, subst, ◌∙◌, inl, inr, arith, length-append}
 use Rattle.std.specs.Prelude.{Option, Some, true, false, Ok, Err, unwrap_or}
-use Rattle.rt_ids.specs.declared.names.JobId.{JobId}
-use Rattle.rt_ids.specs.declared.order.Order.{Order}
-use Rattle.rt_journal_notes.specs.Journals.{free_notes}
-use Rattle.rt_journal_notes.specs.Passing.{IsAsked}
-use Rattle.rt_journal_notes.specs.declared.sink.Refused.{Refused}
-use Rattle.rt_ring_mesh.specs.Ends.{out_at}
+use Rattle.base_words.specs.declared.names.JobId.{JobId}
+use Rattle.base_words.specs.declared.order.Order.{Order}
+use Rattle.note_journal.specs.Journals.{free_notes}
+use Rattle.note_journal.specs.Passing.{IsAsked}
+use Rattle.note_journal.specs.declared.sink.Refused.{Refused}
+use Rattle.link_ring.specs.Ends.{out_at}
 use Rattle.actor_caller.specs.declared.error.SubmitError.TheVariants.{JournalFull}
 use Rattle.actor_caller.specs.Passing.{PassesHere, passed_on}
 use Rattle.actor_caller.specs.Sends.{MakesRoom, Sends, SendsTo, SubmitsTo, room_left}

@@ -3,32 +3,32 @@ use Rattle.std.proofs.Common.{◌≡◌, ◌≢◌, ℕ, add-one, ◌+◌, ◌<�
 use Rattle.std.specs.Prelude.{Bool, IfOk, Result, Ok, Err, ◌||◌, slice_get}
 use Rattle.std.proofs.lemmas.Bool.{cases_eq}
 use Rattle.std.proofs.lemmas.List.{append-nil}
-use Rattle.rt_ring.proofs.Windows.{slice_get-last}
-use Rattle.rt_ring.specs.declared.ring_out.Sending.{Sending}
-use Rattle.rt_ids.specs.declared.order.Order.{Order}
-use Rattle.rt_ids.specs.declared.order.Outcome.{Outcome}
-use Rattle.rt_ids.specs.Spelled.{IsWithinLimits}
-use Rattle.rt_ids.specs.declared.names.JobId.{JobId}
-use Rattle.rt_ids.specs.declared.order.SendError.{SendError}
-use Rattle.rt_ids.specs.declared.order.SendError.TheVariants.{Closed, Full, Spent, NoCore}
-use Rattle.rt_link.specs.declared.ends.Outward.{Outward}
-use Rattle.rt_link.specs.Calls.{Sends}
-use Rattle.rt_journal_desk.specs.Spending.{booked}
-use Rattle.rt_journal_desk.specs.Submissions.{DeskView, Submits, numbered}
-use Rattle.rt_ring_mesh.specs.Ends.{out_at}
-use Rattle.rt_ring_mesh.specs.Grid.{IsGrid}
-use Rattle.rt_ring_mesh.proofs.Using.{all_same, one_more_same}
-use Rattle.rt_ring_mesh.proofs.Keeping.{grid_kept}
-use Rattle.rt_journal_notes.specs.Journals.{JournalView, places_of}
-use Rattle.rt_runtime_config.specs.Configs.{least_room}
+use Rattle.link_ring.proofs.Windows.{slice_get-last}
+use Rattle.link_ring.specs.declared.ring_out.Sending.{Sending}
+use Rattle.base_words.specs.declared.order.Order.{Order}
+use Rattle.base_words.specs.declared.order.Outcome.{Outcome}
+use Rattle.base_words.specs.Spelled.{IsWithinLimits}
+use Rattle.base_words.specs.declared.names.JobId.{JobId}
+use Rattle.base_words.specs.declared.order.SendError.{SendError}
+use Rattle.base_words.specs.declared.order.SendError.TheVariants.{Closed, Full, Spent, NoCore}
+use Rattle.link_ends.specs.declared.ends.Outward.{Outward}
+use Rattle.link_ends.specs.Calls.{Sends}
+use Rattle.actor_desk.specs.Spending.{booked}
+use Rattle.actor_desk.specs.Submissions.{DeskView, Submits, numbered}
+use Rattle.link_ring.specs.Ends.{out_at}
+use Rattle.link_ring.specs.Grid.{IsGrid}
+use Rattle.link_ring.proofs.Using.{all_same, one_more_same}
+use Rattle.link_ring.proofs.Keeping.{grid_kept}
+use Rattle.note_journal.specs.Journals.{JournalView, places_of}
+use Rattle.run_config.specs.Configs.{least_room}
 use Rattle.actor_seat.specs.Bells.{rung_at}
 use Rattle.actor_seat.specs.Linked.{LinkedView}
 use Rattle.actor_seat.specs.Opening.{IsWorkerOf}
 use Rattle.actor_seat.specs.OutsideSeats.{UsesOutside}
 use Rattle.actor_seat.specs.OutsideSeats.{OutsideView}
 use Rattle.actor_seat.specs.Together.{worker_at}
-use Rattle.rt_ids.specs.Journal.{Journal}
-use Rattle.rt_ids.specs.Outstanding.{outstanding_count}
+use Rattle.base_words.specs.Journal.{Journal}
+use Rattle.base_words.specs.Outstanding.{outstanding_count}
 use Rattle.actor_caller.specs.Rings.{RingsView}
 use Rattle.actor_caller.specs.Sends.{SendsTo, accepted, is_closing, outstanding_upto, tells_closing}
 use Rattle.actor_caller.specs.State.{PassesNothing, RuntimeView, StaysRunning, SubmitsNothing, closing_at, is_told_shut, outside_of, submitted}
@@ -113,15 +113,17 @@ module _ {J T : Type 0} {fits : Order J → Outcome J T → Type 0} (view : Runt
 
   -- a send to this core, over the runtime as it was seen
   pub sends_to : IsRuntime fits view → core < view.desk.cores → (order : Order J) (answer : Result JobId (SendError J)) → Submits core order view.desk answer outside.desk →
-      Sends (out_at core view.ends).out (out_at core view.ends).credited order (out_at core outside.ends).out (numbered answer) →
+      Sends (out_at core view.ends).out (out_at core view.ends).credited order (out_at core outside.ends).out (numbered answer) → (out_at core outside.ends).credited ≡ (out_at core view.ends).credited →
       (closing : List Bool) → closing ≡ set view.closing core (closing_at core view || tells_closing (is_closing order) answer) →
       (rung : RingsView J T) → rung ≡ record view.rung { times = rung_at core view.rung.times; over = outside.ends } → (seen : RuntimeView J T) → view ≡ seen →
       SendsTo core order seen answer (record view { desk = outside.desk; ends = outside.ends; closing = closing; rung = rung })
-  sends_to is low order answer submits sends closing closing_is rung rings seen same =
+  sends_to is low order answer submits sends credited closing closing_is rung rings seen same =
       subst (λ was. SendsTo core order was answer (record view { desk = outside.desk; ends = outside.ends; closing = closing; rung = rung })) same
       (record {
         submits = submits;
         link = sends;
+        credited = credited;
+        uses = uses.uses;
         closing = closing_is;
         orders = sent_orders _ _ _ order answer sends;
         others = λ other away. ap (λ (end : Sending J T). end.out.sent) (uses.uses.others other away);

@@ -1,16 +1,17 @@
--- Calls on outcomes that are refused: one that the link doesn't show, one that wasn't collected, one of nothing that was submitted, one of another kind, and one that isn't noted.
-use Rattle.std.proofs.Common.{◌≡◌, ℕ, ◌≤◌, ap, sym, ◌∙◌, length, subst, arith}
+-- Calls on outcomes that are refused: one that the link doesn't show, one that wasn't collected, one of nothing that was submitted, one of another kind, and one that isn't noted; and a refused ticket behind which
+-- more is seen.
+use Rattle.std.proofs.Common.{◌≡◌, ℕ, ◌+◌, ◌≤◌, ap, sym, ◌∙◌, length, subst, arith}
 use Rattle.std.specs.Prelude.{Some, None, Ok, Err}
-use Rattle.rt_ids.specs.declared.names.JobId.{JobId}
-use Rattle.rt_ids.specs.declared.names.TicketError.TheVariants.{Pending}
-use Rattle.rt_ids.specs.declared.order.Answer.{Answer}
-use Rattle.rt_ids.specs.declared.order.Order.{Order}
-use Rattle.rt_ids.specs.declared.order.Order.TheVariants.{Job}
-use Rattle.rt_ids.specs.declared.order.Outcome.{Outcome}
-use Rattle.rt_ids.specs.declared.order.Outcome.TheVariants.{Answered}
-use Rattle.rt_jobs.specs.Meanings.{Meaning}
-use Rattle.rt_link.specs.Fits.{Fits}
-use Rattle.rt_ring_mesh.specs.Ends.{out_at}
+use Rattle.base_words.specs.declared.names.JobId.{JobId}
+use Rattle.base_words.specs.declared.names.TicketError.TheVariants.{Pending}
+use Rattle.base_words.specs.declared.order.Answer.{Answer}
+use Rattle.base_words.specs.declared.order.Order.{Order}
+use Rattle.base_words.specs.declared.order.Order.TheVariants.{Job}
+use Rattle.base_words.specs.declared.order.Outcome.{Outcome}
+use Rattle.base_words.specs.declared.order.Outcome.TheVariants.{Answered}
+use Rattle.base_jobs.specs.Meanings.{Meaning}
+use Rattle.link_ends.specs.Fits.{Fits}
+use Rattle.link_ring.specs.Ends.{out_at}
 use Rattle.actor_caller.specs.State.{RuntimeView, submitted_under}
 use Rattle.actor_caller.specs.Tickets.{Collects, CollectsHere, DetachesHere, RedeemsHere}
 
@@ -37,6 +38,10 @@ module _ {J T : Type 0} (fits : Order J → Outcome J T → Type 0) (name : JobI
   unnoted_refused redeems same =
       let long = ap (λ journal. length journal.notes) (sym same ∙ redeems.redeems.2) in
       omega (arith, long)
+
+  -- a ticket is refused, and the end to its core has seen one more outcome
+  seen_refused : RedeemsHere fits name old (Err Pending) new → length (out_at name.to new.ends).out.seen ≡ length (out_at name.to old.ends).out.seen + 1 → ⊥
+  seen_refused redeems more = let same = ap (λ (view : RuntimeView J T). length (out_at name.to view.ends).out.seen) redeems.refused in omega (arith, same, more)
 
   -- a submission is let go, and nothing is noted
   kept_refused : DetachesHere name old (Ok tt) new → new.desk.journal ≡ old.desk.journal → ⊥

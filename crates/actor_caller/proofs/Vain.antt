@@ -1,9 +1,9 @@
 -- A submission that found the link full, as the loop of a wait has it.
 use Rattle.std.proofs.Common.{◌≡◌, ℕ, ◌<◌, ◌∙◌, subst, ⊎_elim, Result, Err}
 use Rattle.std.proofs.lemmas.Bool.{cases_lt}
-use Rattle.rt_ids.specs.declared.names.JobId.{JobId}
-use Rattle.rt_ids.specs.declared.order.Order.{Order}
-use Rattle.rt_ids.specs.declared.order.SendError.TheVariants.{Full}
+use Rattle.base_words.specs.declared.names.JobId.{JobId}
+use Rattle.base_words.specs.declared.order.Order.{Order}
+use Rattle.base_words.specs.declared.order.SendError.TheVariants.{Full}
 use Rattle.actor_caller.specs.declared.error.SubmitError.{SubmitError}
 use Rattle.actor_caller.specs.declared.error.SubmitError.TheVariants.{Send}
 use Rattle.actor_caller.specs.Sends.{SubmitsTo}

@@ -3,21 +3,21 @@ use Rattle.std.proofs.Common.{◌≡◌, ◌≢◌, ℕ, zero, suc, ◌<◌, ◌
 use Rattle.std.proofs.lemmas.Bool.{cases_eq, cases_lt}
 use Rattle.std.proofs.lemmas.List.{append-nil}
 use Rattle.std.proofs.lemmas.List.Elements.{All-append, All-cons, All-nil}
-use Rattle.rt_ids.specs.declared.names.JobId.{JobId}
-use Rattle.rt_ids.specs.declared.names.TicketError.{TicketError}
-use Rattle.rt_ids.specs.declared.names.TicketError.TheVariants.{Pending}
-use Rattle.rt_ids.specs.declared.note.Note.{Note}
-use Rattle.rt_ids.specs.declared.note.Note.TheVariants as writes
-use Rattle.rt_ids.specs.declared.order.Order.{Order}
-use Rattle.rt_ids.specs.declared.order.Outcome.{Outcome}
-use Rattle.rt_ids.specs.declared.order.SendError.{SendError}
-use Rattle.rt_ids.specs.declared.order.SendError.TheVariants.{Closed, Full, NoCore, Spent}
-use Rattle.rt_ids.specs.Orders.{without_job}
-use Rattle.rt_journal_desk.specs.Submissions.{DeskView, Submits}
-use Rattle.rt_journal_desk.specs.Tickets.{AreCollected}
+use Rattle.base_words.specs.declared.names.JobId.{JobId}
+use Rattle.base_words.specs.declared.names.TicketError.{TicketError}
+use Rattle.base_words.specs.declared.names.TicketError.TheVariants.{Pending}
+use Rattle.base_words.specs.declared.note.Note.{Note}
+use Rattle.base_words.specs.declared.note.Note.TheVariants as writes
+use Rattle.base_words.specs.declared.order.Order.{Order}
+use Rattle.base_words.specs.declared.order.Outcome.{Outcome}
+use Rattle.base_words.specs.declared.order.SendError.{SendError}
+use Rattle.base_words.specs.declared.order.SendError.TheVariants.{Closed, Full, NoCore, Spent}
+use Rattle.base_words.specs.Orders.{without_job}
+use Rattle.actor_desk.specs.Submissions.{DeskView, Submits}
+use Rattle.actor_desk.specs.Tickets.{AreCollected}
 use Rattle.actor_caller.specs.declared.error.SubmitError.{SubmitError}
 use Rattle.actor_caller.specs.declared.error.SubmitError.TheVariants.{JournalFull, Send}
-use Rattle.rt_journal_notes.specs.Journals.{free_notes}
+use Rattle.note_journal.specs.Journals.{free_notes}
 use Rattle.actor_caller.specs.Passing.{AsksOnce, passed_on, refused_of}
 use Rattle.actor_caller.specs.Sends.{MakesRoom, Sends, SubmitsTo, room_left}
 use Rattle.actor_caller.specs.State.{RuntimeView, SubmitsNothing, submitted}

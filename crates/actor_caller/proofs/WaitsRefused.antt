@@ -1,16 +1,16 @@
 -- Waits that no contract lets pass: another outcome is redeemed too, the one that is answered stays, an order is submitted twice or comes back from a
 -- full link, and no outcome is awaited though there is a ticket.
-use Rattle.std.proofs.Common.{◌≡◌, ℕ, true, false, [], ◌∷◌, ◌++◌, length, ◌∙◌, sym, subst, ap, arith, drop, Ok, Err, None, refl, length-append}
+use Rattle.std.proofs.Common.{◌≡◌, ◌<◌, ℕ, true, false, [], ◌∷◌, ◌++◌, length, ◌∙◌, sym, subst, ap, arith, drop, Ok, Err, None, refl, length-append}
 use Rattle.std.proofs.lemmas.List.{append_cancel_right}
-use Rattle.rt_ids.specs.declared.names.JobId.{JobId}
-use Rattle.rt_ids.specs.declared.note.Note.TheVariants.{Redeemed}
-use Rattle.rt_ids.specs.declared.note.OutcomeNote.{OutcomeNote}
-use Rattle.rt_ids.specs.declared.order.Order.{Order}
-use Rattle.rt_ids.specs.declared.order.Outcome.{Outcome}
-use Rattle.rt_ids.specs.declared.order.SendError.TheVariants.{Full}
+use Rattle.base_words.specs.declared.names.JobId.{JobId}
+use Rattle.base_words.specs.declared.note.Note.TheVariants.{Redeemed}
+use Rattle.base_words.specs.declared.note.OutcomeNote.{OutcomeNote}
+use Rattle.base_words.specs.declared.order.Order.{Order}
+use Rattle.base_words.specs.declared.order.Outcome.{Outcome}
+use Rattle.base_words.specs.declared.order.SendError.TheVariants.{Full}
 use Rattle.actor_caller.specs.declared.error.SubmitError.TheVariants.{Send}
 use Rattle.actor_caller.specs.State.{RuntimeView, submitted}
-use Rattle.actor_caller.specs.Waiting.{RedeemsAtLast, SubmitsAtLast, WaitsForAny}
+use Rattle.actor_caller.specs.Waiting.{LooksOnce, RedeemsAtLast, SubmitsAtLast, WaitsForAny}
 use Rattle.actor_caller.specs.WaitingLaws.{AreCollections}
 use Rattle.actor_caller.proofs.WaitedOnce.{redeems_once, submits_once}
 
@@ -49,3 +49,11 @@ full_refused each core order old new did = did.not_full order refl
 -- there is a ticket, and none is waited for
 none_awaited_refused : {J T : Type 0} (fits : Order J → Outcome J T → Type 0) (name : JobId) (old new : RuntimeView J T) → WaitsForAny fits (name ∷ []) old None new → ⊥
 none_awaited_refused fits name old new waits = let none = waits.0 in absurd cc
+
+-- an outcome is told where none came
+told_in_vain_refused : {J T : Type 0} (old : RuntimeView J T) → LooksOnce old true old → ⊥
+told_in_vain_refused old looks = let more = looks.tells.0 refl in omega (arith, more)
+
+-- the caller parks though an outcome came
+overlooked_refused : {J T : Type 0} (old new : RuntimeView J T) → LooksOnce old false new → length old.desk.journal.notes < length new.desk.journal.notes → ⊥
+overlooked_refused old new looks more = let never = looks.tells.1 more in absurd cc

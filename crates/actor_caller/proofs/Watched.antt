@@ -2,11 +2,11 @@
 use Rattle.std.proofs.Common.{◌≡◌, ℕ, ◌<◌, ◌≤◌, List, length, set, get_or, sym, ◌∙◌, ap, subst, arith}
 use Rattle.std.proofs.lemmas.List.{get_or-set_same, get_or_default, length-map}
 use Rattle.std.specs.Prelude.{Bool, true, false}
-use Rattle.rt_ids.specs.declared.order.Order.{Order}
-use Rattle.rt_ids.specs.declared.order.Outcome.{Outcome}
-use Rattle.rt_ids.specs.Journal.{Journal}
-use Rattle.rt_watch.specs.Growth.{Grows}
-use Rattle.rt_watch.specs.declared.watcher.Watching.{Watching}
+use Rattle.base_words.specs.declared.order.Order.{Order}
+use Rattle.base_words.specs.declared.order.Outcome.{Outcome}
+use Rattle.base_words.specs.Journal.{Journal}
+use Rattle.run_watch.specs.Growth.{Grows}
+use Rattle.run_watch.specs.declared.watcher.Watching.{Watching}
 use Rattle.actor_caller.specs.State.{RuntimeView}
 use Rattle.actor_caller.specs.Stored.{IsHeld}
 use Rattle.actor_caller.specs.Teams.{TeamView}

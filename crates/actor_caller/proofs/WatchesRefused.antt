@@ -2,12 +2,12 @@
 -- that are told wrongly.
 use Rattle.std.proofs.Common.{◌≡◌, ℕ, ◌<◌, [], ◌∷◌, length, ap, refl, sym, ◌∙◌, arith, length-append}
 use Rattle.std.specs.Prelude.{◌==◌, if◌then◌else◌, Bool, true, false, Some, None}
-use Rattle.rt_ids.specs.declared.note.Note.{Note}
-use Rattle.rt_ids.specs.Assembly.{Assembly, journal_of}
-use Rattle.rt_ids.specs.Journal.{Journal}
-use Rattle.rt_watch.specs.declared.watcher.Watching.{Watching}
-use Rattle.rt_watch.specs.Closed.{closed_by_itself}
-use Rattle.rt_watch.specs.Growth.{Grows}
+use Rattle.base_words.specs.declared.note.Note.{Note}
+use Rattle.base_words.specs.Assembly.{Assembly, journal_of}
+use Rattle.base_words.specs.Journal.{Journal}
+use Rattle.run_watch.specs.declared.watcher.Watching.{Watching}
+use Rattle.run_watch.specs.Closed.{closed_by_itself}
+use Rattle.run_watch.specs.Growth.{Grows}
 use Rattle.actor_caller.specs.State.{RuntimeView}
 use Rattle.actor_caller.specs.Watching.{IsToldRightly, SawBeginnings, Watches, closing_told, watch_at}
 

@@ -1,8 +1,8 @@
 -- What a refused submission tells, and its text.
 use Rattle.std.specs.Prelude.{ℕ, Bool, true, false, List, codes}
-use Rattle.rt_ids.specs.declared.order.Order.{Order}
-use Rattle.rt_ids.specs.declared.order.SendError.TheVariants.{Closed, Full, Spent, NoCore}
-use Rattle.rt_jobs.specs.Posts.{order_back}
+use Rattle.base_words.specs.declared.order.Order.{Order}
+use Rattle.base_words.specs.declared.order.SendError.TheVariants.{Closed, Full, Spent, NoCore}
+use Rattle.base_jobs.specs.Posts.{order_back}
 use Rattle.actor_caller.specs.declared.error.SubmitError.{SubmitError}
 use Rattle.actor_caller.specs.declared.error.SubmitError.TheVariants.{JournalFull, Send}
 

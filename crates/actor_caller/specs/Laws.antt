@@ -1,9 +1,9 @@
 -- Laws over the definitions of sends and of submissions.
 use Rattle.std.specs.Prelude.{◌≡◌, ℕ, true, Result, Ok, Err}
-use Rattle.rt_ids.specs.declared.names.JobId.{JobId}
-use Rattle.rt_ids.specs.declared.order.Order.{Order}
-use Rattle.rt_ids.specs.declared.order.SendError.{SendError}
-use Rattle.rt_ids.specs.declared.order.SendError.TheVariants.{Closed}
+use Rattle.base_words.specs.declared.names.JobId.{JobId}
+use Rattle.base_words.specs.declared.order.Order.{Order}
+use Rattle.base_words.specs.declared.order.SendError.{SendError}
+use Rattle.base_words.specs.declared.order.SendError.TheVariants.{Closed}
 use Rattle.actor_caller.specs.declared.error.SubmitError.{SubmitError}
 use Rattle.actor_caller.specs.Errors.{refused_order}
 use Rattle.actor_caller.specs.Sends.{SendsTo, SubmitsTo}

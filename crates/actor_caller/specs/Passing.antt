@@ -1,8 +1,8 @@
 -- What the outside actor passes on.
 use Rattle.std.specs.Prelude.{◌≡◌, true, false, Result, Ok, Err}
-use Rattle.rt_journal_notes.specs.Journals.{passed_all}
-use Rattle.rt_journal_notes.specs.Passing.{IsAsked}
-use Rattle.rt_journal_notes.specs.declared.sink.Refused.{Refused}
+use Rattle.note_journal.specs.Journals.{passed_all}
+use Rattle.note_journal.specs.Passing.{IsAsked}
+use Rattle.note_journal.specs.declared.sink.Refused.{Refused}
 use Rattle.actor_caller.specs.State.{RuntimeView}
 
 module _ {J T : Type 0} where

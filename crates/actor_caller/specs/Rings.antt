@@ -1,7 +1,7 @@
 -- The bells of all cores, and the caller's own, in the caller's hands.
 use Rattle.std.specs.Prelude.{◌≡◌, ℕ, List, slice_index_or}
 use Rattle.actor_seat.specs.Bells.{BellView}
-use Rattle.rt_ring_mesh.specs.Ends.{EndsView}
+use Rattle.link_ring.specs.Ends.{EndsView}
 
 -- which bells these are, by name, how often the caller rang the bell of each core and its own, and what the caller's ends were when it rang last
 pub record RingsView (J T : Type 0) : Type 0 where

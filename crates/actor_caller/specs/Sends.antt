@@ -1,17 +1,18 @@
 -- What a send to a core does.
 use Rattle.std.specs.Prelude.{◌≡◌, ◌≢◌, ◌⊎◌, ℕ, zero, suc, ◌+◌, ◌*◌, ◌<◌, ◌≤◌, Bool, true, false, ◌||◌, List, [], ◌∷◌, ◌++◌, Some, Result, Ok, Err, IfOk, slice_set}
-use Rattle.rt_ids.specs.declared.names.JobId.{JobId}
-use Rattle.rt_ids.specs.declared.order.Order.{Order}
-use Rattle.rt_ids.specs.declared.order.Order.TheVariants.{CloseCore}
-use Rattle.rt_ids.specs.declared.order.SendError.{SendError}
-use Rattle.rt_ids.specs.declared.order.SendError.TheVariants.{Closed, NoCore}
-use Rattle.rt_ids.specs.Journal.{Journal}
-use Rattle.rt_ids.specs.Outstanding.{outstanding_count}
-use Rattle.rt_link.specs.Calls as link
-use Rattle.rt_journal_notes.specs.Journals.{free_notes}
-use Rattle.rt_journal_desk.specs.Submissions.{Submits, numbered}
-use Rattle.rt_ring_mesh.specs.Ends.{out_at}
+use Rattle.base_words.specs.declared.names.JobId.{JobId}
+use Rattle.base_words.specs.declared.order.Order.{Order}
+use Rattle.base_words.specs.declared.order.Order.TheVariants.{CloseCore}
+use Rattle.base_words.specs.declared.order.SendError.{SendError}
+use Rattle.base_words.specs.declared.order.SendError.TheVariants.{Closed, NoCore}
+use Rattle.base_words.specs.Journal.{Journal}
+use Rattle.base_words.specs.Outstanding.{outstanding_count}
+use Rattle.link_ends.specs.Calls as link
+use Rattle.note_journal.specs.Journals.{free_notes}
+use Rattle.actor_desk.specs.Submissions.{Submits, numbered}
+use Rattle.link_ring.specs.Ends.{out_at}
 use Rattle.actor_seat.specs.Bells.{rung_at}
+use Rattle.actor_seat.specs.Seats.{UsesOut}
 use Rattle.actor_caller.specs.declared.error.SubmitError.{SubmitError}
 use Rattle.actor_caller.specs.declared.error.SubmitError.TheVariants.{JournalFull, Send}
 use Rattle.actor_caller.specs.Passing.{AsksOnce, passed_on, refused_of}
@@ -45,11 +46,13 @@ module _ {J T : Type 0} where
   room_left each view = 3 * (outstanding_upto view.desk.journal.notes view.desk.cores + 1) + each * view.desk.cores
 
   -- A send to a core that there is: its link answers. So `Closed` comes only from a gate that was found shut, and then at each later send; `Full`
-  -- and an acceptance come only where no send found it shut. An order that was accepted stands under its name, and what the caller knows of the
-  -- core's closing goes on. Then the bell of this core is rung, and no other: at that ring the ends are as the send left them.
+  -- and an acceptance come only where no send found it shut. No other end changes. An order that was accepted stands under its name, and what the
+  -- caller knows of the core's closing goes on. Then the bell of this core is rung, and no other: at that ring the ends are as the send left them.
   pub record SendsTo (core : ℕ) (order : Order J) (old : RuntimeView J T) (answer : Result JobId (SendError J)) (new : RuntimeView J T) : Type 0 where
     pub submits : Submits core order old.desk answer new.desk
     pub link : link.Sends (out_at core old.ends).out (out_at core old.ends).credited order (out_at core new.ends).out (numbered answer)
+    pub credited : (out_at core new.ends).credited ≡ (out_at core old.ends).credited
+    pub uses : UsesOut core old.ends new.ends
     pub closing : new.closing ≡ slice_set old.closing core (closing_at core old || tells_closing (is_closing order) answer)
     pub orders : submitted core new ≡ submitted core old ++ accepted order answer
     pub others : (other : ℕ) → other ≢ core → submitted other new ≡ submitted other old

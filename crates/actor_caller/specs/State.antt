@@ -1,14 +1,14 @@
 -- What a caller sees of a runtime, and what of it no call changes.
 use Rattle.std.specs.Prelude.{◌≡◌, ℕ, ◌-◌, Bool, false, List, Option, slice_get, slice_index_or}
-use Rattle.rt_ids.specs.declared.names.JobId.{JobId}
-use Rattle.rt_ids.specs.declared.order.Order.{Order}
-use Rattle.rt_journal_notes.specs.Journals.{places_of}
-use Rattle.rt_journal_desk.specs.Submissions.{DeskView}
-use Rattle.rt_ring_mesh.specs.Ends.{EndsView, out_at}
+use Rattle.base_words.specs.declared.names.JobId.{JobId}
+use Rattle.base_words.specs.declared.order.Order.{Order}
+use Rattle.note_journal.specs.Journals.{places_of}
+use Rattle.actor_desk.specs.Submissions.{DeskView}
+use Rattle.link_ring.specs.Ends.{EndsView, out_at}
 use Rattle.actor_seat.specs.Linked.{Grows, LinkedView}
 use Rattle.actor_seat.specs.OutsideSeats.{OutsideView}
 use Rattle.actor_caller.specs.Rings.{RingsView}
-use Rattle.rt_watch.specs.declared.watcher.Watching.{Watching}
+use Rattle.run_watch.specs.declared.watcher.Watching.{Watching}
 
 -- The outside actor's journal and ends, and for each core whether the caller closed it: an order to close it was accepted, or a send to it was
 -- answered `Closed`. The workers are as they began, with room for so many notes each. Which bells the caller has, how often it

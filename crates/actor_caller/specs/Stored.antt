@@ -1,22 +1,22 @@
 -- What is true of a caller at any time, and what it has beside what is seen.
 use Rattle.std.specs.Prelude.{◌≡◌, ℕ, ◌+◌, ◌<◌, ◌≤◌, Bool, true, Option, List, [], ◌∷◌, ◌++◌, length, map}
-use Rattle.rt_ids.specs.declared.order.Order.{Order}
-use Rattle.rt_ids.specs.declared.order.Outcome.{Outcome}
-use Rattle.rt_ids.specs.Journal.{Journal}
-use Rattle.rt_ids.specs.Spelled.{IsWithinLimits}
-use Rattle.rt_journal_notes.specs.Journals.{places_of}
-use Rattle.rt_journal_desk.specs.Spending.{booked}
-use Rattle.rt_journal_desk.specs.Tickets.{HasLane}
-use Rattle.rt_ring_mesh.specs.Ends.{out_at}
-use Rattle.rt_ring_mesh.specs.Grid.{IsGrid}
-use Rattle.rt_runtime_config.specs.Configs.{least_room}
+use Rattle.base_words.specs.declared.order.Order.{Order}
+use Rattle.base_words.specs.declared.order.Outcome.{Outcome}
+use Rattle.base_words.specs.Journal.{Journal}
+use Rattle.base_words.specs.Spelled.{IsWithinLimits}
+use Rattle.note_journal.specs.Journals.{places_of}
+use Rattle.actor_desk.specs.Spending.{booked}
+use Rattle.actor_desk.specs.Tickets.{HasLane}
+use Rattle.link_ring.specs.Ends.{out_at}
+use Rattle.link_ring.specs.Grid.{IsGrid}
+use Rattle.run_config.specs.Configs.{least_room}
 use Rattle.actor_seat.specs.Opening.{IsWorkerOf}
 use Rattle.actor_seat.specs.OutsideSeats.{IsOutside, OutsideView}
 use Rattle.actor_seat.specs.Together.{worker_at}
 use Rattle.actor_caller.specs.Rings.{RingsView}
 use Rattle.actor_caller.specs.State.{RuntimeView, outside_of}
 use Rattle.actor_caller.specs.Teams.{TeamView}
-use Rattle.rt_watch.specs.declared.watcher.Watching.{Watching}
+use Rattle.run_watch.specs.declared.watcher.Watching.{Watching}
 
 module _ {J T : Type 0} (fits : Order J → Outcome J T → Type 0) where
   -- Each core has its worker and its bell, and the outside actor has one; all links of the house are there, and the outside actor's journal is written by the rules and beside its ends.

@@ -1,14 +1,14 @@
 -- What the outside actor's calls on outcomes and tickets do.
-use Rattle.std.specs.Prelude.{◌≡◌, ℕ, ◌+◌, ◌<◌, ◌≤◌, Some, Result, IfOk}
-use Rattle.rt_ids.specs.declared.names.JobId.{JobId}
-use Rattle.rt_ids.specs.declared.names.TicketError.{TicketError}
-use Rattle.rt_ids.specs.declared.order.Order.{Order}
-use Rattle.rt_ids.specs.declared.order.Outcome.{Outcome}
-use Rattle.rt_ids.specs.Filters.{collected_outcomes}
-use Rattle.rt_desk.specs.Lanes.{IsGot}
-use Rattle.rt_ring_mesh.specs.Ends.{out_at}
-use Rattle.rt_journal_desk.specs.Ends.{named_outcomes}
-use Rattle.rt_journal_desk.specs.Tickets.{CollectsFrom, DetachesTicket, GetsAll, RedeemsTicket}
+use Rattle.std.specs.Prelude.{◌≡◌, ℕ, ◌+◌, ◌<◌, ◌≤◌, Some, Result, IfOk, OnErr}
+use Rattle.base_words.specs.declared.names.JobId.{JobId}
+use Rattle.base_words.specs.declared.names.TicketError.{TicketError}
+use Rattle.base_words.specs.declared.order.Order.{Order}
+use Rattle.base_words.specs.declared.order.Outcome.{Outcome}
+use Rattle.base_words.specs.Filters.{collected_outcomes}
+use Rattle.actor_desk.specs.Lanes.{IsGot}
+use Rattle.link_ring.specs.Ends.{out_at}
+use Rattle.actor_desk.specs.Ends.{named_outcomes}
+use Rattle.actor_desk.specs.Tickets.{CollectsFrom, DetachesTicket, GetsAll, RedeemsTicket}
 use Rattle.actor_caller.specs.State.{RuntimeView, SubmitsNothing, submitted_under}
 
 module _ {J T : Type 0} where
@@ -32,14 +32,16 @@ module _ {J T : Type 0} where
     pub is : submitted_under name view ≡ Some order
     pub fit : fits order outcome
 
-  -- an outcome that was collected under this name is redeemed, and it fits its order; or the ticket is refused
+  -- an outcome that was collected under this name is redeemed, and it fits its order; or the ticket is refused and nothing changes
   pub record RedeemsHere (fits : Order J → Outcome J T → Type 0) (name : JobId) (old : RuntimeView J T) (answer : Result (Outcome J T) TicketError) (new : RuntimeView J T) : Type 0 where
     pub redeems : RedeemsTicket name old.desk answer new.desk
     pub given : IfOk answer (IsGot (out_at name.to old.ends).out name.number)
     pub fitting : IfOk answer (FitsSubmitted fits name old)
+    pub refused : OnErr answer (new ≡ old)
     pub nothing : SubmitsNothing old new
 
-  -- a submission is detached, or the ticket is refused
+  -- a submission is detached, or the ticket is refused and nothing changes
   pub record DetachesHere (name : JobId) (old : RuntimeView J T) (answer : Result (Unit {0}) TicketError) (new : RuntimeView J T) : Type 0 where
     pub detaches : DetachesTicket name old.desk answer new.desk
+    pub refused : OnErr answer (new ≡ old)
     pub nothing : SubmitsNothing old new

@@ -1,12 +1,12 @@
 -- What a caller has done that waited, when it gets its answer.
-use Rattle.std.specs.Prelude.{◌≡◌, ℕ, zero, suc, All, List, [], take, Option, Some, None, Result, Err, slice_get}
-use Rattle.rt_ids.specs.declared.names.JobId.{JobId}
-use Rattle.rt_ids.specs.declared.names.TicketError.{TicketError}
-use Rattle.rt_ids.specs.declared.names.TicketError.TheVariants.{Pending}
-use Rattle.rt_ids.specs.declared.order.Order.{Order}
-use Rattle.rt_ids.specs.declared.order.Outcome.{Outcome}
-use Rattle.rt_ids.specs.declared.order.SendError.TheVariants.{Full}
-use Rattle.rt_journal_desk.specs.Tickets.{RefusesTicket}
+use Rattle.std.specs.Prelude.{◌≡◌, ◌↔◌, ℕ, ◌<◌, Bool, zero, suc, All, IsTrue, List, [], length, take, Option, Some, None, Result, Err, slice_get}
+use Rattle.base_words.specs.declared.names.JobId.{JobId}
+use Rattle.base_words.specs.declared.names.TicketError.{TicketError}
+use Rattle.base_words.specs.declared.names.TicketError.TheVariants.{Pending}
+use Rattle.base_words.specs.declared.order.Order.{Order}
+use Rattle.base_words.specs.declared.order.Outcome.{Outcome}
+use Rattle.base_words.specs.declared.order.SendError.TheVariants.{Full}
+use Rattle.actor_desk.specs.Tickets.{RefusesTicket}
 use Rattle.actor_caller.specs.declared.error.SubmitError.{SubmitError}
 use Rattle.actor_caller.specs.declared.error.SubmitError.TheVariants.{Send}
 use Rattle.actor_caller.specs.Sends.{SubmitsTo}
@@ -32,6 +32,11 @@ module _ {J T : Type 0} where
   -- one look at all links: `collect` of each core
   abbrev pub CollectsEach : RuntimeView J T → RuntimeView J T → Type 0
   CollectsEach old new = CollectsBelow old.desk.cores old new
+
+  -- one such look, and whether there was an outcome
+  pub record LooksOnce (old : RuntimeView J T) (some : Bool) (new : RuntimeView J T) : Type 0 where
+    pub collects : CollectsEach old new
+    pub tells : IsTrue some ↔ (length old.desk.journal.notes < length new.desk.journal.notes)
 
   -- the caller looks at all links, once or more often, and does nothing else
   pub record LooksOnly (old new : RuntimeView J T) : Type 0 where

@@ -1,9 +1,9 @@
 -- What a caller sees of the cores while they run.
 use Rattle.std.specs.Prelude.{◌≡◌, ◌==◌, ℕ, ◌<◌, ◌≤◌, if◌then◌else◌, Bool, true, false, Option, Some, None, List, [], length, map, slice_index_or, slice_set}
-use Rattle.rt_ids.specs.Assembly.{Assembly, journal_of}
-use Rattle.rt_watch.specs.Closed.{closed_by_itself}
-use Rattle.rt_watch.specs.Growth.{Grows}
-use Rattle.rt_watch.specs.declared.watcher.Watching.{Watching}
+use Rattle.base_words.specs.Assembly.{Assembly, journal_of}
+use Rattle.run_watch.specs.Closed.{closed_by_itself}
+use Rattle.run_watch.specs.Growth.{Grows}
+use Rattle.run_watch.specs.declared.watcher.Watching.{Watching}
 use Rattle.actor_caller.specs.State.{RuntimeView}
 use Rattle.actor_caller.specs.Teams.{TeamView}
 

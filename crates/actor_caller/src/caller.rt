@@ -1,17 +1,19 @@
 //! The caller of a house: its outside actor, and what it sees of the cores.
 
 ghost use Rattle.std.specs.Prelude.{◌≡◌, false, length};
-ghost use Rattle.rt_link.specs.Fits.{Fits};
+ghost use Rattle.link_ends.specs.Fits.{Fits};
 ghost use Rattle.actor_caller.specs.Closings.{IsFirstOpenOf, TellsOpen};
 ghost use Rattle.actor_caller.specs.Stored.{IsHeld, IsRuntime, view_of};
 ghost use Rattle.actor_caller.specs.Watching.{AreWatched};
 
 use crate::rings::Rings;
 use actor_seat::{Bells, OutsideSeat};
-use rt_ids::CoreNo;
-use rt_jobs::Task;
-use rt_journal_notes::{Journal, Sink, Whole};
-use rt_watch::Watcher;
+use base_jobs::Task;
+use base_sealed::SealedVec;
+use base_words::CoreNo;
+use note_journal::{Journal, Sink, Whole};
+use run_watch::Watcher;
+use std::alloc::Global;
 use std::marker::Model;
 
 /// What stands beside a caller: the workers of its house. The caller keeps it, and asks nothing of it.
@@ -40,9 +42,9 @@ pub struct Caller<J: Task<Out = u64>, S: Sink, H: Beside<Job = J>> {
     /// The bell of each core.
     pub(crate) bells: Rings<J>,
     /// For each core whether the caller closed it: an order to close it was accepted, or a send to it was answered `Closed`.
-    pub(crate) closing: Vec<bool>,
+    pub(crate) closing: SealedVec<bool, Global>,
     /// The watcher of each core's board.
-    pub(crate) watchers: Vec<Watcher>,
+    pub(crate) watchers: SealedVec<Watcher, Global>,
     pub(crate) house: H,
 }
 
@@ -52,7 +54,7 @@ impl<J: Task<Out = u64>, S: Sink, H: Beside<Job = J>> Model for Caller<J, S, H> 
 
     ghost Value = { RuntimeView J ℕ };
 
-    ghost use Rattle.rt_link.specs.Fits.{Fits};
+    ghost use Rattle.link_ends.specs.Fits.{Fits};
     ghost use Rattle.actor_caller.specs.Stored.{IsHeld, view_of};
     ghost use Rattle.actor_caller.specs.Watching.{AreWatched};
 
@@ -102,14 +104,14 @@ impl<J: Task<Out = u64>, S: Sink, H: Beside<Job = J>> Caller<J, S, H> {
             sink,
             refused: false,
             bells,
-            closing,
-            watchers,
+            closing: SealedVec::sealed(closing),
+            watchers: SealedVec::sealed(watchers),
             house,
         }
     }
 
     /// The outside actor, its sink, what stands beside it, and the watchers.
-    pub fn into_parts(self) -> (OutsideSeat<J>, S, H, Vec<Watcher>)
+    pub fn into_parts(self) -> (OutsideSeat<J>, S, H, SealedVec<Watcher, Global>)
         ensures is { view_of S.asks S.mark result.0 self.closing (H.team result.2) self.room self.rung self.refused result.1 result.3.items ≡ self }
         ensures runtime { IsRuntime (Fits J.meaning) (view_of S.asks S.mark result.0 self.closing (H.team result.2) self.room self.rung self.refused result.1 result.3.items) }
         ensures passed { S.has result.1 ≡ result.0.desk.journal.passed }
@@ -136,7 +138,7 @@ impl<J: Task<Out = u64>, S: Sink, H: Beside<Job = J>> Caller<J, S, H> {
     pub fn first_open(&self) -> Option<CoreNo>
         ensures { TellsOpen self.now result }
     {
-        match first_open(self.cores, &self.closing) {
+        match first_open(self.cores, self.closing.as_slice()) {
             Some(core) => Some(CoreNo(core)),
             None => None,
         }

@@ -1,18 +1,20 @@
 //! The outside actor's calls.
 
 ghost use Rattle.std.specs.Prelude.{◌≡◌, ◌+◌, ◌<◌, ◌≤◌, ◌^◌, ◌↔◌, IsTrue, length, true, false, slice_index_or, slice_set, ◌||◌};
-ghost use Rattle.rt_journal_notes.specs.Journals.{free_notes};
-ghost use Rattle.rt_jobs.specs.Ready.{HasReadyJob};
-ghost use Rattle.rt_ids.specs.declared.order.Order.TheVariants.{CloseCore};
-ghost use Rattle.rt_journal_desk.specs.Spending.{booked};
+ghost use Rattle.note_journal.specs.Journals.{free_notes};
+ghost use Rattle.base_jobs.specs.Ready.{HasReadyJob};
+ghost use Rattle.base_words.specs.declared.order.Order.TheVariants.{CloseCore};
+ghost use Rattle.actor_desk.specs.Spending.{booked};
 ghost use Rattle.actor_caller.specs.Passing.{passed_on};
 ghost use Rattle.actor_caller.specs.Sends.{Sends, SubmitsTo, is_closing, outstanding_upto, room_left, tells_closing};
 
 use crate::caller::{Beside, Caller};
 use crate::error::SubmitError;
-use rt_ids::{CoreNo, Mode, Order, SendError, Ticket};
-use rt_jobs::Task;
-use rt_journal_notes::Sink;
+use base_jobs::Task;
+use base_sealed::SealedVec;
+use base_words::{CoreNo, Mode, Order, SendError, Ticket};
+use note_journal::Sink;
+use std::alloc::Global;
 
 /// Whether the order closes the core.
 fn closes<J>(order: &Order<J>) -> bool
@@ -38,7 +40,7 @@ fn tells<J>(closing: bool, answer: &Result<Ticket, SendError<J>>) -> bool
 
 /// Keeps in mind that a core is closed, if it was told so.
 #[inline(always)]
-fn mark(closing: &mut Vec<bool>, core: usize, told: bool)
+fn mark(closing: &mut SealedVec<bool, Global>, core: usize, told: bool)
     requires { core < length closing.old.items }
     ensures { closing.new.items ≡ slice_set closing.old.items core (slice_index_or closing.old.items core false || told) }
 {

@@ -3,7 +3,7 @@
 ghost use Rattle.std.specs.Prelude.{◌≡◌, Some};
 ghost use Rattle.actor_caller.specs.Errors.{refused_order, submit_text, tells_closed, tells_full};
 
-use rt_ids::{Order, SendError};
+use base_words::{Order, SendError};
 use std::error::Error;
 use std::fmt;
 

@@ -1,11 +1,11 @@
 //! Laws over the definitions alone. Their bodies are empty: each contract is the law.
 
 ghost use Rattle.std.specs.Prelude.{ℕ};
-ghost use Rattle.rt_link.specs.Fits.{Fits};
+ghost use Rattle.link_ends.specs.Fits.{Fits};
 ghost use Rattle.actor_caller.specs.Laws.{ClosedStaysClosed, RefusedOrdersComeBack};
 ghost use Rattle.actor_caller.specs.WaitingLaws.{WaitsRedeemOnce, WaitsSubmitOnce};
 
-use rt_jobs::Task;
+use base_jobs::Task;
 
 /// A send is answered `Closed` only where the gate was found shut, and from then on each send to that core is.
 pub fn closed_stays_closed<J: Task<Out = u64>>()

@@ -3,7 +3,7 @@
 //! # What is shared
 //!
 //! A caller is one thread's. Its journal, its sink and what it knows of closings are seen by nobody else. Others see of it its ends of the links,
-//! and the bells that it rings; it sees of the cores what they publish on their boards (rt_watch).
+//! and the bells that it rings; it sees of the cores what they publish on their boards (run_watch).
 //!
 //! # In which order
 //!

@@ -1,14 +1,14 @@
 //! What becomes of the outside actor's notes: its sink, and what is kept.
 
 ghost use Rattle.std.specs.Prelude.{◌≡◌, ◌+◌, ◌<◌, ◌≤◌, ◌++◌, OnErr, OnOk, Some, [], length, slice_get, true};
-ghost use Rattle.rt_journal_notes.specs.Journals.{free_notes};
-ghost use Rattle.rt_journal_desk.specs.Spending.{booked};
+ghost use Rattle.note_journal.specs.Journals.{free_notes};
+ghost use Rattle.actor_desk.specs.Spending.{booked};
 ghost use Rattle.actor_caller.specs.Passing.{AsksOnce, PassesHere, refused_of};
 ghost use Rattle.actor_caller.specs.Sends.{MakesRoom, room_left};
 
 use crate::caller::{Beside, Caller};
-use rt_jobs::Task;
-use rt_journal_notes::{Journal, Refused, Sink};
+use base_jobs::Task;
+use note_journal::{Journal, Refused, Sink};
 
 impl<J: Task<Out = u64>, S: Sink, H: Beside<Job = J>> Caller<J, S, H> {
     /// The notes that are kept. The older ones are in the sink.

@@ -1,12 +1,12 @@
 //! The outside actor's calls on outcomes and tickets.
 
-ghost use Rattle.rt_link.specs.Fits.{Fits};
+ghost use Rattle.link_ends.specs.Fits.{Fits};
 ghost use Rattle.actor_caller.specs.Tickets.{Collects, DetachesHere, RedeemsHere};
 
 use crate::caller::{Beside, Caller};
-use rt_ids::{CoreNo, Outcome, Ticket, TicketError};
-use rt_jobs::Task;
-use rt_journal_notes::Sink;
+use base_jobs::Task;
+use base_words::{CoreNo, Outcome, Ticket, TicketError};
+use note_journal::Sink;
 
 impl<J: Task<Out = u64>, S: Sink, H: Beside<Job = J>> Caller<J, S, H> {
     /// Collects all outcomes that the link to a core shows. How many there were: 0 where there is no such core.

@@ -1,17 +1,17 @@
 //! The calls of a caller that waits.
 
-ghost use Rattle.std.specs.Prelude.{◌≡◌, ◌<◌, ◌↔◌, IfNone, IfOk, IfSome, IsTrue, length};
-ghost use Rattle.rt_jobs.specs.Ready.{HasReadyJob};
-ghost use Rattle.rt_link.specs.Fits.{Fits};
+ghost use Rattle.std.specs.Prelude.{◌≡◌, ◌<◌, ◌↔◌, IfNone, IfOk, IfSome, IsTrue, is_none, length};
+ghost use Rattle.base_jobs.specs.Ready.{HasReadyJob};
+ghost use Rattle.link_ends.specs.Fits.{Fits};
 ghost use Rattle.actor_caller.specs.Rings.{IsBellOf};
-ghost use Rattle.actor_caller.specs.Waiting.{AreAllPending, CollectsEach, LooksOnly, RedeemsAtLast, RedeemsFirst, SubmitsAtLast, WaitsForAny};
+ghost use Rattle.actor_caller.specs.Waiting.{AreAllPending, CollectsEach, LooksOnce, LooksOnly, RedeemsAtLast, RedeemsFirst, SubmitsAtLast, WaitsForAny};
 
 use crate::caller::{Beside, Caller};
 use crate::error::SubmitError;
-use crate::rings::{OwnBell, Slept};
-use rt_ids::{ActorNo, CoreNo, Order, Outcome, SendError, Ticket, TicketError};
-use rt_jobs::Task;
-use rt_journal_notes::Sink;
+use actor_seat::{LastLook, OwnBell, Woken};
+use base_jobs::Task;
+use base_words::{ActorNo, CoreNo, Order, Outcome, SendError, Ticket, TicketError};
+use note_journal::Sink;
 use std::alloc::AllocError;
 use std::sync::Wait;
 
@@ -51,22 +51,24 @@ impl<J: Task<Out = u64>, S: Sink, H: Beside<Job = J>> Caller<J, S, H> {
     /// # Errors
     ///
     /// If it is in too many.
-    fn own_bell(&self) -> Result<OwnBell, AllocError>
-        ensures { IfOk result (λ own. IsBellOf self.now.desk.cores self.now.rung.names own.bell) }
+    fn own_bell(&self) -> Result<OwnBell<Caller<J, S, H>>, AllocError>
+        ensures { IfOk result (λ own. IsBellOf self.now.desk.cores self.now.rung.names own) }
     {
         self.bells.own(ActorNo(self.cores))
     }
 
     /// Lies down on the caller's own bell, looks once more at all links, and parks until that bell rings if there was no outcome.
-    fn rest_on<'a, R: Wait>(&mut self, rt: &R, own: &'a OwnBell) -> Option<Slept<'a>>
-        requires own { IsBellOf self.old.desk.cores self.old.rung.names own.now.bell }
-        ensures collects { CollectsEach self.old self.new }
-        ensures slept { IfSome result (λ slept. slept.woken.bell.now ≡ own.now.bell) }
+    fn rest_on<'a, R: Wait>(
+        &mut self,
+        rt: &R,
+        own: &'a OwnBell<Caller<J, S, H>>,
+    ) -> Option<Woken<'a, Caller<J, S, H>>>
+        requires own { IsBellOf self.old.desk.cores self.old.rung.names own.now }
+        ensures looks { LooksOnce self.old (is_none result) self.new }
+        ensures woken { IfSome result (λ woken. woken.own.now ≡ own.now) }
     {
-        match self.look_again(own.lie_down()) {
-            Some(quiet) => Some(quiet.sleep(rt)),
-            None => None,
-        }
+        let mut nothing = ();
+        own.rest(rt, self, &mut nothing)
     }
 
     /// Waits until there is an outcome: parked, if none comes soon. The worker that gives it rings. It may return before there is one.
@@ -163,5 +165,20 @@ impl<J: Task<Out = u64>, S: Sink, H: Beside<Job = J>> Caller<J, S, H> {
             }
         }
         unreachable!()
+    }
+}
+
+/// Before it parks, a caller looks at all its links.
+impl<J: Task<Out = u64>, S: Sink, H: Beside<Job = J>> LastLook for Caller<J, S, H> {
+    type Local = ();
+
+    ghost use Rattle.actor_caller.specs.Waiting.{LooksOnce};
+
+    ghost IsReady = { λ caller. Unit {0} };
+
+    ghost Looks = { λ old some new. LooksOnce old some new };
+
+    fn look_again(&mut self, _local: &mut ()) -> bool {
+        Caller::collect_all(self)
     }
 }

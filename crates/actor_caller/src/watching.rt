@@ -4,10 +4,10 @@ ghost use Rattle.std.specs.Prelude.{◌≡◌, ◌<◌, ◌≤◌, IsSomeAnd, No
 ghost use Rattle.actor_caller.specs.Watching.{IsToldRightly, Watches, closing_told, watch_at};
 
 use crate::caller::{Beside, Caller};
-use rt_ids::CoreNo;
-use rt_jobs::Task;
-use rt_journal_notes::Sink;
-use rt_watch::Watcher;
+use base_jobs::Task;
+use base_words::CoreNo;
+use note_journal::Sink;
+use run_watch::Watcher;
 
 impl<J: Task<Out = u64>, S: Sink, H: Beside<Job = J>> Caller<J, S, H> {
     /// Looks at the numbers that the worker of this core published last. `watched` tells them. False if there is no such core, or if each try

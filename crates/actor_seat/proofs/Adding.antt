@@ -2,20 +2,20 @@
 use Rattle.std.proofs.Common.{◌≡◌, ℕ, ◌+◌, ◌≤◌, length, refl, ◌∙◌, ap, arith}
 use Rattle.std.specs.Prelude.{[], ◌∷◌, Result, Ok, Err}
 use Rattle.std.proofs.lemmas.List.{length-append}
-use Rattle.rt_ids.specs.declared.names.JobId.{JobId}
-use Rattle.rt_ids.specs.declared.names.TicketError.{TicketError}
-use Rattle.rt_ids.specs.declared.names.TicketError.TheVariants.{Unknown, Gone, Pending}
-use Rattle.rt_ids.specs.declared.note.Note.{Note}
-use Rattle.rt_ids.specs.declared.note.Note.TheVariants.{Sent, Redeemed, Detached}
-use Rattle.rt_ids.specs.declared.order.Order.{Order}
-use Rattle.rt_ids.specs.declared.order.Outcome.{Outcome}
-use Rattle.rt_ids.specs.declared.order.SendError.{SendError}
-use Rattle.rt_ids.specs.declared.order.SendError.TheVariants.{Closed, Full, Spent, NoCore}
-use Rattle.rt_ids.specs.Journal.{Journal}
-use Rattle.rt_ids.specs.Orders.{without_job}
-use Rattle.rt_ids.specs.Outcomes.{outcome_note}
-use Rattle.rt_journal_desk.specs.Submissions.{DeskView, Submits}
-use Rattle.rt_journal_desk.specs.Tickets.{CollectsFrom, RedeemsTicket, DetachesTicket}
+use Rattle.base_words.specs.declared.names.JobId.{JobId}
+use Rattle.base_words.specs.declared.names.TicketError.{TicketError}
+use Rattle.base_words.specs.declared.names.TicketError.TheVariants.{Unknown, Gone, Pending}
+use Rattle.base_words.specs.declared.note.Note.{Note}
+use Rattle.base_words.specs.declared.note.Note.TheVariants.{Sent, Redeemed, Detached}
+use Rattle.base_words.specs.declared.order.Order.{Order}
+use Rattle.base_words.specs.declared.order.Outcome.{Outcome}
+use Rattle.base_words.specs.declared.order.SendError.{SendError}
+use Rattle.base_words.specs.declared.order.SendError.TheVariants.{Closed, Full, Spent, NoCore}
+use Rattle.base_words.specs.Journal.{Journal}
+use Rattle.base_words.specs.Orders.{without_job}
+use Rattle.base_words.specs.Outcomes.{outcome_note}
+use Rattle.actor_desk.specs.Submissions.{DeskView, Submits}
+use Rattle.actor_desk.specs.Tickets.{CollectsFrom, RedeemsTicket, DetachesTicket}
 use Rattle.actor_seat.specs.Linked.{Grows}
 use Rattle.actor_seat.specs.Queues.{opening_of}
 use Rattle.actor_seat.proofs.Along.{grows_along}

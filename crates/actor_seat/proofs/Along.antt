@@ -1,13 +1,13 @@
 -- Steps one after another.
 use Rattle.std.proofs.Common.{ℕ, ◌-◌, [], ◌++◌, length, refl, sym, ◌∙◌, ap, arith}
 use Rattle.std.proofs.lemmas.List.{append_assoc}
-use Rattle.rt_ids.specs.Journal.{Journal}
-use Rattle.rt_journal.specs.Recorded.{RecordedView}
-use Rattle.rt_journal.specs.Ends.{IsSameSeat, KeepsIn}
-use Rattle.rt_journal_desk.specs.Ends.{KeepsOuts}
-use Rattle.rt_journal_desk.specs.Submissions.{DeskView}
-use Rattle.rt_ring_mesh.proofs.Using.{ends_same, ends_along}
-use Rattle.rt_ring_mesh.specs.Ends.{EndsView}
+use Rattle.base_words.specs.Journal.{Journal}
+use Rattle.actor_core.specs.Recorded.{RecordedView}
+use Rattle.actor_core.specs.Ends.{IsSameSeat, KeepsIn}
+use Rattle.actor_desk.specs.Ends.{KeepsOuts}
+use Rattle.actor_desk.specs.Submissions.{DeskView}
+use Rattle.link_ring.proofs.Using.{ends_same, ends_along}
+use Rattle.link_ring.specs.Ends.{EndsView}
 use Rattle.actor_seat.specs.Linked.{LinkedView, Grows, RunsOn, SeesNoLess, StaysLinked}
 
 module _ {T : Type 0} where

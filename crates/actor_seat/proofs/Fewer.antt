@@ -2,15 +2,15 @@
 use Rattle.std.proofs.Common.{◌≡◌, ℕ, ◌+◌, ◌≤◌, true, false, List, [], ◌∷◌, length, ◌∙◌, ap, arith}
 use Rattle.std.specs.Prelude.{Bool, Option, Some, None}
 use Rattle.std.proofs.lemmas.List.{length-append}
-use Rattle.rt_ids.specs.declared.names.JobId.{JobId}
-use Rattle.rt_ids.specs.declared.note.Note.{Note}
-use Rattle.rt_ids.specs.declared.note.Note.TheVariants as writes
-use Rattle.rt_ids.specs.declared.order.Order.{Order}
-use Rattle.rt_ids.specs.declared.order.Order.TheVariants.{Job, Create, SetShares, Close, CloseCore, Wake}
-use Rattle.rt_ids.specs.declared.order.Answer.{Answer}
-use Rattle.rt_ids.specs.Journal.{Journal}
-use Rattle.rt_ids.specs.Commands.{effect_note}
-use Rattle.rt_journal.specs.Deliveries.{IsDelivery, with_effect}
+use Rattle.base_words.specs.declared.names.JobId.{JobId}
+use Rattle.base_words.specs.declared.note.Note.{Note}
+use Rattle.base_words.specs.declared.note.Note.TheVariants as writes
+use Rattle.base_words.specs.declared.order.Order.{Order}
+use Rattle.base_words.specs.declared.order.Order.TheVariants.{Job, Create, SetShares, Close, CloseCore, Wake}
+use Rattle.base_words.specs.declared.order.Answer.{Answer}
+use Rattle.base_words.specs.Journal.{Journal}
+use Rattle.base_words.specs.Commands.{effect_note}
+use Rattle.actor_core.specs.Deliveries.{IsDelivery, with_effect}
 use Rattle.actor_seat.specs.Linked.{LinkedView}
 use Rattle.actor_seat.specs.Steps.{CollectsOf, DeliversFrom}
 

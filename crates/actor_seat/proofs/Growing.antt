@@ -2,16 +2,16 @@
 use Rattle.std.proofs.Common.{◌≡◌, ◌+◌, ◌≤◌, [], ◌∷◌, length, ◌∙◌, ap, arith}
 use Rattle.std.specs.Prelude.{Bool, true, false}
 use Rattle.std.proofs.lemmas.List.{length-append}
-use Rattle.rt_ids.specs.declared.names.JobId.{JobId}
-use Rattle.rt_ids.specs.declared.note.Note.TheVariants as writes
-use Rattle.rt_ids.specs.declared.order.Order.{Order}
-use Rattle.rt_ids.specs.declared.order.Reason.{Reason}
-use Rattle.rt_ids.specs.Journal.{Journal}
-use Rattle.rt_jobs.specs.Meanings.{Meaning}
-use Rattle.rt_link.specs.declared.ends.Inward.{Inward}
-use Rattle.rt_journal.specs.Recorded.{RecordedView}
-use Rattle.rt_journal.specs.Steps.{Delivers}
-use Rattle.rt_journal.specs.Turns.{IsHandBack}
+use Rattle.base_words.specs.declared.names.JobId.{JobId}
+use Rattle.base_words.specs.declared.note.Note.TheVariants as writes
+use Rattle.base_words.specs.declared.order.Order.{Order}
+use Rattle.base_words.specs.declared.order.Reason.{Reason}
+use Rattle.base_words.specs.Journal.{Journal}
+use Rattle.base_jobs.specs.Meanings.{Meaning}
+use Rattle.link_ends.specs.declared.ends.Inward.{Inward}
+use Rattle.actor_core.specs.Recorded.{RecordedView}
+use Rattle.actor_core.specs.Steps.{Delivers}
+use Rattle.actor_core.specs.Turns.{IsHandBack}
 use Rattle.actor_seat.specs.Linked.{Grows}
 
 module _ {T : Type 0} where

@@ -1,15 +1,15 @@
 -- A core and its ends after a step that touched none of them.
 use Rattle.std.proofs.Common.{◌≡◌, ℕ, ◌+◌, None, sym, ◌∙◌, ap, arith}
 use Rattle.std.specs.Prelude.{Bool, true, false}
-use Rattle.rt_ids.specs.declared.order.Mode.{Mode}
-use Rattle.rt_jobs.specs.Meanings.{Meaning}
-use Rattle.rt_journal.specs.Ends.{IsSameSeat, KeepsIn}
-use Rattle.rt_journal.specs.Recorded.{RecordedView, IsRecorded, desk_of}
-use Rattle.rt_journal.specs.Steps.{ClosesItself}
-use Rattle.rt_journal_desk.specs.Ends.{KeepsOuts}
-use Rattle.rt_link.specs.Fits.{Fits}
-use Rattle.rt_ring_mesh.proofs.Using.{ends_same}
-use Rattle.rt_ring_mesh.specs.Ends.{EndsView}
+use Rattle.base_words.specs.declared.order.Mode.{Mode}
+use Rattle.base_jobs.specs.Meanings.{Meaning}
+use Rattle.actor_core.specs.Ends.{IsSameSeat, KeepsIn}
+use Rattle.actor_core.specs.Recorded.{RecordedView, IsRecorded, desk_of}
+use Rattle.actor_core.specs.Steps.{ClosesItself}
+use Rattle.actor_desk.specs.Ends.{KeepsOuts}
+use Rattle.link_ends.specs.Fits.{Fits}
+use Rattle.link_ring.proofs.Using.{ends_same}
+use Rattle.link_ring.specs.Ends.{EndsView}
 use Rattle.actor_seat.specs.Linked.{AreBeside, IsLinked, PollsAsOwed, StaysLinked}
 use Rattle.actor_seat.specs.Seats.{IsSeated}
 use Rattle.actor_seat.proofs.Adding.{Adds}

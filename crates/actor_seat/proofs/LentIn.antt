@@ -1,27 +1,27 @@
 -- The end of one sender, as it is lent, and what a delivery, a shut gate or a settled poll on it leaves. A job may be out meanwhile.
 use Rattle.std.proofs.Common.{◌≡◌, ◌≢◌, ℕ, ◌≤◌, length, refl, sym, subst, ◌∙◌, ap, arith}
 use Rattle.std.specs.Prelude.{Bool, true, false, None, [], ◌∷◌}
-use Rattle.rt_ids.specs.declared.names.JobId.{JobId}
-use Rattle.rt_ids.specs.declared.note.Note.TheVariants.{Shut}
-use Rattle.rt_ids.specs.Journal.{Journal}
-use Rattle.rt_core.specs.declared.turn.Settled.{Settled}
-use Rattle.rt_core.specs.declared.turn.Settled.TheVariants.{Yielded, Parked, Stayed, Finished}
-use Rattle.rt_jobs.specs.Meanings.{Meaning}
-use Rattle.rt_jobs.specs.Steps.{AfterPoll}
-use Rattle.rt_link.specs.Calls.{Shuts}
-use Rattle.rt_link.specs.Fits.{Fits}
-use Rattle.rt_ring.specs.declared.ring_in.Receiving.{Receiving}
-use Rattle.rt_ring.specs.declared.ring_out.Sending.{Sending}
-use Rattle.rt_journal.specs.Recorded.{RecordedView, IsRecorded, desk_of}
-use Rattle.rt_journal.specs.Ends.{IsInOf, IsSameSeat, KeepsIn}
-use Rattle.rt_journal.specs.OwedPolls.{seen_by}
-use Rattle.rt_journal.specs.Polls.{settle_note}
-use Rattle.rt_journal.specs.Steps.{Delivers, TellsShut, out_told}
-use Rattle.rt_journal.specs.Turns.{Settles}
-use Rattle.rt_journal.proofs.OwedSteps.{delivers_keep, shuts_keep}
-use Rattle.rt_journal_desk.specs.Ends.{KeepsOuts}
-use Rattle.rt_ring_mesh.specs.Ends.{EndsView, in_at}
-use Rattle.rt_ring_mesh.specs.Lending.{with_in}
+use Rattle.base_words.specs.declared.names.JobId.{JobId}
+use Rattle.base_words.specs.declared.note.Note.TheVariants.{Shut}
+use Rattle.base_words.specs.Journal.{Journal}
+use Rattle.core_core.specs.declared.turn.Settled.{Settled}
+use Rattle.core_core.specs.declared.turn.Settled.TheVariants.{Yielded, Parked, Stayed, Finished}
+use Rattle.base_jobs.specs.Meanings.{Meaning}
+use Rattle.base_jobs.specs.Steps.{AfterPoll}
+use Rattle.link_ends.specs.Calls.{Shuts}
+use Rattle.link_ends.specs.Fits.{Fits}
+use Rattle.link_ring.specs.declared.ring_in.Receiving.{Receiving}
+use Rattle.link_ring.specs.declared.ring_out.Sending.{Sending}
+use Rattle.actor_core.specs.Recorded.{RecordedView, IsRecorded, desk_of}
+use Rattle.actor_core.specs.Ends.{IsInOf, IsSameSeat, KeepsIn}
+use Rattle.actor_core.specs.OwedPolls.{seen_by}
+use Rattle.actor_core.specs.Polls.{settle_note}
+use Rattle.actor_core.specs.Steps.{Delivers, TellsShut, out_told}
+use Rattle.actor_core.specs.Turns.{Settles}
+use Rattle.actor_core.proofs.OwedSteps.{delivers_keep, shuts_keep}
+use Rattle.actor_desk.specs.Ends.{KeepsOuts}
+use Rattle.link_ring.specs.Ends.{EndsView, in_at}
+use Rattle.link_ring.specs.Lending.{with_in}
 use Rattle.actor_seat.specs.Linked.{AreBeside, Grows, IsLinked, StaysLinked}
 use Rattle.actor_seat.specs.Seats.{IsSeated}
 use Rattle.actor_seat.specs.Steps.{ShutsGate, DeliversFrom}

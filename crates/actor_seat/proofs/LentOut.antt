@@ -4,27 +4,27 @@ use Rattle.std.specs.Prelude.{Some, Result, Ok, Err, IfOk, slice_get}
 use Rattle.std.proofs.lemmas.Bool.Decides.{eqb_tells}
 use Rattle.std.proofs.lemmas.List.{length-append}
 use Rattle.std.proofs.lemmas.Option.{slice_get-get_or}
-use Rattle.rt_ids.specs.declared.order.Order.{Order}
-use Rattle.rt_ids.specs.declared.order.SendError.{SendError}
-use Rattle.rt_ids.specs.declared.order.SendError.TheVariants.{Closed, Full, Spent, NoCore}
-use Rattle.rt_desk.proofs.Cores.{changed, unchanged}
-use Rattle.rt_jobs.specs.Meanings.{Meaning}
-use Rattle.rt_link.specs.declared.ends.Outward.{Outward}
-use Rattle.rt_link.specs.Calls.{Sends}
-use Rattle.rt_link.specs.Fits.{Fits}
-use Rattle.rt_ring.specs.declared.ring_out.Sending.{Sending}
-use Rattle.rt_journal.specs.Recorded.{RecordedView, IsRecorded, desk_of}
-use Rattle.rt_journal.specs.Ends.{IsSameSeat, KeepsIn}
-use Rattle.rt_journal.specs.OwedPolls.{seen_by}
-use Rattle.rt_journal.proofs.OwedSteps.{collects_keep, sees_more_owed}
-use Rattle.rt_journal.proofs.OwedTurns.{seen_got}
-use Rattle.rt_journal_desk.specs.Ends.{IsOutOf}
-use Rattle.rt_journal_desk.specs.Posts.{AreOutsOf}
-use Rattle.rt_journal_desk.specs.Submissions.{DeskView}
-use Rattle.rt_journal_desk.specs.Tickets.{CollectsFrom, GetsAll, HasLane, StaysBeside}
-use Rattle.rt_ring_mesh.specs.Ends.{EndsView, out_at, no_out, SameEnds}
-use Rattle.rt_ring_mesh.specs.Lending.{with_out}
-use Rattle.rt_ring_mesh.proofs.Using.{out_used}
+use Rattle.base_words.specs.declared.order.Order.{Order}
+use Rattle.base_words.specs.declared.order.SendError.{SendError}
+use Rattle.base_words.specs.declared.order.SendError.TheVariants.{Closed, Full, Spent, NoCore}
+use Rattle.actor_desk.proofs.Cores.{changed, unchanged}
+use Rattle.base_jobs.specs.Meanings.{Meaning}
+use Rattle.link_ends.specs.declared.ends.Outward.{Outward}
+use Rattle.link_ends.specs.Calls.{Sends}
+use Rattle.link_ends.specs.Fits.{Fits}
+use Rattle.link_ring.specs.declared.ring_out.Sending.{Sending}
+use Rattle.actor_core.specs.Recorded.{RecordedView, IsRecorded, desk_of}
+use Rattle.actor_core.specs.Ends.{IsSameSeat, KeepsIn}
+use Rattle.actor_core.specs.OwedPolls.{seen_by}
+use Rattle.actor_core.proofs.OwedSteps.{collects_keep, sees_more_owed}
+use Rattle.actor_core.proofs.OwedTurns.{seen_got}
+use Rattle.actor_desk.specs.Ends.{IsOutOf}
+use Rattle.actor_desk.specs.Posts.{AreOutsOf}
+use Rattle.actor_desk.specs.Submissions.{DeskView}
+use Rattle.actor_desk.specs.Tickets.{CollectsFrom, GetsAll, HasLane, StaysBeside}
+use Rattle.link_ring.specs.Ends.{EndsView, out_at, no_out, SameEnds}
+use Rattle.link_ring.specs.Lending.{with_out}
+use Rattle.link_ring.proofs.Using.{out_used}
 use Rattle.actor_seat.specs.Linked.{AreBeside, IsLinked, SeesNoLess, StaysLinked}
 use Rattle.actor_seat.specs.Seats.{IsSeated, UsesOut}
 use Rattle.actor_seat.specs.Steps.{CollectsOf}

@@ -16,6 +16,7 @@ pub mod PollNotes
 pub mod TurnOfEnds
 pub mod Opened
 pub mod OutsideSeats
+pub mod Untouched
 pub mod Fewer
 pub mod Rung
 mod BellsRefused

@@ -2,29 +2,29 @@
 use Rattle.std.proofs.Common.{◌≡◌, ℕ, ◌+◌, ◌<◌, ◌≤◌, [], ◌∷◌, length, refl, sym, ◌∙◌, ap, subst, arith}
 use Rattle.std.specs.Prelude.{Ok, Option, Some, slice_get}
 use Rattle.std.proofs.lemmas.Option.{slice_get_within, get_or_from_slice_get}
-use Rattle.rt_ids.specs.Terms.{Terms}
-use Rattle.rt_ids.specs.declared.names.JobId.{JobId}
-use Rattle.rt_ids.specs.declared.order.Outcome.{Outcome}
-use Rattle.rt_ids.specs.declared.order.Order.{Order}
-use Rattle.rt_ids.specs.declared.note.Note.TheVariants.{Created}
-use Rattle.rt_ids.specs.Commands.{IsOpening}
-use Rattle.rt_ids.specs.Journal.{Journal}
-use Rattle.rt_jobs.specs.Meanings.{Meaning}
-use Rattle.rt_desk.specs.Lanes.{IsLaneOf, IsUnused}
-use Rattle.rt_desk.proofs.Cores.{IsUnused-fresh}
-use Rattle.rt_ring.specs.declared.ring_out.Sending.{Sending}
-use Rattle.rt_link.specs.Fits.{Fits}
-use Rattle.rt_link.specs.Whole.{fresh, out_of, inward_of}
-use Rattle.rt_journal.specs.OwedPolls.{PollsAreOwed, seen_by}
-use Rattle.rt_journal.specs.RightAnswers.{Seen}
-use Rattle.rt_journal.specs.Recorded.{RecordedView, IsRecorded, desk_of, order_taken, terms_at}
-use Rattle.rt_journal.specs.Ends.{IsInOf, IsSameSeat, KeepsIn}
-use Rattle.rt_journal_desk.specs.Ends.{IsOutOf, KeepsOuts}
-use Rattle.rt_journal.specs.Steps.{opened_beside, CreatesQueue}
-use Rattle.rt_journal_desk.specs.Submissions.{opened_desk}
-use Rattle.rt_journal_desk.specs.Tickets.{HasLane}
-use Rattle.rt_journal_desk.proofs.LaneEnds.{fresh_has_lane}
-use Rattle.rt_ring_mesh.specs.Ends.{EndsView, IsFreshOut, in_at, no_out}
+use Rattle.base_words.specs.Terms.{Terms}
+use Rattle.base_words.specs.declared.names.JobId.{JobId}
+use Rattle.base_words.specs.declared.order.Outcome.{Outcome}
+use Rattle.base_words.specs.declared.order.Order.{Order}
+use Rattle.base_words.specs.declared.note.Note.TheVariants.{Created}
+use Rattle.base_words.specs.Commands.{IsOpening}
+use Rattle.base_words.specs.Journal.{Journal}
+use Rattle.base_jobs.specs.Meanings.{Meaning}
+use Rattle.actor_desk.specs.Lanes.{IsLaneOf, IsUnused}
+use Rattle.actor_desk.proofs.Cores.{IsUnused-fresh}
+use Rattle.link_ring.specs.declared.ring_out.Sending.{Sending}
+use Rattle.link_ends.specs.Fits.{Fits}
+use Rattle.link_ends.specs.Whole.{fresh, out_of, inward_of}
+use Rattle.actor_core.specs.OwedPolls.{PollsAreOwed, seen_by}
+use Rattle.actor_core.specs.RightAnswers.{Seen}
+use Rattle.actor_core.specs.Recorded.{RecordedView, IsRecorded, desk_of, order_taken, terms_at}
+use Rattle.actor_core.specs.Ends.{IsInOf, IsSameSeat, KeepsIn}
+use Rattle.actor_desk.specs.Ends.{IsOutOf, KeepsOuts}
+use Rattle.actor_core.specs.Steps.{opened_beside, CreatesQueue}
+use Rattle.actor_desk.specs.Submissions.{opened_desk}
+use Rattle.actor_desk.specs.Tickets.{HasLane}
+use Rattle.actor_desk.proofs.LaneEnds.{fresh_has_lane}
+use Rattle.link_ring.specs.Ends.{EndsView, IsFreshOut, in_at, no_out}
 use Rattle.actor_seat.specs.Linked.{IsLinked}
 use Rattle.actor_seat.specs.Opening.{AreEndsOf, IsOpenedOver, CreatesSince}
 use Rattle.actor_seat.proofs.Along.{ins_along, outs_along, seat_along, seat_same}

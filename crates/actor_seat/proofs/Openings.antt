@@ -1,25 +1,25 @@
 -- No step of a worker changes what was created at the opening.
 use Rattle.std.proofs.Common.{◌≡◌, ℕ, ◌+◌, Bool, true, false, if◌then◌else◌, List, [], ◌∷◌, ◌++◌, refl, sym, ◌∙◌, ap, subst}
 use Rattle.std.specs.Prelude.{Option, Some, None}
-use Rattle.rt_ids.specs.declared.names.JobId.{JobId}
-use Rattle.rt_ids.specs.declared.note.Note.{Note}
-use Rattle.rt_ids.specs.declared.note.Note.TheVariants as writes
-use Rattle.rt_ids.specs.declared.order.Order.{Order}
-use Rattle.rt_ids.specs.declared.order.Order.TheVariants.{Job, Create, SetShares, Close, CloseCore, Wake}
-use Rattle.rt_ids.specs.declared.order.Reason.{Reason}
-use Rattle.rt_ids.specs.declared.order.Answer.{Answer}
-use Rattle.rt_ids.specs.declared.order.Answer.TheVariants as answers
-use Rattle.rt_ids.specs.Journal.{Journal}
-use Rattle.rt_ids.specs.Commands.{refusal, effect_note}
-use Rattle.rt_jobs.specs.Meanings.{Meaning}
-use Rattle.rt_link.specs.declared.ends.Inward.{Inward}
-use Rattle.rt_journal_notes.specs.Journals.{JournalView}
-use Rattle.rt_journal.specs.Deliveries.{IsDelivery, entry_note, with_effect}
-use Rattle.rt_journal_desk.specs.Posts.{ArePosts}
-use Rattle.rt_journal.specs.Recorded.{RecordedView}
-use Rattle.rt_journal.specs.Steps.{Delivers, TellsShut}
-use Rattle.rt_journal_desk.specs.Tickets.{AreCollected}
-use Rattle.rt_journal.specs.Turns.{IsHandBack}
+use Rattle.base_words.specs.declared.names.JobId.{JobId}
+use Rattle.base_words.specs.declared.note.Note.{Note}
+use Rattle.base_words.specs.declared.note.Note.TheVariants as writes
+use Rattle.base_words.specs.declared.order.Order.{Order}
+use Rattle.base_words.specs.declared.order.Order.TheVariants.{Job, Create, SetShares, Close, CloseCore, Wake}
+use Rattle.base_words.specs.declared.order.Reason.{Reason}
+use Rattle.base_words.specs.declared.order.Answer.{Answer}
+use Rattle.base_words.specs.declared.order.Answer.TheVariants as answers
+use Rattle.base_words.specs.Journal.{Journal}
+use Rattle.base_words.specs.Commands.{refusal, effect_note}
+use Rattle.base_jobs.specs.Meanings.{Meaning}
+use Rattle.link_ends.specs.declared.ends.Inward.{Inward}
+use Rattle.note_journal.specs.Journals.{JournalView}
+use Rattle.actor_core.specs.Deliveries.{IsDelivery, entry_note, with_effect}
+use Rattle.actor_desk.specs.Posts.{ArePosts}
+use Rattle.actor_core.specs.Recorded.{RecordedView}
+use Rattle.actor_core.specs.Steps.{Delivers, TellsShut}
+use Rattle.actor_desk.specs.Tickets.{AreCollected}
+use Rattle.actor_core.specs.Turns.{IsHandBack}
 use Rattle.actor_seat.specs.Queues.{is_opening, opening_of}
 
 module _ {T : Type 0} where

@@ -3,23 +3,23 @@ use Rattle.std.proofs.Common.{◌≡◌, ℕ, ◌+◌, ◌<◌, ◌≤◌, lengt
 use Rattle.std.specs.Prelude.{Result, Some, slice_get}
 use Rattle.std.proofs.lemmas.List.{get_or_default, length-replicate}
 use Rattle.std.proofs.lemmas.Option.{get_or_from_slice_get, slice_get-get_or, slice_get_within}
-use Rattle.rt_ids.specs.declared.order.Order.{Order}
-use Rattle.rt_ids.specs.declared.order.Outcome.{Outcome}
-use Rattle.rt_ids.specs.Journal.{Journal}
-use Rattle.rt_jobs.specs.Meanings.{Meaning}
-use Rattle.rt_link.specs.Fits.{Fits}
-use Rattle.rt_link.specs.Whole.{fresh, out_of}
-use Rattle.rt_ring.specs.declared.ring_out.Sending.{Sending}
-use Rattle.rt_ring_mesh.specs.Ends.{AreFresh, EndsView, no_out, out_at}
-use Rattle.rt_ring_mesh.specs.Lending.{with_out}
-use Rattle.rt_desk.specs.Lanes.{IsUnused, fresh_lane}
-use Rattle.rt_desk.proofs.Cores.{IsUnused-fresh}
-use Rattle.rt_journal_notes.specs.Passing.{PassesOn}
-use Rattle.rt_journal_notes.specs.declared.sink.Refused.{Refused}
-use Rattle.rt_journal_desk.specs.Ends.{IsOutOf}
-use Rattle.rt_journal_desk.specs.Submissions.{DeskView, IsWritten, opened_desk, terms_of_desk}
-use Rattle.rt_journal_desk.specs.Tickets.{HasLane, StaysBeside}
-use Rattle.rt_journal_desk.proofs.LaneEnds.{fresh_has_lane}
+use Rattle.base_words.specs.declared.order.Order.{Order}
+use Rattle.base_words.specs.declared.order.Outcome.{Outcome}
+use Rattle.base_words.specs.Journal.{Journal}
+use Rattle.base_jobs.specs.Meanings.{Meaning}
+use Rattle.link_ends.specs.Fits.{Fits}
+use Rattle.link_ends.specs.Whole.{fresh, out_of}
+use Rattle.link_ring.specs.declared.ring_out.Sending.{Sending}
+use Rattle.link_ring.specs.Ends.{AreFresh, EndsView, no_out, out_at}
+use Rattle.link_ring.specs.Lending.{with_out}
+use Rattle.actor_desk.specs.Lanes.{IsUnused, fresh_lane}
+use Rattle.actor_desk.proofs.Cores.{IsUnused-fresh}
+use Rattle.note_journal.specs.Passing.{PassesOn}
+use Rattle.note_journal.specs.declared.sink.Refused.{Refused}
+use Rattle.actor_desk.specs.Ends.{IsOutOf}
+use Rattle.actor_desk.specs.Submissions.{DeskView, IsWritten, opened_desk, terms_of_desk}
+use Rattle.actor_desk.specs.Tickets.{HasLane, StaysBeside}
+use Rattle.actor_desk.proofs.LaneEnds.{fresh_has_lane}
 use Rattle.actor_seat.specs.Linked.{Grows}
 use Rattle.actor_seat.specs.OutsideSeats.{IsSeatedOutside, UsesOutside}
 use Rattle.actor_seat.specs.OutsideSeats.{OutsideView}
@@ -58,7 +58,7 @@ module _ {J T : Type 0} (meaning : Meaning J T) where
     pub lent : before ≡ out_at at ends
 
 module _ {J T : Type 0} {meaning : Meaning J T} {desk : DeskView J T} {ends : EndsView J T} {core at : ℕ} {before : Sending J T} (lends : LendsAt meaning desk ends core at before) where
-  as_lent : LendsOut meaning core desk ends before
+  pub as_lent : LendsOut meaning core desk ends before
   as_lent = record { known = lends.known; is = lends.lent ∙ ap (λ number. out_at number ends) lends.here; outs = outs_of meaning desk ends lends.seated }
 
   pub lent_beside : IsOutOf core desk before.out before.credited

@@ -1,25 +1,26 @@
 -- A core and its ends after a pick.
 use Rattle.std.proofs.Common.{◌≡◌, ℕ, ◌≤◌, None, subst, ◌∙◌, ap}
-use Rattle.std.specs.Prelude.{Result, Ok}
-use Rattle.rt_ids.specs.declared.names.JobId.{JobId}
-use Rattle.rt_ids.specs.declared.order.Order.{Order}
-use Rattle.rt_ids.specs.declared.order.Reason.{Reason}
-use Rattle.rt_core.specs.declared.turn.Turn.{Turn}
-use Rattle.rt_core.specs.declared.turn.Turn.TheVariants.{Back}
-use Rattle.rt_core.specs.declared.turn.PickError.{PickError}
-use Rattle.rt_core.specs.declared.turn.Ahead.TheVariants as ahead
-use Rattle.rt_core.specs.Answers.{IsReadyTurn}
-use Rattle.rt_core.specs.Whole.{TellsAhead}
-use Rattle.rt_jobs.specs.Meanings.{Meaning}
-use Rattle.rt_journal.specs.Ends.{IsSameSeat, LeavesOwed}
-use Rattle.rt_journal.specs.Owed.{owed_back}
-use Rattle.rt_journal.specs.Recorded.{RecordedView, IsRecorded, desk_of, order_taken}
-use Rattle.rt_journal.specs.OwedPolls.{seen_by}
-use Rattle.rt_journal.specs.Turns.{IsBack, Picks}
-use Rattle.rt_journal.proofs.OwedSteps.{picks_keep}
-use Rattle.rt_journal_desk.specs.Ends.{KeepsOuts}
-use Rattle.rt_ring.specs.declared.ring_out.Sending.{Sending}
-use Rattle.rt_ring_mesh.specs.Ends.{EndsView, SameEnds}
+use Rattle.std.specs.Prelude.{Result, Ok, Err}
+use Rattle.base_words.specs.declared.names.JobId.{JobId}
+use Rattle.base_words.specs.declared.order.Order.{Order}
+use Rattle.base_words.specs.declared.order.Reason.{Reason}
+use Rattle.core_core.specs.declared.turn.Turn.{Turn}
+use Rattle.core_core.specs.declared.turn.Turn.TheVariants.{Back}
+use Rattle.core_core.specs.declared.turn.PickError.{PickError}
+use Rattle.core_core.specs.declared.turn.PickError.TheVariants.{Busy, Spent}
+use Rattle.core_core.specs.declared.turn.Ahead.TheVariants as ahead
+use Rattle.core_core.specs.Answers.{IsReadyTurn}
+use Rattle.core_core.specs.Whole.{TellsAhead}
+use Rattle.base_jobs.specs.Meanings.{Meaning}
+use Rattle.actor_core.specs.Ends.{IsSameSeat, LeavesOwed}
+use Rattle.actor_core.specs.Owed.{owed_back}
+use Rattle.actor_core.specs.Recorded.{RecordedView, IsRecorded, desk_of, order_taken}
+use Rattle.actor_core.specs.OwedPolls.{seen_by}
+use Rattle.actor_core.specs.Turns.{IsBack, Picks}
+use Rattle.actor_core.proofs.OwedSteps.{picks_keep}
+use Rattle.actor_desk.specs.Ends.{KeepsOuts}
+use Rattle.link_ring.specs.declared.ring_out.Sending.{Sending}
+use Rattle.link_ring.specs.Ends.{EndsView, SameEnds}
 use Rattle.actor_seat.specs.declared.seat.Taken.{Taken}
 use Rattle.actor_seat.specs.Linked.{IsLinked, SeesNoLess, StaysLinked}
 use Rattle.actor_seat.specs.Seats.{PicksTaken, taken_of}
@@ -37,7 +38,15 @@ module _ {J T : Type 0} (meaning : Meaning J T) where
     pub seat : IsSameSeat old new
     pub sound : IsRecorded meaning new
 
+  refused_leaves : (old : RecordedView J T) (error : PickError) (new : RecordedView J T) → Picks meaning old (Err error) new → new ≡ old
+  refused_leaves old Busy new picks = picks.1
+  refused_leaves old Spent new picks = picks.2
+
 module _ {J T : Type 0} {meaning : Meaning J T} {turned : Result (Turn J) PickError} {old new : RecordedView J T} (left : LeavesPick meaning turned old new) where
+  -- one that is refused leaves the core as it was
+  pub pick_leaves : (error : PickError) → turned ≡ Err error → new ≡ old
+  pick_leaves error is = refused_leaves meaning old error new (subst (λ turned. Picks meaning old turned new) is left.picks)
+
   -- one that owes nothing touches no end
   pub owes_none : ((sender : ℕ) → owed_back {T = T} turned sender ≡ None) → LeavesEnds meaning old new
   owes_none none = record {

@@ -2,16 +2,16 @@
 use Rattle.std.proofs.Common.{◌≡◌, ℕ, ◌+◌, [], ◌∷◌, ◌++◌, refl, sym, ◌∙◌, ap}
 use Rattle.std.specs.Prelude.{Bool, true, false, Option, Some, None, unwrap_or}
 use Rattle.std.proofs.lemmas.List.{append_assoc}
-use Rattle.rt_ids.specs.declared.names.JobId.{JobId}
-use Rattle.rt_ids.specs.declared.note.Note.TheVariants as writes
-use Rattle.rt_ids.specs.Journal.{Journal}
-use Rattle.rt_jobs.specs.Meanings.{Meaning}
-use Rattle.rt_core.specs.declared.turn.Settled.{Settled}
-use Rattle.rt_core.specs.declared.turn.Settled.TheVariants as came
-use Rattle.rt_journal.specs.Polls.{poll_note, settle_note}
-use Rattle.rt_journal.specs.Steps.{with_notes}
-use Rattle.rt_journal.specs.Whole.{Begins}
-use Rattle.rt_journal_desk.specs.Posts.{ArePosts}
+use Rattle.base_words.specs.declared.names.JobId.{JobId}
+use Rattle.base_words.specs.declared.note.Note.TheVariants as writes
+use Rattle.base_words.specs.Journal.{Journal}
+use Rattle.base_jobs.specs.Meanings.{Meaning}
+use Rattle.core_core.specs.declared.turn.Settled.{Settled}
+use Rattle.core_core.specs.declared.turn.Settled.TheVariants as came
+use Rattle.actor_core.specs.Polls.{poll_note, settle_note}
+use Rattle.actor_core.specs.Steps.{with_notes}
+use Rattle.actor_core.specs.Whole.{Begins}
+use Rattle.actor_desk.specs.Posts.{ArePosts}
 use Rattle.actor_seat.specs.Linked.{LinkedView, Grows}
 use Rattle.actor_seat.specs.Queues.{opening_of}
 use Rattle.actor_seat.specs.Steps.{PollsOne, PollsFirst, PollsFurther}

@@ -1,14 +1,14 @@
 -- A core and its ends after a poll that submitted, redeemed and detached on them.
 use Rattle.std.proofs.Common.{◌≡◌, ℕ, suc, ◌+◌, List, [], ◌∷◌, length, map, Some, refl, sym, ◌∙◌, ap, subst, arith}
 use Rattle.std.specs.Prelude.{slice_get}
-use Rattle.rt_ids.specs.declared.order.Order.{Order}
-use Rattle.rt_ids.specs.declared.order.Outcome.{Outcome}
-use Rattle.rt_ring.specs.declared.ring_out.Sending.{Sending}
-use Rattle.rt_journal.specs.Recorded.{RecordedView, desk_of}
-use Rattle.rt_journal.specs.Ends.{IsSameSeat, KeepsIn}
-use Rattle.rt_journal_desk.specs.Posts.{AreOutsOf, HasPosted}
-use Rattle.rt_journal.specs.Whole.{post_of}
-use Rattle.rt_ring_mesh.specs.Ends.{EndsView, SameEnds}
+use Rattle.base_words.specs.declared.order.Order.{Order}
+use Rattle.base_words.specs.declared.order.Outcome.{Outcome}
+use Rattle.link_ring.specs.declared.ring_out.Sending.{Sending}
+use Rattle.actor_core.specs.Recorded.{RecordedView, desk_of}
+use Rattle.actor_core.specs.Ends.{IsSameSeat, KeepsIn}
+use Rattle.actor_desk.specs.Posts.{AreOutsOf, HasPosted}
+use Rattle.actor_core.specs.Whole.{post_of}
+use Rattle.link_ring.specs.Ends.{EndsView, SameEnds}
 use Rattle.actor_seat.specs.Linked.{AreBeside, SeesNoLess}
 use Rattle.actor_seat.proofs.Seen.{posted_sees}
 

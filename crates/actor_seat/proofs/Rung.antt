@@ -4,8 +4,8 @@ use Rattle.std.proofs.lemmas.Bool.{cases_eq}
 use Rattle.std.proofs.lemmas.List.{get_or_append_left, get_or_default, get_or-map, take_more, map-append, map-set, length-map, length-reverse, replicate-append-replicate, reverse-append}
 use Rattle.std.proofs.Math.Seq.{drop-append_seam, get_or-append_seam, map-set_same}
 use Rattle.std.specs.Prelude.{reverse}
-use Rattle.rt_ids.specs.declared.note.Note.{Note}
-use Rattle.rt_ids.specs.Journal.{Journal}
+use Rattle.base_words.specs.declared.note.Note.{Note}
+use Rattle.base_words.specs.Journal.{Journal}
 use Rattle.actor_seat.specs.Bells.{BellView, no_bell, AreInPlace, AreApart, IsNamedFor, bells_view, once_more, rung_at, rung_at_some, told_by, rung_for, HasRung}
 use Rattle.actor_seat.specs.Linked.{Grows}
 

@@ -3,16 +3,16 @@ use Rattle.std.proofs.Common.{◌≡◌, ◌≢◌, ℕ, zero, suc, ◌+◌, ◌
 use Rattle.std.specs.Prelude.{Bool, true, false, Option, Some, None, slice_get, slice_index_or}
 use Rattle.std.proofs.lemmas.Bool.{cases_eq}
 use Rattle.std.proofs.lemmas.List.{length-append}
-use Rattle.rt_ids.specs.declared.order.Outcome.{Outcome}
-use Rattle.rt_ids.specs.Assembly.{IsPrefix}
-use Rattle.rt_link.specs.declared.ends.Inward.{Inward}
-use Rattle.rt_ring.specs.declared.ring_in.Receiving.{Receiving}
-use Rattle.rt_ring.specs.declared.ring_out.Sending.{Sending}
-use Rattle.rt_journal.specs.Recorded.{RecordedView}
-use Rattle.rt_journal.specs.Ends.{Gives}
-use Rattle.rt_journal.specs.Steps.{Delivers}
-use Rattle.rt_journal_desk.specs.Posts.{SendsMore}
-use Rattle.rt_ring_mesh.specs.Ends.{EndsView, in_at, no_in, out_at, no_out}
+use Rattle.base_words.specs.declared.order.Outcome.{Outcome}
+use Rattle.base_words.specs.Assembly.{IsPrefix}
+use Rattle.link_ends.specs.declared.ends.Inward.{Inward}
+use Rattle.link_ring.specs.declared.ring_in.Receiving.{Receiving}
+use Rattle.link_ring.specs.declared.ring_out.Sending.{Sending}
+use Rattle.actor_core.specs.Recorded.{RecordedView}
+use Rattle.actor_core.specs.Ends.{Gives}
+use Rattle.actor_core.specs.Steps.{Delivers}
+use Rattle.actor_desk.specs.Posts.{SendsMore}
+use Rattle.link_ring.specs.Ends.{EndsView, in_at, no_in, out_at, no_out}
 use Rattle.actor_seat.specs.Linked.{SeesNoLess}
 
 -- the beginning of a list is no longer than the list

@@ -2,17 +2,17 @@
 use Rattle.std.proofs.Common.{◌≡◌, ◌≢◌, ℕ, ◌+◌, ◌<◌, ◌≤◌, length, get_or-set_same, get_or-set_other, length-set, sym, ◌∙◌, ap, subst, arith, ⊎_elim}
 use Rattle.std.specs.Prelude.{Option, slice_get}
 use Rattle.std.proofs.lemmas.Bool.{cases_eq}
-use Rattle.rt_ids.specs.declared.names.JobId.{JobId}
-use Rattle.rt_ids.specs.declared.order.Order.{Order}
-use Rattle.rt_ids.specs.declared.order.Outcome.{Outcome}
-use Rattle.rt_ids.specs.declared.note.OutcomeNote.{OutcomeNote}
-use Rattle.rt_ring.specs.declared.ring_in.Receiving.{Receiving}
-use Rattle.rt_journal.specs.Recorded.{RecordedView, desk_of}
-use Rattle.rt_journal.specs.Ends.{IsInOf, IsInOwing, IsSameSeat, KeepsIn}
-use Rattle.rt_journal_desk.specs.Ends.{KeepsOuts}
-use Rattle.rt_ring_mesh.specs.Ends.{EndsView, in_at, no_in, SameEnds}
-use Rattle.rt_ring_mesh.specs.Lending.{with_in}
-use Rattle.rt_ring_mesh.proofs.Using.{in_used}
+use Rattle.base_words.specs.declared.names.JobId.{JobId}
+use Rattle.base_words.specs.declared.order.Order.{Order}
+use Rattle.base_words.specs.declared.order.Outcome.{Outcome}
+use Rattle.base_words.specs.declared.note.OutcomeNote.{OutcomeNote}
+use Rattle.link_ring.specs.declared.ring_in.Receiving.{Receiving}
+use Rattle.actor_core.specs.Recorded.{RecordedView, desk_of}
+use Rattle.actor_core.specs.Ends.{IsInOf, IsInOwing, IsSameSeat, KeepsIn}
+use Rattle.actor_desk.specs.Ends.{KeepsOuts}
+use Rattle.link_ring.specs.Ends.{EndsView, in_at, no_in, SameEnds}
+use Rattle.link_ring.specs.Lending.{with_in}
+use Rattle.link_ring.proofs.Using.{in_used}
 use Rattle.actor_seat.specs.Linked.{AreBeside, AreOwing, Grows, SeesNoLess, SendsOn}
 use Rattle.actor_seat.specs.Queues.{opening_of}
 use Rattle.actor_seat.proofs.Seen.{in_put_sees}

@@ -2,27 +2,27 @@
 use Rattle.std.proofs.Common.{◌≡◌, ℕ, ◌+◌, ◌<◌, Bool, true, false, List, [], ◌∷◌, length, refl, sym, ◌∙◌, ap, subst, arith}
 use Rattle.std.specs.Prelude.{Option}
 use Rattle.std.proofs.lemmas.List.{length-map}
-use Rattle.rt_ids.specs.declared.names.JobId.{JobId}
-use Rattle.rt_ids.specs.declared.order.Outcome.{Outcome}
-use Rattle.rt_ids.specs.Bursts.{has_bursts, polls_in_turn}
-use Rattle.rt_jobs.specs.Meanings.{Meaning}
-use Rattle.rt_jobs.specs.Steps.{OwesAt}
-use Rattle.rt_journal_desk.specs.Calls.{Does}
-use Rattle.rt_journal_desk.specs.Posts.{HasPosted}
-use Rattle.rt_journal.specs.Recorded.{RecordedView}
-use Rattle.rt_journal.specs.Turns.{EndsTurn, IsFurther, IsPick}
-use Rattle.rt_journal.specs.Whole.{Begins, StaysPut, post_of}
-use Rattle.rt_journal_turn.specs.Beside as turns
-use Rattle.rt_journal_turn.specs.Polls as polls
-use Rattle.rt_journal_turn.specs.Turns as made
-use Rattle.rt_journal_turn.specs.declared.whole.Turned.{Turned}
-use Rattle.rt_journal_turn.specs.declared.whole.Turned.TheVariants as came
-use Rattle.rt_link.specs.Fits.{Fits}
-use Rattle.rt_ring.specs.declared.ring_in.Receiving.{Receiving}
-use Rattle.rt_ring.specs.declared.ring_out.Sending.{Sending}
-use Rattle.rt_ring_mesh.specs.Ends.{EndsView, SameEnds, in_at}
-use Rattle.rt_ring_mesh.specs.Reached.{ends_reach}
-use Rattle.rt_ring_mesh.proofs.Using.{ends_along, ends_same, in_used}
+use Rattle.base_words.specs.declared.names.JobId.{JobId}
+use Rattle.base_words.specs.declared.order.Outcome.{Outcome}
+use Rattle.base_words.specs.Bursts.{has_bursts, polls_in_turn}
+use Rattle.base_jobs.specs.Meanings.{Meaning}
+use Rattle.base_jobs.specs.Steps.{OwesAt}
+use Rattle.actor_desk.specs.Calls.{Does}
+use Rattle.actor_desk.specs.Posts.{HasPosted}
+use Rattle.actor_core.specs.Recorded.{RecordedView}
+use Rattle.actor_core.specs.Turns.{EndsTurn, IsFurther, IsPick}
+use Rattle.actor_core.specs.Whole.{Begins, StaysPut, post_of}
+use Rattle.actor_core.specs.Beside as turns
+use Rattle.actor_core.specs.TurnPolls as polls
+use Rattle.actor_core.specs.WholeTurns as made
+use Rattle.actor_core.specs.declared.whole.Turned.{Turned}
+use Rattle.actor_core.specs.declared.whole.Turned.TheVariants as came
+use Rattle.link_ends.specs.Fits.{Fits}
+use Rattle.link_ring.specs.declared.ring_in.Receiving.{Receiving}
+use Rattle.link_ring.specs.declared.ring_out.Sending.{Sending}
+use Rattle.link_ring.specs.Ends.{EndsView, SameEnds, in_at}
+use Rattle.link_ring.specs.Reached.{ends_reach}
+use Rattle.link_ring.proofs.Using.{ends_along, ends_same, in_used}
 use Rattle.actor_seat.specs.Bursts.{GoesThrough, MakesTurn, PollsOn, TurnView, turn_view}
 use Rattle.actor_seat.specs.Linked.{IsLinked, LinkedView, PollsAsOwed, SeesNoLess, StaysLinked}
 use Rattle.actor_seat.specs.Steps.{PollsOne}

@@ -1,9 +1,9 @@
 -- Who has something from a note, and how often the bell of each actor was rung.
 use Rattle.std.specs.Prelude.{◌≡◌, ◌==◌, ◌||◌, Bool, false, is_some, ℕ, ◌+◌, ◌*◌, ◌-◌, ◌^◌, ◌<◌, Option, Some, None, List, [], ◌∷◌, length, map, min, replicate, reverse, slice_index_or, slice_set}
-use Rattle.rt_ids.specs.declared.note.Note.{Note}
-use Rattle.rt_ids.specs.declared.note.Note.TheVariants.{Sent, Answered, Back, Returned, Done}
-use Rattle.rt_ids.specs.Filters.{order_sent, outcome_given}
-use Rattle.rt_ids.specs.Journal.{Journal}
+use Rattle.base_words.specs.declared.note.Note.{Note}
+use Rattle.base_words.specs.declared.note.Note.TheVariants.{Sent, Answered, Back, Returned, Done}
+use Rattle.base_words.specs.Filters.{order_sent, outcome_given}
+use Rattle.base_words.specs.Journal.{Journal}
 
 -- The bell of an actor in the hands of one who rings it, and how often that one rang it. All handles on one bell have the same name, and bells of two
 -- actors have two names.

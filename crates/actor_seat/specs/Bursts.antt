@@ -1,15 +1,15 @@
 -- A turn of a worker: its first poll, further polls of the same queue, and its end; or a job that is handed back, or nothing.
 use Rattle.std.specs.Prelude.{◌≡◌, ◌-◌, ◌^◌, ℕ, Bool, true, false, List, [], ◌∷◌}
-use Rattle.rt_ids.specs.declared.names.JobId.{JobId}
-use Rattle.rt_ids.specs.Bursts.{has_bursts}
-use Rattle.rt_ids.specs.Picks.{turns}
-use Rattle.rt_ids.specs.Work.{has_work}
-use Rattle.rt_jobs.specs.Meanings.{Meaning}
-use Rattle.rt_journal.specs.Turns.{EndsTurn}
+use Rattle.base_words.specs.declared.names.JobId.{JobId}
+use Rattle.base_words.specs.Bursts.{has_bursts}
+use Rattle.base_words.specs.Picks.{turns}
+use Rattle.base_words.specs.Work.{has_work}
+use Rattle.base_jobs.specs.Meanings.{Meaning}
+use Rattle.actor_core.specs.Turns.{EndsTurn}
 use Rattle.actor_seat.specs.Linked.{LinkedView}
 use Rattle.actor_seat.specs.Steps.{HandsBack, PollsFirst, PollsFurther}
-use Rattle.rt_journal_turn.specs.declared.whole.Turned.{Turned}
-use Rattle.rt_journal_turn.specs.declared.whole.Turned.TheVariants.{Polled, Returned, Idle, Spent}
+use Rattle.actor_core.specs.declared.whole.Turned.{Turned}
+use Rattle.actor_core.specs.declared.whole.Turned.TheVariants.{Polled, Returned, Idle, Spent}
 
 -- a core beside its ends, with the meter and the gate that serve it
 pub record TurnView (J T M G : Type 0) : Type 0 where

@@ -1,20 +1,20 @@
 -- A core beside its journal, with its actor's ends of the links.
 use Rattle.std.specs.Prelude.{◌≡◌, ◌≢◌, ℕ, ◌+◌, ◌≤◌, Option, None, length, ◌++◌}
-use Rattle.rt_ids.specs.Bursts.{queue_in_turn}
-use Rattle.rt_ids.specs.Journal.{Journal}
-use Rattle.rt_ids.specs.declared.names.JobId.{JobId}
-use Rattle.rt_ids.specs.declared.order.Order.{Order}
-use Rattle.rt_ids.specs.declared.order.Outcome.{Outcome}
-use Rattle.rt_ids.specs.declared.note.OutcomeNote.{OutcomeNote}
-use Rattle.rt_jobs.specs.Meanings.{Meaning}
-use Rattle.rt_journal_notes.specs.Journals.{places_of}
-use Rattle.rt_journal.specs.Recorded.{RecordedView, IsRecorded, desk_of, terms_at}
-use Rattle.rt_journal.specs.Ends.{IsInOf, IsInOwing, IsSameSeat}
-use Rattle.rt_journal.specs.OwedPolls.{HasOwedPolls, seen_by}
-use Rattle.rt_journal_desk.specs.Posts.{AreOutsOf}
-use Rattle.rt_ring_mesh.specs.Ends.{EndsView, in_at, out_at, SameEnds}
+use Rattle.base_words.specs.Bursts.{queue_in_turn}
+use Rattle.base_words.specs.Journal.{Journal}
+use Rattle.base_words.specs.declared.names.JobId.{JobId}
+use Rattle.base_words.specs.declared.order.Order.{Order}
+use Rattle.base_words.specs.declared.order.Outcome.{Outcome}
+use Rattle.base_words.specs.declared.note.OutcomeNote.{OutcomeNote}
+use Rattle.base_jobs.specs.Meanings.{Meaning}
+use Rattle.note_journal.specs.Journals.{places_of}
+use Rattle.actor_core.specs.Recorded.{RecordedView, IsRecorded, desk_of, terms_at}
+use Rattle.actor_core.specs.Ends.{IsInOf, IsInOwing, IsSameSeat}
+use Rattle.actor_core.specs.OwedPolls.{HasOwedPolls, seen_by}
+use Rattle.actor_desk.specs.Posts.{AreOutsOf}
+use Rattle.link_ring.specs.Ends.{EndsView, in_at, out_at, SameEnds}
 use Rattle.actor_seat.specs.Queues.{opening_of}
-use Rattle.rt_link.specs.Fits.{Fits}
+use Rattle.link_ends.specs.Fits.{Fits}
 
 -- the core and its journal, and the ends
 pub record LinkedView (J T : Type 0) : Type 0 where

@@ -1,11 +1,11 @@
 -- How a worker is opened over the ends of its actor.
 use Rattle.std.specs.Prelude.{◌≡◌, ℕ, ◌+◌, ◌<◌, ◌≤◌, [], length}
-use Rattle.rt_ids.specs.Commands.{IsOpening}
-use Rattle.rt_jobs.specs.Meanings.{Meaning}
-use Rattle.rt_journal.specs.Recorded.{RecordedView, IsRecorded, desk_of, terms_at}
-use Rattle.rt_journal.specs.Ends.{IsSameSeat, KeepsIn}
-use Rattle.rt_journal_desk.specs.Ends.{KeepsOuts}
-use Rattle.rt_ring_mesh.specs.Ends.{EndsView, AreFresh}
+use Rattle.base_words.specs.Commands.{IsOpening}
+use Rattle.base_jobs.specs.Meanings.{Meaning}
+use Rattle.actor_core.specs.Recorded.{RecordedView, IsRecorded, desk_of, terms_at}
+use Rattle.actor_core.specs.Ends.{IsSameSeat, KeepsIn}
+use Rattle.actor_desk.specs.Ends.{KeepsOuts}
+use Rattle.link_ring.specs.Ends.{EndsView, AreFresh}
 use Rattle.actor_seat.specs.Linked.{LinkedView}
 
 module _ {J T : Type 0} where

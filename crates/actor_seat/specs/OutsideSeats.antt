@@ -1,13 +1,13 @@
 -- The outside actor at its seat: its journal beside its ends, and what a call on one of them leaves.
 use Rattle.std.specs.Prelude.{◌≡◌, ℕ, ◌<◌, length}
-use Rattle.rt_ids.specs.declared.order.Order.{Order}
-use Rattle.rt_ids.specs.declared.order.Outcome.{Outcome}
-use Rattle.rt_journal_desk.specs.Tickets.{HasLane}
-use Rattle.rt_ring_mesh.specs.Ends.{SameEnds, out_at, EndsView}
+use Rattle.base_words.specs.declared.order.Order.{Order}
+use Rattle.base_words.specs.declared.order.Outcome.{Outcome}
+use Rattle.actor_desk.specs.Tickets.{HasLane}
+use Rattle.link_ring.specs.Ends.{SameEnds, out_at, EndsView}
 use Rattle.actor_seat.specs.Linked.{Grows}
 use Rattle.actor_seat.specs.Seats.{UsesOut}
-use Rattle.rt_journal_desk.specs.Ends.{IsOutOf}
-use Rattle.rt_journal_desk.specs.Submissions.{DeskView, IsWritten, terms_of_desk}
+use Rattle.actor_desk.specs.Ends.{IsOutOf}
+use Rattle.actor_desk.specs.Submissions.{DeskView, IsWritten, terms_of_desk}
 
 -- the outside actor: its journal and its ends
 pub record OutsideView (J T : Type 0) : Type 0 where

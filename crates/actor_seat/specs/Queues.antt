@@ -1,7 +1,7 @@
 -- The creations at the opening of a journal.
 use Rattle.std.specs.Prelude.{Bool, true, false, if◌then◌else◌, [], ◌∷◌}
-use Rattle.rt_ids.specs.declared.note.Note.TheVariants.{Created}
-use Rattle.rt_ids.specs.Journal.{Journal}
+use Rattle.base_words.specs.declared.note.Note.TheVariants.{Created}
+use Rattle.base_words.specs.Journal.{Journal}
 
 module _ {T : Type 0} where
   -- whether nothing but creations was noted

@@ -1,25 +1,25 @@
 -- A core beside its actor's ends, whatever job of it is out, and what it does with its own submissions and picks.
-use Rattle.std.specs.Prelude.{◌≡◌, ◌≢◌, ℕ, Result, Ok, Err, IfOk}
-use Rattle.rt_ids.specs.declared.names.JobId.{JobId}
-use Rattle.rt_ids.specs.declared.names.TicketError.{TicketError}
-use Rattle.rt_ids.specs.declared.order.Order.{Order}
-use Rattle.rt_ids.specs.declared.order.Outcome.{Outcome}
-use Rattle.rt_ids.specs.declared.order.SendError.{SendError}
-use Rattle.rt_jobs.specs.Meanings.{Meaning}
-use Rattle.rt_core.specs.declared.turn.Ahead.TheVariants as ahead
-use Rattle.rt_core.specs.declared.turn.Turn.{Turn}
-use Rattle.rt_core.specs.declared.turn.Turn.TheVariants as turn
-use Rattle.rt_core.specs.declared.turn.PickError.{PickError}
-use Rattle.rt_core.specs.Answers.{IsReadyTurn}
-use Rattle.rt_core.specs.Whole.{TellsAhead}
-use Rattle.rt_desk.specs.Lanes.{FitsSent}
-use Rattle.rt_link.specs.Calls.{Sends}
-use Rattle.rt_link.specs.Fits.{Fits}
-use Rattle.rt_journal.specs.Recorded.{RecordedView, IsRecorded, desk_of}
-use Rattle.rt_journal.specs.Turns.{IsBack, Picks}
-use Rattle.rt_journal_desk.specs.Submissions.{Submits, numbered}
-use Rattle.rt_journal_desk.specs.Tickets.{RedeemsTicket, DetachesTicket}
-use Rattle.rt_ring_mesh.specs.Ends.{EndsView, out_at}
+use Rattle.std.specs.Prelude.{◌≡◌, ◌≢◌, ℕ, Result, Ok, Err, IfOk, OnErr}
+use Rattle.base_words.specs.declared.names.JobId.{JobId}
+use Rattle.base_words.specs.declared.names.TicketError.{TicketError}
+use Rattle.base_words.specs.declared.order.Order.{Order}
+use Rattle.base_words.specs.declared.order.Outcome.{Outcome}
+use Rattle.base_words.specs.declared.order.SendError.{SendError}
+use Rattle.base_jobs.specs.Meanings.{Meaning}
+use Rattle.core_core.specs.declared.turn.Ahead.TheVariants as ahead
+use Rattle.core_core.specs.declared.turn.Turn.{Turn}
+use Rattle.core_core.specs.declared.turn.Turn.TheVariants as turn
+use Rattle.core_core.specs.declared.turn.PickError.{PickError}
+use Rattle.core_core.specs.Answers.{IsReadyTurn}
+use Rattle.core_core.specs.Whole.{TellsAhead}
+use Rattle.actor_desk.specs.Lanes.{FitsSent}
+use Rattle.link_ends.specs.Calls.{Sends}
+use Rattle.link_ends.specs.Fits.{Fits}
+use Rattle.actor_core.specs.Recorded.{RecordedView, IsRecorded, desk_of}
+use Rattle.actor_core.specs.Turns.{IsBack, Picks}
+use Rattle.actor_desk.specs.Submissions.{Submits, numbered}
+use Rattle.actor_desk.specs.Tickets.{RedeemsTicket, DetachesTicket}
+use Rattle.link_ring.specs.Ends.{EndsView, out_at}
 use Rattle.actor_seat.specs.declared.seat.Taken.{Taken}
 use Rattle.actor_seat.specs.declared.seat.Taken.TheVariants as taken
 use Rattle.actor_seat.specs.Linked.{LinkedView, AreBeside, StaysLinked}
@@ -62,17 +62,19 @@ module _ {J T : Type 0} where
     pub rest : new.recorded ≡ record old.recorded { journal = new.recorded.journal; lanes = new.recorded.lanes }
     pub stays : StaysLinked old new
 
-  -- a submission is detached, or its ticket is refused
+  -- a submission is detached, or its ticket is refused and nothing changes
   pub record DetachesOn (name : JobId) (old : LinkedView J T) (answer : Result (Unit {0}) TicketError) (new : LinkedView J T) : Type 0 where
     pub detaches : DetachesTicket name (desk_of old.recorded) answer (desk_of new.recorded)
+    pub refused : OnErr answer (new ≡ old)
     pub uses : UsesOut name.to old.ends new.ends
     pub rest : new.recorded ≡ record old.recorded { journal = new.recorded.journal; lanes = new.recorded.lanes }
     pub stays : StaysLinked old new
 
-  -- an outcome is redeemed, and fits the order that was sent under its name, or the ticket is refused
+  -- an outcome is redeemed, and fits the order that was sent under its name, or the ticket is refused and nothing changes
   pub record RedeemsOn (meaning : Meaning J T) (name : JobId) (old : LinkedView J T) (answer : Result (Outcome J T) TicketError) (new : LinkedView J T) : Type 0 where
     pub redeems : RedeemsTicket name (desk_of old.recorded) answer (desk_of new.recorded)
     pub fits : IfOk answer (FitsSent (Fits meaning) (out_at name.to old.ends).out name.number)
+    pub refused : OnErr answer (new ≡ old)
     pub uses : UsesOut name.to old.ends new.ends
     pub rest : new.recorded ≡ record old.recorded { journal = new.recorded.journal; lanes = new.recorded.lanes }
     pub stays : StaysLinked old new

@@ -1,28 +1,28 @@
 -- What the steps of a worker do: a gate is shut, an order is delivered, a job is polled or handed back, outcomes are collected.
 use Rattle.std.specs.Prelude.{◌≡◌, ◌≢◌, ◌⊎◌, ℕ, ◌+◌, ◌*◌, ◌-◌, ◌^◌, ◌≤◌, Bool, false, length, sum_by}
-use Rattle.rt_ids.specs.declared.names.JobId.{JobId}
-use Rattle.rt_ids.specs.declared.order.Order.{Order}
-use Rattle.rt_ids.specs.declared.order.Reason.{Reason}
-use Rattle.rt_ids.specs.Bursts.{polls_in_turn}
-use Rattle.rt_ids.specs.Journal.{Journal}
-use Rattle.rt_ids.specs.Picks.{turns}
-use Rattle.rt_ids.specs.Work.{has_work}
-use Rattle.rt_jobs.specs.Meanings.{Meaning}
-use Rattle.rt_jobs.specs.Steps.{AfterPoll, OwesAt}
-use Rattle.rt_core.specs.declared.turn.Settled.{Settled}
-use Rattle.rt_link.specs.Calls.{Shuts}
-use Rattle.rt_journal.specs.Recorded.{RecordedView, desk_of}
-use Rattle.rt_journal.specs.Ends.{IsSameSeat}
-use Rattle.rt_journal.specs.Steps.{Delivers, TellsShut}
-use Rattle.rt_journal_desk.specs.Posts.{HasPosted}
-use Rattle.rt_journal_desk.specs.Calls.{Does}
-use Rattle.rt_journal.specs.Whole.{Begins, LeavesTurn, post_of}
-use Rattle.rt_journal_desk.specs.Spending.{left_of}
-use Rattle.rt_journal_desk.specs.Tickets.{CollectsFrom, GetsAll}
-use Rattle.rt_journal.specs.Turns.{IsPick, IsFurther, IsHandBack, Settles}
-use Rattle.rt_ring_mesh.specs.Ends.{in_at, out_at}
+use Rattle.base_words.specs.declared.names.JobId.{JobId}
+use Rattle.base_words.specs.declared.order.Order.{Order}
+use Rattle.base_words.specs.declared.order.Reason.{Reason}
+use Rattle.base_words.specs.Bursts.{polls_in_turn}
+use Rattle.base_words.specs.Journal.{Journal}
+use Rattle.base_words.specs.Picks.{turns}
+use Rattle.base_words.specs.Work.{has_work}
+use Rattle.base_jobs.specs.Meanings.{Meaning}
+use Rattle.base_jobs.specs.Steps.{AfterPoll, OwesAt}
+use Rattle.core_core.specs.declared.turn.Settled.{Settled}
+use Rattle.link_ends.specs.Calls.{Shuts}
+use Rattle.actor_core.specs.Recorded.{RecordedView, desk_of}
+use Rattle.actor_core.specs.Ends.{IsSameSeat}
+use Rattle.actor_core.specs.Steps.{Delivers, TellsShut}
+use Rattle.actor_desk.specs.Posts.{HasPosted}
+use Rattle.actor_desk.specs.Calls.{Does}
+use Rattle.actor_core.specs.Whole.{Begins, LeavesTurn, post_of}
+use Rattle.actor_desk.specs.Spending.{left_of}
+use Rattle.actor_desk.specs.Tickets.{CollectsFrom, GetsAll}
+use Rattle.actor_core.specs.Turns.{IsPick, IsFurther, IsHandBack, Settles}
+use Rattle.link_ring.specs.Ends.{in_at, out_at}
 use Rattle.actor_seat.specs.Linked.{LinkedView, StaysLinked}
-use Rattle.rt_link.specs.Fits.{Fits}
+use Rattle.link_ends.specs.Fits.{Fits}
 
 -- no turn is to be made: no queue has work, or all turns are used
 abbrev pub HasNoTurn : {T : Type 0} → Journal T → Type 0

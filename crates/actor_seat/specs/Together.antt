@@ -1,7 +1,7 @@
 -- The cores of a house at their ends, one after another.
 use Rattle.std.specs.Prelude.{ℕ, List, slice_index_or}
-use Rattle.rt_journal.specs.Steps.{opened_beside}
-use Rattle.rt_ring_mesh.specs.Grid.{no_ends}
+use Rattle.actor_core.specs.Steps.{opened_beside}
+use Rattle.link_ring.specs.Grid.{no_ends}
 use Rattle.actor_seat.specs.Linked.{LinkedView}
 
 module _ {J T : Type 0} where

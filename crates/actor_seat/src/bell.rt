@@ -1,12 +1,16 @@
-//! The bells by which idle workers, and a caller that waits, are woken.
+//! The bells by which idle workers, and a caller that waits, are woken; and the steps by which an actor sleeps on its own.
+//!
+//! It lies down, looks once more at everything, and parks only if there was nothing. The types force this order, here too: what lay down
+//! (`Lain`) can only be handed to a look, and what may park (`Quiet`) is only given by one. Neither of them has the bell, so neither lies down
+//! anew, and what has the bell can't park.
 
-ghost use Rattle.std.specs.Prelude.{◌≡◌, IfOk};
+ghost use Rattle.std.specs.Prelude.{◌≡◌, Bool, IfOk, is_none};
 ghost use Rattle.actor_seat.specs.Bells.{IsNamedFor, once_more};
 
+use base_words::ActorNo;
 use crossbeam_utils::sync;
-use rt_ids::ActorNo;
 use std::alloc::{AllocError, Global};
-use std::marker::Model;
+use std::marker::{Model, PhantomData};
 use std::sync::{Arc, OnceLock, Wait};
 
 /// What all handles on one bell share.
@@ -21,8 +25,7 @@ struct Hung {
     apart: [u64; 16],
 }
 
-/// The bell of one actor, in the hands of one who rings it or parks on it. Contracts see whose it is, which bell it is, and how often it was
-/// rung here.
+/// The bell of one actor, in the hands of one who rings it. Contracts see whose it is, which bell it is, and how often it was rung here.
 #[derive(Drop)]
 pub struct Bell {
     rings: u64,
@@ -85,42 +88,99 @@ impl Bell {
         // step: ring. A load and, if the actor lay down, an addition to the word on which it parks.
         self.hung.event.notify_one();
     }
+}
 
-    /// From here on a ring ends the sleep. What came before it is seen by the look that follows. Whoever drops the key gets up.
-    pub fn lie_down(&self) -> Key<'_>
-        ensures { result.bell.now ≡ self.now }
+/// Who sleeps on a bell of its own.
+pub trait LastLook {
+    /// What a look is lent.
+    type Local;
+
+    /// What holds whenever it looks.
+    ghost IsReady: { Self → Type 0 };
+    /// What one look does, and whether it found something.
+    ghost Looks: { Self → Bool → Self → Type 0 };
+
+    /// Looks once more at everything for which the bell may have been rung. Whether there was something.
+    fn look_again(&mut self, local: &mut Self::Local) -> bool
+        requires { IsReady self.old }
+        ensures { Looks self.old result self.new };
+}
+
+/// An actor's own bell. Only an `L` sleeps on it, behind a look of its own (`rest`).
+#[derive(Drop)]
+pub struct OwnBell<L> {
+    bell: Bell,
+    of: PhantomData<L>,
+}
+
+impl<L> Model for OwnBell<L> {
+    ghost use Rattle.actor_seat.specs.Bells.{BellView};
+
+    ghost Value = { BellView };
+
+    ghost view = { λ b. b.bell };
+}
+
+impl<L> OwnBell<L> {
+    /// This bell, to sleep on.
+    pub(crate) fn of(bell: Bell) -> Self
+        ensures { result ≡ bell }
     {
+        OwnBell {
+            bell,
+            of: PhantomData,
+        }
+    }
+
+    /// From here on a ring ends the sleep. What came before it is seen by the look that follows.
+    pub(crate) fn lie_down(&self) -> Lain<'_, L> {
         // step: lie down
-        Key {
-            bell: self,
-            event: self.hung.event.prepare_wait(),
+        Lain {
+            key: self.bell.hung.event.prepare_wait(),
+            of: PhantomData,
         }
     }
 }
 
-/// That one lay down on this bell. Whoever drops it gets up.
-#[derive(Drop)]
-pub struct Key<'a> {
-    bell: &'a Bell,
-    event: sync::Key<'a>,
+/// That an `L` lay down. It can't be dropped: only a look ends it.
+pub(crate) struct Lain<'a, L> {
+    key: sync::Key<'a>,
+    of: PhantomData<L>,
 }
 
-/// That one parked on this bell, and was woken. Only `sleep` makes one.
-#[derive(Drop)]
-pub struct Woken<'a> {
-    bell: &'a Bell,
+/// That an `L` lay down, and that a look of it since then found nothing. It can't be dropped: only a sleep ends it.
+pub(crate) struct Quiet<'a, L> {
+    key: sync::Key<'a>,
+    of: PhantomData<L>,
 }
 
-/// The leave to sleep. Each crate whose actors park has one type for it, private to the module of the last look behind which they park: so no
-/// other body there sleeps.
-pub trait MaySleep {}
+/// That one parked. Only `Quiet::sleep` makes one.
+#[derive(Drop)]
+pub(crate) struct Slept {
+    _own: (),
+}
 
-/// Parks until the bell rings. It doesn't if the bell has rung since `lie_down`.
-pub fn sleep<'a, R: Wait, L: MaySleep + Drop>(rt: &R, key: Key<'a>, _leave: L) -> Woken<'a>
-    ensures { result.bell.now ≡ key.entry.bell.now }
-{
-    let Key { bell, event } = key;
-    // step: park, which looks at the word once more
-    event.wait(rt);
-    Woken { bell }
+impl<'a, L: LastLook> Lain<'a, L> {
+    /// Looks once more. It gets up if there was something.
+    pub(crate) fn look(self, last: &mut L, local: &mut L::Local) -> Option<Quiet<'a, L>>
+        requires { L.IsReady last.old }
+        ensures { L.Looks last.old (is_none result) last.new }
+    {
+        let Lain { key, of } = self;
+        if last.look_again(local) {
+            // step: get up, by the key that is dropped
+            return None;
+        }
+        Some(Quiet { key, of })
+    }
+}
+
+impl<L> Quiet<'_, L> {
+    /// Parks until the bell rings. It doesn't if the bell has rung since the actor lay down.
+    pub(crate) fn sleep<R: Wait>(self, rt: &R) -> Slept {
+        let Quiet { key, of: _ } = self;
+        // step: park, which looks at the word once more
+        key.wait(rt);
+        Slept { _own: () }
+    }
 }

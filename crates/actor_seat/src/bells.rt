@@ -4,9 +4,9 @@ ghost use Rattle.std.specs.Prelude.{◌≡◌, ◌+◌, ◌<◌, IfOk, length, r
 ghost use Rattle.std.specs.Option.{option_map};
 ghost use Rattle.actor_seat.specs.Bells.{AreApart, bell_at, rung_at, rung_for, told_by};
 
-use crate::bell::Bell;
-use rt_fixed::SealedVec;
-use rt_ids::{ActorNo, CoreNo, Note};
+use crate::bell::{Bell, OwnBell};
+use base_sealed::SealedVec;
+use base_words::{ActorNo, CoreNo, Note};
 use std::alloc::{AllocError, Global};
 use std::marker::Model;
 
@@ -83,16 +83,17 @@ impl Bells {
         Ok(Bells { bells })
     }
 
-    /// The bell of this actor, in other hands.
+    /// The bell of this actor, in hands of its own, for an `L` to sleep on.
     ///
     /// # Errors
     ///
     /// If it is in too many.
-    pub fn bell_of(&self, actor: ActorNo) -> Result<Bell, AllocError>
+    pub fn own<L>(&self, actor: ActorNo) -> Result<OwnBell<L>, AllocError>
         requires { actor < length self.now.rings }
-        ensures { IfOk result (λ bell. bell ≡ bell_at actor self.now) }
+        ensures { IfOk result (λ own. own ≡ bell_at actor self.now) }
     {
-        self.bells[actor.0 as usize].again()
+        let bell = self.bells[actor.0 as usize].again()?;
+        Ok(OwnBell::of(bell))
     }
 
     /// Tells this actor, if there is one, that there is something for it.

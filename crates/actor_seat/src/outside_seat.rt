@@ -1,24 +1,24 @@
 //! The outside actor at its seat: its journal beside its end to each core.
 
-ghost use Rattle.std.specs.Prelude.{◌≡◌, ◌↔◌, ◌+◌, ◌<◌, ◌≤◌, IfOk, IsTrue, false, length};
-ghost use Rattle.rt_ids.specs.Outstanding.{outstanding_count};
-ghost use Rattle.rt_ids.specs.declared.names.TicketError.TheVariants.{Unknown};
-ghost use Rattle.rt_jobs.specs.Ready.{HasReadyJob};
-ghost use Rattle.rt_link.specs.Calls.{Sends};
-ghost use Rattle.rt_link.specs.Fits.{Fits};
-ghost use Rattle.rt_desk.specs.Lanes.{FitsSent, IsGot};
-ghost use Rattle.rt_journal_notes.specs.Passing.{IsAsked, KeepsRefusals, PassesOn};
-ghost use Rattle.rt_journal_desk.specs.Spending.{HoldsSome, Spends, booked};
-ghost use Rattle.rt_journal_desk.specs.Submissions.{Submits, numbered};
-ghost use Rattle.rt_journal_desk.specs.Tickets.{CollectsFrom, DetachesTicket, GetsAll, RedeemsTicket, RefusesTicket};
-ghost use Rattle.rt_ring_mesh.specs.Ends.{out_at};
+ghost use Rattle.std.specs.Prelude.{◌≡◌, ◌↔◌, ◌+◌, ◌<◌, ◌≤◌, IfOk, OnErr, IsTrue, false, length};
+ghost use Rattle.base_words.specs.Outstanding.{outstanding_count};
+ghost use Rattle.base_words.specs.declared.names.TicketError.TheVariants.{Unknown};
+ghost use Rattle.base_jobs.specs.Ready.{HasReadyJob};
+ghost use Rattle.link_ends.specs.Calls.{Sends};
+ghost use Rattle.link_ends.specs.Fits.{Fits};
+ghost use Rattle.actor_desk.specs.Lanes.{FitsSent, IsGot};
+ghost use Rattle.note_journal.specs.Passing.{IsAsked, KeepsRefusals, PassesOn};
+ghost use Rattle.actor_desk.specs.Spending.{HoldsSome, Spends, booked};
+ghost use Rattle.actor_desk.specs.Submissions.{Submits, numbered};
+ghost use Rattle.actor_desk.specs.Tickets.{CollectsFrom, DetachesTicket, GetsAll, RedeemsTicket, RefusesTicket};
+ghost use Rattle.link_ring.specs.Ends.{out_at};
 ghost use Rattle.actor_seat.specs.OutsideSeats.{IsSeatedOutside, UsesOutside};
 
-use rt_ids::{CoreNo, Order, Outcome, SendError, Ticket, TicketError};
-use rt_jobs::Task;
-use rt_journal_desk::RecordedDesk;
-use rt_journal_notes::{Refused, RunningJournal, Sink};
-use rt_ring_mesh::Ends;
+use actor_desk::RecordedDesk;
+use base_jobs::Task;
+use base_words::{CoreNo, Order, Outcome, SendError, Ticket, TicketError};
+use link_ring::Ends;
+use note_journal::{Refused, RunningJournal, Sink};
 use std::marker::Model;
 
 /// The outside actor's journal, which tells what it does with its submissions, and its end of the link to each core. It receives from nobody.
@@ -34,7 +34,7 @@ impl<J: Task<Out = u64>> Model for OutsideSeat<J> {
 
     ghost Value = { OutsideView J ℕ };
 
-    ghost use Rattle.rt_link.specs.Fits.{Fits};
+    ghost use Rattle.link_ends.specs.Fits.{Fits};
     ghost use Rattle.actor_seat.specs.OutsideSeats.{IsSeatedOutside};
 
     ghost view = { λ s. record { desk = s.desk; ends = s.ends } };
@@ -132,6 +132,7 @@ impl<J: Task<Out = u64>> OutsideSeat<J> {
         requires ready { HasReadyJob J.meaning order }
         ensures submits { Submits to order self.old.desk result self.new.desk }
         ensures sends { Sends (out_at to self.old.ends).out (out_at to self.old.ends).credited order (out_at to self.new.ends).out (numbered result) }
+        ensures credited { (out_at to self.new.ends).credited ≡ (out_at to self.old.ends).credited }
         ensures spends { IfOk result (λ _. Spends to 3 self.old.desk self.new.desk) }
         ensures uses { UsesOutside (Fits J.meaning) to self.old self.new }
     {
@@ -165,6 +166,7 @@ impl<J: Task<Out = u64>> OutsideSeat<J> {
         ensures given { IfOk result (IsGot (out_at ticket.to self.old.ends).out ticket.number) }
         ensures fits { IfOk result (FitsSent (Fits J.meaning) (out_at ticket.to self.old.ends).out ticket.number) }
         ensures out { (out_at ticket.to self.new.ends).out ≡ (out_at ticket.to self.old.ends).out }
+        ensures refused { OnErr result (self.new ≡ self.old) }
         ensures spends { IfOk result (λ _. Spends ticket.to 0 self.old.desk self.new.desk) }
         ensures uses { UsesOutside (Fits J.meaning) ticket.to self.old self.new }
     {
@@ -182,6 +184,7 @@ impl<J: Task<Out = u64>> OutsideSeat<J> {
         requires room { HoldsSome ticket self.old.desk → length self.old.desk.journal.notes < self.old.desk.journal.room }
         ensures detaches { DetachesTicket ticket self.old.desk result self.new.desk }
         ensures out { (out_at ticket.to self.new.ends).out ≡ (out_at ticket.to self.old.ends).out }
+        ensures refused { OnErr result (self.new ≡ self.old) }
         ensures spends { IfOk result (λ _. Spends ticket.to 0 self.old.desk self.new.desk) }
         ensures uses { UsesOutside (Fits J.meaning) ticket.to self.old self.new }
     {

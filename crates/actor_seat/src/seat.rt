@@ -1,33 +1,33 @@
 //! A core beside its journal, at its actor's ends of the links.
 
-ghost use Rattle.std.specs.Prelude.{◌≡◌, ◌+◌, ◌<◌, ◌≤◌, None, Ok, Some, IfSome, IsSome, length};
-ghost use Rattle.rt_core.specs.Answers.{IsReadyTurn};
-ghost use Rattle.rt_core.specs.Whole.{TellsAhead};
-ghost use Rattle.rt_ids.specs.declared.note.OutcomeNote.TheVariants.{Returned};
-ghost use Rattle.rt_ids.specs.Bursts.{queue_in_turn};
-ghost use Rattle.rt_ids.specs.Closing.{core_mode, final_count};
-ghost use Rattle.rt_jobs.specs.Ready.{HasReadyJob};
-ghost use Rattle.rt_journal.specs.Owed.{IsSentUnder};
-ghost use Rattle.rt_journal.specs.Steps.{ClosesItself};
-ghost use Rattle.rt_journal.specs.Turns.{EndsTurn, Follows, IsOut, IsOutUnder, IsPolled, NothingFollows, Settles};
-ghost use Rattle.rt_journal_notes.specs.Passing.{IsAsked, KeepsRefusals, PassesOn};
-ghost use Rattle.rt_link.specs.Ends.{SoundIn};
-ghost use Rattle.rt_link.specs.Fits.{Fits};
-ghost use Rattle.rt_ring_mesh.specs.Ends.{SameEnds, in_at};
+ghost use Rattle.std.specs.Prelude.{◌≡◌, ◌+◌, ◌<◌, ◌≤◌, None, Ok, Some, IfSome, IsSome, length, OnErr};
+ghost use Rattle.core_core.specs.Answers.{IsReadyTurn};
+ghost use Rattle.core_core.specs.Whole.{TellsAhead};
+ghost use Rattle.base_words.specs.declared.note.OutcomeNote.TheVariants.{Returned};
+ghost use Rattle.base_words.specs.Bursts.{queue_in_turn};
+ghost use Rattle.base_words.specs.Closing.{core_mode, final_count};
+ghost use Rattle.base_jobs.specs.Ready.{HasReadyJob};
+ghost use Rattle.actor_core.specs.Owed.{IsSentUnder};
+ghost use Rattle.actor_core.specs.Steps.{ClosesItself};
+ghost use Rattle.actor_core.specs.Turns.{EndsTurn, Follows, IsOut, IsOutUnder, IsPolled, NothingFollows, Settles};
+ghost use Rattle.note_journal.specs.Passing.{IsAsked, KeepsRefusals, PassesOn};
+ghost use Rattle.link_ends.specs.Ends.{SoundIn};
+ghost use Rattle.link_ends.specs.Fits.{Fits};
+ghost use Rattle.link_ring.specs.Ends.{SameEnds, in_at};
 ghost use Rattle.actor_seat.specs.declared.seat.Taken.TheVariants as taken;
 ghost use Rattle.actor_seat.specs.Linked.{AreBeside, AreOwing, IsLinked, SeesNoLess, StaysLinked};
 ghost use Rattle.actor_seat.specs.Seats.{DetachesOn, IsSeated, PicksTaken, RedeemsOn, SubmitsOn};
 ghost use Rattle.actor_seat.specs.Steps.{CollectsOf, DeliversFrom, ShutsGate};
 
-use rt_core::{Ahead, PickError, Settled, Turn};
-use rt_ids::{
+use actor_core::Recorded;
+use base_jobs::{Ran, Task};
+use base_words::{
     ActorNo, CoreNo, JobId, Mode, Order, Outcome, QueueNo, Reason, SendError, Ticket, TicketError,
 };
-use rt_jobs::{Ran, Task};
-use rt_journal::Recorded;
-use rt_journal_notes::{Refused, Sink};
-use rt_link::InEnd;
-use rt_ring_mesh::Ends;
+use core_core::{Ahead, PickError, Settled, Turn};
+use link_ends::InEnd;
+use link_ring::Ends;
+use note_journal::{Refused, Sink};
 use std::marker::Model;
 
 /// What a pick took out of its queue.
@@ -280,6 +280,7 @@ impl<J: Task<Out = u64>> Seat<J> {
     pub fn pick(&mut self) -> Result<Taken<J>, PickError>
         requires room { length self.old.recorded.journal.notes + 2 ≤ self.old.recorded.journal.room }
         ensures picks { PicksTaken J.meaning self.old.recorded result self.new.recorded }
+        ensures refused { OnErr result (self.new ≡ self.old) }
         ensures stays { StaysLinked self.old self.new }
         ensures seated { IsSeated J.meaning self.new }
         ensures linked { IsLinked J.meaning self.old → self.new.recorded.core.out ≡ None → IsLinked J.meaning self.new }

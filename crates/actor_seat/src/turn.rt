@@ -1,15 +1,15 @@
 //! One turn of a core at its ends.
 
-ghost use Rattle.rt_journal_turn.specs.Rooms.{HasTurnRoom};
+ghost use Rattle.actor_core.specs.Rooms.{HasTurnRoom};
 ghost use Rattle.actor_seat.specs.Bursts.{MakesTurn, turn_view};
 ghost use Rattle.actor_seat.specs.Linked.{IsBetweenTurns, IsLinked, StaysLinked};
 
 use crate::seat::Seat;
-use rt_ids::CoreNo;
-use rt_jobs::{Job, Task};
-use rt_journal_turn::{Turned, turn};
-use rt_runtime_config::Gate;
-use rt_taskqueue::Meter;
+use actor_core::{Turned, turn};
+use base_jobs::{Job, Task};
+use base_words::CoreNo;
+use core_queues::Meter;
+use run_config::Gate;
 
 impl<J: Job + Task<Out = u64>> Seat<J> {
     /// Makes one turn of the core, among its own ends.

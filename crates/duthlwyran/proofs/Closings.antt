@@ -1,7 +1,7 @@
 -- One more core is closed.
 use Rattle.std.proofs.Common.{◌≡◌, ℕ, ◌+◌, sym, subst, add-one}
-use Rattle.rt_ids.specs.declared.order.Mode.{Mode}
-use Rattle.rt_runtime.specs.State.{RuntimeView}
+use Rattle.base_words.specs.declared.order.Mode.{Mode}
+use Rattle.run_runtime.specs.State.{RuntimeView}
 use Rattle.duthlwyran.specs.Finishes.{ClosesAt, ClosesBelow}
 
 module _ {J T : Type 0} where

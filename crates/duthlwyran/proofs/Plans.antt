@@ -2,12 +2,12 @@
 use Rattle.std.proofs.Common.{◌≡◌, ◌==◌, ℕ, ◌+◌, Bool, true, false, if◌then◌else◌, List, [], ◌∷◌, ◌++◌, refl, sym, ap, ◌∙◌, arith}
 use Rattle.std.proofs.lemmas.Bool.{eq-eqb}
 use Rattle.std.proofs.lemmas.List.{length-append}
-use Rattle.rt_ids.specs.Journal.{Journal, list_told}
-use Rattle.rt_ids.specs.Commands.{created_count, queue_created}
-use Rattle.rt_ids.specs.declared.note.Note.TheVariants.{Created}
-use Rattle.rt_ids.specs.Work.{number_if}
-use Rattle.rt_runtime_config.specs.Configs.{Entry, queues_of}
-use Rattle.rt_runtime_worker.specs.Queues.{behind_entry, behind_entries, creations}
+use Rattle.base_words.specs.Journal.{Journal, list_told}
+use Rattle.base_words.specs.Commands.{created_count, queue_created}
+use Rattle.base_words.specs.declared.note.Note.TheVariants.{Created}
+use Rattle.base_words.specs.Work.{number_if}
+use Rattle.run_config.specs.Configs.{Entry, queues_of}
+use Rattle.run_worker.specs.Queues.{behind_entry, behind_entries, creations}
 use Rattle.duthlwyran.specs.Plans.{Name, Plan}
 
 module _ {T : Type 0} (core : ℕ) where

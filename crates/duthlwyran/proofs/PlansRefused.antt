@@ -1,9 +1,9 @@
 -- Plans of queues that are refused.
 use Rattle.std.proofs.Common.{◌≡◌, ℕ, List, [], ◌∷◌, ap, sym, ◌∙◌}
 use Rattle.std.specs.Prelude.{Ok}
-use Rattle.rt_ids.specs.declared.note.Note.TheVariants.{Created}
-use Rattle.rt_runtime_config.specs.Configs.{Entry}
-use Rattle.rt_runtime_worker.specs.Queues.{creations}
+use Rattle.base_words.specs.declared.note.Note.TheVariants.{Created}
+use Rattle.run_config.specs.Configs.{Entry}
+use Rattle.run_worker.specs.Queues.{creations}
 use Rattle.duthlwyran.specs.Plans.{Plan, Name, PlansQueue}
 
 abbrev reads : Name

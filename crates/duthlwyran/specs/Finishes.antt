@@ -1,13 +1,13 @@
 -- How a node finishes.
 use Rattle.std.specs.Prelude.{◌≡◌, ℕ, zero, suc, Result, Ok, Err}
-use Rattle.rt_ids.specs.declared.names.JobId.{JobId}
-use Rattle.rt_ids.specs.declared.order.Mode.{Mode}
-use Rattle.rt_ids.specs.declared.order.Order.TheVariants.{CloseCore}
-use Rattle.rt_runtime.specs.declared.error.FinishError.{FinishError}
-use Rattle.rt_runtime.specs.declared.error.FinishError.TheVariants.{NotClosed}
+use Rattle.base_words.specs.declared.names.JobId.{JobId}
+use Rattle.base_words.specs.declared.order.Mode.{Mode}
+use Rattle.base_words.specs.declared.order.Order.TheVariants.{CloseCore}
+use Rattle.run_runtime.specs.declared.error.FinishError.{FinishError}
+use Rattle.run_runtime.specs.declared.error.FinishError.TheVariants.{NotClosed}
 use Rattle.actor_caller.specs.declared.error.SubmitError.{SubmitError}
-use Rattle.rt_runtime.specs.Sends.{SubmitsTo}
-use Rattle.rt_runtime.specs.State.{RuntimeView}
+use Rattle.run_runtime.specs.Sends.{SubmitsTo}
+use Rattle.run_runtime.specs.State.{RuntimeView}
 
 -- what comes back of a finish that was refused
 abbrev pub not_closed : {N : Type 0} → FinishError N → N

@@ -1,11 +1,11 @@
 -- What is planned of a house, and what becomes of it.
 use Rattle.std.specs.Prelude.{◌≡◌, ◌==◌, ◌&&◌, ℕ, ◌+◌, ◌<◌, ◌≤◌, if◌then◌else◌, ◌⊎◌, Option, Some, None, List, [], ◌∷◌, ◌++◌, Result, Ok, Err}
 use Rattle.std.specs.Str.{bytes_eq}
-use Rattle.rt_ids.specs.Limits.{most_queues}
-use Rattle.rt_shares.specs.Charge.{InRange}
-use Rattle.rt_ids.specs.declared.note.Note.TheVariants.{Created}
-use Rattle.rt_runtime_config.specs.Configs.{Entry, queues_of}
-use Rattle.rt_runtime_worker.specs.Queues.{creations}
+use Rattle.base_words.specs.Limits.{most_queues}
+use Rattle.base_words.specs.Charge.{InRange}
+use Rattle.base_words.specs.declared.note.Note.TheVariants.{Created}
+use Rattle.run_config.specs.Configs.{Entry, queues_of}
+use Rattle.run_worker.specs.Queues.{creations}
 use Rattle.duthlwyran.specs.declared.house.PlanError.{PlanError}
 use Rattle.duthlwyran.specs.declared.house.PlanError.TheVariants.{NoCore, BadShares, TooMany, Memory}
 use Rattle.duthlwyran.specs.declared.names.Queue.{Queue}

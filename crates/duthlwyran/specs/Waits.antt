@@ -1,9 +1,9 @@
 -- What a wait for a job returns, by the outcome that it got, and its texts.
 use Rattle.std.specs.Prelude.{ℕ, List, Result, Ok, Err, codes}
-use Rattle.rt_ids.specs.declared.names.TicketError.{TicketError}
-use Rattle.rt_ids.specs.declared.names.TicketError.TheVariants.{Unknown, Gone, Pending}
-use Rattle.rt_ids.specs.declared.order.Outcome.{Outcome}
-use Rattle.rt_ids.specs.declared.order.Outcome.TheVariants as outcome
+use Rattle.base_words.specs.declared.names.TicketError.{TicketError}
+use Rattle.base_words.specs.declared.names.TicketError.TheVariants.{Unknown, Gone, Pending}
+use Rattle.base_words.specs.declared.order.Outcome.{Outcome}
+use Rattle.base_words.specs.declared.order.Outcome.TheVariants as outcome
 use Rattle.duthlwyran.specs.declared.error.WaitError.{WaitError}
 use Rattle.duthlwyran.specs.declared.error.WaitError.TheVariants.{Returned, Answered, Refused}
 

@@ -6,8 +6,8 @@ ghost use Rattle.std.specs.Prelude.{◌≡◌, Some};
 ghost use Rattle.actor_caller.specs.Errors.{submit_text};
 ghost use Rattle.duthlwyran.specs.Waits.{wait_text};
 
-use rt_ids::{Answer, Order, Reason, TicketError};
-use rt_runtime::SubmitError;
+use base_words::{Answer, Order, Reason, TicketError};
+use run_runtime::SubmitError;
 use std::error::Error;
 use std::fmt;
 use std::marker::Model;

@@ -2,23 +2,22 @@
 
 ghost use Rattle.std.specs.Prelude.{◌≡◌, ◌+◌, ◌<◌, ◌≤◌, All, [], IfOk, Some, length, min};
 ghost use Rattle.std.specs.Result.{result_map_both};
-ghost use Rattle.rt_ids.specs.Limits.{most_notes};
-ghost use Rattle.rt_shares.specs.Charge.{InRange};
-ghost use Rattle.rt_runtime_config.specs.Configs.{least_room, queues_of};
-ghost use Rattle.rt_runtime.specs.Calls.{Starts};
-ghost use Rattle.rt_runtime.specs.WithLocals.{StartsWithSinksAndLocals};
-ghost use Rattle.rt_runtime.specs.WithSinks.{HasSinks};
+ghost use Rattle.base_words.specs.Limits.{most_notes};
+ghost use Rattle.base_words.specs.Charge.{InRange};
+ghost use Rattle.run_config.specs.Configs.{least_room, queues_of};
+ghost use Rattle.run_runtime.specs.Calls.{Starts};
+ghost use Rattle.run_runtime.specs.WithLocals.{StartsWithSinksAndLocals};
+ghost use Rattle.run_runtime.specs.WithSinks.{HasSinks};
 ghost use Rattle.duthlwyran.specs.Errors.{plan_text};
 ghost use Rattle.duthlwyran.specs.Plans.{fresh_plan, PlansQueue};
 
 use crate::names::{Queue, QueueNames};
 use crate::node::Node;
 use crate::parts::Parts;
-use rt_ids::{CoreNo, MOST_NOTES, MOST_QUEUES, QueueNo};
-use rt_jobs::{Job, Task};
-use rt_runtime::{Runtime, Sink, StartError};
-use rt_runtime_config::{Clock, Config, Gate, SystemClock, is_good};
-use rt_shares::Shares;
+use base_jobs::{Job, Task};
+use base_words::{CoreNo, MOST_NOTES, MOST_QUEUES, QueueNo, Shares};
+use run_config::{Clock, Config, Gate, SystemClock, is_good};
+use run_runtime::{Runtime, Sink, StartError};
 use std::alloc::Global;
 use std::error::Error;
 use std::marker::Model;
@@ -58,7 +57,7 @@ impl fmt::Display for PlanError {
 impl Error for PlanError {}
 
 /// How many queues were planned for this core.
-#[tactic(auto, using(rt_runtime_config::proofs::Counts::queues_here, rt_runtime_config::proofs::Counts::queues_away, rt_runtime_config::proofs::Counts::queues_none))]
+#[tactic(auto, using(run_config::proofs::Counts::queues_here, run_config::proofs::Counts::queues_away, run_config::proofs::Counts::queues_none))]
 fn planned_of(core: CoreNo, queues: &[(CoreNo, Shares)]) -> usize
     ensures is { result ≡ queues_of core queues.now }
     ensures few { result ≤ length queues.now }

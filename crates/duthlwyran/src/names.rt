@@ -5,7 +5,7 @@ ghost use Rattle.std.specs.Str.{bytes_eq};
 ghost use Rattle.std.specs.String.{string_bytes};
 ghost use Rattle.duthlwyran.specs.Plans.{Name, name_of, queue_named};
 
-use rt_ids::{CoreNo, QueueNo};
+use base_words::{CoreNo, QueueNo};
 use std::alloc::{AllocError, Global};
 use std::marker::Model;
 

@@ -1,24 +1,24 @@
 //! The threads of a house, with its queues by name.
 
 ghost use Rattle.std.specs.Prelude.{◌≡◌, IfErr, IfOk, length};
-ghost use Rattle.rt_ids.specs.declared.order.Order.TheVariants.{Job};
-ghost use Rattle.rt_jobs.specs.Ready.{HasReadyJob};
-ghost use Rattle.rt_link.specs.Fits.{Fits};
-ghost use Rattle.rt_runtime.specs.Calls.{Finishes};
-ghost use Rattle.rt_runtime.specs.Sends.{SubmitsTo};
-ghost use Rattle.rt_runtime.specs.Waiting.{RedeemsAtLast};
-ghost use Rattle.rt_runtime.specs.WithLocals.{without_locals};
-ghost use Rattle.rt_runtime.specs.WithSinks.{FinishesWithSinks};
+ghost use Rattle.base_words.specs.declared.order.Order.TheVariants.{Job};
+ghost use Rattle.base_jobs.specs.Ready.{HasReadyJob};
+ghost use Rattle.link_ends.specs.Fits.{Fits};
+ghost use Rattle.run_runtime.specs.Calls.{Finishes};
+ghost use Rattle.run_runtime.specs.Sends.{SubmitsTo};
+ghost use Rattle.run_runtime.specs.Waiting.{RedeemsAtLast};
+ghost use Rattle.run_runtime.specs.WithLocals.{without_locals};
+ghost use Rattle.run_runtime.specs.WithSinks.{FinishesWithSinks};
 ghost use Rattle.duthlwyran.specs.Finishes.{by_back, by_error, ClosesAndFinishes, ClosesAt, ClosesBelow, not_closed};
 ghost use Rattle.duthlwyran.specs.Waits.{outcome_of};
 
 use crate::error::{NotFinished, NotSubmitted, WaitError};
 use crate::names::{Queue, QueueNames};
-use rt_ids::{CoreNo, Mode, Order, Outcome, Ticket};
-use rt_jobs::{Job, Task};
-use rt_journal_notes::{Assembly, Sink, Whole};
-use rt_runtime::{FinishError, Passed, Runtime};
-use rt_runtime_config::{Clock, Gate, NoGate};
+use base_jobs::{Job, Task};
+use base_words::{CoreNo, Mode, Order, Outcome, Ticket};
+use note_journal::{Assembly, Sink, Whole};
+use run_config::{Clock, Gate, NoGate};
+use run_runtime::{FinishError, Passed, Runtime};
 use std::sync::Wait;
 use std::thread::Threads;
 

@@ -2,8 +2,8 @@
 
 ghost use Rattle.std.specs.Prelude.{◌≡◌, ◌+◌, IfOk, length};
 
-use rt_journal_notes::Whole;
-use rt_runtime_config::{NoGate, SystemClock};
+use note_journal::Whole;
+use run_config::{NoGate, SystemClock};
 use std::alloc::{AllocError, Global};
 
 /// The clock, the gate, the sink and the shared state of each core, by its number. The last sink is the caller's.

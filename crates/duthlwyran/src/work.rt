@@ -1,9 +1,9 @@
 //! Work that needs no words for the prover: one function, and what it answers is a number.
 
 ghost use Rattle.std.specs.Prelude.{◌≡◌, false};
-ghost use Rattle.rt_jobs.specs.Plain.{plain_laws, plain_meaning};
+ghost use Rattle.base_jobs.specs.Plain.{plain_laws, plain_meaning};
 
-use rt_jobs::{Job, Post, Step, Task};
+use base_jobs::{Job, Post, Step, Task};
 
 /// Work in steps. It submits nothing itself, and shares nothing with other jobs of its core.
 ///

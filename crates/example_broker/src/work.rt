@@ -1,66 +1,54 @@
-//! The kinds of work of a broker, as one type. A publish job has its message indexed by another core, and is parked until that core wakes it.
-//! A fetch answers more than a number: a batch, in a place or in the job itself.
+//! The kinds of work of a broker, as one type. A job that publishes is parked until another core has indexed its message and wakes it.
 
 ghost use Rattle.std.specs.Prelude.{◌≡◌, true};
+ghost use Rattle.duthlwyran.specs.Jobs.{Done, is_done_step};
 ghost use Rattle.example_broker.specs.Over.{is_over};
-ghost use Rattle.rt_jobs.specs.Steps.{is_done_step};
-ghost use Rattle.rt_jobs.specs.declared.job.Step.TheVariants.{Done};
 
-use crate::batch::Batch;
-use rt_answers::{Asked, Reply};
-use rt_ids::{CoreNo, JobId, Order, Outcome, QueueNo, SendError, Ticket};
-use rt_jobs::{
-    Asks, Job, Post, Redeemed, Step, Task, poll_asking, redeem_if_there, submit_and_detach,
-    submit_and_keep,
+use duthlwyran::{
+    ActorNo, Asks, CoreNo, Job, Order, Outcome, Post, QueueNo, Redeemed, Reply, SendError, Step,
+    Task, Ticket, poll_asking, redeem_if_there, submit_and_detach, submit_and_keep,
 };
 use std::mem;
 use std::snapshot::Snapshot;
+
+pub const CORES: u8 = 3;
+
+/// The caller, who publishes the messages.
+const CALLER: ActorNo = ActorNo(CORES);
 
 /// Each core has these three queues beside queue 0.
 pub const PUBLISH: QueueNo = QueueNo(1);
 
 pub const INDEX: QueueNo = QueueNo(2);
 
-pub const COMPACTION: QueueNo = QueueNo(3);
+pub const FETCH: QueueNo = QueueNo(3);
 
-/// The answer of a message for which no index came back.
-pub const NOT_INDEXED: u64 = u64::MAX;
+/// So many places are fetched.
+const COUNT: u64 = 100;
 
 /// What is submitted to a core.
 #[derive(Drop)]
 pub enum Work {
-    /// Publishes a message: the core `index` indexes it, and the answer is its place. `own` is the job's own name, by which it is woken.
+    /// Publishes a message on this core: the next core indexes it, and the answer is its place, or 0 if no index came back. Message n is
+    /// submission n of the caller to the core, which is the name by which the job is woken.
     Publish {
         message: u32,
-        index: CoreNo,
-        own: JobId,
+        on: CoreNo,
         kept: Option<Ticket>,
     },
-    /// Indexes a message, and wakes the job that waits for it. The answer is its place.
+    /// Indexes a message of this core, and wakes the job that waits there. The answer is its place.
     Index {
         message: u32,
-        waiting: JobId,
+        on: CoreNo,
     },
-    /// Merges so many blocks, one in each poll.
-    Compact {
-        blocks: u32,
-        left: u32,
-    },
-    /// Fetches the places of so many messages, one in each poll, and fills a place of rt_answers with them.
+    /// Fetches the places of the first messages, one in each poll, and then gives them to whoever asked.
     Fetch {
-        count: u64,
-        batch: Batch,
-        reply: Reply<Batch>,
+        places: Vec<u64>,
+        reply: Reply<Vec<u64>>,
     },
-    /// Reads the batch that a job of another core answered by this number, and answers its last place.
-    Read {
-        number: u64,
-        asked: Asked<Batch>,
-    },
-    /// Fetches a batch and holds it. It is parked until its queue closes in mode `Return`, and comes back with it.
+    /// Fetches places and holds them. It is parked until its queue closes in mode `Return`, and comes back with them.
     Hold {
-        count: u64,
-        batch: Batch,
+        places: Vec<u64>,
     },
     /// It has answered.
     Ended,
@@ -76,49 +64,27 @@ impl Work {
         Step::Done(answer)
     }
 
-    /// One poll of a job with a batch. It takes the job apart, which is over unless the poll puts it together again.
-    fn poll_batch(&mut self) -> Step<u64>
+    /// The end of a fetch.
+    fn fill(&mut self) -> Step<u64>
         ensures done { is_over self.new ≡ is_done_step result }
     {
         match mem::replace(self, Work::Ended) {
-            Work::Fetch {
-                count,
-                mut batch,
-                reply,
-            } => {
-                if !batch.add_next(count) {
-                    return Step::Done(reply.fill(batch));
-                }
-                *self = Work::Fetch {
-                    count,
-                    batch,
-                    reply,
-                };
-                Step::Yield
-            }
-            Work::Read { number, asked } => Step::Done(last_of(asked.answer(number))),
-            Work::Hold { count, mut batch } => {
-                let added = batch.add_next(count);
-                *self = Work::Hold { count, batch };
-                if added { Step::Yield } else { Step::Park }
-            }
-            // No other job has a batch.
+            Work::Fetch { places, reply } => Step::Done(reply.fill(places)),
+            // No other job fetches.
             _ => Step::Done(0),
         }
     }
 }
 
-/// The last place of a batch, and 0 if there is none.
-fn last_of(batch: Option<&Batch>) -> u64 {
-    match batch {
-        Some(batch) => batch.last(),
-        None => 0,
-    }
+/// Adds the place of the next message, unless all are there. Whether it did.
+fn add_next(places: &mut Vec<u64>) -> bool {
+    let before = places.len() as u64;
+    before < COUNT && places.push(before * 2 + 2).is_ok()
 }
 
 impl Task for Work {
+    ghost use Rattle.duthlwyran.specs.Jobs.{plain_meaning, plain_laws};
     ghost use Rattle.example_broker.specs.Over.{is_over};
-    ghost use Rattle.rt_jobs.specs.Plain.{plain_meaning, plain_laws};
 
     type Out = u64;
 
@@ -146,47 +112,44 @@ impl Job for Work {
 impl Asks for Work {
     fn ask<P: Post<Self, u64>>(&mut self, begun: &Snapshot<P>, post: &mut P) -> Step<u64> {
         match self {
-            Work::Publish {
-                message,
-                index,
-                own,
-                kept,
-            } => {
+            Work::Publish { message, on, kept } => {
                 let Some(ticket) = *kept else {
-                    let job = Work::Index {
-                        message: *message,
-                        waiting: *own,
-                    };
-                    *kept = submit_and_keep(begun, post, *index, Order::Job(INDEX, job)).ok();
-                    return match kept {
-                        Some(_) => Step::Park,
-                        None => Step::Yield,
+                    let (message, on) = (*message, *on);
+                    let next = CoreNo((on.0 % CORES + 1) % CORES);
+                    let order = Order::Job(INDEX, Work::Index { message, on });
+                    *kept = submit_and_keep(begun, post, next, order).ok();
+                    return if kept.is_some() {
+                        Step::Park
+                    } else {
+                        Step::Yield
                     };
                 };
                 // The wake may come before the outcome is collected, and no second one comes: so it isn't parked again.
                 match redeem_if_there(begun, post, ticket) {
                     Redeemed::NotYet => Step::Yield,
                     Redeemed::There(Outcome::Finished(place)) => self.end(place),
-                    _ => self.end(NOT_INDEXED),
+                    _ => self.end(0),
                 }
             }
-            Work::Index { message, waiting } => {
-                let place = *message as u64 * 2;
-                let wake = Order::Wake(waiting.from, waiting.number);
-                match submit_and_detach(begun, post, waiting.to, wake) {
+            Work::Index { message, on } => {
+                let message = *message as u64;
+                match submit_and_detach(begun, post, *on, Order::Wake(CALLER, message)) {
                     Err(SendError::Full(_)) => Step::Yield,
-                    _ => self.end(place),
+                    _ => self.end(message * 2),
                 }
             }
-            Work::Compact { blocks, left } => {
-                if *left > 0 {
-                    *left -= 1;
+            Work::Fetch { places, .. } => {
+                if add_next(places) {
                     return Step::Yield;
                 }
-                let merged = *blocks as u64;
-                self.end(merged)
+                self.fill()
             }
-            Work::Fetch { .. } | Work::Read { .. } | Work::Hold { .. } => self.poll_batch(),
+            Work::Hold { places } => {
+                if add_next(places) {
+                    return Step::Yield;
+                }
+                Step::Park
+            }
             Work::Ended => Step::Yield,
         }
     }

@@ -2,13 +2,13 @@
 
 ghost use Rattle.std.specs.Prelude.{◌≡◌, true};
 ghost use Rattle.example_jobs.specs.Over.{is_over};
-ghost use Rattle.rt_jobs.specs.declared.job.Step.TheVariants.{Done};
+ghost use Rattle.base_jobs.specs.declared.job.Step.TheVariants.{Done};
 
-use rt_ids::{CoreNo, Order, Outcome, QueueNo, Ticket};
-use rt_jobs::{
+use base_jobs::{
     Asks, Job, Post, Redeemed, Step, Task, poll_asking, redeem_if_there, submit_and_detach,
     submit_and_keep,
 };
+use base_words::{CoreNo, Order, Outcome, QueueNo, Ticket};
 use std::snapshot::Snapshot;
 
 /// The queue of each core to which these jobs submit.
@@ -52,7 +52,7 @@ impl Work {
 
 impl Task for Work {
     ghost use Rattle.example_jobs.specs.Over.{is_over};
-    ghost use Rattle.rt_jobs.specs.Plain.{plain_meaning, plain_laws};
+    ghost use Rattle.base_jobs.specs.Plain.{plain_meaning, plain_laws};
 
     type Out = u64;
 

@@ -6,7 +6,7 @@ use Rattle.fair_args.specs.Refusals.{IsReason}
 use Rattle.fair_args.specs.declared.unasked.Unasked.{Unasked}
 use Rattle.fair_args.specs.declared.unasked.Unasked.TheVariants as unasked
 use Rattle.fairexec_args.specs.declared.asked.What.{What}
-use Rattle.rt_text.specs.declared.status.Status.{Status}
+use Rattle.text_words.specs.declared.status.Status.{Status}
 use Rattle.fairexec.specs.Ends.{EndsBy, status_unasked}
 
 module _ (ends : Option (List ℕ) → What → Status → Type 0) (same : Type 0) where

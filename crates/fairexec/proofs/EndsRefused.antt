@@ -12,14 +12,14 @@ use Rattle.fairexec_report.proofs.TextsRefused.{texts_refused}
 use Rattle.fairexec_report.specs.VerdictTexts.{is_sound, verdict_text}
 use Rattle.fairexec_run.proofs.OutputsRefused.{outputs_refused}
 use Rattle.fairexec_threads.proofs.RunsRefused.{runs_refused}
-use Rattle.fairexec_threads_script.specs.Faults.{status_of as threads_status}
-use Rattle.fairexec_threads_script.specs.declared.fault.ThreadsFault.TheVariants.{Of, Thread}
-use Rattle.rt_audit.specs.declared.judge.Verdict.{Verdict}
-use Rattle.rt_audit.specs.declared.judge.Verdict.TheVariants.{Sound, Fault}
-use Rattle.rt_text.specs.Statuses.{status_of}
-use Rattle.rt_text.specs.declared.fault.Fault.TheVariants.{Text, Read, Write, Memory}
-use Rattle.rt_text.specs.declared.status.Status.{Status}
-use Rattle.rt_text.specs.declared.status.Status.TheVariants as status
+use Rattle.fairexec_script.specs.Faults.{status_of as threads_status}
+use Rattle.fairexec_script.specs.declared.fault.ThreadsFault.TheVariants.{Of, Thread}
+use Rattle.judge_audit.specs.declared.judge.Verdict.{Verdict}
+use Rattle.judge_audit.specs.declared.judge.Verdict.TheVariants.{Sound, Fault}
+use Rattle.text_words.specs.Statuses.{status_of}
+use Rattle.text_words.specs.declared.fault.Fault.TheVariants.{Text, Read, Write, Memory}
+use Rattle.text_words.specs.declared.status.Status.{Status}
+use Rattle.text_words.specs.declared.status.Status.TheVariants as status
 use Rattle.fairexec.specs.Answers.{RunAnswer, ThreadsAnswer}
 use Rattle.fairexec.specs.BadEnds.{EndsAreRefused, EndsIn, RunIn, ThreadsIn}
 use Rattle.fairexec.specs.Ends.{EndsBy, status_unasked}

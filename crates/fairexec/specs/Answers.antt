@@ -7,18 +7,18 @@ use Rattle.fairexec_run.specs.Outputs.{IsDone, TellsScript}
 use Rattle.fairexec_script.specs.Drafts as script
 use Rattle.fairexec_script.specs.Scripts as scripts
 use Rattle.fairexec_threads.specs.Runs as runs
-use Rattle.fairexec_threads_script.specs.Drafts as threads
-use Rattle.fairexec_threads_script.specs.Faults.{IfOf}
-use Rattle.fairexec_threads_script.specs.Scripts as threads_scripts
-use Rattle.fairexec_threads_script.specs.declared.fault.ThreadsFault.{ThreadsFault}
-use Rattle.rt_journal_read.specs.Drafts as journal
-use Rattle.rt_journal_read.specs.JournalTexts as journals
-use Rattle.rt_journal_read.specs.declared.fault.JournalCause.{JournalCause}
-use Rattle.rt_lines.specs.Taking.{IsPrompt, IsToldByRead}
-use Rattle.rt_sink.specs.Tries.{HasFailedSince}
-use Rattle.rt_text.specs.Faults.{IfEnded, IfRead, IfText, IfUnjudged, IfUnread, IfUnwritten}
-use Rattle.rt_text.specs.declared.fault.Cause.{Cause}
-use Rattle.rt_text.specs.declared.fault.Fault.{Fault}
+use Rattle.fairexec_script.specs.ThreadsDrafts as threads
+use Rattle.fairexec_script.specs.Faults.{IfOf}
+use Rattle.fairexec_script.specs.ThreadsScripts as threads_scripts
+use Rattle.fairexec_script.specs.declared.fault.ThreadsFault.{ThreadsFault}
+use Rattle.text_journal.specs.Drafts as journal
+use Rattle.text_journal.specs.JournalTexts as journals
+use Rattle.text_journal.specs.declared.fault.JournalCause.{JournalCause}
+use Rattle.text_bytes.specs.Taking.{IsPrompt, IsToldByRead}
+use Rattle.text_bytes.specs.Tries.{HasFailedSince}
+use Rattle.text_words.specs.Faults.{IfEnded, IfRead, IfText, IfUnjudged, IfUnread, IfUnwritten}
+use Rattle.text_words.specs.declared.fault.Cause.{Cause}
+use Rattle.text_words.specs.declared.fault.Fault.{Fault}
 
 -- the bytes that are left of a source, or that a sink has, if they are known
 abbrev pub Bytes : Type 0 → Type 0

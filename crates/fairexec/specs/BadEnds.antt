@@ -3,10 +3,10 @@ use Rattle.std.specs.Prelude.{[], ◌∷◌, ℕ, true, false, List, Option, Som
 use Rattle.clap.specs.declared.error.kind.ErrorKind.TheVariants.{DisplayHelp, UnknownArgument}
 use Rattle.fairexec_args.specs.declared.asked.What.{What}
 use Rattle.fairexec_args.specs.declared.asked.What.TheVariants.{Run, Threads, Audit}
-use Rattle.fairexec_threads_script.specs.declared.fault.ThreadsFault.TheVariants.{Thread}
-use Rattle.rt_journal_read.specs.declared.fault.JournalCause.{JournalCause}
-use Rattle.rt_text.specs.declared.status.Status.{Status}
-use Rattle.rt_text.specs.declared.status.Status.TheVariants as status
+use Rattle.fairexec_script.specs.declared.fault.ThreadsFault.TheVariants.{Thread}
+use Rattle.text_journal.specs.declared.fault.JournalCause.{JournalCause}
+use Rattle.text_words.specs.declared.status.Status.{Status}
+use Rattle.text_words.specs.declared.status.Status.TheVariants as status
 use Rattle.fairexec.specs.Answers.{AuditAnswer, HasJudged, HasRun, HasRunOnThreads, RunAnswer, ThreadsAnswer}
 use Rattle.fairexec.specs.Ends.{EndsBy, EndsFor, EndsUnasked}
 use Rattle.fairexec.specs.Files.{IsUnopened, IsUnopenedScript}

@@ -7,10 +7,10 @@ use Rattle.fair_args.specs.declared.unasked.Unasked.{Unasked}
 use Rattle.fair_args.specs.declared.unasked.Unasked.TheVariants as unasked
 use Rattle.fairexec_args.specs.declared.asked.What.{What}
 use Rattle.fairexec_args.specs.declared.asked.What.TheVariants.{Run, Threads, Audit}
-use Rattle.fairexec_threads_script.specs.Faults.{status_of as threads_status}
-use Rattle.rt_text.specs.Statuses.{status_of}
-use Rattle.rt_text.specs.declared.status.Status.{Status}
-use Rattle.rt_text.specs.declared.status.Status.TheVariants as status
+use Rattle.fairexec_script.specs.Faults.{status_of as threads_status}
+use Rattle.text_words.specs.Statuses.{status_of}
+use Rattle.text_words.specs.declared.status.Status.{Status}
+use Rattle.text_words.specs.declared.status.Status.TheVariants as status
 use Rattle.fairexec.specs.Answers.{AuditAnswer, Bytes, RunAnswer, ThreadsAnswer, Tries, Try}
 use Rattle.fairexec.specs.Files.{Judges, Runs, RunsOnThreads}
 

@@ -1,8 +1,8 @@
 -- What is read: an open file, or the input if no file is named.
 use Rattle.std.specs.Prelude.{◌≡◌, ◌⊎◌, ℕ, Bool, List, Option, None, Some, Result, Err}
-use Rattle.fairexec_threads_script.specs.declared.fault.ThreadsFault.TheVariants.{Of}
-use Rattle.rt_text.specs.declared.fault.Fault.{Fault}
-use Rattle.rt_text.specs.declared.fault.Fault.TheVariants as fault
+use Rattle.fairexec_script.specs.declared.fault.ThreadsFault.TheVariants.{Of}
+use Rattle.text_words.specs.declared.fault.Fault.{Fault}
+use Rattle.text_words.specs.declared.fault.Fault.TheVariants as fault
 use Rattle.fairexec.specs.Answers.{AuditAnswer, Bytes, HasJudged, HasRun, HasRunOnThreads, RunAnswer, ThreadsAnswer, Tries, Try}
 
 -- a file can't be opened: that is a failed read, or there is no memory

@@ -10,82 +10,81 @@ ghost use Rattle.fairexec.specs.Files.{IsUnopened, IsUnopenedScript, Judges, Jud
 ghost use Rattle.fairexec_args.specs.Asks.{what_named};
 ghost use Rattle.fairexec_args.specs.CommandLine.{our_app};
 ghost use Rattle.fairexec_args.specs.declared.asked.What.TheVariants as whats;
-ghost use Rattle.rt_text.specs.Statuses.{fault_status, status_of};
-ghost use Rattle.fairexec_threads_script.specs.Faults.{status_of as threads_code};
-ghost use Rattle.fairexec_threads_script.specs.declared.fault.ThreadsFault.TheVariants.{Of};
-ghost use Rattle.rt_text.specs.declared.status.Status.TheVariants as status;
-ghost use Rattle.rt_text.specs.declared.fault.Fault.TheVariants as faults;
+ghost use Rattle.text_words.specs.Statuses.{fault_status, status_of};
+ghost use Rattle.fairexec_script.specs.Faults.{status_of as threads_code};
+ghost use Rattle.fairexec_script.specs.declared.fault.ThreadsFault.TheVariants.{Of};
+ghost use Rattle.text_words.specs.declared.status.Status.TheVariants as status;
+ghost use Rattle.text_words.specs.declared.fault.Fault.TheVariants as faults;
 
-use fair_args::Unasked;
+use fair_args::{Console, ReadOnly, ReadOnlyFiles, Unasked, words_of};
 use fairexec_args::{What, parse};
 use fairexec_report::audit_text;
 use fairexec_run::run_script;
+use fairexec_script::{ThreadsFault, status_of as threads_status};
 use fairexec_threads::threads_script;
-use fairexec_threads_script::{ThreadsFault, status_of as threads_status};
-use rt_journal_read::JournalCause;
-use rt_lines::Source;
-use rt_sink::Sink;
-use rt_text::{Cause, CauseWords, Fault, Status};
+use std::io;
 use std::io::ErrorKind;
 use std::process::ExitCode;
-use std::rt::{Env, Files};
 use std::sync::Wait;
 use std::thread::Threads;
-use std::{env, fs, io};
+use text_bytes::{Sink, Source};
+use text_journal::JournalCause;
+use text_words::{Cause, CauseWords, Fault, Status};
 
+// Only this function has all rights of the system.
 fn main(rt: HostRuntime) -> ExitCode {
-    ExitCode::from(program(&rt).code())
+    let (console, system) = (Console::of(rt), ReadOnly::of(rt));
+    let status = program(&console, &system, words_of(&rt), &mut rt.reader());
+    ExitCode::from(status.code())
 }
 
-/// Does what the command line asks for, and answers how it ended.
-fn program<R>(rt: &R) -> Status
+/// Does what the words of the command line ask for, and answers how it ended.
+fn program<C: Print + Eprint, R, I: Source>(
+    console: &C,
+    rt: &R,
+    words: Result<Vec<String>, ErrorKind>,
+    input: &mut I,
+) -> Status
 where
-    R: Files
-        + Input
-        + Print
-        + Eprint
-        + Env
-        + AllocGlobal
-        + Threads
-        + Wait
-        + Copy
-        + Drop
-        + Send
-        + 'static,
+    R: ReadOnlyFiles + AllocGlobal + Threads + Wait + Copy + Drop + Send + 'static,
 {
-    let args = match env::args(rt) {
-        Ok(args) => args,
-        Err(error) => return words_refused(rt, error.kind()),
-    };
-    let Ok(words) = args.collect::<Vec<String>>(rt.alloc()) else {
-        return failed(rt, Fault::Memory);
-    };
-    by_words(rt, words.as_slice(), &mut rt.reader(), &mut io::writer(rt))
+    match words {
+        Ok(words) => by_words(
+            console,
+            rt,
+            words.as_slice(),
+            input,
+            &mut io::writer(console),
+        ),
+        Err(kind) => words_refused(console, kind),
+    }
 }
 
 /// Does what these words ask for, the first of which is the program's name. Without a file the input is read, and what is asked for is
 /// written to the output.
-fn by_words<R, I: Source, S: Sink>(
+fn by_words<C: Print + Eprint, R, I: Source, S: Sink>(
+    console: &C,
     rt: &R,
     words: &[String],
     input: &mut I,
     output: &mut S,
 ) -> Status
 where
-    R: Files + Print + Eprint + AllocGlobal + Threads + Wait + Copy + Drop + Send + 'static,
+    R: ReadOnlyFiles + AllocGlobal + Threads + Wait + Copy + Drop + Send + 'static,
     ensures ends { EndsBy
         (EndsFor I.remaining I.tries I.reads I.interrupts I.fails R.File.remaining S.contents S.tries S.interrupts S.fails input.old input.new output.old output.new)
         ((input.new ≡ input.old) × (output.new ≡ output.old))
         (fault_of our_app (map string_bytes words.now)) (asks_of what_named our_app (map string_bytes words.now)) result }
 {
-    match parse(rt, rt.alloc(), words) {
-        Ok(asked) => done(rt, asked.what, asked.file, input, output),
-        Err(why) => not_done(rt, why),
+    match parse(console, rt.alloc(), words) {
+        Ok(asked) => done(console, rt, asked.what, asked.file, input, output),
+        Err(why) => not_done(console, why),
     }
 }
 
 /// Does what the command line asks for.
-fn done<R, I: Source, S: Sink>(
+fn done<C: Eprint, R, I: Source, S: Sink>(
+    console: &C,
     rt: &R,
     what: What,
     file: Option<&str>,
@@ -93,34 +92,37 @@ fn done<R, I: Source, S: Sink>(
     output: &mut S,
 ) -> Status
 where
-    R: Files + Eprint + AllocGlobal + Threads + Wait + Copy + Drop + Send + 'static,
+    R: ReadOnlyFiles + AllocGlobal + Threads + Wait + Copy + Drop + Send + 'static,
     ensures ends { EndsFor I.remaining I.tries I.reads I.interrupts I.fails R.File.remaining S.contents S.tries S.interrupts S.fails
         input.old input.new output.old output.new (option_map (λ path. path.now) file.entry) what result }
     ensures never { what ≢ whats.Audit → result ≢ status.FaultFound }
 {
     match what {
-        What::Run { journal, stats } => ended(rt, run(rt, journal, stats, file, input, output)),
+        What::Run { journal, stats } => ended(
+            console,
+            run(rt, journal, stats, file, input, output),
+        ),
         What::Threads { journal, stats } => {
-            ran(rt, threads(rt, journal, stats, file, input, output))
+            ran(console, threads(rt, journal, stats, file, input, output))
         }
-        What::Audit => ended(rt, audit(rt, file, input, output)),
+        What::Audit => ended(console, audit(rt, file, input, output)),
     }
 }
 
 /// How a command line ends that asks for nothing.
-fn not_done<R: Eprint>(rt: &R, why: Unasked) -> Status
+fn not_done<C: Eprint>(console: &C, why: Unasked) -> Status
     ensures { result ≡ status_unasked why }
 {
     match why {
         Unasked::Told => Status::Done,
         Unasked::Mistake => Status::Refused,
-        Unasked::Write => failed(rt, Fault::Write),
-        Unasked::Memory => failed(rt, Fault::Memory),
+        Unasked::Write => failed(console, Fault::Write),
+        Unasked::Memory => failed(console, Fault::Memory),
     }
 }
 
 /// Runs the script of the file, or of the input.
-fn run<R: Files + AllocGlobal, I: Source, S: Sink>(
+fn run<R: ReadOnlyFiles + AllocGlobal, I: Source, S: Sink>(
     rt: &R,
     journal: bool,
     stats: bool,
@@ -139,7 +141,7 @@ fn run<R: Files + AllocGlobal, I: Source, S: Sink>(
 }
 
 /// Runs the script of the file of this path.
-fn run_file<R: Files + AllocGlobal, S: Sink>(
+fn run_file<R: ReadOnlyFiles + AllocGlobal, S: Sink>(
     rt: &R,
     journal: bool,
     stats: bool,
@@ -149,7 +151,7 @@ fn run_file<R: Files + AllocGlobal, S: Sink>(
     ensures runs { RunsFile R.File.remaining S.contents S.tries S.interrupts S.fails journal stats output.old output.new result }
     ensures done { IfOk result (λ done. done ≡ true) }
 {
-    match fs::open(rt, path) {
+    match rt.open_to_read(path) {
         Ok(mut source) => run_script(rt.alloc(), journal, stats, &mut source, output),
         Err(error) => Err(opening_fault(error.kind())),
     }
@@ -165,7 +167,7 @@ fn threads<R, I: Source, S: Sink>(
     output: &mut S,
 ) -> Result<bool, ThreadsFault>
 where
-    R: Files + AllocGlobal + Threads + Wait + Copy + Drop + Send + 'static,
+    R: ReadOnlyFiles + AllocGlobal + Threads + Wait + Copy + Drop + Send + 'static,
     ensures runs { RunsOnThreads I.remaining I.tries I.reads I.interrupts I.fails R.File.remaining S.contents S.tries S.interrupts S.fails
         input.old input.new output.old output.new (option_map (λ path. path.now) file.entry) journal stats result }
     ensures sound { IfOk result (λ sound. sound ≡ true) }
@@ -185,18 +187,18 @@ fn threads_file<R, S: Sink>(
     output: &mut S,
 ) -> Result<bool, ThreadsFault>
 where
-    R: Files + AllocGlobal + Threads + Wait + Copy + Drop + Send + 'static,
+    R: ReadOnlyFiles + AllocGlobal + Threads + Wait + Copy + Drop + Send + 'static,
     ensures runs { RunsFileOnThreads R.File.remaining S.contents S.tries S.interrupts S.fails journal stats output.old output.new result }
     ensures sound { IfOk result (λ sound. sound ≡ true) }
 {
-    match fs::open(rt, path) {
+    match rt.open_to_read(path) {
         Ok(mut source) => threads_script(*rt, rt.alloc(), journal, stats, &mut source, output),
         Err(error) => Err(not_opened(error.kind())),
     }
 }
 
 /// Judges the journal text of the file, or of the input.
-fn audit<R: Files + AllocGlobal, I: Source, S: Sink>(
+fn audit<R: ReadOnlyFiles + AllocGlobal, I: Source, S: Sink>(
     rt: &R,
     file: Option<&str>,
     input: &mut I,
@@ -212,14 +214,14 @@ fn audit<R: Files + AllocGlobal, I: Source, S: Sink>(
 }
 
 /// Judges the journal text of the file of this path.
-fn audit_file<R: Files + AllocGlobal, S: Sink>(
+fn audit_file<R: ReadOnlyFiles + AllocGlobal, S: Sink>(
     rt: &R,
     path: &str,
     output: &mut S,
 ) -> Result<bool, Fault<JournalCause>>
     ensures { JudgesFile R.File.remaining S.contents S.tries S.interrupts S.fails output.old output.new result }
 {
-    match fs::open(rt, path) {
+    match rt.open_to_read(path) {
         Ok(mut source) => audit_text(rt.alloc(), &mut source, output),
         Err(error) => Err(opening_fault(error.kind())),
     }
@@ -247,40 +249,40 @@ fn not_opened(kind: ErrorKind) -> ThreadsFault
 }
 
 /// Says on standard error why a script wasn't run on threads, if it wasn't. Where even that can't be said, the status is the same.
-fn ran<R: Eprint>(rt: &R, answer: Result<bool, ThreadsFault>) -> Status
+fn ran<C: Eprint>(console: &C, answer: Result<bool, ThreadsFault>) -> Status
     ensures { result ≡ threads_code answer }
 {
     if let Err(fault) = &answer {
-        let _ = eprintln!(rt; "{fault}");
+        let _ = eprintln!(console; "{fault}");
     }
     threads_status(&answer)
 }
 
 /// Says on standard error what went wrong, if anything did. Where even that can't be said, the status is the same.
-fn ended<R: Eprint, C: CauseWords + Drop>(rt: &R, answer: Result<bool, Fault<C>>) -> Status
+fn ended<C: Eprint, W: CauseWords + Drop>(console: &C, answer: Result<bool, Fault<W>>) -> Status
     ensures { result ≡ status_of answer }
 {
     if let Err(fault) = &answer {
-        let _ = eprintln!(rt; "{fault}");
+        let _ = eprintln!(console; "{fault}");
     }
     Status::of(&answer)
 }
 
 /// Says on standard error what went wrong before anything was asked for.
-fn failed<R: Eprint>(rt: &R, fault: Fault<Cause>) -> Status
+fn failed<C: Eprint>(console: &C, fault: Fault<Cause>) -> Status
     ensures { result ≡ fault_status fault }
 {
-    ended(rt, Err(fault))
+    ended(console, Err(fault))
 }
 
 /// The words of the command line can't be read as text.
-fn words_refused<R: Eprint>(rt: &R, kind: ErrorKind) -> Status
+fn words_refused<C: Eprint>(console: &C, kind: ErrorKind) -> Status
     ensures memory { kind ≡ kinds.OutOfMemory → result ≡ status.Memory }
     ensures other { kind ≢ kinds.OutOfMemory → result ≡ status.Refused }
 {
     if kind == ErrorKind::OutOfMemory {
-        return failed(rt, Fault::Memory);
+        return failed(console, Fault::Memory);
     }
-    let _ = eprintln!(rt; "error: the command line is not UTF-8");
+    let _ = eprintln!(console; "error: the command line is not UTF-8");
     Status::Refused
 }

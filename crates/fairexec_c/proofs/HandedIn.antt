@@ -1,21 +1,21 @@
 -- What a delivery leaves of a core as it was, beside the count of its sender.
 use Rattle.std.proofs.Common.{◌≡◌, ◌∙◌, ℕ, ◌+◌, List, Option, ap, subst}
 use Rattle.std.specs.Prelude.{◌==◌, true, false, Some, slice_set}
-use Rattle.rt_ids.specs.declared.names.JobId.{JobId}
-use Rattle.rt_ids.specs.declared.note.Note.{Note}
-use Rattle.rt_ids.specs.declared.order.Answer.{Answer}
-use Rattle.rt_ids.specs.declared.order.Answer.TheVariants as answers
-use Rattle.rt_ids.specs.declared.order.Mode.{Mode}
-use Rattle.rt_ids.specs.declared.order.Order.{Order}
-use Rattle.rt_ids.specs.declared.order.Order.TheVariants.{Job, Create, SetShares, Close, CloseCore, Wake}
-use Rattle.rt_ids.specs.Commands.{job_at}
-use Rattle.rt_ids.specs.Parks.{is_return}
-use Rattle.rt_core.specs.State.{CoreView}
-use Rattle.rt_core.specs.Closing.{HasClosed, ClosesQueue, EndsParksIf}
-use Rattle.rt_core.specs.Deliveries.{Delivers, Enters, Creates, Weighs, counted}
-use Rattle.rt_core.specs.declared.delivery.Delivered.{Delivered}
-use Rattle.rt_core.specs.declared.delivery.Delivered.TheVariants.{Took, Back, Answered}
-use Rattle.rt_hosted.specs.declared.job.HostJob.{HostJob}
+use Rattle.base_words.specs.declared.names.JobId.{JobId}
+use Rattle.base_words.specs.declared.note.Note.{Note}
+use Rattle.base_words.specs.declared.order.Answer.{Answer}
+use Rattle.base_words.specs.declared.order.Answer.TheVariants as answers
+use Rattle.base_words.specs.declared.order.Mode.{Mode}
+use Rattle.base_words.specs.declared.order.Order.{Order}
+use Rattle.base_words.specs.declared.order.Order.TheVariants.{Job, Create, SetShares, Close, CloseCore, Wake}
+use Rattle.base_words.specs.Commands.{job_at}
+use Rattle.base_words.specs.Parks.{is_return}
+use Rattle.core_core.specs.State.{CoreView}
+use Rattle.core_core.specs.Closing.{HasClosed, ClosesQueue, EndsParksIf}
+use Rattle.core_core.specs.Deliveries.{Delivers, Enters, Creates, Weighs, counted}
+use Rattle.core_core.specs.declared.delivery.Delivered.{Delivered}
+use Rattle.core_core.specs.declared.delivery.Delivered.TheVariants.{Took, Back, Answered}
+use Rattle.host_core.specs.declared.job.HostJob.{HostJob}
 use Rattle.fairexec_c.specs.Hosting.{IsHosted}
 use Rattle.fairexec_c.proofs.Kept.{KeepsHost, kept, keeps_same, keeps_then, keeps_ends, keeps_wakes}
 

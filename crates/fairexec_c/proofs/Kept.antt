@@ -1,10 +1,10 @@
 -- What a wake and the end of parks leave of a core as it was: how many cores there are, what was delivered, the room, the job that the host runs, and the open turn.
 use Rattle.std.proofs.Common.{◌≡◌, ◌∙◌, inl, inr, ℕ, Bool, true, false, Option, Some, None, sym, ap, subst}
-use Rattle.rt_ids.specs.declared.names.JobId.{JobId}
-use Rattle.rt_core.specs.State.{CoreView, JobOut}
-use Rattle.rt_core.specs.Closing.{EndsParksIf}
-use Rattle.rt_core.specs.Waking.{KeepsOutWake, KeepsLineWake, EndsPark, WakesJob, Wakes}
-use Rattle.rt_hosted.specs.declared.job.HostJob.{HostJob}
+use Rattle.base_words.specs.declared.names.JobId.{JobId}
+use Rattle.core_core.specs.State.{CoreView, JobOut}
+use Rattle.core_core.specs.Closing.{EndsParksIf}
+use Rattle.core_core.specs.Waking.{KeepsOutWake, KeepsLineWake, EndsPark, WakesJob, Wakes}
+use Rattle.host_core.specs.declared.job.HostJob.{HostJob}
 use Rattle.fairexec_c.specs.Hosting.{IsRunOf}
 
 pub record KeepsHost (old new : CoreView HostJob) : Type 0 where

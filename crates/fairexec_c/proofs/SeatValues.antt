@@ -31,9 +31,9 @@ use Rattle.std_heap.proofs.GlobalToken.{dealloc_token-Testable}
 use mathlib.Core.Bool.{true, ◌&&◌}
 use lib.Dec.{T, lit<}
 use Rattle.std_alloc.proofs.ResultValues.{and_tt}
-use Rattle.rt_loose.proofs.Values.{pair}
+use Rattle.base_sealed.proofs.Values.{pair}
 use Rattle.fairexec_c.specs.Handles.{held}
-use Rattle.rt_hosted_calls.specs.contracts.member.Member as hosted
+use Rattle.host_calls.specs.contracts.member.Member as hosted
 use Rattle.fairexec_c.specs.contracts.seat.Seat as handle
 
 abbrev pub Z : RattleType

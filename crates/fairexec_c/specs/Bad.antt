@@ -1,14 +1,14 @@
 -- Answers that no call may give, each refused by the definition that judges it.
 use Rattle.std.proofs.Common.{refl, arith, ap}
 use Rattle.std.specs.Prelude.{◌≡◌, ℕ, Option, Some, None, Result}
-use Rattle.rt_ids.specs.declared.order.Order.{Order}
-use Rattle.rt_core.specs.State.{CoreView}
-use Rattle.rt_hosted_calls.specs.declared.code.Code.{Code}
-use Rattle.rt_hosted_calls.specs.declared.code.Code.TheVariants as code
-use Rattle.rt_hosted.specs.declared.job.HostJob.{HostJob}
-use Rattle.rt_hosted_calls.specs.declared.house.Config.{Config}
-use Rattle.rt_hosted_calls.specs.declared.member.Member.{Member}
-use Rattle.rt_hosted_calls.specs.declared.names.Name.{Name}
+use Rattle.base_words.specs.declared.order.Order.{Order}
+use Rattle.core_core.specs.State.{CoreView}
+use Rattle.host_calls.specs.declared.code.Code.{Code}
+use Rattle.host_calls.specs.declared.code.Code.TheVariants as code
+use Rattle.host_core.specs.declared.job.HostJob.{HostJob}
+use Rattle.host_calls.specs.declared.house.Config.{Config}
+use Rattle.host_calls.specs.declared.member.Member.{Member}
+use Rattle.host_calls.specs.declared.names.Name.{Name}
 use Rattle.fairexec_c.specs.Handles.{OnCore}
 use Rattle.fairexec_c.specs.Houses.{EndsInto, OpensOn, TakesFrom}
 use Rattle.fairexec_c.specs.Opening.{Opens, OpensCore}

@@ -1,16 +1,16 @@
 -- What a core tells of itself in numbers.
 use Rattle.std.specs.Prelude.{◌≡◌, ℕ, ◌<◌, ◌≤◌, Option, Some, None, is_some}
-use Rattle.rt_ids.specs.declared.stats.QueueStats.{QueueStats}
-use Rattle.rt_ids.specs.Work.{number_if}
-use Rattle.rt_taskqueue.specs.Queues.{queue_count}
-use Rattle.rt_core.specs.State.{CoreView, inside_count}
-use Rattle.rt_core.specs.Figures.{queue_stats}
-use Rattle.rt_hosted_calls.specs.declared.code.Code.{Code}
-use Rattle.rt_hosted_calls.specs.declared.code.Code.TheVariants as code
-use Rattle.rt_hosted_calls.specs.declared.figures.CoreFigures.{CoreFigures}
-use Rattle.rt_hosted_calls.specs.declared.figures.QueueFigures.{QueueFigures}
-use Rattle.rt_hosted_calls.specs.Figures.{AreFiguresOf, closed_number, whole}
-use Rattle.rt_hosted.specs.declared.job.HostJob.{HostJob}
+use Rattle.base_words.specs.declared.stats.QueueStats.{QueueStats}
+use Rattle.base_words.specs.Work.{number_if}
+use Rattle.core_queues.specs.Queues.{queue_count}
+use Rattle.core_core.specs.State.{CoreView, inside_count}
+use Rattle.core_core.specs.Figures.{queue_stats}
+use Rattle.host_calls.specs.declared.code.Code.{Code}
+use Rattle.host_calls.specs.declared.code.Code.TheVariants as code
+use Rattle.host_calls.specs.declared.figures.CoreFigures.{CoreFigures}
+use Rattle.host_calls.specs.declared.figures.QueueFigures.{QueueFigures}
+use Rattle.host_calls.specs.Figures.{AreFiguresOf, closed_number, whole}
+use Rattle.host_core.specs.declared.job.HostJob.{HostJob}
 
 -- these are the numbers of the core
 pub record AreCoreFigures (view : CoreView HostJob) (figures : CoreFigures) : Type 0 where

@@ -1,17 +1,17 @@
 -- A core whose jobs the host runs, and what each call does to it: the core before, what is handed in, the code, and the core after.
 use Rattle.std.specs.Prelude.{◌≡◌, ℕ, ◌+◌, ◌-◌, ◌^◌, ◌<◌, ◌≤◌, false, Option, Some, None, List, [], ◌∷◌}
-use Rattle.rt_ids.specs.declared.names.JobId.{JobId}
-use Rattle.rt_ids.specs.declared.note.Note.{Note}
-use Rattle.rt_ids.specs.declared.order.Order.{Order}
-use Rattle.rt_ids.specs.declared.order.Reason.TheVariants as why
-use Rattle.rt_ids.specs.Limits.{most_queues}
-use Rattle.rt_core.specs.declared.delivery.Delivered.{Delivered}
-use Rattle.rt_core.specs.State.{CoreView, JobOut, delivered_of, inside_count}
-use Rattle.rt_core.specs.Deliveries.{Delivers, Enters, CountsAlone}
-use Rattle.rt_core.specs.Closing.{refusal}
-use Rattle.rt_hosted_calls.specs.declared.code.Code.{Code}
-use Rattle.rt_hosted_calls.specs.declared.code.Code.TheVariants as code
-use Rattle.rt_hosted.specs.declared.job.HostJob.{HostJob}
+use Rattle.base_words.specs.declared.names.JobId.{JobId}
+use Rattle.base_words.specs.declared.note.Note.{Note}
+use Rattle.base_words.specs.declared.order.Order.{Order}
+use Rattle.base_words.specs.declared.order.Reason.TheVariants as why
+use Rattle.base_words.specs.Limits.{most_queues}
+use Rattle.core_core.specs.declared.delivery.Delivered.{Delivered}
+use Rattle.core_core.specs.State.{CoreView, JobOut, delivered_of, inside_count}
+use Rattle.core_core.specs.Deliveries.{Delivers, Enters, CountsAlone}
+use Rattle.core_core.specs.Closing.{refusal}
+use Rattle.host_calls.specs.declared.code.Code.{Code}
+use Rattle.host_calls.specs.declared.code.Code.TheVariants as code
+use Rattle.host_core.specs.declared.job.HostJob.{HostJob}
 
 -- the job that the host runs is the one that is out, and it isn't done
 abbrev pub IsRunOf : Option (JobOut HostJob) → Option HostJob → Type 0

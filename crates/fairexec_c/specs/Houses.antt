@@ -1,14 +1,14 @@
 -- What the calls on a house do.
 use Rattle.std.specs.Prelude.{◌≡◌, ◌≢◌, ◌⊎◌, ℕ, Option, Some, None, Result, Ok, Err}
-use Rattle.rt_hosted_calls.specs.declared.code.Code.{Code}
-use Rattle.rt_hosted_calls.specs.declared.code.Code.TheVariants as code
-use Rattle.rt_hosted_calls.specs.declared.house.Config.{Config}
-use Rattle.rt_hosted_calls.specs.declared.member.Member.{Member}
-use Rattle.rt_hosted_calls.specs.declared.member.Member.TheVariants as member
-use Rattle.rt_hosted_calls.specs.Ending.{EndsNoSeat, EndsSeat}
-use Rattle.rt_hosted_calls.specs.Houses.{IsFit, OpensKept, TakesNoSeat, TakesSeat}
-use Rattle.rt_hosted_calls.specs.Codes.{number_of}
-use Rattle.rt_hosted_calls.specs.Members.{IsHouse}
+use Rattle.host_calls.specs.declared.code.Code.{Code}
+use Rattle.host_calls.specs.declared.code.Code.TheVariants as code
+use Rattle.host_calls.specs.declared.house.Config.{Config}
+use Rattle.host_calls.specs.declared.member.Member.{Member}
+use Rattle.host_calls.specs.declared.member.Member.TheVariants as member
+use Rattle.host_calls.specs.Ending.{EndsNoSeat, EndsSeat}
+use Rattle.host_calls.specs.Houses.{IsFit, OpensKept, TakesNoSeat, TakesSeat}
+use Rattle.host_calls.specs.Codes.{number_of}
+use Rattle.host_calls.specs.Members.{IsHouse}
 use Rattle.fairexec_c.specs.Handles.{Answers}
 
 -- an empty handle gets a house, or stays empty

@@ -1,10 +1,10 @@
 -- How a handle gets its core, and how it loses it.
 use Rattle.std.specs.Prelude.{◌≡◌, ◌⊎◌, ℕ, ◌+◌, ◌*◌, ◌/◌, ◌<◌, ◌≤◌, Option, Some, None}
-use Rattle.rt_core.specs.State.{CoreView, opened}
-use Rattle.rt_hosted_calls.specs.declared.code.Code.{Code}
-use Rattle.rt_hosted_calls.specs.declared.code.Code.TheVariants as code
-use Rattle.rt_hosted.specs.declared.job.HostJob.{HostJob}
-use Rattle.rt_hosted_calls.specs.Codes.{number_of}
+use Rattle.core_core.specs.State.{CoreView, opened}
+use Rattle.host_calls.specs.declared.code.Code.{Code}
+use Rattle.host_calls.specs.declared.code.Code.TheVariants as code
+use Rattle.host_core.specs.declared.job.HostJob.{HostJob}
+use Rattle.host_calls.specs.Codes.{number_of}
 use Rattle.fairexec_c.specs.Handles.{Answers}
 
 -- half of the jobs, rounded up: the capacity of each of the two links for which a core keeps room

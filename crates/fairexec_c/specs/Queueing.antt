@@ -1,17 +1,17 @@
 -- What the calls on queues and their closing do: the core before, what is handed in, the code, and the core after.
 use Rattle.std.specs.Prelude.{◌≡◌, ◌⊎◌, ◌==◌, if◌then◌else◌, ℕ, ◌-◌, ◌^◌, ◌<◌, ◌≤◌, true, false, Option, Some, None}
-use Rattle.rt_ids.specs.declared.order.Mode.{Mode}
-use Rattle.rt_ids.specs.Limits.{most_queues}
-use Rattle.rt_ids.specs.Closing.{closes}
-use Rattle.rt_ids.specs.Parks.{is_return}
-use Rattle.rt_taskqueue.specs.Queues.{queue_count, mode_of}
-use Rattle.rt_core.specs.State.{CoreView, delivered_of, inside_count}
-use Rattle.rt_core.specs.Deliveries.{Creates, Weighs, counted}
-use Rattle.rt_core.specs.Closing.{HasClosed, EndsParksIf}
-use Rattle.rt_hosted_calls.specs.declared.code.Code.{Code}
-use Rattle.rt_hosted_calls.specs.declared.code.Code.TheVariants as code
-use Rattle.rt_hosted.specs.declared.job.HostJob.{HostJob}
-use Rattle.rt_hosted_calls.specs.Orders.{AreShares}
+use Rattle.base_words.specs.declared.order.Mode.{Mode}
+use Rattle.base_words.specs.Limits.{most_queues}
+use Rattle.base_words.specs.Closing.{closes}
+use Rattle.base_words.specs.Parks.{is_return}
+use Rattle.core_queues.specs.Queues.{queue_count, mode_of}
+use Rattle.core_core.specs.State.{CoreView, delivered_of, inside_count}
+use Rattle.core_core.specs.Deliveries.{Creates, Weighs, counted}
+use Rattle.core_core.specs.Closing.{HasClosed, EndsParksIf}
+use Rattle.host_calls.specs.declared.code.Code.{Code}
+use Rattle.host_calls.specs.declared.code.Code.TheVariants as code
+use Rattle.host_core.specs.declared.job.HostJob.{HostJob}
+use Rattle.host_calls.specs.Orders.{AreShares}
 use Rattle.fairexec_c.specs.Hosting.{TakesOrders, RefusesOrder, next_name}
 
 -- a queue is made under the next number, which is told; a refusal is the first of these, and then nothing is told, and nothing changes

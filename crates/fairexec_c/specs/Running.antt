@@ -1,24 +1,24 @@
 -- How the host runs jobs: the core tells the next one, and settles its run.
 use Rattle.std.specs.Prelude.{◌≡◌, ◌==◌, if◌then◌else◌, ℕ, Option, Some, None, Result, Ok, Err, List}
-use Rattle.rt_ids.specs.declared.note.Note.{Note}
-use Rattle.rt_ids.specs.declared.order.Order.TheVariants as orders
-use Rattle.rt_jobs.specs.declared.job.Step.{Step}
-use Rattle.rt_jobs.specs.declared.job.Step.TheVariants.{Done, Yield, Park}
-use Rattle.rt_jobs.specs.Steps.{AfterPoll, IfUndone}
-use Rattle.rt_core.specs.declared.turn.Turn.{Turn}
-use Rattle.rt_core.specs.declared.turn.Turn.TheVariants.{Start, Resume, Back, Idle}
-use Rattle.rt_core.specs.declared.turn.PickError.{PickError}
-use Rattle.rt_core.specs.declared.turn.PickError.TheVariants.{Busy, Spent}
-use Rattle.rt_core.specs.declared.turn.Settled.{Settled}
-use Rattle.rt_core.specs.declared.turn.Settled.TheVariants.{Yielded, Parked, Stayed, Finished}
-use Rattle.rt_core.specs.State.{CoreView}
-use Rattle.rt_core.specs.Answers.{IsTaskOut}
-use Rattle.rt_core.specs.Turns.{Picks}
-use Rattle.rt_core.specs.Settling.{SettlesOut}
-use Rattle.rt_hosted_calls.specs.declared.code.Code.{Code}
-use Rattle.rt_hosted_calls.specs.declared.code.Code.TheVariants as code
-use Rattle.rt_hosted.specs.declared.job.HostJob.{HostJob}
-use Rattle.rt_hosted.specs.Jobs.{host_meaning}
+use Rattle.base_words.specs.declared.note.Note.{Note}
+use Rattle.base_words.specs.declared.order.Order.TheVariants as orders
+use Rattle.base_jobs.specs.declared.job.Step.{Step}
+use Rattle.base_jobs.specs.declared.job.Step.TheVariants.{Done, Yield, Park}
+use Rattle.base_jobs.specs.Steps.{AfterPoll, IfUndone}
+use Rattle.core_core.specs.declared.turn.Turn.{Turn}
+use Rattle.core_core.specs.declared.turn.Turn.TheVariants.{Start, Resume, Back, Idle}
+use Rattle.core_core.specs.declared.turn.PickError.{PickError}
+use Rattle.core_core.specs.declared.turn.PickError.TheVariants.{Busy, Spent}
+use Rattle.core_core.specs.declared.turn.Settled.{Settled}
+use Rattle.core_core.specs.declared.turn.Settled.TheVariants.{Yielded, Parked, Stayed, Finished}
+use Rattle.core_core.specs.State.{CoreView}
+use Rattle.core_core.specs.Answers.{IsTaskOut}
+use Rattle.core_core.specs.Turns.{Picks}
+use Rattle.core_core.specs.Settling.{SettlesOut}
+use Rattle.host_calls.specs.declared.code.Code.{Code}
+use Rattle.host_calls.specs.declared.code.Code.TheVariants as code
+use Rattle.host_core.specs.declared.job.HostJob.{HostJob}
+use Rattle.host_core.specs.Jobs.{host_meaning}
 
 -- the code of a pick
 abbrev pub code_of_turn : Result (Turn HostJob) PickError → Code

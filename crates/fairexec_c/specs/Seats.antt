@@ -1,10 +1,10 @@
 -- What the calls on a seat of a house do.
 use Rattle.std.specs.Prelude.{◌≡◌, ℕ, Option, Some, None, Result}
-use Rattle.rt_ids.specs.declared.order.Order.{Order}
-use Rattle.rt_hosted_calls.specs.declared.code.Code.{Code}
-use Rattle.rt_hosted_calls.specs.declared.member.Member.{Member}
-use Rattle.rt_hosted_calls.specs.declared.names.Name.{Name}
-use Rattle.rt_hosted_calls.specs.Submissions.{SendsTold}
+use Rattle.base_words.specs.declared.order.Order.{Order}
+use Rattle.host_calls.specs.declared.code.Code.{Code}
+use Rattle.host_calls.specs.declared.member.Member.{Member}
+use Rattle.host_calls.specs.declared.names.Name.{Name}
+use Rattle.host_calls.specs.Submissions.{SendsTold}
 use Rattle.fairexec_c.specs.Handles.{OnCore}
 
 -- an actor submits an order, if it could be made; with an empty handle what the call writes to stays

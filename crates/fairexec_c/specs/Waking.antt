@@ -1,12 +1,12 @@
 -- How the host wakes a job by its number: the core before, the number, the code, and the core after.
 use Rattle.std.specs.Prelude.{◌≡◌, ℕ, ◌-◌, ◌^◌, ◌<◌, ◌≤◌, true, false}
-use Rattle.rt_ids.specs.Commands.{job_at}
-use Rattle.rt_core.specs.State.{CoreView, delivered_of, inside_count}
-use Rattle.rt_core.specs.Deliveries.{counted}
-use Rattle.rt_core.specs.Waking.{Wakes}
-use Rattle.rt_hosted_calls.specs.declared.code.Code.{Code}
-use Rattle.rt_hosted_calls.specs.declared.code.Code.TheVariants as code
-use Rattle.rt_hosted.specs.declared.job.HostJob.{HostJob}
+use Rattle.base_words.specs.Commands.{job_at}
+use Rattle.core_core.specs.State.{CoreView, delivered_of, inside_count}
+use Rattle.core_core.specs.Deliveries.{counted}
+use Rattle.core_core.specs.Waking.{Wakes}
+use Rattle.host_calls.specs.declared.code.Code.{Code}
+use Rattle.host_calls.specs.declared.code.Code.TheVariants as code
+use Rattle.host_core.specs.declared.job.HostJob.{HostJob}
 use Rattle.fairexec_c.specs.Hosting.{TakesOrders, next_name}
 
 -- a job's number is told as it enters; else what stood there stays

@@ -3,11 +3,11 @@
 ghost use Rattle.fairexec_c.specs.Figures.{TellsCore, TellsQueue, IsStatsOf};
 
 use crate::hosted::Hosted;
-use rt_hosted_calls::Code;
-use rt_hosted_calls::figures::{
+use base_words::QueueStats;
+use host_calls::Code;
+use host_calls::figures::{
     CORE_SIZE, CoreFigures, QUEUE_SIZE, QueueFigures, low_and_high, number_of_mode, queue_figures,
 };
-use rt_ids::QueueStats;
 
 impl Hosted {
     /// Tells the counts of the core.

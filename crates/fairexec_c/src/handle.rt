@@ -2,11 +2,11 @@
 
 ghost use Rattle.std.specs.Prelude.{◌≡◌, Option, Some, None};
 ghost use Rattle.fairexec_c.specs.Handles.{inside};
-ghost use Rattle.rt_hosted.specs.declared.job.HostJob.{HostJob};
-ghost use Rattle.rt_core.specs.State.{CoreView};
+ghost use Rattle.host_core.specs.declared.job.HostJob.{HostJob};
+ghost use Rattle.core_core.specs.State.{CoreView};
 
 use crate::hosted::Hosted;
-use rt_loose::Loose;
+use base_sealed::Loose;
 use std::alloc::Global;
 use std::marker::{Model, Send};
 
@@ -21,9 +21,9 @@ pub struct Handle {
 
 impl Model for Handle {
     ghost use Rattle.std.specs.Prelude.{Option};
-    ghost use Rattle.rt_core.specs.State.{CoreView};
+    ghost use Rattle.core_core.specs.State.{CoreView};
     ghost use Rattle.fairexec_c.specs.Handles.{held};
-    ghost use Rattle.rt_hosted.specs.declared.job.HostJob.{HostJob};
+    ghost use Rattle.host_core.specs.declared.job.HostJob.{HostJob};
     ghost use Rattle.fairexec_c.specs.contracts.hosted.Hosted.{the_row};
 
     ghost also_owns = { λ handle. held the_row handle.alloc handle.at handle.value };

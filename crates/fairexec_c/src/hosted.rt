@@ -1,21 +1,21 @@
 //! One core, and the job of it that the host runs.
 
 ghost use Rattle.std.specs.Prelude.{◌≡◌, ℕ, ◌+◌, ◌-◌, ◌*◌, ◌^◌, ◌<◌, Some, None, IfOk, IfErr, is_some, ◌≤◌};
-ghost use Rattle.rt_core.specs.State.{delivered_of, inside_count, opened};
-ghost use Rattle.rt_ids.specs.Work.{number_if};
-ghost use Rattle.rt_jobs.specs.Ready.{HasReadyJob};
+ghost use Rattle.core_core.specs.State.{delivered_of, inside_count, opened};
+ghost use Rattle.base_words.specs.Work.{number_if};
+ghost use Rattle.base_jobs.specs.Ready.{HasReadyJob};
 ghost use Rattle.fairexec_c.specs.Hosting.{HandsIn};
-ghost use Rattle.rt_hosted.specs.Jobs.{host_meaning};
+ghost use Rattle.host_core.specs.Jobs.{host_meaning};
 ghost use Rattle.fairexec_c.specs.Opening.{OpensCore, half_room};
-ghost use Rattle.rt_hosted_calls.specs.declared.code.Code.TheVariants as code;
+ghost use Rattle.host_calls.specs.declared.code.Code.TheVariants as code;
 ghost use Rattle.fairexec_c.specs.Running.{Nexts, SettlesStep, step_of};
 
-use rt_core::{Core, Delivered, PickError, Settled, Turn};
-use rt_hosted::HostJob;
-use rt_hosted::word::poll_told;
-use rt_hosted_calls::Code;
-use rt_ids::{ActorNo, CoreNo, Envelope, JobId, Order};
-use rt_jobs::Step;
+use base_jobs::Step;
+use base_words::{ActorNo, CoreNo, Envelope, JobId, Order};
+use core_core::{Core, Delivered, PickError, Settled, Turn};
+use host_calls::Code;
+use host_core::HostJob;
+use host_core::word::poll_told;
 use std::alloc::{AllocError, Global};
 use std::marker::Model;
 
@@ -32,8 +32,8 @@ pub struct Hosted {
 }
 
 impl Model for Hosted {
-    ghost use Rattle.rt_core.specs.State.{CoreView};
-    ghost use Rattle.rt_hosted.specs.declared.job.HostJob.{HostJob};
+    ghost use Rattle.core_core.specs.State.{CoreView};
+    ghost use Rattle.host_core.specs.declared.job.HostJob.{HostJob};
     ghost use Rattle.fairexec_c.specs.Hosting.{IsHosted};
 
     ghost Value = { CoreView HostJob };

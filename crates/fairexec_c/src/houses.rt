@@ -1,15 +1,15 @@
 //! The calls on a house.
 
 ghost use Rattle.std.specs.Prelude.{◌≡◌, None};
-ghost use Rattle.rt_hosted_calls.specs.Verdicts.{AuditsTold, ReadsTold};
+ghost use Rattle.host_calls.specs.Verdicts.{AuditsTold, ReadsTold};
 ghost use Rattle.fairexec_c.specs.Handles.{Frees, OnCore};
 ghost use Rattle.fairexec_c.specs.Houses.{EndsIn, EndsInto, OpensHouse, OpensOn, TakesFrom, TakesInto};
-ghost use Rattle.rt_hosted_calls.specs.Members.{IsHouse};
+ghost use Rattle.host_calls.specs.Members.{IsHouse};
 
 use crate::seat::{Seat, put, take};
-use rt_hosted_calls::house::{Config, House};
-use rt_hosted_calls::verdicts::VerdictTold;
-use rt_hosted_calls::{Code, Member, number};
+use host_calls::house::{Config, House};
+use host_calls::verdicts::VerdictTold;
+use host_calls::{Code, Member, number};
 use std::alloc::Global;
 
 /// Opens a house.

@@ -9,7 +9,7 @@ ghost use Rattle.fairexec_c.specs.Handles.{Frees, OnCore};
 ghost use Rattle.fairexec_c.specs.Hosting.{Submits};
 ghost use Rattle.fairexec_c.specs.Opening.{Opens, OpensCore};
 ghost use Rattle.fairexec_c.specs.Queueing.{MakesQueue, Reweighs, ClosesLine, ClosesAll};
-ghost use Rattle.rt_hosted_calls.specs.Orders.{mode_of_number};
+ghost use Rattle.host_calls.specs.Orders.{mode_of_number};
 ghost use Rattle.fairexec_c.specs.Running.{Nexts, SettlesStep, step_of};
 ghost use Rattle.fairexec_c.specs.Waking.{TellsNumber, WakesNumber};
 
@@ -24,8 +24,8 @@ pub mod sends;
 
 use crate::handle::{Handle, put, take};
 use crate::hosted::open_for;
-use rt_hosted_calls::figures::{CoreFigures, QueueFigures};
-use rt_hosted_calls::{Code, number};
+use host_calls::figures::{CoreFigures, QueueFigures};
+use host_calls::{Code, number};
 use std::alloc::Global;
 
 /// The version of the interface, `FX_VERSION` of the header.

@@ -2,17 +2,16 @@
 
 ghost use Rattle.fairexec_c.specs.Hosting.{Submits};
 ghost use Rattle.fairexec_c.specs.Queueing.{MakesQueue, Reweighs, ClosesLine, ClosesAll};
-ghost use Rattle.rt_hosted_calls.specs.Orders.{mode_of_number};
+ghost use Rattle.host_calls.specs.Orders.{mode_of_number};
 ghost use Rattle.fairexec_c.specs.Waking.{TellsNumber, WakesNumber};
 
 use crate::hosted::Hosted;
-use rt_core::Delivered;
-use rt_hosted::HostJob;
-use rt_hosted_calls::Code;
-use rt_hosted_calls::orders::mode_numbered;
-use rt_ids::{ActorNo, Answer, Order, QueueNo, Reason};
-use rt_shares::Shares;
-use rt_taskqueue::CreateError;
+use base_words::{ActorNo, Answer, Order, QueueNo, Reason, Shares};
+use core_core::Delivered;
+use core_queues::CreateError;
+use host_calls::Code;
+use host_calls::orders::mode_numbered;
+use host_core::HostJob;
 
 impl Hosted {
     /// Hands a job to a queue.

@@ -2,10 +2,10 @@
 
 ghost use Rattle.std.specs.Prelude.{◌≡◌, Option, Some, None};
 ghost use Rattle.fairexec_c.specs.Handles.{inside};
-ghost use Rattle.rt_hosted_calls.specs.declared.member.Member.{Member};
+ghost use Rattle.host_calls.specs.declared.member.Member.{Member};
 
-use rt_hosted_calls::Member;
-use rt_loose::Loose;
+use base_sealed::Loose;
+use host_calls::Member;
 use std::alloc::Global;
 use std::marker::{Model, Send};
 
@@ -21,8 +21,8 @@ pub struct Seat {
 impl Model for Seat {
     ghost use Rattle.std.specs.Prelude.{Option};
     ghost use Rattle.fairexec_c.specs.Handles.{held};
-    ghost use Rattle.rt_hosted_calls.specs.declared.member.Member.{Member};
-    ghost use Rattle.rt_hosted_calls.specs.contracts.member.Member.{the_row};
+    ghost use Rattle.host_calls.specs.declared.member.Member.{Member};
+    ghost use Rattle.host_calls.specs.contracts.member.Member.{the_row};
 
     ghost also_owns = { λ seat. held the_row seat.alloc seat.at seat.value };
 }

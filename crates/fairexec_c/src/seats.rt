@@ -1,22 +1,23 @@
 //! The calls on an actor of a house.
 
 ghost use Rattle.std.specs.Prelude.{◌≡◌, None};
-ghost use Rattle.rt_hosted_calls.specs.Links.{ClosesTold, DeliversTold, IsTold, ShutsTold};
-ghost use Rattle.rt_hosted_calls.specs.Members as members;
-ghost use Rattle.rt_hosted_calls.specs.Orders.{mode_of_number};
-ghost use Rattle.rt_hosted_calls.specs.Passing.{PassesTold};
-ghost use Rattle.rt_hosted_calls.specs.Stats.{SeatTells, SeatTellsQueue};
-ghost use Rattle.rt_hosted_calls.specs.Submissions.{CollectsTold, ShowsTold};
-ghost use Rattle.rt_hosted_calls.specs.Tickets.{DetachesTold, RedeemsTold};
-ghost use Rattle.rt_hosted_calls.specs.Turns.{NextsTold, SettlesTold, step_of};
+ghost use Rattle.host_calls.specs.Links.{ClosesTold, DeliversTold, IsTold, ShutsTold};
+ghost use Rattle.host_calls.specs.Members as members;
+ghost use Rattle.host_calls.specs.Notes.{CopiesTold, ForgetsTold, NotesTold};
+ghost use Rattle.host_calls.specs.Orders.{mode_of_number};
+ghost use Rattle.host_calls.specs.Passing.{PassesTold};
+ghost use Rattle.host_calls.specs.Stats.{SeatTells, SeatTellsQueue};
+ghost use Rattle.host_calls.specs.Submissions.{CollectsTold, ShowsTold};
+ghost use Rattle.host_calls.specs.Tickets.{DetachesTold, RedeemsTold};
+ghost use Rattle.host_calls.specs.Turns.{NextsTold, SettlesTold, StepsTold, step_of};
 ghost use Rattle.fairexec_c.specs.Handles.{OnCore};
 
 use crate::seat::{Seat, put, take};
-use rt_hosted_calls::figures::{CoreFigures, QueueFigures};
-use rt_hosted_calls::names::Name;
-use rt_hosted_calls::outcomes::OutcomeTold;
-use rt_hosted_calls::turns::TurnTold;
-use rt_hosted_calls::{Code, number};
+use host_calls::figures::{CoreFigures, QueueFigures};
+use host_calls::names::Name;
+use host_calls::outcomes::OutcomeTold;
+use host_calls::turns::TurnTold;
+use host_calls::{Code, number};
 use std::alloc::Global;
 
 /// Tells which job to run now.
@@ -50,6 +51,28 @@ pub extern "C" fn fx_seat_settle(
         return number(Code::Empty);
     };
     let code = member.settle(step, answer, spent);
+    put(seat, member);
+    number(code)
+}
+
+/// Settles the run of the job that is out, and tells which job to run now.
+#[unsafe(no_mangle)]
+pub extern "C" fn fx_seat_step(
+    alloc: Global,
+    seat: &mut Seat,
+    step: u32,
+    answer: u64,
+    spent: u64,
+    turn: &mut TurnTold,
+) -> u32
+    ensures seat { OnCore seat.old.value seat.new.value result (λ old told new.
+        members.OnCore old (turn.new ≡ turn.old) told new (λ before code after. StepsTold before (step_of step answer) spent turn.old code turn.new after)) }
+    ensures empty { seat.old.value ≡ None → turn.new ≡ turn.old }
+{
+    let Some(mut member) = take(alloc, seat) else {
+        return number(Code::Empty);
+    };
+    let code = member.step(step, answer, spent, turn);
     put(seat, member);
     number(code)
 }
@@ -171,6 +194,62 @@ pub extern "C" fn fx_seat_pass_on(
         return number(Code::Empty);
     };
     let code = member.pass_on(alloc, bytes, count);
+    put(seat, member);
+    number(code)
+}
+
+/// Tells how many notes the journal keeps, and how many more it may.
+#[unsafe(no_mangle)]
+pub extern "C" fn fx_seat_notes(
+    alloc: Global,
+    seat: &mut Seat,
+    kept: &mut u64,
+    free_notes: &mut u64,
+) -> u32
+    ensures seat { OnCore seat.old.value seat.new.value result (λ old told new. (new ≡ old) × NotesTold old kept.old free_notes.old told kept.new free_notes.new) }
+    ensures empty { seat.old.value ≡ None → (kept.new ≡ kept.old) × (free_notes.new ≡ free_notes.old) }
+{
+    let Some(member) = take(alloc, seat) else {
+        return number(Code::Empty);
+    };
+    let code = member.notes(kept, free_notes);
+    put(seat, member);
+    number(code)
+}
+
+/// Copies the text of some of the notes that the journal keeps, and tells how many bytes it has, and of how many notes it is.
+#[unsafe(no_mangle)]
+pub extern "C" fn fx_seat_copy(
+    alloc: Global,
+    seat: &mut Seat,
+    from: u64,
+    most: u64,
+    bytes: &mut [u8],
+    count: &mut u64,
+    notes: &mut u64,
+) -> u32
+    ensures seat { OnCore seat.old.value seat.new.value result (λ old told new.
+        (new ≡ old) × CopiesTold old from most bytes.old count.old notes.old told bytes.new count.new notes.new) }
+    ensures empty { seat.old.value ≡ None → (bytes.new ≡ bytes.old) × (count.new ≡ count.old) × (notes.new ≡ notes.old) }
+{
+    let Some(member) = take(alloc, seat) else {
+        return number(Code::Empty);
+    };
+    let code = member.copy(alloc, from, most, bytes, count, notes);
+    put(seat, member);
+    number(code)
+}
+
+/// Forgets the notes that the journal keeps, and tells how many they were.
+#[unsafe(no_mangle)]
+pub extern "C" fn fx_seat_forget(alloc: Global, seat: &mut Seat, count: &mut u64) -> u32
+    ensures seat { OnCore seat.old.value seat.new.value result (λ old told new. ForgetsTold old count.old told count.new new) }
+    ensures empty { seat.old.value ≡ None → count.new ≡ count.old }
+{
+    let Some(mut member) = take(alloc, seat) else {
+        return number(Code::Empty);
+    };
+    let code = member.forget(count);
     put(seat, member);
     number(code)
 }

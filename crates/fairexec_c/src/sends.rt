@@ -1,18 +1,18 @@
 //! The orders that an actor of a house submits.
 
 ghost use Rattle.std.specs.Prelude.{◌≡◌, ℕ, None, Result};
-ghost use Rattle.rt_ids.specs.declared.order.Order.{Order};
-ghost use Rattle.rt_hosted_calls.specs.declared.code.Code.{Code};
-ghost use Rattle.rt_hosted_calls.specs.Orders.{IsCloseOrder, IsCoreOrder, IsCreateOrder, IsJobOrder, IsSharesOrder, IsWakeOrder, mode_of_number};
+ghost use Rattle.base_words.specs.declared.order.Order.{Order};
+ghost use Rattle.host_calls.specs.declared.code.Code.{Code};
+ghost use Rattle.host_calls.specs.Orders.{IsCloseOrder, IsCoreOrder, IsCreateOrder, IsJobOrder, IsSharesOrder, IsWakeOrder, mode_of_number};
 ghost use Rattle.fairexec_c.specs.Seats.{Submits};
 
 use crate::seat::{Seat, put, take};
-use rt_hosted_calls::names::Name;
-use rt_hosted_calls::orders::{
+use base_words::Order;
+use host_calls::names::Name;
+use host_calls::orders::{
     close_order, core_order, create_order, job_order, shares_order, wake_order,
 };
-use rt_hosted_calls::{Code, number};
-use rt_ids::Order;
+use host_calls::{Code, number};
 use std::alloc::Global;
 
 /// Submits an order to a core, if it could be made.

@@ -2,17 +2,17 @@
 use Rattle.std.proofs.Common.{◌≡◌, Result, Ok, Err, OnOk, OnErr, ℕ, List, [], Option, Some, None, true, refl, append-nil, ap, ◌∙◌, ◌++◌}
 use Rattle.std.specs.Option.{IfSome}
 use Rattle.std.specs.Io.KnownBytes.{Appends}
-use Rattle.rt_ids.specs.Assembly.{Assembly}
-use Rattle.rt_ids.specs.Sound.{IsSound}
-use Rattle.rt_ids.specs.Spelled.{IsSpelled}
-use Rattle.rt_audit.specs.declared.judge.Verdict.{Verdict}
-use Rattle.rt_audit.specs.declared.judge.Verdict.TheVariants.{Sound, Fault}
-use Rattle.rt_audit.specs.Verdicts.{IsFirstBroken, IsVerdict, rule_named}
+use Rattle.base_words.specs.Assembly.{Assembly}
+use Rattle.base_words.specs.Sound.{IsSound}
+use Rattle.base_words.specs.Spelled.{IsSpelled}
+use Rattle.judge_audit.specs.declared.judge.Verdict.{Verdict}
+use Rattle.judge_audit.specs.declared.judge.Verdict.TheVariants.{Sound, Fault}
+use Rattle.judge_audit.specs.Verdicts.{IsFirstBroken, IsVerdict, rule_named}
 use Rattle.fairexec_report.specs.Audits.{JudgesText, TellsSound}
-use Rattle.rt_journal_write.specs.Pages.{AppendsFront}
+use Rattle.text_journal.specs.Pages.{AppendsFront}
 use Rattle.fairexec_report.specs.VerdictTexts.{is_sound}
-use Rattle.rt_journal_write.specs.Texts.{journal_text}
-pub use Rattle.rt_journal_write.proofs.PageLemmas.{front_of_count}
+use Rattle.text_journal.specs.Texts.{journal_text}
+pub use Rattle.text_journal.proofs.PageLemmas.{front_of_count}
 
 pub OnOk-any : {T E P : Type 0} (result : Result T E) → P → OnOk result P
 OnOk-any (Ok value) p = p

@@ -1,12 +1,12 @@
 -- What is told of a run has one text, and no part of it may be missing or too much.
 use Rattle.std.proofs.Common.{◌≡◌, ◌≤◌, ℕ, zero, suc, List, ◌++◌, Bool, true, false, length, sym, ap, ap₂, ◌∙◌, arith, codes, length-append}
-use Rattle.rt_ids.specs.Assembly.{Assembly, journal_of}
-use Rattle.rt_ids.specs.Journal.{Journal}
-use Rattle.rt_audit.specs.declared.judge.Verdict.{Verdict}
-use Rattle.rt_audit.proofs.OneVerdict.{one_verdict}
-use Rattle.rt_journal_write.specs.Texts.{journal_text}
-use Rattle.rt_journal_write.proofs.LineLemmas.{journal_some}
-use Rattle.rt_stats.specs.Stats.{core_stats}
+use Rattle.base_words.specs.Assembly.{Assembly, journal_of}
+use Rattle.base_words.specs.Journal.{Journal}
+use Rattle.judge_audit.specs.declared.judge.Verdict.{Verdict}
+use Rattle.judge_audit.proofs.OneVerdict.{one_verdict}
+use Rattle.text_journal.specs.Texts.{journal_text}
+use Rattle.text_journal.proofs.LineLemmas.{journal_some}
+use Rattle.note_stats.specs.Stats.{core_stats}
 use Rattle.fairexec_report.specs.Outcomes.{outcomes_text}
 use Rattle.fairexec_report.specs.Reports.{WrongReportsAreRefused}
 use Rattle.fairexec_report.specs.StatLines.{core_line}

@@ -2,9 +2,9 @@
 use Rattle.std.proofs.Common.{◌≡◌, ℕ, List, [], ◌++◌, Bool, Option, sym, ap, ap₂, ◌∙◌, append_assoc}
 use Rattle.std.specs.Io.KnownBytes.{Appends}
 use Rattle.std.proofs.KnownBytes.{Appends-trans}
-use Rattle.rt_ids.specs.Assembly.{Assembly}
-use Rattle.rt_audit.specs.declared.judge.Verdict.{Verdict}
-use Rattle.rt_journal_write.specs.Pages.{AppendsFront}
+use Rattle.base_words.specs.Assembly.{Assembly}
+use Rattle.judge_audit.specs.declared.judge.Verdict.{Verdict}
+use Rattle.text_journal.specs.Pages.{AppendsFront}
 use Rattle.fairexec_report.specs.Audits.{IsJudged}
 use Rattle.fairexec_report.specs.Outcomes.{outcomes_text}
 use Rattle.fairexec_report.specs.StatTexts.{IsStatsIf}

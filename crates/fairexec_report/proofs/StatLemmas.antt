@@ -1,10 +1,10 @@
 -- The text of statistics, one queue or core after another.
 use Rattle.std.proofs.Common.{◌≡◌, ℕ, zero, suc, ◌+◌, Bool, true, false, List, [], ◌++◌, refl, sym, ap, ◌∙◌, subst, append_assoc, append-nil, arith}
 use Rattle.std.specs.Prelude.{◌↔◌, IsTrue}
-use Rattle.rt_ids.specs.Assembly.{Assembly, journal_of}
-use Rattle.rt_ids.specs.Closing.{IsDrained}
-use Rattle.rt_ids.specs.Journal.{Journal}
-use Rattle.rt_stats.specs.Stats.{core_stats, queue_stats}
+use Rattle.base_words.specs.Assembly.{Assembly, journal_of}
+use Rattle.base_words.specs.Closing.{IsDrained}
+use Rattle.base_words.specs.Journal.{Journal}
+use Rattle.note_stats.specs.Stats.{core_stats, queue_stats}
 use Rattle.fairexec_report.specs.StatTexts.{core_text, queue_text, queues_below, IsCoreText, IsTextBelow, IsStatsText}
 
 next : (number : ℕ) → suc number ≡ number + 1

@@ -1,8 +1,8 @@
 -- The lines of outcomes, one submission and one core after another.
 use Rattle.std.proofs.Common.{◌≡◌, ℕ, suc, ◌+◌, List, [], ◌∷◌, ◌++◌, refl, sym, ap, ◌∙◌, append_assoc, append-nil, arith}
-use Rattle.rt_ids.specs.declared.note.Note.{Note}
-use Rattle.rt_ids.specs.Assembly.{Assembly, journal_of}
-use Rattle.rt_ids.specs.Journal.{Journal}
+use Rattle.base_words.specs.declared.note.Note.{Note}
+use Rattle.base_words.specs.Assembly.{Assembly, journal_of}
+use Rattle.base_words.specs.Journal.{Journal}
 use Rattle.fairexec_report.specs.Outcomes.{name_sent, line_told, lines_told, lines_below}
 
 next : (number : ℕ) → suc number ≡ number + 1

@@ -1,7 +1,7 @@
 -- Wrong texts of statistics and of an audit are refused.
 use Rattle.std.proofs.Common.{◌≡◌, ◌≤◌, ℕ, ◌+◌, List, [], None, Some, true, length, ap, arith, codes}
-use Rattle.rt_ids.specs.Journal.{Journal}
-use Rattle.rt_journal_write.proofs.LineLemmas.{journal_some}
+use Rattle.base_words.specs.Journal.{Journal}
+use Rattle.text_journal.proofs.LineLemmas.{journal_some}
 use Rattle.fairexec_report.specs.BadTexts.{TextsAreRefused}
 use Rattle.fairexec_report.specs.StatTexts.{IsCoreText, IsStatsText, IsTextBelow}
 use Rattle.fairexec_report.proofs.ReportLaws.{core_some, stats_of_some}

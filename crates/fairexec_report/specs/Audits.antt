@@ -2,14 +2,14 @@
 use Rattle.std.specs.Prelude.{◌≡◌, ◌↔◌, ℕ, Bool, List, Option}
 use Rattle.std.specs.Option.{IfSome}
 use Rattle.std.specs.Io.KnownBytes.{Appends}
-use Rattle.rt_ids.specs.Assembly.{Assembly}
-use Rattle.rt_ids.specs.Sound.{IsSound}
-use Rattle.rt_ids.specs.Spelled.{IsSpelled}
-use Rattle.rt_audit.specs.declared.judge.Verdict.{Verdict}
-use Rattle.rt_audit.specs.declared.judge.Verdict.TheVariants.{Sound}
-use Rattle.rt_audit.specs.Verdicts.{IsFirstBroken, IsVerdict, rule_named}
-use Rattle.rt_journal_write.specs.Texts.{journal_text}
-use Rattle.rt_journal_write.specs.Pages.{AppendsFront}
+use Rattle.base_words.specs.Assembly.{Assembly}
+use Rattle.base_words.specs.Sound.{IsSound}
+use Rattle.base_words.specs.Spelled.{IsSpelled}
+use Rattle.judge_audit.specs.declared.judge.Verdict.{Verdict}
+use Rattle.judge_audit.specs.declared.judge.Verdict.TheVariants.{Sound}
+use Rattle.judge_audit.specs.Verdicts.{IsFirstBroken, IsVerdict, rule_named}
+use Rattle.text_journal.specs.Texts.{journal_text}
+use Rattle.text_journal.specs.Pages.{AppendsFront}
 use Rattle.fairexec_report.specs.VerdictTexts.{is_sound, verdict_text}
 
 -- a verdict of these journals: `Sound` exactly of sound ones; else it names the first rule that is broken, at its first place

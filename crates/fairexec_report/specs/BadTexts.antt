@@ -1,6 +1,6 @@
 -- Texts that tell no statistics, and a source that tells no sound journals.
 use Rattle.std.specs.Prelude.{◌≡◌, ℕ, ◌+◌, [], List, Some, true, codes}
-use Rattle.rt_ids.specs.Journal.{Journal}
+use Rattle.base_words.specs.Journal.{Journal}
 use Rattle.fairexec_report.specs.Audits.{TellsSound}
 use Rattle.fairexec_report.specs.StatTexts.{IsCoreText, IsStatsText}
 

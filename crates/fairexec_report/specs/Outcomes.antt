@@ -1,13 +1,13 @@
 -- What became of the outside actor's submissions, as text.
 use Rattle.std.specs.Prelude.{ℕ, zero, suc, ◌++◌, List, [], ◌∷◌, codes, Option, None, Some}
-use Rattle.rt_ids.specs.declared.names.JobId.{JobId}
-use Rattle.rt_ids.specs.declared.note.Note.{Note}
-use Rattle.rt_ids.specs.declared.note.Note.TheVariants.{Sent}
-use Rattle.rt_ids.specs.declared.note.OutcomeNote.{OutcomeNote}
-use Rattle.rt_ids.specs.Assembly.{Assembly, journal_of, outcome_of}
-use Rattle.rt_ids.specs.Filters.{if_to}
-use Rattle.rt_ids.specs.Journal.{Journal}
-use Rattle.rt_text.specs.Notes.{name_text, outcome_text}
+use Rattle.base_words.specs.declared.names.JobId.{JobId}
+use Rattle.base_words.specs.declared.note.Note.{Note}
+use Rattle.base_words.specs.declared.note.Note.TheVariants.{Sent}
+use Rattle.base_words.specs.declared.note.OutcomeNote.{OutcomeNote}
+use Rattle.base_words.specs.Assembly.{Assembly, journal_of, outcome_of}
+use Rattle.base_words.specs.Filters.{if_to}
+use Rattle.base_words.specs.Journal.{Journal}
+use Rattle.text_words.specs.Notes.{name_text, outcome_text}
 
 -- the line of a submission: its name and its outcome
 abbrev pub outcome_line : JobId → OutcomeNote ℕ → List ℕ

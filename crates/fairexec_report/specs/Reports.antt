@@ -1,7 +1,7 @@
 -- Laws of what is told of a run: it has one text, and each of its parts stands there.
 use Rattle.std.specs.Prelude.{◌≡◌, ◌++◌, ℕ, Bool, true, false, List}
-use Rattle.rt_ids.specs.Assembly.{Assembly}
-use Rattle.rt_audit.specs.declared.judge.Verdict.{Verdict}
+use Rattle.base_words.specs.Assembly.{Assembly}
+use Rattle.judge_audit.specs.declared.judge.Verdict.{Verdict}
 use Rattle.fairexec_report.specs.Outcomes.{outcomes_text}
 use Rattle.fairexec_report.specs.VerdictTexts.{verdict_text}
 use Rattle.fairexec_report.specs.Writing.{IsReport}

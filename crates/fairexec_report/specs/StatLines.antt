@@ -1,7 +1,7 @@
 -- The lines of statistics.
 use Rattle.std.specs.Prelude.{ℕ, Bool, true, false, ◌++◌, List, codes, decimal}
-use Rattle.rt_ids.specs.declared.stats.CoreStats.{CoreStats}
-use Rattle.rt_ids.specs.declared.stats.QueueStats.{QueueStats}
+use Rattle.base_words.specs.declared.stats.CoreStats.{CoreStats}
+use Rattle.base_words.specs.declared.stats.QueueStats.{QueueStats}
 
 abbrev pub yes_or_no : Bool → List ℕ
 yes_or_no true = codes "yes"

@@ -1,11 +1,11 @@
 -- The text of the statistics of all cores.
 use Rattle.std.specs.Prelude.{◌≡◌, ◌↔◌, ℕ, zero, suc, Bool, true, false, IsTrue, ◌++◌, List, [], codes, Option, None, Some}
-use Rattle.rt_ids.specs.declared.stats.CoreStats.{CoreStats}
-use Rattle.rt_ids.specs.declared.stats.QueueStats.{QueueStats}
-use Rattle.rt_ids.specs.Assembly.{Assembly, journal_of}
-use Rattle.rt_ids.specs.Closing.{IsDrained}
-use Rattle.rt_ids.specs.Journal.{Journal}
-use Rattle.rt_stats.specs.Stats.{core_stats, queue_stats}
+use Rattle.base_words.specs.declared.stats.CoreStats.{CoreStats}
+use Rattle.base_words.specs.declared.stats.QueueStats.{QueueStats}
+use Rattle.base_words.specs.Assembly.{Assembly, journal_of}
+use Rattle.base_words.specs.Closing.{IsDrained}
+use Rattle.base_words.specs.Journal.{Journal}
+use Rattle.note_stats.specs.Stats.{core_stats, queue_stats}
 use Rattle.fairexec_report.specs.StatLines.{core_line, queue_line}
 
 -- the line of a core

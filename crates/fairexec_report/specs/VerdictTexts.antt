@@ -1,7 +1,7 @@
 -- What is printed of a verdict.
 use Rattle.std.specs.Prelude.{ℕ, Bool, true, false, ◌++◌, List, codes, decimal}
-use Rattle.rt_audit.specs.declared.judge.Verdict.{Verdict}
-use Rattle.rt_audit.specs.declared.judge.Verdict.TheVariants.{Sound, Fault}
+use Rattle.judge_audit.specs.declared.judge.Verdict.{Verdict}
+use Rattle.judge_audit.specs.declared.judge.Verdict.TheVariants.{Sound, Fault}
 
 -- whether the journals are sound
 abbrev pub is_sound : Verdict → Bool

@@ -1,10 +1,10 @@
 -- What is written of the journals of running threads.
 use Rattle.std.specs.Prelude.{◌≡◌, ◌++◌, ℕ, Bool, true, false, List, [], Option}
 use Rattle.std.specs.Io.KnownBytes.{Appends}
-use Rattle.rt_ids.specs.Assembly.{Assembly}
-use Rattle.rt_audit.specs.declared.judge.Verdict.{Verdict}
-use Rattle.rt_journal_write.specs.Pages.{AppendsFront}
-use Rattle.rt_journal_write.specs.Texts.{journal_text}
+use Rattle.base_words.specs.Assembly.{Assembly}
+use Rattle.judge_audit.specs.declared.judge.Verdict.{Verdict}
+use Rattle.text_journal.specs.Pages.{AppendsFront}
+use Rattle.text_journal.specs.Texts.{journal_text}
 use Rattle.fairexec_report.specs.Audits.{IsJudged}
 use Rattle.fairexec_report.specs.Outcomes.{outcomes_text}
 use Rattle.fairexec_report.specs.StatTexts.{IsStatsIf}

@@ -2,20 +2,19 @@
 
 ghost use Rattle.std.specs.Prelude.{◌≡◌, Ok, Err, IfOk, IfErr, IfSome, OnOk, OnErr, true};
 ghost use Rattle.std.specs.Io.KnownBytes.{Keeps, Appends};
-ghost use Rattle.rt_journal_read.specs.JournalTexts.{journals_of, judge};
+ghost use Rattle.text_journal.specs.JournalTexts.{journals_of, judge};
 ghost use Rattle.fairexec_report.specs.Audits.{IsAudited, IsCutShort, TellsSound};
-ghost use Rattle.rt_journal_write.specs.Pages.{AppendsFront};
-ghost use Rattle.rt_journal_read.specs.Drafts.{empty_draft};
-ghost use Rattle.rt_lines.specs.Taking.{IsPrompt, IsToldByRead};
-ghost use Rattle.rt_sink.specs.Tries.{HasFailedSince};
-ghost use Rattle.rt_text.specs.Faults.{IfRead, IfText, IfUnjudged, IfUnwritten};
+ghost use Rattle.text_journal.specs.Pages.{AppendsFront};
+ghost use Rattle.text_journal.specs.Drafts.{empty_draft};
+ghost use Rattle.text_bytes.specs.Taking.{IsPrompt, IsToldByRead};
+ghost use Rattle.text_bytes.specs.Tries.{HasFailedSince};
+ghost use Rattle.text_words.specs.Faults.{IfRead, IfText, IfUnjudged, IfUnwritten};
 
 use crate::verdict::{is_sound, put_verdict, verdict_of};
-use rt_journal_read::{JournalCause, read_journal};
-use rt_lines::Source;
-use rt_sink::{DeviceFault, Sink, flush, write_all};
-use rt_text::Fault;
 use std::alloc::Global;
+use text_bytes::{DeviceFault, Sink, Source, flush, write_all};
+use text_journal::{JournalCause, read_journal};
+use text_words::Fault;
 
 /// Reads the text of journals, judges them, and writes the line of the verdict. The answer is false if a fault was found.
 ///

@@ -3,7 +3,7 @@
 ghost use Rattle.std.specs.Prelude.{◌≡◌, Some};
 ghost use Rattle.fairexec_report.specs.StatLines as spec;
 
-use rt_ids::{CoreNo, CoreStats, QueueNo, QueueStats};
+use base_words::{CoreNo, CoreStats, QueueNo, QueueStats};
 use std::fmt;
 
 /// The statistics of a core as a line, without its line feed: `core D turns N floor F held H drained yes`.

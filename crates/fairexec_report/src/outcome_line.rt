@@ -3,9 +3,9 @@
 ghost use Rattle.std.specs.Prelude.{Some};
 ghost use Rattle.fairexec_report.specs.Outcomes as spec;
 
-use rt_ids::{JobId, OutcomeNote};
-use rt_text::name::{NameText, OutcomeText};
+use base_words::{JobId, OutcomeNote};
 use std::fmt;
+use text_words::name::{NameText, OutcomeText};
 
 /// What became of a submission, as a line without its line feed: `NAME OUTCOME`.
 #[derive(Clone, Copy)]

@@ -1,15 +1,15 @@
 //! The lines of all submissions of the outside actor.
 
 ghost use Rattle.std.specs.Prelude.{◌≡◌, ◌++◌, ℕ, OnOk, string_bytes};
-ghost use Rattle.rt_ids.specs.Assembly.{Assembly as AllJournals};
-ghost use Rattle.rt_audit_rules.specs.Links.{KnowsOutcomes};
+ghost use Rattle.base_words.specs.Assembly.{Assembly as AllJournals};
+ghost use Rattle.judge_audit.specs.Links.{KnowsOutcomes};
 ghost use Rattle.fairexec_report.specs.Outcomes as spec;
 
 use crate::outcome_line::OutcomeLine;
-use rt_audit_rules::links::{outcome_under, outcomes_given};
-use rt_ids::{ActorNo, CoreNo, JobId, Note, OutcomeNote};
-use rt_journal_facts::{NameTable, note_at};
-use rt_journal_notes::{Assembly, Journal};
+use base_words::{ActorNo, CoreNo, JobId, Note, OutcomeNote};
+use judge_audit::links::{outcome_under, outcomes_given};
+use note_facts::{NameTable, note_at};
+use note_journal::{Assembly, Journal};
 use std::alloc::{AllocError, Global};
 
 /// The outcomes that one actor gave.

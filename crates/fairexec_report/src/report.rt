@@ -2,22 +2,21 @@
 
 ghost use Rattle.std.specs.Prelude.{◌≡◌, ◌++◌, ℕ, List, IfOk, IfErr, OnOk, OnErr, string_bytes};
 ghost use Rattle.std.specs.Io.KnownBytes.{Keeps, Appends};
-ghost use Rattle.rt_ids.specs.Spelled.{IsSpelled};
-ghost use Rattle.rt_journal_write.specs.Pages.{AppendsFront};
+ghost use Rattle.base_words.specs.Spelled.{IsSpelled};
+ghost use Rattle.text_journal.specs.Pages.{AppendsFront};
 ghost use Rattle.fairexec_report.specs.StatTexts.{IsStatsIf};
-ghost use Rattle.rt_sink.specs.Tries.{HasFailedSince};
+ghost use Rattle.text_bytes.specs.Tries.{HasFailedSince};
 ghost use Rattle.fairexec_report.specs.Writing.{IsTold, IsCutShort, journal_if};
-ghost use Rattle.rt_text.specs.Faults.{IfUnwritten, IfUnjudged, IfUnread};
+ghost use Rattle.text_words.specs.Faults.{IfUnwritten, IfUnjudged, IfUnread};
 
 use crate::outcome_text::put_outcomes;
 use crate::stats::put_all_stats;
 use crate::verdict::{is_sound, put_verdict, verdict_of};
-use rt_journal_notes::Assembly;
-use rt_journal_read::JournalCause;
-use rt_journal_write::write_journal;
-use rt_sink::{DeviceFault, Sink, flush, write_all};
-use rt_text::Fault;
+use note_journal::Assembly;
 use std::alloc::{AllocError, Global};
+use text_bytes::{DeviceFault, Sink, flush, write_all};
+use text_journal::{JournalCause, write_journal};
+use text_words::Fault;
 
 /// Writes the outcome of each submission of the outside actor, and at last the verdict of the journals. Between them stand the text of the
 /// journals, with `journal`, and behind it the statistics of all cores, with `stats`. The answer is false if the journals have a fault.

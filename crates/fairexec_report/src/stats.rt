@@ -2,15 +2,15 @@
 
 ghost use Rattle.std.specs.Prelude.{◌≡◌, ◌++◌, ℕ, List, OnOk, string_bytes};
 ghost use Rattle.fairexec_report.specs.StatTexts as spec;
-ghost use Rattle.rt_ids.specs.Assembly.{journal_of};
-ghost use Rattle.rt_ids.specs.Journal.{Journal as Notes};
-ghost use Rattle.rt_stats.specs.Stats.{queue_stats};
-ghost use Rattle.rt_stats.specs.Walks.{KnowsSums};
+ghost use Rattle.base_words.specs.Assembly.{journal_of};
+ghost use Rattle.base_words.specs.Journal.{Journal as Notes};
+ghost use Rattle.note_stats.specs.Stats.{queue_stats};
+ghost use Rattle.note_stats.specs.Walks.{KnowsSums};
 
 use crate::line::{CoreLine, QueueLine};
-use rt_ids::{ActorNo, CoreNo, QueueNo};
-use rt_journal_notes::{Assembly, Journal};
-use rt_stats::Sums;
+use base_words::{ActorNo, CoreNo, QueueNo};
+use note_journal::{Assembly, Journal};
+use note_stats::Sums;
 use std::alloc::{AllocError, Global};
 
 /// Puts the statistics of all cores on the page, by number.

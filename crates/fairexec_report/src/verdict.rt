@@ -1,14 +1,14 @@
 //! What is printed of a verdict.
 
 ghost use Rattle.std.specs.Prelude.{◌≡◌, ◌++◌, IfOk, OnOk, Some, string_bytes};
-ghost use Rattle.rt_audit.specs.declared.judge.Verdict.TheVariants.{Sound};
-ghost use Rattle.rt_audit.specs.Verdicts.{IsFirstBroken, IsVerdict, rule_named};
-ghost use Rattle.rt_ids.specs.Sound.{IsSound};
-ghost use Rattle.rt_ids.specs.Spelled.{IsSpelled};
+ghost use Rattle.judge_audit.specs.declared.judge.Verdict.TheVariants.{Sound};
+ghost use Rattle.judge_audit.specs.Verdicts.{IsFirstBroken, IsVerdict, rule_named};
+ghost use Rattle.base_words.specs.Sound.{IsSound};
+ghost use Rattle.base_words.specs.Spelled.{IsSpelled};
 ghost use Rattle.fairexec_report.specs.VerdictTexts as spec;
 
-use rt_audit::{Verdict, audit};
-use rt_journal_notes::Assembly;
+use judge_audit::{Verdict, audit};
+use note_journal::Assembly;
 use std::alloc::{AllocError, Global};
 use std::fmt;
 

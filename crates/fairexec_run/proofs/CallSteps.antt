@@ -1,27 +1,27 @@
 -- A world after the calls that a poll of a script's job makes: a few notes more, and as many polls of the open turn as before.
 use Rattle.std.proofs.Common.{◌≡◌, ◌⊎◌, inl, inr, ℕ, ◌≤◌, ◌<◌, List, [], ◌∷◌, ◌++◌, length, Option, Some, None, Result, Ok, Err, sym, ap, subst, ◌∙◌, arith}
-use Rattle.rt_ids.specs.declared.names.JobId.{JobId}
-use Rattle.rt_ids.specs.declared.names.TicketError.TheVariants as ticket
-use Rattle.rt_ids.specs.declared.note.Note.{Note}
-use Rattle.rt_ids.specs.declared.note.Note.TheVariants as written
-use Rattle.rt_ids.specs.declared.order.Order.{Order}
-use Rattle.rt_ids.specs.declared.order.Order.TheVariants as order
-use Rattle.rt_ids.specs.declared.order.SendError.{SendError}
-use Rattle.rt_ids.specs.declared.order.SendError.TheVariants as refused
-use Rattle.rt_ids.specs.Bursts.{polls_in_turn}
-use Rattle.rt_jobs.specs.Calls.{Call, Makes}
-use Rattle.rt_jobs.specs.Calls.Call.{Submit}
-use Rattle.rt_jobs.specs.declared.job.Step.{Step}
-use Rattle.rt_jobs.specs.declared.poll.Poll.{Poll}
-use Rattle.rt_jobs.specs.declared.poll.Poll.TheVariants as poll
-use Rattle.rt_jobs.specs.ScriptMeaning.{script_meaning}
-use Rattle.rt_jobs.specs.Scripts.{Script, Does, small_job, detach_calls}
-use Rattle.rt_world.specs.declared.event.Reply.{Reply}
-use Rattle.rt_world.specs.declared.event.Reply.TheVariants as reply
-use Rattle.rt_world.specs.Calls.{CallsAt}
-use Rattle.rt_world.specs.Collections.{Detaches}
-use Rattle.rt_world.specs.Sends.{Sends, sent_reply}
-use Rattle.rt_world.specs.State.{journal_at, noted, without_job, with_sent}
+use Rattle.base_words.specs.declared.names.JobId.{JobId}
+use Rattle.base_words.specs.declared.names.TicketError.TheVariants as ticket
+use Rattle.base_words.specs.declared.note.Note.{Note}
+use Rattle.base_words.specs.declared.note.Note.TheVariants as written
+use Rattle.base_words.specs.declared.order.Order.{Order}
+use Rattle.base_words.specs.declared.order.Order.TheVariants as order
+use Rattle.base_words.specs.declared.order.SendError.{SendError}
+use Rattle.base_words.specs.declared.order.SendError.TheVariants as refused
+use Rattle.base_words.specs.Bursts.{polls_in_turn}
+use Rattle.base_jobs.specs.Calls.{Call, Makes}
+use Rattle.base_jobs.specs.Calls.Call.{Submit}
+use Rattle.base_jobs.specs.declared.job.Step.{Step}
+use Rattle.base_jobs.specs.declared.poll.Poll.{Poll}
+use Rattle.base_jobs.specs.declared.poll.Poll.TheVariants as poll
+use Rattle.base_jobs.specs.ScriptMeaning.{script_meaning}
+use Rattle.base_jobs.specs.Scripts.{Script, Does, small_job, detach_calls}
+use Rattle.model_world.specs.declared.event.Reply.{Reply}
+use Rattle.model_world.specs.declared.event.Reply.TheVariants as reply
+use Rattle.model_world.specs.Calls.{CallsAt}
+use Rattle.model_world.specs.Collections.{Detaches}
+use Rattle.model_world.specs.Sends.{Sends, sent_reply}
+use Rattle.model_world.specs.State.{journal_at, noted, without_job, with_sent}
 use Rattle.fairexec_run.specs.Transcripts.{ScriptWorld}
 use Rattle.fairexec_run.proofs.CountLemmas.{AreLight}
 use Rattle.fairexec_run.proofs.Growing.{Grows, grows_then, grows_within, stays, adds, adds_to, there, past, lt_or_le}

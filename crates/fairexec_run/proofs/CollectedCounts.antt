@@ -2,19 +2,19 @@
 use Rattle.std.proofs.Common.{◌≡◌, ◌≤◌, ℕ, ◌+◌, Bool, true, false, [], ◌∷◌, refl, sym, ◌∙◌, arith, cond}
 use Rattle.std.specs.Prelude.{◌==◌, ◌||◌, Option, Some, None}
 use Rattle.std.proofs.lemmas.Bool.{or_parts}
-use Rattle.rt_ids.specs.declared.names.JobId.{JobId}
-use Rattle.rt_ids.specs.declared.note.Note.{Note}
-use Rattle.rt_ids.specs.declared.note.Note.TheVariants.{Sent, Collected}
-use Rattle.rt_ids.specs.declared.order.Order.{Order}
-use Rattle.rt_ids.specs.Assembly.{first_under}
-use Rattle.rt_ids.specs.Filters.{accepted_orders, order_sent}
-use Rattle.rt_ids.specs.Journal.{Journal, EachNote, with_last, is_told}
-use Rattle.rt_ids.specs.Lawful.{MayStand, MayFollow}
-use Rattle.rt_ids.specs.Names.{is_name}
-use Rattle.rt_ids.specs.Outstanding.{name_collected}
-use Rattle.rt_ids.specs.Terms.{Terms}
-use Rattle.rt_ids.proofs.NameLemmas.{one_name, same_as_itself}
-use Rattle.rt_ids.proofs.Under.{first_under-last}
+use Rattle.base_words.specs.declared.names.JobId.{JobId}
+use Rattle.base_words.specs.declared.note.Note.{Note}
+use Rattle.base_words.specs.declared.note.Note.TheVariants.{Sent, Collected}
+use Rattle.base_words.specs.declared.order.Order.{Order}
+use Rattle.base_words.specs.Assembly.{first_under}
+use Rattle.base_words.specs.Filters.{accepted_orders, order_sent}
+use Rattle.base_words.specs.Journal.{Journal, EachNote, with_last, is_told}
+use Rattle.base_words.specs.Lawful.{MayStand, MayFollow}
+use Rattle.base_words.specs.Names.{is_name}
+use Rattle.base_words.specs.Outstanding.{name_collected}
+use Rattle.base_words.specs.Terms.{Terms}
+use Rattle.base_words.proofs.NameLemmas.{one_name, same_as_itself}
+use Rattle.base_words.proofs.Under.{first_under-last}
 use Rattle.fairexec_run.specs.Counts.{name_sent, one_if, sent_count, collected_count}
 
 -- a submission counts as waiting while the journal tells no outcome of it that was collected

@@ -1,10 +1,10 @@
 -- Notes counted with their submissions, less the outcomes collected; those that submissions and collected outcomes don't pay; and delivered orders.
 use Rattle.std.proofs.Common.{◌≡◌, ◌≤◌, ℕ, ◌+◌, ◌*◌, ap, List, [], ◌∷◌, ◌++◌, length, Option, Some, None, refl, arith, length-append}
-use Rattle.rt_ids.specs.declared.names.JobId.{JobId}
-use Rattle.rt_ids.specs.declared.note.Note.{Note}
-use Rattle.rt_ids.specs.declared.note.Note.TheVariants as written
-use Rattle.rt_ids.specs.Filters.{Outcomes}
-use Rattle.rt_world.specs.Collections.{collected_notes}
+use Rattle.base_words.specs.declared.names.JobId.{JobId}
+use Rattle.base_words.specs.declared.note.Note.{Note}
+use Rattle.base_words.specs.declared.note.Note.TheVariants as written
+use Rattle.base_words.specs.Filters.{Outcomes}
+use Rattle.model_world.specs.Collections.{collected_notes}
 use Rattle.fairexec_run.specs.Counts.{name_sent, one_if, sent_count, collected_count, one_if_delivered, delivered_count}
 
 sent_more : (notes before : List (Note ℕ)) → sent_count (notes ++ before) ≡ sent_count notes + sent_count before

@@ -3,13 +3,13 @@ use Rattle.std.proofs.Common.{◌≡◌, ℕ, ◌≤◌, List, length, arith, �
 use Rattle.std.specs.Prelude.{map}
 use Rattle.std.proofs.lemmas.List.Elements.{All-map}
 use Rattle.std.proofs.lemmas.Bool.Decides.{nat_tests}
-use Rattle.rt_ids.specs.declared.order.Order.TheVariants as order
-use Rattle.rt_jobs.specs.Ready.{HasReadyJob}
-use Rattle.rt_jobs.specs.ScriptMeaning.{script_meaning}
-use Rattle.rt_jobs.specs.Scripts.{Script}
-use Rattle.rt_world.specs.declared.event.Event.{Event}
-use Rattle.rt_world.specs.Sends.{actor_of, AreThere}
-use Rattle.rt_world.specs.Opening.{HasReadyEvent}
+use Rattle.base_words.specs.declared.order.Order.TheVariants as order
+use Rattle.base_jobs.specs.Ready.{HasReadyJob}
+use Rattle.base_jobs.specs.ScriptMeaning.{script_meaning}
+use Rattle.base_jobs.specs.Scripts.{Script}
+use Rattle.model_world.specs.declared.event.Event.{Event}
+use Rattle.model_world.specs.Sends.{actor_of, AreThere}
+use Rattle.model_world.specs.Opening.{HasReadyEvent}
 use Rattle.fairexec_script.specs.declared.event.ScriptEvent.{ScriptEvent}
 use Rattle.fairexec_script.specs.declared.event.ScriptEvent.TheVariants.{Send, Deliver, Turn, Shut, Collect, Redeem, Detach}
 use Rattle.fairexec_script.specs.Limits.{IsEventOf}

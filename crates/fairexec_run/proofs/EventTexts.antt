@@ -4,21 +4,21 @@ use Rattle.std.specs.Prelude.{map}
 use Rattle.std.proofs.Math.Seq.{drop-append_seam, drop-cons}
 use Rattle.std.proofs.lemmas.List.{reverse-append, length-reverse, map-id, take-append-drop}
 use Rattle.std.specs.Io.KnownBytes.{Appends}
-use Rattle.rt_ids.specs.declared.note.Note.{Note}
-use Rattle.rt_jobs.specs.Scripts.{Script}
+use Rattle.base_words.specs.declared.note.Note.{Note}
+use Rattle.base_jobs.specs.Scripts.{Script}
 use Rattle.fairexec_script.specs.declared.event.ScriptEvent.{ScriptEvent}
 use Rattle.fairexec_script.specs.declared.event.ScriptEvent.TheVariants.{Send, Deliver, Turn, Shut, Collect, Redeem, Detach}
-use Rattle.rt_world.specs.declared.event.Event.{Event}
-use Rattle.rt_world.specs.declared.event.Reply.{Reply}
-use Rattle.rt_ids.specs.Bursts.{has_bursts}
-use Rattle.rt_ids.specs.Joining.{AreJoined}
-use Rattle.rt_world.specs.State.{journal_at, assembly_of}
-use Rattle.rt_world.specs.Sends.{actor_of}
-use Rattle.rt_text.specs.declared.reply.Ends.{Ends}
-use Rattle.rt_text.specs.declared.reply.Quiet.{Quiet}
+use Rattle.model_world.specs.declared.event.Event.{Event}
+use Rattle.model_world.specs.declared.event.Reply.{Reply}
+use Rattle.base_words.specs.Bursts.{has_bursts}
+use Rattle.base_words.specs.Joining.{AreJoined}
+use Rattle.model_world.specs.State.{journal_at, assembly_of}
+use Rattle.model_world.specs.Sends.{actor_of}
+use Rattle.text_words.specs.declared.reply.Ends.{Ends}
+use Rattle.text_words.specs.declared.reply.Quiet.{Quiet}
 use Rattle.fairexec_script.specs.Limits.{IsEventOf, IsSize, IsBurst}
-use Rattle.rt_journal_write.specs.Pages.{AppendsFront}
-use Rattle.rt_journal_write.proofs.PageLemmas.{puts_more, puts_out, front_now, front_of_page}
+use Rattle.text_journal.specs.Pages.{AppendsFront}
+use Rattle.text_journal.proofs.PageLemmas.{puts_more, puts_out, front_now, front_of_page}
 use Rattle.fairexec_run.specs.Begun.{WritesFirst}
 use Rattle.fairexec_run.specs.Outputs.{WritesAll}
 use Rattle.fairexec_run.specs.Replies.{event_of, ends_of, quiet_of}

@@ -1,8 +1,8 @@
 -- A world that grows by steps of one actor: its size stays, and each journal is a few notes longer.
 use Rattle.std.proofs.Common.{◌≡◌, ◌≢◌, ◌⊎◌, inl, inr, ℕ, zero, suc, ◌+◌, ◌≤◌, ◌<◌, List, [], ◌++◌, length, refl, sym, ap, subst, arith, append_assoc, ◌∙◌, get_or, get_or-set_same, get_or-set_other}
 use Rattle.std.proofs.lemmas.List.{set_past}
-use Rattle.rt_ids.specs.declared.note.Note.{Note}
-use Rattle.rt_world.specs.State.{journal_at, noted}
+use Rattle.base_words.specs.declared.note.Note.{Note}
+use Rattle.model_world.specs.State.{journal_at, noted}
 use Rattle.fairexec_run.specs.Transcripts.{ScriptWorld}
 use Rattle.fairexec_run.proofs.CountLemmas.{AreLight, IsLonger, light_more, longer_same, longer_then, longer_within}
 

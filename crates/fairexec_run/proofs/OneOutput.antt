@@ -3,27 +3,27 @@ use Rattle.std.proofs.Common.{◌≡◌, ℕ, List, [], ◌∷◌, ◌++◌, ref
 use Rattle.std.specs.Prelude.{map, reverse, Some, Result, Ok}
 use Rattle.std.proofs.lemmas.List.{append_cancel_right}
 use Rattle.std.proofs.lemmas.Option.{same_Some}
-use Rattle.rt_ids.specs.Assembly.{Assembly, journal_of}
-use Rattle.rt_jobs.specs.Scripts.{Script}
+use Rattle.base_words.specs.Assembly.{Assembly, journal_of}
+use Rattle.base_jobs.specs.Scripts.{Script}
 use Rattle.fairexec_report.specs.StatTexts.{IsStatsIf, IsStatsText}
 use Rattle.fairexec_report.proofs.StatLemmas.{stats_once}
-use Rattle.rt_journal_write.specs.Texts.{journal_text}
-use Rattle.rt_world.specs.declared.event.Reply.{Reply}
-use Rattle.rt_world.specs.State.{journal_at, assembly_of}
-use Rattle.rt_world.specs.Sends.{actor_of}
-use Rattle.rt_world.specs.Opening.{HasAllLists, IsUnbegun, IsFresh}
-use Rattle.rt_world_laws.specs.Creations.{OrderNoQueues, with_creations}
-use Rattle.rt_world_laws.specs.Alike.{AreAlike}
-use Rattle.rt_world_laws.specs.Determined.{WasRefused}
-use Rattle.rt_jobs.specs.ScriptMeaning.{script_meaning}
-use Rattle.rt_world_laws.specs.ScriptRuns.{IsScriptRun}
-use Rattle.rt_world_laws.proofs.KeptLists.{happens_keep}
-use Rattle.rt_world_laws.proofs.DeterminedOpenings.{fresh_once}
-use Rattle.rt_world_laws.proofs.DeterminedRefusals.{refused-happens, was_refused}
-use Rattle.rt_world_laws.proofs.DeterminedRuns.{happens_once, assembly_once}
-use Rattle.rt_world_laws.proofs.DeterminedScripts.{scripts_owe_one, scripts_order_none}
-use Rattle.rt_world_laws.proofs.NoRefusals.{plain_unbegun, run_plain}
-use Rattle.rt_world_laws.proofs.UnbegunCreations.{unbegun_fresh, unbegun_creations}
+use Rattle.text_journal.specs.Texts.{journal_text}
+use Rattle.model_world.specs.declared.event.Reply.{Reply}
+use Rattle.model_world.specs.State.{journal_at, assembly_of}
+use Rattle.model_world.specs.Sends.{actor_of}
+use Rattle.model_world.specs.Opening.{HasAllLists, IsUnbegun, IsFresh}
+use Rattle.model_laws.specs.Creations.{OrderNoQueues, with_creations}
+use Rattle.model_laws.specs.Alike.{AreAlike}
+use Rattle.model_laws.specs.Determined.{WasRefused}
+use Rattle.base_jobs.specs.ScriptMeaning.{script_meaning}
+use Rattle.model_laws.specs.ScriptRuns.{IsScriptRun}
+use Rattle.model_laws.proofs.KeptLists.{happens_keep}
+use Rattle.model_laws.proofs.DeterminedOpenings.{fresh_once}
+use Rattle.model_laws.proofs.DeterminedRefusals.{refused-happens, was_refused}
+use Rattle.model_laws.proofs.DeterminedRuns.{happens_once, assembly_once}
+use Rattle.model_laws.proofs.DeterminedScripts.{scripts_owe_one, scripts_order_none}
+use Rattle.model_laws.proofs.NoRefusals.{plain_unbegun, run_plain}
+use Rattle.model_laws.proofs.UnbegunCreations.{unbegun_fresh, unbegun_creations}
 use Rattle.fairexec_script.specs.declared.event.ScriptEvent.{ScriptEvent}
 use Rattle.fairexec_script.specs.Drafts.{Drafted}
 use Rattle.fairexec_script.specs.Scripts.{script_of}

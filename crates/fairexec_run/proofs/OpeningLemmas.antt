@@ -1,13 +1,13 @@
 -- A world with its queues, before the first event.
 use Rattle.std.proofs.Common.{◌≡◌, ◌≤◌, ℕ, List, [], ◌∷◌, length, refl, sym, ap, ◌∙◌, subst, arith, All}
-use Rattle.rt_ids.specs.Commands.{created_count}
-use Rattle.rt_ids.specs.Commands.{IsOpening}
-use Rattle.rt_ids.specs.Journal.{Journal}
-use Rattle.rt_ids.specs.declared.note.Note.TheVariants.{Created}
+use Rattle.base_words.specs.Commands.{created_count}
+use Rattle.base_words.specs.Commands.{IsOpening}
+use Rattle.base_words.specs.Journal.{Journal}
+use Rattle.base_words.specs.declared.note.Note.TheVariants.{Created}
 use Rattle.fairexec_run.specs.Counts.{delivered_count}
 use Rattle.fairexec_script.specs.declared.event.ScriptEvent.{ScriptEvent}
-use Rattle.rt_world.specs.Opening.{IsFresh}
-use Rattle.rt_world.specs.State.{journal_at}
+use Rattle.model_world.specs.Opening.{IsFresh}
+use Rattle.model_world.specs.State.{journal_at}
 use Rattle.fairexec_script.specs.Limits.{HasFewQueues, IsEventOf, IsSize, IsBurst}
 use Rattle.fairexec_run.proofs.CountLemmas.{sent_at_most}
 use Rattle.fairexec_run.specs.Rooms.{MayMake, IsRoomy, IsOpened}

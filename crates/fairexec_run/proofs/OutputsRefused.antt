@@ -1,6 +1,6 @@
 -- Each output with one thing wrong is refused.
 use Rattle.std.proofs.Common.{◌≡◌, ℕ, ◌+◌, ◌≤◌, inl, inr, Bool, List, [], ◌∷◌, ◌++◌, codes, length, Some, Ok, refl, sym, ap, ◌∙◌, arith}
-use Rattle.rt_world.specs.State.{journal_at}
+use Rattle.model_world.specs.State.{journal_at}
 use Rattle.fairexec_script.specs.declared.event.ScriptEvent.{ScriptEvent}
 use Rattle.fairexec_script.specs.Drafts.{Drafted}
 use Rattle.fairexec_script.specs.Scripts.{script_of}

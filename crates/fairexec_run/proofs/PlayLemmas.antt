@@ -3,16 +3,16 @@ use Rattle.std.proofs.Common.{◌≡◌, inl, inr, ℕ, Bool, true, false, List,
 use Rattle.std.specs.Prelude.{map}
 use Rattle.std.specs.Io.KnownBytes.{Appends}
 use Rattle.std.proofs.KnownBytes.{Appends-trans}
-use Rattle.rt_ids.specs.Assembly.{Assembly}
-use Rattle.rt_ids.specs.Joining.{AreJoined}
-use Rattle.rt_ids.specs.Sound.{IsSound}
-use Rattle.rt_ids.specs.Spelled.{IsSpelled}
+use Rattle.base_words.specs.Assembly.{Assembly}
+use Rattle.base_words.specs.Joining.{AreJoined}
+use Rattle.base_words.specs.Sound.{IsSound}
+use Rattle.base_words.specs.Spelled.{IsSpelled}
 use Rattle.fairexec_report.proofs.StatLemmas.{no_cores}
 use Rattle.fairexec_script.specs.Drafts.{Drafted}
-use Rattle.rt_journal_write.specs.Pages.{AppendsFront}
-use Rattle.rt_journal_write.specs.Texts.{journal_text}
-use Rattle.rt_world.specs.Opening.{HasAllLists}
-use Rattle.rt_world.specs.State.{assembly_of}
+use Rattle.text_journal.specs.Pages.{AppendsFront}
+use Rattle.text_journal.specs.Texts.{journal_text}
+use Rattle.model_world.specs.Opening.{HasAllLists}
+use Rattle.model_world.specs.State.{assembly_of}
 use Rattle.fairexec_run.specs.Begun.{WritesFirst, IsRearPart, BreaksOff}
 use Rattle.fairexec_run.specs.Outputs.{WritesAll}
 use Rattle.fairexec_report.specs.StatTexts.{IsStatsIf}

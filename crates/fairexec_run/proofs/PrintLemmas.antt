@@ -1,8 +1,8 @@
 -- Notes as lines, one after another.
 use Rattle.std.proofs.Common.{◌≡◌, ℕ, zero, suc, ◌+◌, List, [], ◌∷◌, ◌++◌, Some, None, refl, sym, ap, ◌∙◌, arith, append_assoc, codes, drop}
 use Rattle.std.specs.Prelude.{slice_get}
-use Rattle.rt_ids.specs.declared.note.Note.{Note}
-use Rattle.rt_text.specs.Notes.{note_line}
+use Rattle.base_words.specs.declared.note.Note.{Note}
+use Rattle.text_words.specs.Notes.{note_line}
 use Rattle.fairexec_run.specs.EventTexts.{note_lines}
 
 -- what is left of a list begins with what stands at that place

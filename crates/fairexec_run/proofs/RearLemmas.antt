@@ -2,12 +2,12 @@
 use Rattle.std.proofs.Common.{Result, Ok, Err, OnOk, ◌≡◌, inl, inr, ℕ, ◌+◌, ◌<◌, Bool, true, false, List, [], ◌++◌, Option, refl, sym, ap, ◌∙◌, subst, arith, append_assoc, append-nil}
 use Rattle.std.specs.Io.KnownBytes.{Appends}
 use Rattle.std.proofs.KnownBytes.{Appends-nil, Appends-trans}
-use Rattle.rt_ids.specs.Assembly.{Assembly, journal_of}
-use Rattle.rt_ids.specs.Journal.{Journal}
+use Rattle.base_words.specs.Assembly.{Assembly, journal_of}
+use Rattle.base_words.specs.Journal.{Journal}
 use Rattle.fairexec_report.specs.StatTexts.{IsCoreText, IsStatsIf, IsStatsText, IsTextBelow}
 use Rattle.fairexec_report.proofs.StatLemmas.{no_cores, after_core}
-use Rattle.rt_journal_write.specs.Pages.{Puts, AppendsFront}
-use Rattle.rt_journal_write.proofs.PageLemmas.{puts_nothing, puts_then, puts_out, front_then}
+use Rattle.text_journal.specs.Pages.{Puts, AppendsFront}
+use Rattle.text_journal.proofs.PageLemmas.{puts_nothing, puts_then, puts_out, front_then}
 use Rattle.fairexec_run.specs.Begun.{IsNoneOr, IsRearPart, WritesStats}
 use Rattle.fairexec_run.specs.Printed.{PutsStats}
 

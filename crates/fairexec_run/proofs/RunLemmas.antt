@@ -1,12 +1,12 @@
 -- The journals of a run can be spelled.
 use Rattle.std.proofs.Common.{◌≡◌, ℕ, List, [], ◌∷◌, ap, sym, subst, ◌∙◌, arith}
-use Rattle.rt_ids.specs.Assembly.{Assembly}
-use Rattle.rt_ids.specs.Joining.{AreJoined}
-use Rattle.rt_ids.specs.Spelled.{IsSpelled}
-use Rattle.rt_ids.proofs.Joining.{joined_are_spelled}
-use Rattle.rt_jobs.specs.Scripts.{Script}
+use Rattle.base_words.specs.Assembly.{Assembly}
+use Rattle.base_words.specs.Joining.{AreJoined}
+use Rattle.base_words.specs.Spelled.{IsSpelled}
+use Rattle.base_words.proofs.Joining.{joined_are_spelled}
+use Rattle.base_jobs.specs.Scripts.{Script}
 use Rattle.fairexec_script.specs.Limits.{IsSize, IsBurst}
-use Rattle.rt_world.specs.declared.event.Event.{Event}
+use Rattle.model_world.specs.declared.event.Event.{Event}
 use Rattle.fairexec_run.specs.Rooms.{IsOpened}
 use Rattle.fairexec_run.specs.Transcripts.{ScriptWorld, RunOf, RunsOf}
 use Rattle.fairexec_run.proofs.OpeningLemmas.{opened_cores, opened_cap, opened_burst}

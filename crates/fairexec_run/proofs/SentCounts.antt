@@ -3,18 +3,18 @@ use Rattle.std.proofs.Common.{◌≡◌, ◌≤◌, ◌<◌, ◌⊎◌, inl, inr
 use Rattle.std.specs.Prelude.{◌==◌, nat_lt, Option, Some, None, count_by}
 use Rattle.std.proofs.lemmas.Bool.{eqb-true, eqb-false, ltb-true, ltb-false, lt-ltb}
 use Rattle.std.proofs.lemmas.List.Sums.{sum_by-append}
-use Rattle.rt_ids.specs.declared.names.JobId.{JobId}
-use Rattle.rt_ids.specs.declared.note.Note.{Note}
-use Rattle.rt_ids.specs.declared.note.Note.TheVariants.{Sent, Took, Back, Answered}
-use Rattle.rt_ids.specs.Assembly.{Assembly, journal_of}
-use Rattle.rt_ids.specs.Filters.{accepted_orders, delivered_names, collected_outcomes, outcome_collected}
-use Rattle.rt_ids.specs.Joining.{AreJoined}
-use Rattle.rt_ids.specs.Journal.{Journal, EachNote, with_last}
-use Rattle.rt_ids.specs.Lawful.{MayStand, MayFollow}
-use Rattle.rt_ids.specs.Outstanding.{is_outstanding, outstanding_count}
-use Rattle.rt_ids.specs.Terms.{Terms, terms_of}
-use Rattle.rt_ids.specs.Work.{number_if}
-use Rattle.rt_ids.proofs.Told.{length-with_last_if}
+use Rattle.base_words.specs.declared.names.JobId.{JobId}
+use Rattle.base_words.specs.declared.note.Note.{Note}
+use Rattle.base_words.specs.declared.note.Note.TheVariants.{Sent, Took, Back, Answered}
+use Rattle.base_words.specs.Assembly.{Assembly, journal_of}
+use Rattle.base_words.specs.Filters.{accepted_orders, delivered_names, collected_outcomes, outcome_collected}
+use Rattle.base_words.specs.Joining.{AreJoined}
+use Rattle.base_words.specs.Journal.{Journal, EachNote, with_last}
+use Rattle.base_words.specs.Lawful.{MayStand, MayFollow}
+use Rattle.base_words.specs.Outstanding.{is_outstanding, outstanding_count}
+use Rattle.base_words.specs.Terms.{Terms, terms_of}
+use Rattle.base_words.specs.Work.{number_if}
+use Rattle.base_words.proofs.Told.{length-with_last_if}
 use Rattle.fairexec_run.specs.Counts.{name_sent, sent_count, delivered_count}
 use Rattle.fairexec_run.proofs.Growing.{lt_or_le}
 use Rattle.fairexec_run.proofs.UpTo.{AreUpTo, up_to_front, up_to_parts, outstanding_past, given_up_to}

@@ -1,19 +1,19 @@
 -- A world after one turn: the notes of its polls, and that of its end.
 use Rattle.std.proofs.Common.{◌≡◌, ◌⊎◌, inl, inr, ℕ, suc, zero, ◌+◌, ◌*◌, ◌≤◌, ◌<◌, List, [], ◌∷◌, ◌++◌, length, Bool, true, false, Option, Some, None, sym, ap, subst, ◌∙◌, refl, arith, unwrap_or, get_or}
-use Rattle.rt_ids.specs.declared.names.JobId.{JobId}
-use Rattle.rt_ids.specs.declared.note.Note.{Note}
-use Rattle.rt_ids.specs.declared.note.Note.TheVariants as written
-use Rattle.rt_ids.specs.Bursts.{has_bursts, polls_in_turn}
-use Rattle.rt_ids.specs.Commands.{stays_in_line}
-use Rattle.rt_ids.specs.Filters.{name_started}
-use Rattle.rt_ids.specs.Journal.{Journal, is_told}
-use Rattle.rt_ids.specs.Lines.{line}
-use Rattle.rt_core.specs.Whole.{settled_of}
-use Rattle.rt_core.specs.declared.turn.Settled.{Settled}
-use Rattle.rt_core.specs.declared.turn.Settled.TheVariants as settled
-use Rattle.rt_jobs.specs.ScriptMeaning.{script_meaning}
-use Rattle.rt_world.specs.State.{journal_at, noted}
-use Rattle.rt_world.specs.Turns.{IsPoll, IsFirstPoll, Ends, Further, MakesPolls, poll_note, poll_notes, settle_note, settled_note}
+use Rattle.base_words.specs.declared.names.JobId.{JobId}
+use Rattle.base_words.specs.declared.note.Note.{Note}
+use Rattle.base_words.specs.declared.note.Note.TheVariants as written
+use Rattle.base_words.specs.Bursts.{has_bursts, polls_in_turn}
+use Rattle.base_words.specs.Commands.{stays_in_line}
+use Rattle.base_words.specs.Filters.{name_started}
+use Rattle.base_words.specs.Journal.{Journal, is_told}
+use Rattle.base_words.specs.Lines.{line}
+use Rattle.core_core.specs.Whole.{settled_of}
+use Rattle.core_core.specs.declared.turn.Settled.{Settled}
+use Rattle.core_core.specs.declared.turn.Settled.TheVariants as settled
+use Rattle.base_jobs.specs.ScriptMeaning.{script_meaning}
+use Rattle.model_world.specs.State.{journal_at, noted}
+use Rattle.model_world.specs.Turns.{IsPoll, IsFirstPoll, Ends, Further, MakesPolls, poll_note, poll_notes, settle_note, settled_note}
 use Rattle.fairexec_script.specs.Limits.{IsBurst}
 use Rattle.fairexec_run.specs.Transcripts.{ScriptWorld}
 use Rattle.fairexec_run.proofs.CallSteps.{calls_grow, calls_keep, keeps_polls, polls_at}

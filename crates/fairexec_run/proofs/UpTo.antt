@@ -2,20 +2,20 @@
 use Rattle.std.proofs.Common.{◌≡◌, ◌≤◌, ◌<◌, ℕ, Bool, true, false, cond, [], ◌∷◌, ◌++◌, length, refl, sym, ap, subst, arith}
 use Rattle.std.specs.Prelude.{◌==◌, ◌||◌, ◌&&◌, not, Option, Some, None}
 use Rattle.std.proofs.lemmas.Bool.{eqb-true, eq-eqb}
-use Rattle.rt_ids.specs.declared.names.JobId.{JobId}
-use Rattle.rt_ids.specs.declared.note.Note.{Note}
-use Rattle.rt_ids.specs.declared.note.Note.TheVariants.{Back, Answered, Done, Returned, Collected, Redeemed}
-use Rattle.rt_ids.specs.declared.note.OutcomeNote.{OutcomeNote}
-use Rattle.rt_ids.specs.Assembly.{first_under}
-use Rattle.rt_ids.specs.Filters.{Outcomes, delivered_names, name_delivered, given_outcomes, outcome_given, collected_outcomes, outcome_collected, name_ended}
-use Rattle.rt_ids.specs.Journal.{Journal, EachNote, with_last, is_told}
-use Rattle.rt_ids.specs.Lawful.{MayStand, MayFollow}
-use Rattle.rt_ids.specs.Names.{same_name}
-use Rattle.rt_ids.specs.Outstanding.{name_collected, name_redeemed, is_outstanding}
-use Rattle.rt_ids.specs.Terms.{Terms}
-use Rattle.rt_ids.proofs.Known.{IsOld, known_of, next_old}
-use Rattle.rt_ids.proofs.NameLemmas.{one_name, same_as_itself}
-use Rattle.rt_ids.proofs.Told.{grows}
+use Rattle.base_words.specs.declared.names.JobId.{JobId}
+use Rattle.base_words.specs.declared.note.Note.{Note}
+use Rattle.base_words.specs.declared.note.Note.TheVariants.{Back, Answered, Done, Returned, Collected, Redeemed}
+use Rattle.base_words.specs.declared.note.OutcomeNote.{OutcomeNote}
+use Rattle.base_words.specs.Assembly.{first_under}
+use Rattle.base_words.specs.Filters.{Outcomes, delivered_names, name_delivered, given_outcomes, outcome_given, collected_outcomes, outcome_collected, name_ended}
+use Rattle.base_words.specs.Journal.{Journal, EachNote, with_last, is_told}
+use Rattle.base_words.specs.Lawful.{MayStand, MayFollow}
+use Rattle.base_words.specs.Names.{same_name}
+use Rattle.base_words.specs.Outstanding.{name_collected, name_redeemed, is_outstanding}
+use Rattle.base_words.specs.Terms.{Terms}
+use Rattle.base_words.proofs.Known.{IsOld, known_of, next_old}
+use Rattle.base_words.proofs.NameLemmas.{one_name, same_as_itself}
+use Rattle.base_words.proofs.Told.{grows}
 
 -- an outcome under a number up to this one, if there is an outcome
 abbrev pub IsUpTo : ℕ → Option (JobId × OutcomeNote ℕ) → Type 0

@@ -1,34 +1,34 @@
 -- A world after one event: its size stays, and each journal is a few notes longer.
 use Rattle.std.proofs.Common.{◌≡◌, inl, inr, ℕ, ◌+◌, ◌*◌, ◌≤◌, List, [], ◌∷◌, length, Bool, true, false, Option, Some, None, refl, sym, ap, subst, arith, ◌-◌}
-use Rattle.rt_ids.specs.declared.names.JobId.{JobId}
-use Rattle.rt_ids.specs.declared.note.Note.{Note}
-use Rattle.rt_ids.specs.declared.note.Note.TheVariants as written
-use Rattle.rt_ids.specs.declared.order.Answer.{Answer}
-use Rattle.rt_ids.specs.declared.order.Answer.TheVariants as answers
-use Rattle.rt_ids.specs.declared.order.Order.{Order}
-use Rattle.rt_ids.specs.Bursts.{has_bursts}
-use Rattle.rt_ids.specs.Journal.{Journal}
-use Rattle.rt_ids.specs.declared.order.Order.TheVariants as order
-use Rattle.rt_ids.specs.Commands.{effect_note}
-use Rattle.rt_jobs.specs.Scripts.{Script}
-use Rattle.rt_world.specs.declared.event.Event.{Event}
-use Rattle.rt_world.specs.declared.event.Event.TheVariants.{Send, Deliver, Turn, Shut, Collect, Redeem, Detach}
-use Rattle.rt_world.specs.declared.event.Reply.{Reply}
-use Rattle.rt_world.specs.declared.event.Reply.TheVariants as reply
-use Rattle.rt_world.specs.State.{journal_at, assembly_of, IsNearlyFull}
-use Rattle.rt_jobs.specs.ScriptMeaning.{script_meaning}
-use Rattle.rt_world.specs.Sends.{actor_of, AreThere}
-use Rattle.rt_world.specs.Deliveries.{IsDelivery, with_effect, Delivers}
-use Rattle.rt_ids.specs.Filters.{accepted_orders}
-use Rattle.rt_world.specs.Turns.{MakesPolls, Turns}
-use Rattle.rt_world.specs.Closings.{Shuts}
-use Rattle.rt_world.specs.Collections.{uncollected, collected_notes, Collects, Redeems}
+use Rattle.base_words.specs.declared.names.JobId.{JobId}
+use Rattle.base_words.specs.declared.note.Note.{Note}
+use Rattle.base_words.specs.declared.note.Note.TheVariants as written
+use Rattle.base_words.specs.declared.order.Answer.{Answer}
+use Rattle.base_words.specs.declared.order.Answer.TheVariants as answers
+use Rattle.base_words.specs.declared.order.Order.{Order}
+use Rattle.base_words.specs.Bursts.{has_bursts}
+use Rattle.base_words.specs.Journal.{Journal}
+use Rattle.base_words.specs.declared.order.Order.TheVariants as order
+use Rattle.base_words.specs.Commands.{effect_note}
+use Rattle.base_jobs.specs.Scripts.{Script}
+use Rattle.model_world.specs.declared.event.Event.{Event}
+use Rattle.model_world.specs.declared.event.Event.TheVariants.{Send, Deliver, Turn, Shut, Collect, Redeem, Detach}
+use Rattle.model_world.specs.declared.event.Reply.{Reply}
+use Rattle.model_world.specs.declared.event.Reply.TheVariants as reply
+use Rattle.model_world.specs.State.{journal_at, assembly_of, IsNearlyFull}
+use Rattle.base_jobs.specs.ScriptMeaning.{script_meaning}
+use Rattle.model_world.specs.Sends.{actor_of, AreThere}
+use Rattle.model_world.specs.Deliveries.{IsDelivery, with_effect, Delivers}
+use Rattle.base_words.specs.Filters.{accepted_orders}
+use Rattle.model_world.specs.Turns.{MakesPolls, Turns}
+use Rattle.model_world.specs.Closings.{Shuts}
+use Rattle.model_world.specs.Collections.{uncollected, collected_notes, Collects, Redeems}
 use Rattle.std.proofs.lemmas.Bool.{ltb-false}
 use Rattle.std.proofs.lemmas.Option.{unwrap_or-slice_get}
-use Rattle.rt_ids.specs.Assembly.{journal_of}
-use Rattle.rt_ids.specs.Joining.{AreJoined}
-use Rattle.rt_ids.specs.Outcomes.{outcome_note}
-use Rattle.rt_ids.specs.Terms.{terms_of}
+use Rattle.base_words.specs.Assembly.{journal_of}
+use Rattle.base_words.specs.Joining.{AreJoined}
+use Rattle.base_words.specs.Outcomes.{outcome_note}
+use Rattle.base_words.specs.Terms.{terms_of}
 use Rattle.fairexec_run.specs.Counts.{sent_count, collected_count, delivered_count}
 use Rattle.fairexec_run.proofs.Growing.{Grows, grows_within, stays, adds_to}
 use Rattle.fairexec_run.proofs.CallSteps.{send_grows, detach_grows}
@@ -36,7 +36,7 @@ use Rattle.fairexec_run.proofs.TurnSteps.{polls_grow, poll_grows}
 use Rattle.fairexec_run.proofs.SentCounts.{sent_within}
 use Rattle.fairexec_run.proofs.CollectedCounts.{collected_at_most_sent}
 use Rattle.fairexec_run.proofs.CountLemmas.{AreLight, few_light, collected_light, delivered_at_most}
-use Rattle.rt_world.specs.Runs.{Steps}
+use Rattle.model_world.specs.Runs.{Steps}
 use Rattle.fairexec_script.specs.Limits.{IsBurst}
 use Rattle.fairexec_run.specs.Rooms.{IsRoomy}
 use Rattle.fairexec_run.specs.Transcripts.{ScriptWorld, Occurs, IsHeard}

@@ -1,9 +1,9 @@
 -- Outputs of a script that are refused, each for one thing.
 use Rattle.std.specs.Prelude.{◌≡◌, ℕ, Bool, false, List, [], codes, replicate, Option, Some, None}
-use Rattle.rt_ids.specs.Assembly.{Assembly}
-use Rattle.rt_jobs.specs.Scripts.{Script}
-use Rattle.rt_world.specs.declared.event.Event.{Event}
-use Rattle.rt_world.specs.declared.event.Reply.TheVariants as reply
+use Rattle.base_words.specs.Assembly.{Assembly}
+use Rattle.base_jobs.specs.Scripts.{Script}
+use Rattle.model_world.specs.declared.event.Event.{Event}
+use Rattle.model_world.specs.declared.event.Reply.TheVariants as reply
 use Rattle.fairexec_script.specs.Drafts.{Drafted}
 use Rattle.fairexec_run.specs.Begun.{IsRearPart, IsCutShort, IsFirstText}
 use Rattle.fairexec_run.specs.Outputs.{IsDone}

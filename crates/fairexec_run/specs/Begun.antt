@@ -2,13 +2,13 @@
 use Rattle.std.specs.Prelude.{◌≡◌, ◌⊎◌, ℕ, ◌≤◌, Bool, true, false, List, [], ◌++◌, Option, Some, Ok}
 use Rattle.std.specs.Io.KnownBytes.{Keeps}
 use Rattle.std.specs.Option.{IfSome}
-use Rattle.rt_ids.specs.Assembly.{Assembly, journal_of}
+use Rattle.base_words.specs.Assembly.{Assembly, journal_of}
 use Rattle.fairexec_report.specs.StatTexts.{IsTextBelow}
 use Rattle.fairexec_script.specs.declared.event.ScriptEvent.{ScriptEvent}
 use Rattle.fairexec_script.specs.Drafts.{Drafted}
 use Rattle.fairexec_script.specs.Scripts.{script_of}
-use Rattle.rt_journal_write.specs.Pages.{AppendsFront}
-use Rattle.rt_world.specs.Opening.{IsFresh}
+use Rattle.text_journal.specs.Pages.{AppendsFront}
+use Rattle.model_world.specs.Opening.{IsFresh}
 use Rattle.fairexec_run.specs.Printed.{IsFront}
 use Rattle.fairexec_run.specs.Transcripts.{ScriptWorld, PrintsAll, script_room, with_queues}
 

@@ -1,10 +1,10 @@
 -- The text of an event.
 use Rattle.std.specs.Prelude.{ℕ, ◌++◌, List, [], ◌∷◌, codes, Option, Some, None}
-use Rattle.rt_ids.specs.declared.note.Note.{Note}
-use Rattle.rt_text.specs.declared.reply.Ends.{Ends}
-use Rattle.rt_text.specs.declared.reply.Quiet.{Quiet}
-use Rattle.rt_text.specs.Notes.{note_line}
-use Rattle.rt_text.specs.Replies.{reply_line}
+use Rattle.base_words.specs.declared.note.Note.{Note}
+use Rattle.text_words.specs.declared.reply.Ends.{Ends}
+use Rattle.text_words.specs.declared.reply.Quiet.{Quiet}
+use Rattle.text_words.specs.Notes.{note_line}
+use Rattle.text_words.specs.Replies.{reply_line}
 
 -- an actor's notes as lines, the oldest first
 abbrev pub note_lines : ℕ → List (Note ℕ) → List ℕ

@@ -1,3 +1,4 @@
+pub mod BoxedScripts
 pub mod Replies
 pub mod EventTexts
 pub mod Transcripts

@@ -1,7 +1,7 @@
 -- Each script has one output, unless a core had no memory for a queue that it orders.
 use Rattle.std.specs.Prelude.{◌≡◌, ◌⊎◌, ℕ, List, map, Bool, Option, Some}
-use Rattle.rt_world_laws.specs.Creations.{OrderNoQueues}
-use Rattle.rt_world_laws.specs.Determined.{WasRefused}
+use Rattle.model_laws.specs.Creations.{OrderNoQueues}
+use Rattle.model_laws.specs.Determined.{WasRefused}
 use Rattle.fairexec_script.specs.Drafts.{Drafted}
 use Rattle.fairexec_run.specs.Replies.{event_of}
 use Rattle.fairexec_run.specs.Outputs.{IsDone}

@@ -5,7 +5,7 @@ use Rattle.std.specs.Io.KnownBytes.{Appends}
 use Rattle.fairexec_script.specs.declared.event.ScriptEvent.{ScriptEvent}
 use Rattle.fairexec_script.specs.Drafts.{Drafted}
 use Rattle.fairexec_script.specs.Scripts.{script_of}
-use Rattle.rt_journal_write.specs.Pages.{Puts}
+use Rattle.text_journal.specs.Pages.{Puts}
 use Rattle.fairexec_run.specs.Printed.{IsPrinted}
 use Rattle.fairexec_run.specs.Transcripts.{ScriptWorld, PrintsAll}
 

@@ -1,15 +1,15 @@
 -- What is printed of a script, by what is wanted: its events or its journals, and the statistics behind them.
 use Rattle.std.specs.Prelude.{◌≡◌, ℕ, Bool, true, false, List, ◌++◌, map, Option, Some}
-use Rattle.rt_ids.specs.Assembly.{Assembly, journal_of}
-use Rattle.rt_ids.specs.Joining.{AreJoined}
-use Rattle.rt_ids.specs.Sound.{IsSound}
-use Rattle.rt_ids.specs.Spelled.{IsSpelled}
+use Rattle.base_words.specs.Assembly.{Assembly, journal_of}
+use Rattle.base_words.specs.Joining.{AreJoined}
+use Rattle.base_words.specs.Sound.{IsSound}
+use Rattle.base_words.specs.Spelled.{IsSpelled}
 use Rattle.fairexec_report.specs.StatTexts.{IsStatsIf, IsStatsText}
 use Rattle.fairexec_script.specs.Drafts.{Drafted}
-use Rattle.rt_journal_write.specs.Pages.{Puts}
-use Rattle.rt_journal_write.specs.Texts.{journal_text}
-use Rattle.rt_world.specs.Opening.{IsFresh}
-use Rattle.rt_world.specs.State.{assembly_of}
+use Rattle.text_journal.specs.Pages.{Puts}
+use Rattle.text_journal.specs.Texts.{journal_text}
+use Rattle.model_world.specs.Opening.{IsFresh}
+use Rattle.model_world.specs.State.{assembly_of}
 use Rattle.fairexec_run.specs.Replies.{event_of}
 use Rattle.fairexec_run.specs.Transcripts.{ScriptWorld, RunsOf, IsOutput, script_room, with_queues}
 

@@ -1,18 +1,18 @@
 -- The events of a script as events of the model, and what is printed of a reply.
 use Rattle.std.specs.Prelude.{ℕ, Option, None, Some}
-use Rattle.rt_ids.specs.declared.names.JobId.{JobId}
-use Rattle.rt_ids.specs.declared.names.TicketError.TheVariants as ticket
-use Rattle.rt_ids.specs.declared.order.SendError.TheVariants as refused
-use Rattle.rt_jobs.specs.Scripts.{Script}
-use Rattle.rt_world.specs.declared.event.Event.{Event}
-use Rattle.rt_world.specs.declared.event.Event.TheVariants as event
-use Rattle.rt_world.specs.declared.event.Reply.{Reply}
-use Rattle.rt_world.specs.declared.event.Reply.TheVariants as reply
+use Rattle.base_words.specs.declared.names.JobId.{JobId}
+use Rattle.base_words.specs.declared.names.TicketError.TheVariants as ticket
+use Rattle.base_words.specs.declared.order.SendError.TheVariants as refused
+use Rattle.base_jobs.specs.Scripts.{Script}
+use Rattle.model_world.specs.declared.event.Event.{Event}
+use Rattle.model_world.specs.declared.event.Event.TheVariants as event
+use Rattle.model_world.specs.declared.event.Reply.{Reply}
+use Rattle.model_world.specs.declared.event.Reply.TheVariants as reply
 use Rattle.fairexec_script.specs.declared.event.ScriptEvent.{ScriptEvent}
 use Rattle.fairexec_script.specs.declared.event.ScriptEvent.TheVariants.{Send, Deliver, Turn, Shut, Collect, Redeem, Detach}
-use Rattle.rt_text.specs.declared.reply.Ends.{Ends}
-use Rattle.rt_text.specs.declared.reply.Quiet.{Quiet}
-use Rattle.rt_text.specs.declared.reply.Quiet.TheVariants as quiet
+use Rattle.text_words.specs.declared.reply.Ends.{Ends}
+use Rattle.text_words.specs.declared.reply.Quiet.{Quiet}
+use Rattle.text_words.specs.declared.reply.Quiet.TheVariants as quiet
 
 -- the event of the model; a turn has no time of its own
 abbrev pub event_of : ScriptEvent → Event Script

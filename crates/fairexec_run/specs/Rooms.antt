@@ -1,9 +1,9 @@
 -- A world in the middle of a script: its journals have room for all that is to come.
 use Rattle.std.specs.Prelude.{◌≡◌, ℕ, ◌+◌, ◌*◌, ◌≤◌, false, List, [], length}
-use Rattle.rt_ids.specs.Bursts.{has_bursts}
-use Rattle.rt_ids.specs.Commands.{created_count}
-use Rattle.rt_world.specs.Opening.{IsFresh, IsUnbegun}
-use Rattle.rt_world.specs.State.{journal_at}
+use Rattle.base_words.specs.Bursts.{has_bursts}
+use Rattle.base_words.specs.Commands.{created_count}
+use Rattle.model_world.specs.Opening.{IsFresh, IsUnbegun}
+use Rattle.model_world.specs.State.{journal_at}
 use Rattle.fairexec_script.specs.Drafts.{queue_lines}
 use Rattle.fairexec_script.specs.Limits.{IsSize, IsBurst}
 use Rattle.fairexec_run.specs.Counts.{sent_count, collected_count, delivered_count}

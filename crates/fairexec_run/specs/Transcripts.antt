@@ -1,22 +1,22 @@
 -- What is printed of a script's events.
 use Rattle.std.specs.Prelude.{◌≡◌, ℕ, ◌+◌, ◌*◌, ◌++◌, List, [], ◌∷◌, reverse, Some, if◌then◌else◌}
-use Rattle.rt_ids.specs.declared.note.Note.{Note}
-use Rattle.rt_ids.specs.declared.note.Note.TheVariants.{Created}
-use Rattle.rt_ids.specs.Bursts.{has_bursts}
-use Rattle.rt_ids.specs.Commands.{created_count}
-use Rattle.rt_jobs.specs.Scripts.{Script}
-use Rattle.rt_world.specs.declared.event.Event.{Event}
+use Rattle.base_words.specs.declared.note.Note.{Note}
+use Rattle.base_words.specs.declared.note.Note.TheVariants.{Created}
+use Rattle.base_words.specs.Bursts.{has_bursts}
+use Rattle.base_words.specs.Commands.{created_count}
+use Rattle.base_jobs.specs.Scripts.{Script}
+use Rattle.model_world.specs.declared.event.Event.{Event}
 use Rattle.fairexec_script.specs.declared.event.ScriptEvent.{ScriptEvent}
-use Rattle.rt_world.specs.declared.event.Reply.{Reply}
-use Rattle.rt_world.specs.declared.event.Reply.TheVariants as reply
-use Rattle.rt_ids.specs.Assembly.{Assembly}
-use Rattle.rt_ids.specs.Joining.{AreJoined}
-use Rattle.rt_ids.specs.Sound.{IsSound}
-use Rattle.rt_world.specs.State.{WorldView, journal_at, noted, assembly_of}
-use Rattle.rt_world.specs.Sends.{actor_of}
-use Rattle.rt_world.specs.Opening.{IsFresh, HasAllLists}
-use Rattle.rt_world.specs.Runs.{Happens, IsRun, RunsTo}
-use Rattle.rt_jobs.specs.ScriptMeaning.{script_meaning}
+use Rattle.model_world.specs.declared.event.Reply.{Reply}
+use Rattle.model_world.specs.declared.event.Reply.TheVariants as reply
+use Rattle.base_words.specs.Assembly.{Assembly}
+use Rattle.base_words.specs.Joining.{AreJoined}
+use Rattle.base_words.specs.Sound.{IsSound}
+use Rattle.model_world.specs.State.{WorldView, journal_at, noted, assembly_of}
+use Rattle.model_world.specs.Sends.{actor_of}
+use Rattle.model_world.specs.Opening.{IsFresh, HasAllLists}
+use Rattle.model_world.specs.Runs.{Happens, IsRun, RunsTo}
+use Rattle.base_jobs.specs.ScriptMeaning.{script_meaning}
 use Rattle.fairexec_script.specs.Drafts.{Drafted}
 use Rattle.fairexec_run.specs.Replies.{event_of, ends_of, quiet_of}
 use Rattle.fairexec_run.specs.EventTexts.{event_text}

@@ -2,16 +2,16 @@
 
 ghost use Rattle.std.specs.Prelude.{◌≡◌, ◌<◌, ◌≤◌, ◌+◌, ◌*◌, [], ℕ, List, length, IfOk, IfErr, OnOk, OnErr, IfSome, Err, Some, true, false};
 ghost use Rattle.std.specs.Io.KnownBytes.{Keeps, Appends};
-ghost use Rattle.rt_ids.specs.Commands.{created_count};
-ghost use Rattle.rt_world.specs.Opening.{IsFresh, IsUnbegun};
-ghost use Rattle.rt_world.specs.State.{journal_at};
+ghost use Rattle.base_words.specs.Commands.{created_count};
+ghost use Rattle.model_world.specs.Opening.{IsFresh, IsUnbegun};
+ghost use Rattle.model_world.specs.State.{journal_at};
 ghost use Rattle.fairexec_script.specs.Limits.{IsSize, IsBurst, ArePlaced, HasFewQueues};
 ghost use Rattle.fairexec_script.specs.Drafts.{empty_draft};
 ghost use Rattle.fairexec_script.specs.Scripts.{judge, script_of};
 ghost use Rattle.fairexec_script.specs.Whole.{drafted};
-ghost use Rattle.rt_lines.specs.Taking.{IsPrompt, IsToldByRead};
-ghost use Rattle.rt_sink.specs.Tries.{HasFailedSince};
-ghost use Rattle.rt_text.specs.Faults.{IfRead, IfText, IfUnread, IfUnwritten, IfEnded};
+ghost use Rattle.text_bytes.specs.Taking.{IsPrompt, IsToldByRead};
+ghost use Rattle.text_bytes.specs.Tries.{HasFailedSince};
+ghost use Rattle.text_words.specs.Faults.{IfRead, IfText, IfUnread, IfUnwritten, IfEnded};
 ghost use Rattle.fairexec_run.specs.Begun.{BreaksOff, IsCutShort};
 ghost use Rattle.fairexec_run.specs.Outputs.{IsDone, TellsScript};
 ghost use Rattle.fairexec_run.specs.Rooms.{MayMake, IsOpened};
@@ -22,16 +22,14 @@ ghost use Rattle.fairexec_script.specs.TextLimits.{most_lines};
 
 use crate::journal::{events_of, print_journal, print_journal_rear, print_rear};
 use crate::print::{FULL_PAGE, LONGEST_PRINT, Model, print_events};
+use base_words::{CoreNo, Shares};
+use core_queues::CreateError;
 use fairexec_script::limits::MOST_LINES;
 use fairexec_script::{Script, read_script};
-use rt_ids::CoreNo;
-use rt_lines::Source;
-use rt_shares::Shares;
-use rt_sink::Sink;
-use rt_taskqueue::CreateError;
-use rt_text::{Cause, Fault};
-use rt_world::{World, WorldError};
+use model_world::{World, WorldError};
 use std::alloc::Global;
+use text_bytes::{Sink, Source};
+use text_words::{Cause, Fault};
 
 /// Runs the script that the source tells, and prints each event's notes, or one line if it made none.
 ///
@@ -110,7 +108,7 @@ fn play_events<S: Sink>(
     } = script;
     let mut model = open_model(alloc, cores, cap, burst, queues.as_slice())?;
     let mut page = String::with_capacity(alloc, FULL_PAGE + LONGEST_PRINT)?;
-    print_events(&mut model, events, &mut page, sink)?;
+    print_events(alloc, &mut model, events, &mut page, sink)?;
     model.complete();
     model.joined();
     model.sound();

@@ -2,42 +2,42 @@
 
 ghost use Rattle.std.specs.Prelude.{◌≡◌, ◌++◌, ℕ, List, map, IfOk, IfErr, OnOk, OnErr, string_bytes};
 ghost use Rattle.std.specs.Io.KnownBytes.{Appends};
-ghost use Rattle.rt_ids.specs.Spelled.{IsSpelled};
+ghost use Rattle.base_words.specs.Spelled.{IsSpelled};
 ghost use Rattle.fairexec_report.specs.StatTexts.{IsCoreText, IsStatsIf};
-ghost use Rattle.rt_journal_write.specs.Pages.{Puts, AppendsFront};
-ghost use Rattle.rt_journal_write.specs.Texts.{journal_text};
-ghost use Rattle.rt_world.specs.State.{assembly_of};
+ghost use Rattle.text_journal.specs.Pages.{Puts, AppendsFront};
+ghost use Rattle.text_journal.specs.Texts.{journal_text};
+ghost use Rattle.model_world.specs.State.{assembly_of};
 ghost use Rattle.fairexec_run.specs.Begun.{IsRearPart, IsNoneOr, WritesStats};
-ghost use Rattle.rt_sink.specs.Tries.{HasFailedSince, IsNoFewer};
-ghost use Rattle.rt_text.specs.Faults.{IfUnread, IfUnwritten};
+ghost use Rattle.text_bytes.specs.Tries.{HasFailedSince, IsNoFewer};
+ghost use Rattle.text_words.specs.Faults.{IfUnread, IfUnwritten};
 ghost use Rattle.fairexec_run.specs.Printed.{PutsStats};
 ghost use Rattle.fairexec_run.specs.Replies as replies;
 
+use crate::boxed_script::BoxedScript;
 use crate::print::{FULL_PAGE, Model, print_page};
 use crate::reply::event_of;
+use base_words::{ActorNo, CoreNo};
 use fairexec_report::put_stats;
 use fairexec_script::ScriptEvent;
-use rt_ids::{ActorNo, CoreNo};
-use rt_jobs::ScriptJob;
-use rt_journal_notes::Journal;
-use rt_journal_write::write_journal;
-use rt_sink::{Sink, flush};
-use rt_text::{Cause, Fault};
-use rt_world::{Assembly, Event};
+use model_world::{Assembly, Event};
+use note_journal::Journal;
 use std::alloc::Global;
+use text_bytes::{Sink, flush};
+use text_journal::write_journal;
+use text_words::{Cause, Fault};
 
 /// The events of a script as events of the model, in their order.
 pub(crate) fn events_of(
     alloc: Global,
     events: Vec<ScriptEvent>,
-) -> Result<Vec<Event<ScriptJob>>, Fault<Cause>>
+) -> Result<Vec<Event<BoxedScript>>, Fault<Cause>>
     ensures ok { IfOk result (λ all. all.items ≡ map replies.event_of events.items) }
     ensures device { IfErr result (IfUnread ⊥) }
     ensures quiet { IfErr result (IfUnwritten ⊥) }
 {
     let mut all = Vec::with_capacity(alloc, events.len())?;
     for event in events {
-        all.push(event_of(event))?;
+        all.push(event_of(alloc, event)?)?;
     }
     Ok(all)
 }

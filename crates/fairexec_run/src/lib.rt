@@ -1,11 +1,12 @@
 //! Runs scripts on the model, and prints what happens.
 #![tactic(auto)]
 
+mod boxed_script;
 pub mod engine;
 mod journal;
 pub mod laws;
 mod print;
 pub mod refused;
-pub mod reply;
+mod reply;
 
 pub use engine::run_script;

@@ -3,9 +3,9 @@
 ghost use Rattle.std.specs.Prelude.{◌≡◌, ◌≤◌, ◌-◌, ◌++◌, [], ℕ, List, length, drop, reverse, IfErr, OnOk, OnErr, Some, string_bytes};
 ghost use Rattle.std.specs.Io.KnownBytes.{Appends};
 ghost use Rattle.fairexec_script.specs.Limits.{AreEventsOf, IsEventOf};
-ghost use Rattle.rt_journal_write.specs.Pages.{AppendsFront};
-ghost use Rattle.rt_sink.specs.Tries.{HasFailedSince, IsNoFewer};
-ghost use Rattle.rt_text.specs.Faults.{IfUnread, IfUnwritten};
+ghost use Rattle.text_journal.specs.Pages.{AppendsFront};
+ghost use Rattle.text_bytes.specs.Tries.{HasFailedSince, IsNoFewer};
+ghost use Rattle.text_words.specs.Faults.{IfUnread, IfUnwritten};
 ghost use Rattle.fairexec_run.specs.Begun.{WritesFirst};
 ghost use Rattle.fairexec_run.specs.Outputs.{WritesAll};
 ghost use Rattle.fairexec_run.specs.Rooms.{IsRoomy};
@@ -13,17 +13,17 @@ ghost use Rattle.fairexec_run.specs.Transcripts.{Prints};
 ghost use Rattle.fairexec_run.specs.EventTexts.{note_lines};
 ghost use Rattle.fairexec_script.specs.TextLimits.{most_lines};
 
+use crate::boxed_script::BoxedScript;
 use crate::reply::{ends_of, event_of, quiet_of};
+use base_words::ActorNo;
 use fairexec_script::ScriptEvent;
-use rt_ids::ActorNo;
-use rt_jobs::ScriptJob;
-use rt_sink::{Sink, write_all};
-use rt_text::{Cause, Fault, NoteLine, ReplyLine};
-use rt_world::{Journal, World};
+use model_world::{Journal, World};
 use std::alloc::Global;
+use text_bytes::{Sink, write_all};
+use text_words::{Cause, Fault, NoteLine, ReplyLine};
 
 /// A world of script jobs.
-pub(crate) type Model = World<ScriptJob, Global>;
+pub(crate) type Model = World<BoxedScript, Global>;
 
 /// A page of this many bytes is full, and is written.
 pub(crate) const FULL_PAGE: usize = 16384;
@@ -34,6 +34,7 @@ pub(crate) const LONGEST_PRINT: usize = 1024;
 
 /// Lets the events happen, one after another. A full page is written to the sink at once.
 pub(crate) fn print_events<S: Sink>(
+    alloc: Global,
     model: &mut Model,
     events: Vec<ScriptEvent>,
     page: &mut String,
@@ -50,7 +51,7 @@ pub(crate) fn print_events<S: Sink>(
     ensures tried { IsNoFewer (S.tries sink.old) (S.tries sink.new) }
 {
     for event in events {
-        print_event(model, event, page)?;
+        print_event(alloc, model, event, page)?;
         if page.len() >= FULL_PAGE {
             print_page(page, sink)?;
         }
@@ -59,7 +60,12 @@ pub(crate) fn print_events<S: Sink>(
 }
 
 /// Lets the event happen, and puts its lines on the page.
-fn print_event(model: &mut Model, event: ScriptEvent, page: &mut String) -> Result<(), Fault<Cause>>
+fn print_event(
+    alloc: Global,
+    model: &mut Model,
+    event: ScriptEvent,
+    page: &mut String,
+) -> Result<(), Fault<Cause>>
     requires roomy { IsRoomy model.old.cores model.old.cap model.old.burst (most_lines - 1) model.old }
     requires there { IsEventOf model.old.cores event }
     ensures ok { OnOk result ((text : List ℕ) × Prints event model.old model.new text
@@ -71,15 +77,17 @@ fn print_event(model: &mut Model, event: ScriptEvent, page: &mut String) -> Resu
     model.joined();
     let ends = ends_of(&event);
     let before = model.journal(ends.actor).len();
-    let reply = model.step(event_of(event));
+    let event = event_of(alloc, event)?;
+    let reply = model.step(event);
     let journal = model.journal(ends.actor);
     if journal.len() > before {
         return print_notes(ends.actor, journal, before, page);
     }
-    if let Some(quiet) = quiet_of(&reply) {
-        let line = ReplyLine(ends, quiet);
-        writeln!(page, "{line}")?;
-    }
+    let Some(quiet) = quiet_of(&reply) else {
+        return Ok(());
+    };
+    let line = ReplyLine(ends, quiet);
+    writeln!(page, "{line}")?;
     Ok(())
 }
 

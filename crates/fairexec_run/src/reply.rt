@@ -1,32 +1,54 @@
 //! The events of a script as events of the model, and what is printed of a reply.
 
-ghost use Rattle.std.specs.Prelude.{◌≡◌, Some};
-ghost use Rattle.rt_world.specs.declared.event.Reply.TheVariants.{NoTicket};
+ghost use Rattle.std.specs.Prelude.{◌≡◌, Some, IfOk};
+ghost use Rattle.model_world.specs.declared.event.Reply.TheVariants.{NoTicket};
 ghost use Rattle.fairexec_run.specs.Replies as spec;
 
+use crate::boxed_script::BoxedScript;
+use base_jobs::ScriptJob;
+use base_words::{ActorNo, JobId, Order, SendError, Ticket, TicketError};
 use fairexec_script::ScriptEvent;
-use rt_ids::{ActorNo, JobId, SendError, Ticket, TicketError};
-use rt_jobs::ScriptJob;
-use rt_text::{Ends, Quiet};
-use rt_world::{Event, Reply};
+use model_world::{Event, Reply};
+use std::alloc::{AllocError, Global};
+use text_words::{Ends, Quiet};
 
 /// The event of the model. A turn has no time of its own, since script jobs tell theirs.
-pub fn event_of(event: ScriptEvent) -> Event<ScriptJob>
-    ensures { result ≡ spec.event_of event }
+///
+/// # Errors
+///
+/// There is no memory for the job that it sends.
+pub(crate) fn event_of(alloc: Global, event: ScriptEvent) -> Result<Event<BoxedScript>, AllocError>
+    ensures { IfOk result (λ same. same ≡ spec.event_of event) }
 {
-    match event {
-        ScriptEvent::Send(from, to, order) => Event::Send(from, to, order),
+    let event = match event {
+        ScriptEvent::Send(from, to, order) => Event::Send(from, to, order_of(alloc, order)?),
         ScriptEvent::Deliver(core, from) => Event::Deliver(core, from),
         ScriptEvent::Turn(core) => Event::Turn(core, 0),
         ScriptEvent::Shut(core, from) => Event::Shut(core, from),
         ScriptEvent::Collect(from, to) => Event::Collect(from, to),
         ScriptEvent::Redeem(name) => Event::Redeem(name.from, Ticket::named(name)),
         ScriptEvent::Detach(name) => Event::Detach(name.from, Ticket::named(name)),
-    }
+    };
+    Ok(event)
+}
+
+/// The same order.
+fn order_of(alloc: Global, order: Order<ScriptJob>) -> Result<Order<BoxedScript>, AllocError>
+    ensures { IfOk result (λ same. same ≡ order) }
+{
+    let order = match order {
+        Order::Job(queue, job) => Order::Job(queue, BoxedScript::new(alloc, job)?),
+        Order::Create(shares) => Order::Create(shares),
+        Order::SetShares(queue, shares) => Order::SetShares(queue, shares),
+        Order::Close(queue, mode) => Order::Close(queue, mode),
+        Order::CloseCore(mode) => Order::CloseCore(mode),
+        Order::Wake(actor, number) => Order::Wake(actor, number),
+    };
+    Ok(order)
 }
 
 /// The actor that makes the step of the event, and who is at the other end of its link.
-pub fn ends_of(event: &ScriptEvent) -> Ends
+pub(crate) fn ends_of(event: &ScriptEvent) -> Ends
     ensures { result ≡ spec.ends_of event.now }
 {
     match event {
@@ -74,7 +96,7 @@ fn quiet_ticket(error: &TicketError) -> Quiet
 }
 
 /// What the line says of this reply, or None where the reply comes with notes or is none of a script's.
-pub fn quiet_of(reply: &Reply<ScriptJob>) -> Option<Quiet>
+pub(crate) fn quiet_of(reply: &Reply<BoxedScript>) -> Option<Quiet>
     ensures { result ≡ spec.quiet_of reply.now }
 {
     match reply {

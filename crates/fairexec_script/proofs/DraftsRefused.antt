@@ -1,8 +1,8 @@
 -- Each draft with one thing wrong is refused.
 use Rattle.std.proofs.Common.{◌≡◌, ◌<◌, ◌≤◌, ℕ, List, [], ◌∷◌, All, arith}
-use Rattle.rt_ids.specs.declared.order.Order.TheVariants.{Job}
-use Rattle.rt_jobs.specs.Scripts.{Script}
-use Rattle.rt_jobs.specs.declared.poll.Poll.TheVariants.{Done}
+use Rattle.base_words.specs.declared.order.Order.TheVariants.{Job}
+use Rattle.base_jobs.specs.Scripts.{Script}
+use Rattle.base_jobs.specs.declared.poll.Poll.TheVariants.{Done}
 use Rattle.fairexec_script.specs.declared.event.ScriptEvent.{ScriptEvent}
 use Rattle.fairexec_script.specs.declared.event.ScriptEvent.TheVariants.{Send, Deliver, Turn}
 use Rattle.fairexec_script.specs.BadDrafts.{DraftsAreRefused}

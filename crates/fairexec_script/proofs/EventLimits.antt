@@ -1,16 +1,16 @@
 -- The events that a script's lines tell: their actors exist, and their jobs have made no poll.
 use Rattle.std.proofs.Common.{◌≡◌, ℕ, ◌-◌, ◌≤◌, ◌<◌, List, [], ◌∷◌, length, Some, Ok, refl, arith}
-use Rattle.rt_ids.specs.declared.names.JobId.{JobId}
-use Rattle.rt_jobs.specs.declared.poll.Poll.{Poll}
-use Rattle.rt_jobs.specs.Scripts.{Script}
+use Rattle.base_words.specs.declared.names.JobId.{JobId}
+use Rattle.base_jobs.specs.declared.poll.Poll.{Poll}
+use Rattle.base_jobs.specs.Scripts.{Script}
 use Rattle.fairexec_script.specs.declared.line.Line.{Line}
-use Rattle.rt_words.specs.Numbers.{number_of}
-use Rattle.rt_words.specs.Words.{first, second, others}
-use Rattle.rt_words.specs.Fields.{core_field, actor_field}
+use Rattle.text_words.specs.Numbers.{number_of}
+use Rattle.text_words.specs.Words.{first, second, others}
+use Rattle.text_words.specs.Fields.{core_field, actor_field}
 use Rattle.fairexec_script.specs.Polls.{polls_field, job_field}
 use Rattle.fairexec_script.specs.EventLines.{link_fields, gate_fields, name_fields, submit_line, create_line, shares_line, close_line, closecore_line, wake_line, deliver_line, turn_line, shut_line, collect_line, redeem_line, detach_line}
 use Rattle.fairexec_script.specs.Limits.{MayFollow}
-use Rattle.rt_words.proofs.FieldLemmas.{made_ok, both_ok, within_ok}
+use Rattle.text_words.proofs.FieldLemmas.{made_ok, both_ok, within_ok}
 
 core_ok : (cores : ℕ) (word : List ℕ) (core : ℕ) → 1 ≤ cores → core_field cores word ≡ Ok core → core < cores
 core_ok cores word core some e = let within = within_ok 0 (cores - 1) (number_of word) core e in omega arith

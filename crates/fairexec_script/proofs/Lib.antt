@@ -4,3 +4,6 @@ pub mod LimitLemmas
 pub mod PollLemmas
 pub mod SubmitLemmas
 pub mod SubmitPolls
+pub mod ThreadsLimitLemmas
+pub mod NoParks
+pub mod OrdersRefused

@@ -3,19 +3,19 @@ use Rattle.std.proofs.Common.{IfOk, eqb, sym, ap, zero-add, zero, suc, get_or, r
 use Rattle.std.proofs.lemmas.Bool.Decides.{nat_tests}
 use Rattle.std.proofs.lemmas.List.Sums.{sum_by-append}
 use Rattle.std.proofs.lemmas.List.Elements.{All-push}
-use Rattle.rt_text.specs.declared.fault.Cause.TheVariants.{WrongNumberOfWords}
+use Rattle.text_words.specs.declared.fault.Cause.TheVariants.{WrongNumberOfWords}
 use Rattle.fairexec_script.specs.declared.event.ScriptEvent.{ScriptEvent}
 use Rattle.fairexec_script.specs.declared.line.Line.{Line}
 use Rattle.fairexec_script.specs.declared.keyword.Keyword.{Keyword}
 use Rattle.fairexec_script.specs.declared.keyword.Keyword.TheVariants as keyword
-use Rattle.rt_words.specs.Numbers.{number_of}
+use Rattle.text_words.specs.Numbers.{number_of}
 use Rattle.fairexec_script.specs.Keywords.{keyword_of}
-use Rattle.rt_words.specs.Words.{first, others, second, third, word_count}
+use Rattle.text_words.specs.Words.{first, others, second, third, word_count}
 use Rattle.fairexec_script.specs.Lines.{size_fields, burst_fields, size_line, burst_line, counts, queue_line, line_of, first_line, keyword_line, later_line}
 use Rattle.fairexec_script.specs.Drafts.{Drafted, queue_lines}
 use Rattle.fairexec_script.specs.Counts.{HasCountedLines, count_of}
 use Rattle.fairexec_script.specs.Limits.{IsSize, IsBurst, ArePlaced, IsWithinLimits, IsCoreOf, MayFollow, AreEventsOf, IsEventFor, IsEventOf}
-use Rattle.rt_words.proofs.FieldLemmas.{made_ok, both_ok, within_ok}
+use Rattle.text_words.proofs.FieldLemmas.{made_ok, both_ok, within_ok}
 use Rattle.fairexec_script.proofs.EventLimits.{submit_line_ok, create_line_ok, shares_line_ok, close_line_ok, closecore_line_ok, wake_line_ok, deliver_line_ok, turn_line_ok, shut_line_ok, collect_line_ok, redeem_line_ok, detach_line_ok}
 
 size_ok : (ws : List (List ℕ)) (size : ℕ × ℕ) → size_fields ws ≡ Ok size → IsSize size.0 size.1

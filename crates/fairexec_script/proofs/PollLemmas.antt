@@ -1,13 +1,13 @@
 -- How the polls of a job are read one after another.
 use Rattle.std.proofs.Common.{◌≡◌, ◌≤◌, ◌+◌, ℕ, ◌++◌, List, [], ◌∷◌, length, length-append, Result, Ok, Err, OnErr, refl, ap, sym, ◌∙◌, append_assoc, arith, true, false, Bool}
-use Rattle.rt_jobs.specs.declared.poll.Poll.{Poll}
-use Rattle.rt_jobs.specs.declared.poll.Poll.TheVariants.{Done}
-use Rattle.rt_jobs.specs.Scripts.{Script}
-use Rattle.rt_jobs.specs.Filling.{with_poll, with_last}
-use Rattle.rt_jobs.proofs.FillLemmas.{with_poll-end, with_last-end}
-use Rattle.rt_text.specs.declared.fault.Cause.{Cause}
-use Rattle.rt_words.specs.Fields.{both, made, is_misspelled, worse}
-use Rattle.rt_words.specs.Words.{first, others}
+use Rattle.base_jobs.specs.declared.poll.Poll.{Poll}
+use Rattle.base_jobs.specs.declared.poll.Poll.TheVariants.{Done}
+use Rattle.base_jobs.specs.Scripts.{Script}
+use Rattle.base_jobs.specs.Filling.{with_poll, with_last}
+use Rattle.base_jobs.proofs.FillLemmas.{with_poll-end, with_last-end}
+use Rattle.text_words.specs.declared.fault.Cause.{Cause}
+use Rattle.text_words.specs.Fields.{both, made, is_misspelled, worse}
+use Rattle.text_words.specs.Words.{first, others}
 use Rattle.fairexec_script.specs.declared.polls.Early.{Early}
 use Rattle.fairexec_script.specs.Polls.{poll_of, early_field, done_field, polls_field, fresh_job, IsPartOf}
 

@@ -1,10 +1,10 @@
 -- A line that submits a job is read in parts.
 use Rattle.std.proofs.Common.{◌≡◌, ℕ, List, Result, Ok, Err, refl, ap, sym, ◌∙◌}
-use Rattle.rt_ids.specs.declared.order.Order.TheVariants as order
-use Rattle.rt_jobs.specs.Scripts.{Script}
-use Rattle.rt_text.specs.declared.fault.Cause.{Cause}
-use Rattle.rt_words.specs.Fields.{both, made, queue_field}
-use Rattle.rt_words.specs.Words.{third, others}
+use Rattle.base_words.specs.declared.order.Order.TheVariants as order
+use Rattle.base_jobs.specs.Scripts.{Script}
+use Rattle.text_words.specs.declared.fault.Cause.{Cause}
+use Rattle.text_words.specs.Fields.{both, made, queue_field}
+use Rattle.text_words.specs.Words.{third, others}
 use Rattle.fairexec_script.specs.declared.event.ScriptEvent.TheVariants.{Send}
 use Rattle.fairexec_script.specs.declared.line.Line.TheVariants.{Step}
 use Rattle.fairexec_script.specs.Polls.{job_field}

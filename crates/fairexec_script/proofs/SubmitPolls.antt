@@ -1,9 +1,9 @@
 -- A poll that submits is read in parts.
 use Rattle.std.proofs.Common.{◌≡◌, ℕ, ◌==◌, List, Result, refl}
 use Rattle.std.specs.List.{before_first, after_first}
-use Rattle.rt_jobs.specs.declared.poll.Poll.TheVariants.{Submit}
-use Rattle.rt_text.specs.declared.fault.Cause.{Cause}
-use Rattle.rt_words.specs.Fields.{both, made, core_field, queue_field, count_field}
+use Rattle.base_jobs.specs.declared.poll.Poll.TheVariants.{Submit}
+use Rattle.text_words.specs.declared.fault.Cause.{Cause}
+use Rattle.text_words.specs.Fields.{both, made, core_field, queue_field, count_field}
 use Rattle.fairexec_script.specs.Polls.{submit_field}
 
 pub submits_read : (cores : ℕ) (rest time place core queue : List ℕ) (told to of : Result ℕ Cause) (inner : Result (ℕ × ℕ) Cause) (all : Result (ℕ × (ℕ × ℕ)) Cause) →

@@ -3,9 +3,9 @@ use Rattle.std.specs.Prelude.{ℕ, ◌==◌, ◌++◌, ◌∷◌, [], Bool, true
 use Rattle.fairexec_script.specs.declared.event.ScriptEvent.{ScriptEvent}
 use Rattle.fairexec_script.specs.declared.line.Line.{Line}
 use Rattle.fairexec_script.specs.declared.line.Line.TheVariants.{Size, Queue, Step}
-use Rattle.rt_text.specs.declared.fault.Cause.{Cause}
-use Rattle.rt_text.specs.declared.fault.Cause.TheVariants.{TooManyQueues}
-use Rattle.rt_words.specs.Words.{words}
+use Rattle.text_words.specs.declared.fault.Cause.{Cause}
+use Rattle.text_words.specs.declared.fault.Cause.TheVariants.{TooManyQueues}
+use Rattle.text_words.specs.Words.{words}
 use Rattle.fairexec_script.specs.Lines.{first_line, later_line}
 
 -- cores and capacity, once a line told them; the burst, 1 if no line told it; the `queue` lines by core and shares; the events; all in order

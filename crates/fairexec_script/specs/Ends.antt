@@ -1,8 +1,8 @@
 -- What the texts of all kinds of scripts have alike: their limits, and how they end.
 use Rattle.std.specs.Prelude.{ℕ, ◌+◌, ◌<◌, ◌≤◌, List, [], ◌∷◌, length, Option, Some, None, Result, Ok, Err, nat_lt, if◌then◌else◌}
-use Rattle.rt_lines.specs.Texts.{Judge, go_on}
-use Rattle.rt_text.specs.declared.fault.Cause.{Cause}
-use Rattle.rt_text.specs.declared.fault.Cause.TheVariants.{CoresLineExpected, TooManyLines, LineTooLong}
+use Rattle.text_bytes.specs.Texts.{Judge, go_on}
+use Rattle.text_words.specs.declared.fault.Cause.{Cause}
+use Rattle.text_words.specs.declared.fault.Cause.TheVariants.{CoresLineExpected, TooManyLines, LineTooLong}
 use Rattle.fairexec_script.specs.TextLimits.{most_lines, longest_line}
 
 -- a line, by its number from 1; `with_text` takes one that isn't too long, and `told` says what a cause of any script is in this kind

@@ -1,13 +1,13 @@
 -- The lines of a script that let something happen, behind their first word.
 use Rattle.std.specs.Prelude.{ℕ, List, Result}
-use Rattle.rt_ids.specs.declared.names.JobId.{JobId}
-use Rattle.rt_ids.specs.declared.order.Order.TheVariants as order
+use Rattle.base_words.specs.declared.names.JobId.{JobId}
+use Rattle.base_words.specs.declared.order.Order.TheVariants as order
 use Rattle.fairexec_script.specs.declared.event.ScriptEvent.TheVariants.{Send, Deliver, Turn, Shut, Collect, Redeem, Detach}
 use Rattle.fairexec_script.specs.declared.line.Line.{Line}
 use Rattle.fairexec_script.specs.declared.line.Line.TheVariants.{Step}
-use Rattle.rt_text.specs.declared.fault.Cause.{Cause}
-use Rattle.rt_words.specs.Words.{first, others, second, third, fourth}
-use Rattle.rt_words.specs.Fields.{both, made, core_field, actor_field, queue_field, shares_field, submission_field, mode_field}
+use Rattle.text_words.specs.declared.fault.Cause.{Cause}
+use Rattle.text_words.specs.Words.{first, others, second, third, fourth}
+use Rattle.text_words.specs.Fields.{both, made, core_field, actor_field, queue_field, shares_field, submission_field, mode_field}
 use Rattle.fairexec_script.specs.Polls.{job_field}
 
 -- `s d`, the sender and the receiver of an order

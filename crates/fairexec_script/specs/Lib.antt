@@ -10,3 +10,11 @@ pub mod BadDrafts
 pub mod Ends
 pub mod Scripts
 pub mod Whole
+pub mod Faults
+pub mod ThreadsLines
+pub mod Orders
+pub mod ThreadsDrafts
+pub mod ThreadsLimits
+pub mod BadOrders
+pub mod ThreadsScripts
+pub mod ThreadsWhole

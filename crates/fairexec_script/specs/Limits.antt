@@ -1,11 +1,11 @@
 -- A script keeps within the limits of a system.
 use Rattle.std.specs.Prelude.{◌≡◌, ℕ, ◌≤◌, ◌<◌, [], ◌∷◌, List, Option, Some, None, All, length}
-use Rattle.rt_ids.specs.declared.order.Order.TheVariants as order
-use Rattle.rt_ids.specs.Limits.{most_burst, most_capacity, most_cores}
-use Rattle.rt_jobs.specs.Scripts.{Script}
+use Rattle.base_words.specs.declared.order.Order.TheVariants as order
+use Rattle.base_words.specs.Limits.{most_burst, most_capacity, most_cores}
+use Rattle.base_jobs.specs.Scripts.{Script}
 use Rattle.fairexec_script.specs.declared.event.ScriptEvent.{ScriptEvent}
 use Rattle.fairexec_script.specs.declared.event.ScriptEvent.TheVariants.{Send, Deliver, Turn, Shut, Collect, Redeem, Detach}
-use Rattle.rt_jobs.specs.declared.poll.Poll.TheVariants.{Yield}
+use Rattle.base_jobs.specs.declared.poll.Poll.TheVariants.{Yield}
 use Rattle.fairexec_script.specs.declared.line.Line.{Line}
 use Rattle.fairexec_script.specs.declared.line.Line.TheVariants.{Size, Queue, Step}
 use Rattle.fairexec_script.specs.Drafts.{Drafted, queue_lines}

@@ -1,17 +1,17 @@
 -- What one line of a script says.
 use Rattle.std.specs.Prelude.{ℕ, ◌&&◌, ◌==◌, not, Bool, false, List, codes, Option, Some, None, Result, Err, if◌then◌else◌}
 use Rattle.std.specs.Str.{bytes_eq}
-use Rattle.rt_ids.specs.Limits.{most_burst, most_capacity, most_cores}
+use Rattle.base_words.specs.Limits.{most_burst, most_capacity, most_cores}
 use Rattle.fairexec_script.specs.declared.line.Line.{Line}
 use Rattle.fairexec_script.specs.declared.line.Line.TheVariants.{Size, Queue}
 use Rattle.fairexec_script.specs.declared.keyword.Keyword.{Keyword}
 use Rattle.fairexec_script.specs.declared.keyword.Keyword.TheVariants as keyword
-use Rattle.rt_text.specs.declared.fault.Cause.{Cause}
-use Rattle.rt_text.specs.declared.fault.Cause.TheVariants.{CoresLineExpected, UnknownWord, QueueLineTooLate, WrongNumberOfWords}
-use Rattle.rt_words.specs.Numbers.{number_of, within}
-use Rattle.rt_words.specs.Words.{first, others, second, third, word_count}
+use Rattle.text_words.specs.declared.fault.Cause.{Cause}
+use Rattle.text_words.specs.declared.fault.Cause.TheVariants.{CoresLineExpected, UnknownWord, QueueLineTooLate, WrongNumberOfWords}
+use Rattle.text_words.specs.Numbers.{number_of, within}
+use Rattle.text_words.specs.Words.{first, others, second, third, word_count}
 use Rattle.fairexec_script.specs.Keywords.{keyword_of, takes, is_queue}
-use Rattle.rt_words.specs.Fields.{both, made, core_field, shares_field, fixed_field}
+use Rattle.text_words.specs.Fields.{both, made, core_field, shares_field, fixed_field}
 use Rattle.fairexec_script.specs.EventLines.{submit_line, create_line, shares_line, close_line, closecore_line, wake_line, deliver_line, turn_line, shut_line, collect_line, redeem_line, detach_line}
 
 -- `C cap K`: how many cores, and the capacity of each link

@@ -1,12 +1,12 @@
 -- The polls of a script's job, as words spell them.
 use Rattle.std.specs.Prelude.{◌≡◌, ℕ, ◌+◌, ◌≤◌, ◌==◌, List, [], ◌∷◌, ◌++◌, length, Result, Err, if◌then◌else◌}
 use Rattle.std.specs.List.{before_first, after_first}
-use Rattle.rt_jobs.specs.declared.poll.Poll.{Poll}
-use Rattle.rt_jobs.specs.declared.poll.Poll.TheVariants.{Yield, Submit, Park, Done}
-use Rattle.rt_jobs.specs.Scripts.{Script}
-use Rattle.rt_text.specs.declared.fault.Cause.{Cause}
-use Rattle.rt_text.specs.declared.fault.Cause.TheVariants.{BadWord}
-use Rattle.rt_words.specs.Fields.{both, made, core_field, queue_field, count_field}
+use Rattle.base_jobs.specs.declared.poll.Poll.{Poll}
+use Rattle.base_jobs.specs.declared.poll.Poll.TheVariants.{Yield, Submit, Park, Done}
+use Rattle.base_jobs.specs.Scripts.{Script}
+use Rattle.text_words.specs.declared.fault.Cause.{Cause}
+use Rattle.text_words.specs.declared.fault.Cause.TheVariants.{BadWord}
+use Rattle.text_words.specs.Fields.{both, made, core_field, queue_field, count_field}
 use Rattle.fairexec_script.specs.declared.polls.Early.{Early}
 use Rattle.fairexec_script.specs.declared.polls.Early.TheVariants as early
 

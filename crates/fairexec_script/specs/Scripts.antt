@@ -1,7 +1,7 @@
 -- A script's text: its lines, judged one after another.
 use Rattle.std.specs.Prelude.{ℕ, List, Result}
-use Rattle.rt_lines.specs.Texts.{Judge, text_judged}
-use Rattle.rt_text.specs.declared.fault.Cause.{Cause}
+use Rattle.text_bytes.specs.Texts.{Judge, text_judged}
+use Rattle.text_words.specs.declared.fault.Cause.{Cause}
 use Rattle.fairexec_script.specs.Drafts.{Drafted, empty_draft, with_text}
 use Rattle.fairexec_script.specs.Ends.{judge_of}
 

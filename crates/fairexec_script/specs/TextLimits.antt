@@ -1,6 +1,6 @@
 -- How long the text of a script may be.
 use Rattle.std.specs.Prelude.{ℕ}
-use Rattle.rt_lines.specs.Readings.{most_bytes}
+use Rattle.text_bytes.specs.Readings.{most_bytes}
 
 -- the most lines
 abbrev pub most_lines : ℕ

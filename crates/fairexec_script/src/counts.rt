@@ -3,7 +3,7 @@
 ghost use Rattle.std.specs.Prelude.{ℕ, ◌≡◌, ◌<◌, ◌+◌, ◌==◌, if◌then◌else◌};
 ghost use Rattle.fairexec_script.specs.Counts.{count_of};
 
-use rt_ids::CoreNo;
+use base_words::CoreNo;
 use std::marker::Model;
 
 /// How often each core was named.

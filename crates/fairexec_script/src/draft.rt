@@ -1,10 +1,10 @@
 //! A script as far as its lines are judged.
 
 ghost use Rattle.std.specs.Prelude.{◌≡◌, Ok, Err, IfOk, IfErr, OnOk, OnErr, length, nat_lt, ◌≤◌, ◌+◌};
-ghost use Rattle.rt_words.specs.Words.{words};
+ghost use Rattle.text_words.specs.Words.{words};
 ghost use Rattle.fairexec_script.specs.Drafts as spec;
 ghost use Rattle.fairexec_script.specs.Limits.{MayFollow};
-ghost use Rattle.rt_lines.specs.Faults.{IfCause};
+ghost use Rattle.text_bytes.specs.Faults.{IfCause};
 
 use crate::counts::CoreCounts;
 use crate::event::ScriptEvent;
@@ -12,12 +12,11 @@ use crate::kind::{ScriptDraft, is_skipped};
 use crate::limits::MOST_QUEUE_LINES;
 use crate::line::{Line, first_line, later_line};
 use crate::script::Script;
-use rt_ids::CoreNo;
-use rt_lines::Stop;
-use rt_shares::Shares;
-use rt_text::Cause;
+use base_words::{CoreNo, Shares};
 use std::alloc::Global;
 use std::marker::Model;
+use text_bytes::Stop;
+use text_words::Cause;
 
 /// A script as far as its lines are judged.
 #[derive(Drop)]

@@ -1,7 +1,7 @@
 //! What the lines of a script let happen.
 
-use rt_ids::{ActorNo, CoreNo, JobId, Order};
-use rt_jobs::ScriptJob;
+use base_jobs::ScriptJob;
+use base_words::{ActorNo, CoreNo, JobId, Order};
 
 /// What one line of a script lets happen, after its `queue` lines.
 #[derive(Drop)]

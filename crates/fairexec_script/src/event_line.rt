@@ -1,19 +1,18 @@
 //! The lines of a script that let something happen, behind their first word.
 
 ghost use Rattle.std.specs.Prelude.{◌≡◌, ◌≤◌, ◌+◌, length};
-ghost use Rattle.rt_words.specs.Words.{others};
+ghost use Rattle.text_words.specs.Words.{others};
 ghost use Rattle.fairexec_script.specs.EventLines as spec;
 
 use crate::event::ScriptEvent;
 use crate::line::Line;
 use crate::polls::read_job;
-use rt_ids::{ActorNo, CoreNo, JobId, Order};
-use rt_jobs::ScriptJob;
-use rt_text::Cause;
-use rt_words::Words;
-use rt_words::field::{
+use base_jobs::ScriptJob;
+use base_words::{ActorNo, CoreNo, JobId, Order};
+use text_words::field::{
     actor_field, both, core_field, mode_field, queue_field, shares_field, submission_field,
 };
+use text_words::{Cause, Words};
 
 /// The sender and the receiver of an order.
 fn link_fields(cores: u8, fields: &mut Words<'_>) -> Result<(ActorNo, CoreNo), Cause>

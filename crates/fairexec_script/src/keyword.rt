@@ -3,7 +3,7 @@
 ghost use Rattle.std.specs.Prelude.{◌≡◌};
 ghost use Rattle.fairexec_script.specs.Keywords as spec;
 
-use rt_words::field::is_word;
+use text_words::field::is_word;
 
 /// What a line after the first does, by its first word.
 #[derive(Clone, Copy)]

@@ -1,17 +1,17 @@
 //! How the lines of a script of any kind are read.
 
 ghost use Rattle.std.specs.Prelude.{ℕ, List, Option, Result, Ok, Err, None, ◌≡◌, ◌≤◌, ◌+◌, ◌↔◌, IfOk, IfErr, OnOk, OnErr, IfSome, IsNone};
-ghost use Rattle.rt_lines.specs.Faults.{IfCause, IfFaulty};
-ghost use Rattle.rt_text.specs.declared.fault.Cause as any;
+ghost use Rattle.text_bytes.specs.Faults.{IfCause, IfFaulty};
+ghost use Rattle.text_words.specs.declared.fault.Cause as any;
 ghost use Rattle.fairexec_script.specs.Drafts as drafts;
 ghost use Rattle.fairexec_script.specs.Ends as spec;
 ghost use Rattle.fairexec_script.specs.TextLimits.{most_lines};
 
 use crate::limits::{LONGEST_LINE, MOST_LINES};
-use rt_lines::fault::stopped;
-use rt_lines::{LineDraft, Stop};
-use rt_text::{Cause, Fault};
 use std::marker::Model;
+use text_bytes::fault::stopped;
+use text_bytes::{LineDraft, Stop};
+use text_words::{Cause, Fault};
 
 /// A script of some kind as far as its lines are judged.
 ///

@@ -1,6 +1,6 @@
 //! How long the text of a script may be.
 
-use rt_lines::MOST_BYTES;
+use text_bytes::MOST_BYTES;
 
 /// The most lines.
 pub const MOST_LINES: u32 = 4096;

@@ -1,21 +1,20 @@
 //! What one line of a script says.
 
 ghost use Rattle.std.specs.Prelude.{◌≡◌, ◌≤◌, ◌+◌, length, IsTrue};
-ghost use Rattle.rt_words.specs.Words.{words, others};
-ghost use Rattle.rt_ids.specs.Limits.{most_burst, most_capacity, most_cores};
+ghost use Rattle.text_words.specs.Words.{words, others};
+ghost use Rattle.base_words.specs.Limits.{most_burst, most_capacity, most_cores};
 ghost use Rattle.fairexec_script.specs.Keywords.{takes};
-ghost use Rattle.rt_words.specs.Numbers.{within, number_of};
+ghost use Rattle.text_words.specs.Numbers.{within, number_of};
 ghost use Rattle.fairexec_script.specs.Lines as spec;
 
 use crate::event::ScriptEvent;
 use crate::event_line as event;
 use crate::keyword::{Keyword, keyword_of};
-use rt_ids::{CoreNo, MOST_BURST, MOST_CAPACITY, MOST_CORES};
-use rt_shares::Shares;
-use rt_text::Cause;
-use rt_words::field::{both, core_field, fixed_field, is_word, shares_field};
-use rt_words::number::number_within;
-use rt_words::words::{Words, word_count as count_words};
+use base_words::{CoreNo, MOST_BURST, MOST_CAPACITY, MOST_CORES, Shares};
+use text_words::Cause;
+use text_words::field::{both, core_field, fixed_field, is_word, shares_field};
+use text_words::number::number_within;
+use text_words::words::{Words, word_count as count_words};
 
 /// What a line of a script says, well spelled and within its ranges.
 #[derive(Drop)]

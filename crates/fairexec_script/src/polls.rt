@@ -1,17 +1,16 @@
 //! The polls of a script's job.
 
 ghost use Rattle.std.specs.Prelude.{◌+◌, ◌≡◌, ◌≤◌, ◌<◌, ◌∷◌, [], length, OnErr};
-ghost use Rattle.rt_jobs.specs.declared.poll.Poll.TheVariants.{Submit, Done};
-ghost use Rattle.rt_jobs.specs.Filling.{with_poll, with_last};
-ghost use Rattle.rt_words.specs.Fields.{both, made};
+ghost use Rattle.base_jobs.specs.declared.poll.Poll.TheVariants.{Submit, Done};
+ghost use Rattle.base_jobs.specs.Filling.{with_poll, with_last};
+ghost use Rattle.text_words.specs.Fields.{both, made};
 ghost use Rattle.fairexec_script.specs.Polls as spec;
 
-use rt_ids::{CoreNo, QueueNo};
-use rt_jobs::ScriptJob;
-use rt_text::Cause;
-use rt_words::Words;
-use rt_words::field::{both, core_field, count_field, queue_field};
-use rt_words::words::cut_at;
+use base_jobs::ScriptJob;
+use base_words::{CoreNo, QueueNo};
+use text_words::field::{both, core_field, count_field, queue_field};
+use text_words::words::cut_at;
+use text_words::{Cause, Words};
 
 /// A poll that isn't the last one of its job, as its word says. Times are nanoseconds.
 #[derive(Clone, Copy)]

@@ -5,8 +5,7 @@ ghost use Rattle.fairexec_script.specs.Limits.{IsSize, IsBurst, ArePlaced, HasFe
 ghost use Rattle.fairexec_script.specs.TextLimits.{most_lines};
 
 use crate::event::ScriptEvent;
-use rt_ids::CoreNo;
-use rt_shares::Shares;
+use base_words::{CoreNo, Shares};
 
 /// A whole script, well spelled and within the limits of a system.
 #[derive(Drop)]

@@ -4,16 +4,16 @@ ghost use Rattle.std.specs.Prelude.{◌≡◌, Ok, Err, IfOk, IfErr, IfSome};
 ghost use Rattle.fairexec_script.specs.Scripts.{judge, script_of};
 ghost use Rattle.fairexec_script.specs.Drafts.{empty_draft};
 ghost use Rattle.fairexec_script.specs.Whole.{drafted};
-ghost use Rattle.rt_lines.specs.Taking.{IsPrompt, IsToldByRead};
-ghost use Rattle.rt_sink.specs.Tries.{HasFailedSince};
-ghost use Rattle.rt_text.specs.Faults.{IfRead, IfText, IfUnwritten};
+ghost use Rattle.text_bytes.specs.Taking.{IsPrompt, IsToldByRead};
+ghost use Rattle.text_bytes.specs.Tries.{HasFailedSince};
+ghost use Rattle.text_words.specs.Faults.{IfRead, IfText, IfUnwritten};
 
 use crate::draft::Draft;
 use crate::kind::Limited;
 use crate::script::Script;
-use rt_lines::{Source, read_lines};
-use rt_text::{Cause, Fault};
 use std::alloc::Global;
+use text_bytes::{Source, read_lines};
+use text_words::{Cause, Fault};
 
 /// The script that the source tells, read and judged to its end. Each line is judged before the next read.
 pub fn read_script<S: Source>(alloc: Global, source: &mut S) -> Result<Script, Fault<Cause>>

@@ -1,18 +1,18 @@
 -- The journals tell an outcome of each order of a script, and it is what the order asks.
 use Rattle.std.proofs.Common.{◌≡◌, ℕ, List, [], ◌∷◌, Result, Ok, Err, sym, ap, ◌∙◌}
 use Rattle.std.specs.Prelude.{IfOk}
-use Rattle.rt_ids.specs.declared.names.JobId.{JobId}
-use Rattle.rt_ids.specs.declared.order.SendError.{SendError}
-use Rattle.rt_ids.specs.Assembly.{Assembly}
-use Rattle.rt_jobs.specs.ScriptMeaning.{script_meaning}
-use Rattle.rt_jobs.specs.Scripts.{Script}
-use Rattle.rt_journal_desk.specs.Submissions.{DeskView}
-use Rattle.rt_runtime.specs.Calls.{IsStarted, HasFinished, MayActWhole, orders_told}
-use Rattle.rt_runtime_config.specs.Configs.{Entry}
-use Rattle.fairexec_threads_script.specs.Orders.{Told}
+use Rattle.base_words.specs.declared.names.JobId.{JobId}
+use Rattle.base_words.specs.declared.order.SendError.{SendError}
+use Rattle.base_words.specs.Assembly.{Assembly}
+use Rattle.base_jobs.specs.ScriptMeaning.{script_meaning}
+use Rattle.base_jobs.specs.Scripts.{Script}
+use Rattle.actor_desk.specs.Submissions.{DeskView}
+use Rattle.run_runtime.specs.Calls.{IsStarted, HasFinished, MayActWhole, orders_told}
+use Rattle.run_config.specs.Configs.{Entry}
+use Rattle.fairexec_script.specs.Orders.{Told}
 use Rattle.fairexec_threads.specs.Offers.{OffersAll}
-use Rattle.rt_runtime.specs.Laws.{IsToldOf}
-use Rattle.rt_runtime.proofs.Outcomes.{submitted_told}
+use Rattle.run_runtime.specs.Laws.{IsToldOf}
+use Rattle.run_runtime.proofs.Outcomes.{submitted_told}
 use Rattle.fairexec_threads.specs.Outcomes.{AreAnswered}
 use Rattle.fairexec_threads.specs.Rooms.{room_of}
 use Rattle.fairexec_threads.proofs.Sending.{grows}

@@ -2,15 +2,15 @@
 use Rattle.std.proofs.Common.{◌≡◌, ◌≢◌, ℕ, zero, suc, ◌+◌, ◌≤◌, ◌<◌, ◌==◌, ◌||◌, eqb, cond, Bool, true, false, List, [], ◌∷◌, length, length-append, Result, Ok, Err, refl, ap, ◌∙◌, arith, zero-add, get_or-set_same, get_or-set_other}
 use Rattle.std.proofs.lemmas.Bool.Decides.{nat_tests}
 use Rattle.std.proofs.lemmas.List.Sums.{sum_by-append}
-use Rattle.rt_ids.specs.declared.names.JobId.{JobId}
-use Rattle.rt_ids.specs.declared.order.Mode.TheVariants.{Finish}
-use Rattle.rt_ids.specs.declared.order.Order.TheVariants.{CloseCore}
-use Rattle.rt_ids.specs.declared.order.SendError.{SendError}
-use Rattle.rt_ids.specs.declared.order.SendError.TheVariants.{Closed, Full, Spent, NoCore}
-use Rattle.rt_jobs.specs.Scripts.{Script}
-use Rattle.rt_runtime.specs.Sends.{tells_closing}
-use Rattle.rt_runtime.specs.State.{closing_at}
-use Rattle.fairexec_threads_script.specs.Orders.{Told, orders_to}
+use Rattle.base_words.specs.declared.names.JobId.{JobId}
+use Rattle.base_words.specs.declared.order.Mode.TheVariants.{Finish}
+use Rattle.base_words.specs.declared.order.Order.TheVariants.{CloseCore}
+use Rattle.base_words.specs.declared.order.SendError.{SendError}
+use Rattle.base_words.specs.declared.order.SendError.TheVariants.{Closed, Full, Spent, NoCore}
+use Rattle.base_jobs.specs.Scripts.{Script}
+use Rattle.run_runtime.specs.Sends.{tells_closing}
+use Rattle.run_runtime.specs.State.{closing_at}
+use Rattle.fairexec_script.specs.Orders.{Told, orders_to}
 use Rattle.fairexec_threads.specs.Counting.{sent_to, IsOfScript, HasPlace, CanClose, AreClosedBelow}
 use Rattle.fairexec_threads.specs.Offers.{IsTaken, Offers, OffersAll, closings}
 use Rattle.fairexec_threads.proofs.Sending.{View, grows, script_kept}

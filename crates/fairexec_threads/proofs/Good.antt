@@ -5,14 +5,14 @@ use Rattle.std.proofs.lemmas.Bool.Decides.{nat_tests}
 use Rattle.std.proofs.lemmas.List.Elements.{All-head, All-tail}
 use Rattle.std.proofs.lemmas.List.Sums.{sum_by-cons}
 use Rattle.std.specs.Prelude.{All, nat_lt}
-use Rattle.rt_ids.specs.Work.{number_if}
+use Rattle.base_words.specs.Work.{number_if}
 use Rattle.fairexec_script.specs.Drafts.{queue_lines}
 use Rattle.fairexec_script.specs.Limits.{IsSize, IsBurst, ArePlaced, HasFewQueues}
-use Rattle.rt_runtime_config.specs.Configs.{Entry, queues_of, strays, least_room, IsGood}
-use Rattle.rt_jobs.specs.Scripts.{Script}
-use Rattle.rt_runtime.specs.declared.error.StartError.{StartError}
-use Rattle.rt_runtime.specs.declared.error.StartError.TheVariants.{BadConfig}
-use Rattle.rt_runtime.specs.Calls.{Starts}
+use Rattle.run_config.specs.Configs.{Entry, queues_of, strays, least_room, IsGood}
+use Rattle.base_jobs.specs.Scripts.{Script}
+use Rattle.run_runtime.specs.declared.error.StartError.{StartError}
+use Rattle.run_runtime.specs.declared.error.StartError.TheVariants.{BadConfig}
+use Rattle.run_runtime.specs.Calls.{Starts}
 use Rattle.fairexec_threads.specs.Rooms.{room_of}
 
 number_of : (same : Bool) → number_if same ≡ cond same 1 0

@@ -3,27 +3,27 @@ use Rattle.std.proofs.Common.{◌≡◌, ◌⊎◌, inl, inr, ℕ, ◌+◌, ◌-
 use Rattle.std.proofs.lemmas.List.{append_assoc}
 use Rattle.std.proofs.lemmas.Bool.Decides.{nat_tests}
 use Rattle.std.specs.Option.{IsSome}
-use Rattle.rt_ids.specs.declared.names.JobId.{JobId}
-use Rattle.rt_ids.specs.declared.note.Note.TheVariants.{Answered, Shut, CoreClosed}
-use Rattle.rt_ids.specs.declared.order.Answer.{Answer}
-use Rattle.rt_ids.specs.declared.order.Answer.TheVariants as answers
-use Rattle.rt_ids.specs.declared.order.Mode.{Mode}
-use Rattle.rt_ids.specs.declared.order.Order.{Order}
-use Rattle.rt_ids.specs.declared.order.Order.TheVariants.{Job, Create, SetShares, Close, CloseCore, Wake}
-use Rattle.rt_ids.specs.Assembly.{Assembly, journal_of, order_of}
-use Rattle.rt_ids.specs.Closing.{core_mode, core_mode_told, count_told, final_count}
-use Rattle.rt_ids.specs.Commands.{effect_awaited, effect_note, has_effect}
-use Rattle.rt_ids.specs.Filters.{accepted_orders, delivered_names, name_delivered}
-use Rattle.rt_ids.specs.Joining.{CarriesOut, DeliversAsSent}
-use Rattle.rt_ids.specs.Journal.{Journal, EachNote}
-use Rattle.rt_ids.specs.Lawful.{MayStand}
-use Rattle.rt_ids.specs.Terms.{terms_of}
-use Rattle.rt_ids.proofs.Told as told
-use Rattle.rt_jobs.specs.ScriptMeaning.{script_meaning}
-use Rattle.rt_jobs.specs.Scripts.{Script}
-use Rattle.rt_runtime.specs.Calls.{HasFinished}
-use Rattle.rt_runtime.specs.State.{RuntimeView}
-use Rattle.rt_runtime_worker.specs.Rooms.{MayAct, least_free}
+use Rattle.base_words.specs.declared.names.JobId.{JobId}
+use Rattle.base_words.specs.declared.note.Note.TheVariants.{Answered, Shut, CoreClosed}
+use Rattle.base_words.specs.declared.order.Answer.{Answer}
+use Rattle.base_words.specs.declared.order.Answer.TheVariants as answers
+use Rattle.base_words.specs.declared.order.Mode.{Mode}
+use Rattle.base_words.specs.declared.order.Order.{Order}
+use Rattle.base_words.specs.declared.order.Order.TheVariants.{Job, Create, SetShares, Close, CloseCore, Wake}
+use Rattle.base_words.specs.Assembly.{Assembly, journal_of, order_of}
+use Rattle.base_words.specs.Closing.{core_mode, core_mode_told, count_told, final_count}
+use Rattle.base_words.specs.Commands.{effect_awaited, effect_note, has_effect}
+use Rattle.base_words.specs.Filters.{accepted_orders, delivered_names, name_delivered}
+use Rattle.base_words.specs.Joining.{CarriesOut, DeliversAsSent}
+use Rattle.base_words.specs.Journal.{Journal, EachNote}
+use Rattle.base_words.specs.Lawful.{MayStand}
+use Rattle.base_words.specs.Terms.{terms_of}
+use Rattle.base_words.proofs.Told as told
+use Rattle.base_jobs.specs.ScriptMeaning.{script_meaning}
+use Rattle.base_jobs.specs.Scripts.{Script}
+use Rattle.run_runtime.specs.Calls.{HasFinished}
+use Rattle.run_runtime.specs.State.{RuntimeView}
+use Rattle.run_worker.specs.Rooms.{MayAct, least_free}
 use Rattle.fairexec_threads.specs.Accepted.{HasClosed, ClosesItself, IsToldToClose}
 use Rattle.fairexec_threads.specs.Rooms.{room_of}
 use Rattle.fairexec_threads.proofs.Suffixes.{tells, each_behind, told_more, shut_is, closed_is}

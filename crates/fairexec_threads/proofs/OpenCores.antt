@@ -1,10 +1,10 @@
 -- A core whose journal tells of no closing refuses no order.
 use Rattle.std.proofs.Common.{◌≡◌, ℕ, ◌++◌, [], ◌∷◌, Option, Some, None, sym, ap, ◌∙◌}
 use Rattle.std.proofs.lemmas.List.{append_assoc}
-use Rattle.rt_ids.specs.declared.note.Note.TheVariants.{CoreClosed, Shut}
-use Rattle.rt_ids.specs.declared.order.Mode.{Mode}
-use Rattle.rt_ids.specs.Closing.{core_mode, core_mode_told}
-use Rattle.rt_ids.specs.Journal.{Journal, or_else}
+use Rattle.base_words.specs.declared.note.Note.TheVariants.{CoreClosed, Shut}
+use Rattle.base_words.specs.declared.order.Mode.{Mode}
+use Rattle.base_words.specs.Closing.{core_mode, core_mode_told}
+use Rattle.base_words.specs.Journal.{Journal, or_else}
 use Rattle.fairexec_threads.specs.Laws.{OpenCoresRefuseNone}
 
 none_else : (first other : Option Mode) → or_else first other ≡ None → other ≡ None

@@ -1,15 +1,15 @@
 -- The journal of each core begins with the creation of its queues.
 use Rattle.std.proofs.Common.{◌≡◌, ◌<◌, ◌∙◌, ℕ, List, ap}
-use Rattle.rt_ids.specs.Assembly.{Assembly, journal_of}
-use Rattle.rt_jobs.specs.ScriptMeaning.{script_meaning}
-use Rattle.rt_jobs.specs.Scripts.{Script}
-use Rattle.rt_runtime.specs.Calls.{IsStarted, HasFinished}
-use Rattle.rt_runtime.specs.State.{RuntimeView}
-use Rattle.rt_runtime_config.specs.Configs.{Entry}
-use Rattle.fairexec_threads_script.specs.Orders.{Told}
-use Rattle.rt_runtime_worker.proofs.Openings.{opening_creations}
+use Rattle.base_words.specs.Assembly.{Assembly, journal_of}
+use Rattle.base_jobs.specs.ScriptMeaning.{script_meaning}
+use Rattle.base_jobs.specs.Scripts.{Script}
+use Rattle.run_runtime.specs.Calls.{IsStarted, HasFinished}
+use Rattle.run_runtime.specs.State.{RuntimeView}
+use Rattle.run_config.specs.Configs.{Entry}
+use Rattle.fairexec_script.specs.Orders.{Told}
+use Rattle.run_worker.proofs.Openings.{opening_creations}
 use Rattle.actor_seat.specs.Linked.{LinkedView}
-use Rattle.rt_runtime_worker.specs.Queues.{creations}
+use Rattle.run_worker.specs.Queues.{creations}
 use Rattle.actor_seat.specs.Queues.{opening_of}
 use Rattle.actor_seat.specs.Together.{worker_at}
 use Rattle.fairexec_threads.specs.Offers.{OffersAll}

@@ -1,28 +1,28 @@
 -- Each poll that the journals tell of a job of a script is the one that its words say.
 use Rattle.std.proofs.Common.{◌≡◌, ℕ, List, [], ◌∷◌, Some, Result, Ok, Err, sym, ap, subst, ◌∙◌, refl}
 use Rattle.std.specs.Prelude.{IfOk}
-use Rattle.rt_ids.specs.declared.names.JobId.{JobId}
-use Rattle.rt_ids.specs.declared.note.Note.{Note}
-use Rattle.rt_ids.specs.declared.note.Note.TheVariants as writes
-use Rattle.rt_ids.specs.declared.order.Order.{Order}
-use Rattle.rt_ids.specs.declared.order.Order.TheVariants as order
-use Rattle.rt_ids.specs.declared.order.Order.TheVariants.{Job}
-use Rattle.rt_ids.specs.declared.order.SendError.{SendError}
-use Rattle.rt_ids.specs.Assembly.{Assembly, journal_of}
-use Rattle.rt_ids.specs.Journal.{Journal, EachNote}
-use Rattle.rt_ids.specs.Terms.{Terms, terms_of}
-use Rattle.rt_jobs.specs.ScriptMeaning.{script_meaning}
-use Rattle.rt_jobs.specs.Scripts.{Script, IsScript}
-use Rattle.rt_jobs.specs.declared.job.Step.{Step}
-use Rattle.rt_jobs.specs.declared.job.Step.TheVariants as steps
-use Rattle.rt_journal.specs.OwedPolls.{IsOwedPoll, IsPollOf, PollIsOwed}
-use Rattle.rt_journal.specs.RightAnswers.{Seen}
-use Rattle.rt_journal.proofs.ScriptPolls.{polled_by_words}
-use Rattle.rt_journal_desk.specs.Submissions.{DeskView}
-use Rattle.rt_runtime.specs.Calls.{IsStarted, HasFinished}
-use Rattle.rt_runtime.specs.Outcomes.{seen_at_end}
-use Rattle.rt_runtime_config.specs.Configs.{Entry}
-use Rattle.fairexec_threads_script.specs.Orders.{Told}
+use Rattle.base_words.specs.declared.names.JobId.{JobId}
+use Rattle.base_words.specs.declared.note.Note.{Note}
+use Rattle.base_words.specs.declared.note.Note.TheVariants as writes
+use Rattle.base_words.specs.declared.order.Order.{Order}
+use Rattle.base_words.specs.declared.order.Order.TheVariants as order
+use Rattle.base_words.specs.declared.order.Order.TheVariants.{Job}
+use Rattle.base_words.specs.declared.order.SendError.{SendError}
+use Rattle.base_words.specs.Assembly.{Assembly, journal_of}
+use Rattle.base_words.specs.Journal.{Journal, EachNote}
+use Rattle.base_words.specs.Terms.{Terms, terms_of}
+use Rattle.base_jobs.specs.ScriptMeaning.{script_meaning}
+use Rattle.base_jobs.specs.Scripts.{Script, IsScript}
+use Rattle.base_jobs.specs.declared.job.Step.{Step}
+use Rattle.base_jobs.specs.declared.job.Step.TheVariants as steps
+use Rattle.actor_core.specs.OwedPolls.{IsOwedPoll, IsPollOf, PollIsOwed}
+use Rattle.actor_core.specs.RightAnswers.{Seen}
+use Rattle.actor_core.proofs.ScriptPolls.{polled_by_words}
+use Rattle.actor_desk.specs.Submissions.{DeskView}
+use Rattle.run_runtime.specs.Calls.{IsStarted, HasFinished}
+use Rattle.run_runtime.specs.Outcomes.{seen_at_end}
+use Rattle.run_config.specs.Configs.{Entry}
+use Rattle.fairexec_script.specs.Orders.{Told}
 use Rattle.fairexec_threads.specs.Offers.{HasWords, OffersAll}
 use Rattle.fairexec_threads.specs.Polled.{IsItsWord, TellsItsWord, IsPolledAsTold, ArePolledAsTold}
 use Rattle.fairexec_threads.specs.Rooms.{room_of}

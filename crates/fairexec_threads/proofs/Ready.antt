@@ -1,12 +1,12 @@
 -- The orders of a script may be sent: their jobs have made no poll.
 use Rattle.std.proofs.Common.{◌≡◌, ℕ, ◌≤◌, ◌==◌, false, length, arith}
 use Rattle.std.proofs.lemmas.Bool.Decides.{nat_tests}
-use Rattle.rt_ids.specs.declared.order.Order.{Order}
-use Rattle.rt_ids.specs.declared.order.Order.TheVariants as order
-use Rattle.rt_jobs.specs.Ready.{HasReadyJob}
-use Rattle.rt_jobs.specs.ScriptMeaning.{script_meaning}
-use Rattle.rt_jobs.specs.Scripts.{Script}
-use Rattle.fairexec_threads_script.specs.Limits.{IsToldOf}
+use Rattle.base_words.specs.declared.order.Order.{Order}
+use Rattle.base_words.specs.declared.order.Order.TheVariants as order
+use Rattle.base_jobs.specs.Ready.{HasReadyJob}
+use Rattle.base_jobs.specs.ScriptMeaning.{script_meaning}
+use Rattle.base_jobs.specs.Scripts.{Script}
+use Rattle.fairexec_script.specs.ThreadsLimits.{IsToldOf}
 
 not_done : (polled count : ℕ) → polled ≡ 0 → 1 ≤ count → (polled == count) ≡ false
 not_done polled count none some = grind (arith, nat_tests, none, some)

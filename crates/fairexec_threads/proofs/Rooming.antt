@@ -2,17 +2,17 @@
 use Rattle.std.proofs.Common.{◌≡◌, ℕ, zero, suc, ◌+◌, ◌-◌, ◌*◌, ◌≤◌, length, arith}
 use Rattle.std.proofs.Math.Nat.{mul-le-mul}
 use Rattle.std.proofs.lemmas.List.Sums.{count_by-le-length}
-use Rattle.rt_ids.specs.Filters.{accepted_orders}
-use Rattle.rt_ids.specs.Journal.{Journal}
-use Rattle.rt_ids.specs.Outstanding.{is_outstanding, outstanding_count}
-use Rattle.rt_jobs.specs.Scripts.{Script}
-use Rattle.rt_journal_notes.specs.Journals.{free_notes}
-use Rattle.rt_runtime.specs.Sends.{outstanding_upto, room_left}
-use Rattle.rt_runtime.specs.State.{RuntimeView}
+use Rattle.base_words.specs.Filters.{accepted_orders}
+use Rattle.base_words.specs.Journal.{Journal}
+use Rattle.base_words.specs.Outstanding.{is_outstanding, outstanding_count}
+use Rattle.base_jobs.specs.Scripts.{Script}
+use Rattle.note_journal.specs.Journals.{free_notes}
+use Rattle.run_runtime.specs.Sends.{outstanding_upto, room_left}
+use Rattle.run_runtime.specs.State.{RuntimeView}
 use Rattle.fairexec_threads.specs.Counting.{HasPlace}
 use Rattle.fairexec_threads.specs.Rooms.{room_of}
 use Rattle.fairexec_script.specs.TextLimits.{most_lines}
-use Rattle.rt_ids.specs.Limits.{most_cores}
+use Rattle.base_words.specs.Limits.{most_cores}
 
 -- no more submissions are outstanding than were sent
 pub outstanding_few : (core : ℕ) (notes : Journal ℕ) → outstanding_count core notes ≤ length (accepted_orders core notes)

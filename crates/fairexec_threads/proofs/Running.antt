@@ -1,14 +1,14 @@
 -- A whole run of a script.
 use Rattle.std.proofs.Common.{◌≡◌, ℕ, List, Option, Some, None, Ok, true, Bool, refl, ap, ◌∙◌}
 use Rattle.std.specs.Option.{IfSome}
-use Rattle.rt_ids.specs.Assembly.{Assembly}
+use Rattle.base_words.specs.Assembly.{Assembly}
 use Rattle.fairexec_report.specs.Writing.{IsTold}
 use Rattle.fairexec_report.specs.VerdictTexts.{is_sound}
-use Rattle.rt_runtime_config.specs.Configs.{Entry}
-use Rattle.fairexec_threads_script.specs.declared.script.ThreadsScript.{ThreadsScript}
-use Rattle.fairexec_threads_script.specs.Orders.{Told}
-use Rattle.fairexec_threads_script.specs.Scripts.{threads_script_of}
-use Rattle.fairexec_threads_script.specs.Whole.{drafted}
+use Rattle.run_config.specs.Configs.{Entry}
+use Rattle.fairexec_script.specs.declared.threads_script.ThreadsScript.{ThreadsScript}
+use Rattle.fairexec_script.specs.Orders.{Told}
+use Rattle.fairexec_script.specs.ThreadsScripts.{threads_script_of}
+use Rattle.fairexec_script.specs.ThreadsWhole.{drafted}
 use Rattle.fairexec_threads.specs.Runs.{RunsOrders, TellsRun}
 
 pub own : (P : ℕ → ℕ → Type 0) (a b c d : ℕ) → c ≡ a → d ≡ b → P a b → P c d

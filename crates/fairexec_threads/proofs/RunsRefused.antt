@@ -1,24 +1,24 @@
 -- Each run with one thing wrong is refused.
 use Rattle.std.proofs.Common.{◌≡◌, ℕ, ◌<◌, ◌≤◌, false, List, [], ◌∷◌, ◌++◌, Some, None, Ok, length, slice_get, refl, sym, ap, subst, ◌∙◌, arith}
-use Rattle.rt_ids.specs.declared.note.Note.{Note}
-use Rattle.rt_ids.specs.declared.note.Note.TheVariants.{Pick, Took, Yield}
-use Rattle.rt_ids.specs.declared.order.Mode.TheVariants.{Finish, Return}
-use Rattle.rt_ids.specs.Assembly.{Assembly}
-use Rattle.rt_ids.specs.Journal.{Journal}
-use Rattle.rt_ids.specs.Terms.{terms_of}
-use Rattle.rt_jobs.specs.ScriptMeaning.{script_meaning}
-use Rattle.rt_jobs.specs.Scripts.{Script, Does, SendsSmall}
-use Rattle.rt_jobs.specs.declared.job.Step.TheVariants as steps
-use Rattle.rt_jobs.specs.declared.poll.Poll.{Poll}
-use Rattle.rt_jobs.specs.declared.poll.Poll.TheVariants as poll
-use Rattle.rt_journal.specs.BadPolls.{job, begun}
-use Rattle.rt_journal.specs.RightAnswers.{Seen}
-use Rattle.rt_journal.specs.ScriptPolls.{SettlesWord}
-use Rattle.rt_journal.proofs.OneBeginning.{poll_behind}
-use Rattle.rt_journal.proofs.PollsRefused.{two_notes}
-use Rattle.rt_runtime.specs.Outcomes.{Orders, seen_at_end}
-use Rattle.fairexec_threads_script.specs.Drafts.{Drafted}
-use Rattle.fairexec_threads_script.specs.Scripts.{threads_script_of}
+use Rattle.base_words.specs.declared.note.Note.{Note}
+use Rattle.base_words.specs.declared.note.Note.TheVariants.{Pick, Took, Yield}
+use Rattle.base_words.specs.declared.order.Mode.TheVariants.{Finish, Return}
+use Rattle.base_words.specs.Assembly.{Assembly}
+use Rattle.base_words.specs.Journal.{Journal}
+use Rattle.base_words.specs.Terms.{terms_of}
+use Rattle.base_jobs.specs.ScriptMeaning.{script_meaning}
+use Rattle.base_jobs.specs.Scripts.{Script, Does, SendsSmall}
+use Rattle.base_jobs.specs.declared.job.Step.TheVariants as steps
+use Rattle.base_jobs.specs.declared.poll.Poll.{Poll}
+use Rattle.base_jobs.specs.declared.poll.Poll.TheVariants as poll
+use Rattle.actor_core.specs.BadPolls.{job, begun}
+use Rattle.actor_core.specs.RightAnswers.{Seen}
+use Rattle.actor_core.specs.ScriptPolls.{SettlesWord}
+use Rattle.actor_core.proofs.OneBeginning.{poll_behind}
+use Rattle.actor_core.proofs.PollsRefused.{two_notes}
+use Rattle.run_runtime.specs.Outcomes.{Orders, seen_at_end}
+use Rattle.fairexec_script.specs.ThreadsDrafts.{Drafted}
+use Rattle.fairexec_script.specs.ThreadsScripts.{threads_script_of}
 use Rattle.fairexec_threads.specs.BadRuns.{RunsAreRefused, of_core_0}
 use Rattle.fairexec_threads.specs.Polled.{IsItsWord}
 use Rattle.fairexec_threads.specs.Runs.{TellsRun}

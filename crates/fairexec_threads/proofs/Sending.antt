@@ -3,26 +3,26 @@ use Rattle.std.proofs.Common.{◌≡◌, inl, inr, ℕ, suc, ◌+◌, ◌≤◌,
 use Rattle.std.proofs.lemmas.Bool.Decides.{nat_tests}
 use Rattle.std.proofs.lemmas.List.{length-replicate}
 use Rattle.std.proofs.lemmas.List.Sums.{sum_by-cons, sum_by-append}
-use Rattle.rt_ids.specs.declared.names.JobId.{JobId}
-use Rattle.rt_ids.specs.declared.note.Note.TheVariants.{Sent}
-use Rattle.rt_ids.specs.declared.order.Order.{Order}
-use Rattle.rt_ids.specs.declared.order.SendError.{SendError}
-use Rattle.rt_ids.specs.declared.order.SendError.TheVariants.{Closed, Full, Spent, NoCore}
-use Rattle.rt_ids.specs.Filters.{accepted_orders}
-use Rattle.rt_ids.specs.Journal.{Journal, with_last}
-use Rattle.rt_ids.specs.Orders.{without_job}
-use Rattle.rt_journal_desk.specs.Submissions.{DeskView, Submits}
-use Rattle.rt_journal_notes.specs.Journals.{JournalView}
-use Rattle.rt_runtime.specs.Calls.{IsStarted}
+use Rattle.base_words.specs.declared.names.JobId.{JobId}
+use Rattle.base_words.specs.declared.note.Note.TheVariants.{Sent}
+use Rattle.base_words.specs.declared.order.Order.{Order}
+use Rattle.base_words.specs.declared.order.SendError.{SendError}
+use Rattle.base_words.specs.declared.order.SendError.TheVariants.{Closed, Full, Spent, NoCore}
+use Rattle.base_words.specs.Filters.{accepted_orders}
+use Rattle.base_words.specs.Journal.{Journal, with_last}
+use Rattle.base_words.specs.Orders.{without_job}
+use Rattle.actor_desk.specs.Submissions.{DeskView, Submits}
+use Rattle.note_journal.specs.Journals.{JournalView}
+use Rattle.run_runtime.specs.Calls.{IsStarted}
 use Rattle.fairexec_script.specs.Limits.{IsSize}
-use Rattle.rt_runtime_config.specs.Configs.{Entry}
+use Rattle.run_config.specs.Configs.{Entry}
 use Rattle.fairexec_threads.specs.Rooms.{room_of}
-use Rattle.rt_jobs.specs.Scripts.{Script}
+use Rattle.base_jobs.specs.Scripts.{Script}
 use Rattle.actor_caller.specs.declared.error.SubmitError.{SubmitError}
 use Rattle.actor_caller.specs.declared.error.SubmitError.TheVariants.{JournalFull, Send}
-use Rattle.rt_runtime.specs.Sends.{MakesRoom, Sends, SendsTo, SubmitsTo}
-use Rattle.rt_runtime.specs.State.{RuntimeView}
-use Rattle.fairexec_threads_script.specs.Orders.{Told, orders_to}
+use Rattle.run_runtime.specs.Sends.{MakesRoom, Sends, SendsTo, SubmitsTo}
+use Rattle.run_runtime.specs.State.{RuntimeView}
+use Rattle.fairexec_script.specs.Orders.{Told, orders_to}
 use Rattle.fairexec_threads.specs.Counting.{sent_to, IsOfScript, HasPlace}
 use Rattle.fairexec_threads.specs.Offers.{HasWords, Offers, OffersAll}
 use Rattle.fairexec_threads.proofs.Rooming.{outstanding_few, has_room}

@@ -3,17 +3,17 @@ use Rattle.std.proofs.Common.{◌≡◌, ◌≢◌, ℕ, ◌-◌, ◌<◌, ◌++
 use Rattle.std.proofs.lemmas.Bool.{cases_eq}
 use Rattle.std.proofs.lemmas.List.{append-nil}
 use Rattle.std.specs.Prelude.{IfOk}
-use Rattle.rt_ids.specs.declared.names.JobId.{JobId}
-use Rattle.rt_ids.specs.declared.order.Order.{Order}
-use Rattle.rt_ids.specs.declared.order.SendError.{SendError}
-use Rattle.rt_ids.specs.Assembly.{IsPrefix}
-use Rattle.rt_ids.proofs.Prefixes.{IsPrefix-along}
-use Rattle.rt_jobs.specs.Scripts.{Script}
-use Rattle.rt_journal_desk.specs.Submissions.{Submits}
-use Rattle.rt_link.proofs.Lists.{slice_get-seen}
-use Rattle.rt_runtime.specs.Sends.{SendsTo, accepted}
-use Rattle.rt_runtime.specs.State.{RuntimeView, submitted, submitted_under}
-use Rattle.fairexec_threads_script.specs.Orders.{Told}
+use Rattle.base_words.specs.declared.names.JobId.{JobId}
+use Rattle.base_words.specs.declared.order.Order.{Order}
+use Rattle.base_words.specs.declared.order.SendError.{SendError}
+use Rattle.base_words.specs.Assembly.{IsPrefix}
+use Rattle.base_words.proofs.Prefixes.{IsPrefix-along}
+use Rattle.base_jobs.specs.Scripts.{Script}
+use Rattle.actor_desk.specs.Submissions.{Submits}
+use Rattle.link_ends.proofs.Lists.{slice_get-seen}
+use Rattle.run_runtime.specs.Sends.{SendsTo, accepted}
+use Rattle.run_runtime.specs.State.{RuntimeView, submitted, submitted_under}
+use Rattle.fairexec_script.specs.Orders.{Told}
 use Rattle.fairexec_threads.specs.Offers.{OffersAll}
 
 abbrev pub View : Type 0

@@ -1,12 +1,12 @@
 -- Where in a journal a note stands.
 use Rattle.std.proofs.Common.{◌≡◌, ℕ, ◌≤◌, ◌++◌, [], ◌∷◌, Option, Some, None, Bool, true, false, cond, length, refl, ap, ◌∙◌, arith, eqb}
 use Rattle.std.proofs.lemmas.Bool.Decides.{nat_tests}
-use Rattle.rt_ids.specs.declared.note.Note.{Note}
-use Rattle.rt_ids.specs.declared.note.Note.TheVariants.{Shut, CoreClosed}
-use Rattle.rt_ids.specs.declared.order.Mode.{Mode}
-use Rattle.rt_ids.specs.Closing.{count_told, core_mode_told}
-use Rattle.rt_ids.specs.Journal.{Journal, EachNote, latest_told, list_told, or_else}
-use Rattle.rt_ids.proofs.Told as told
+use Rattle.base_words.specs.declared.note.Note.{Note}
+use Rattle.base_words.specs.declared.note.Note.TheVariants.{Shut, CoreClosed}
+use Rattle.base_words.specs.declared.order.Mode.{Mode}
+use Rattle.base_words.specs.Closing.{count_told, core_mode_told}
+use Rattle.base_words.specs.Journal.{Journal, EachNote, latest_told, list_told, or_else}
+use Rattle.base_words.proofs.Told as told
 
 -- a note of the journal tells this
 pub record Tells {A : Type 0} (says : Note ℕ → Option A) (item : A) (journal : Journal ℕ) : Type 0 where

@@ -3,27 +3,27 @@ use Rattle.std.proofs.Common.{◌≡◌, ◌≢◌, ℕ, ◌<◌, ◌++◌, eqb,
 use Rattle.std.proofs.lemmas.Bool.{cases_eq}
 use Rattle.std.proofs.lemmas.Bool.Decides.{nat_tests}
 use Rattle.std.proofs.lemmas.List.{append_assoc}
-use Rattle.rt_ids.specs.declared.names.JobId.{JobId}
-use Rattle.rt_ids.specs.declared.note.Note.TheVariants.{Sent}
-use Rattle.rt_ids.specs.declared.order.Order.{Order}
-use Rattle.rt_ids.specs.declared.order.SendError.{SendError}
-use Rattle.rt_ids.specs.declared.order.SendError.TheVariants.{Closed, Full, Spent, NoCore}
-use Rattle.rt_ids.specs.Assembly.{Assembly, journal_of}
-use Rattle.rt_ids.specs.Filters.{Orders, accepted_orders}
-use Rattle.rt_ids.specs.Journal.{Journal, with_last}
-use Rattle.rt_ids.specs.Orders.{without_job}
-use Rattle.rt_link.specs.declared.ends.Outward.{Outward}
-use Rattle.rt_link.specs.Calls.{Sends}
-use Rattle.rt_journal_desk.specs.Submissions.{DeskView, Submits, numbered}
-use Rattle.rt_journal_notes.specs.Journals.{JournalView}
-use Rattle.rt_jobs.specs.ScriptMeaning.{script_meaning}
-use Rattle.rt_jobs.specs.Scripts.{Script}
-use Rattle.rt_runtime.specs.Calls.{HasFinished, IsStarted}
+use Rattle.base_words.specs.declared.names.JobId.{JobId}
+use Rattle.base_words.specs.declared.note.Note.TheVariants.{Sent}
+use Rattle.base_words.specs.declared.order.Order.{Order}
+use Rattle.base_words.specs.declared.order.SendError.{SendError}
+use Rattle.base_words.specs.declared.order.SendError.TheVariants.{Closed, Full, Spent, NoCore}
+use Rattle.base_words.specs.Assembly.{Assembly, journal_of}
+use Rattle.base_words.specs.Filters.{Orders, accepted_orders}
+use Rattle.base_words.specs.Journal.{Journal, with_last}
+use Rattle.base_words.specs.Orders.{without_job}
+use Rattle.link_ends.specs.declared.ends.Outward.{Outward}
+use Rattle.link_ends.specs.Calls.{Sends}
+use Rattle.actor_desk.specs.Submissions.{DeskView, Submits, numbered}
+use Rattle.note_journal.specs.Journals.{JournalView}
+use Rattle.base_jobs.specs.ScriptMeaning.{script_meaning}
+use Rattle.base_jobs.specs.Scripts.{Script}
+use Rattle.run_runtime.specs.Calls.{HasFinished, IsStarted}
 use Rattle.actor_caller.specs.Laws.{ClosedStaysClosed, IsClosed}
-use Rattle.rt_runtime.specs.Sends.{SendsTo}
-use Rattle.rt_runtime.specs.State.{RuntimeView, is_told_shut}
-use Rattle.rt_runtime_config.specs.Configs.{Entry}
-use Rattle.fairexec_threads_script.specs.Orders.{Told}
+use Rattle.run_runtime.specs.Sends.{SendsTo}
+use Rattle.run_runtime.specs.State.{RuntimeView, is_told_shut}
+use Rattle.run_config.specs.Configs.{Entry}
+use Rattle.fairexec_script.specs.Orders.{Told}
 use Rattle.fairexec_threads.specs.Accepted.{AreHeard, IsHeard}
 use Rattle.fairexec_threads.specs.Offers.{IsTaken, Offers, OffersAll}
 use Rattle.fairexec_threads.specs.Rooms.{room_of}

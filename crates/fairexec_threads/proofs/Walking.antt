@@ -3,11 +3,11 @@ use Rattle.std.proofs.Common.{◌≡◌, ℕ, suc, ◌+◌, ◌<◌, ◌++◌, L
 use Rattle.std.proofs.Math.Seq.{drop-cons}
 use Rattle.std.proofs.lemmas.List.{map-id, take-append-drop}
 use Rattle.std.specs.Prelude.{map}
-use Rattle.rt_ids.specs.declared.order.Mode.TheVariants.{Finish}
-use Rattle.rt_ids.specs.declared.order.Order.TheVariants.{CloseCore}
-use Rattle.rt_jobs.specs.Scripts.{Script}
-use Rattle.rt_runtime.specs.State.{RuntimeView}
-use Rattle.fairexec_threads_script.specs.Orders.{Told}
+use Rattle.base_words.specs.declared.order.Mode.TheVariants.{Finish}
+use Rattle.base_words.specs.declared.order.Order.TheVariants.{CloseCore}
+use Rattle.base_jobs.specs.Scripts.{Script}
+use Rattle.run_runtime.specs.State.{RuntimeView}
+use Rattle.fairexec_script.specs.Orders.{Told}
 use Rattle.fairexec_threads.specs.Offers.{Offers, OffersAll, closings}
 use Rattle.fairexec_threads.proofs.Sending.{offers_more}
 

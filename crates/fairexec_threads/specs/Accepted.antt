@@ -1,20 +1,20 @@
 -- Which orders of a script were accepted, and why another was not.
 use Rattle.std.specs.Prelude.{◌≡◌, ◌⊎◌, ℕ, ◌-◌, ◌<◌, ◌≤◌, ◌++◌, List, [], ◌∷◌, Some, Result, Ok, Err, length}
-use Rattle.rt_ids.specs.declared.names.JobId.{JobId}
-use Rattle.rt_ids.specs.declared.note.Note.TheVariants.{Sent, CoreClosed, Shut}
-use Rattle.rt_ids.specs.declared.order.Mode.{Mode}
-use Rattle.rt_ids.specs.declared.order.Mode.TheVariants.{Return}
-use Rattle.rt_ids.specs.declared.order.Order.TheVariants.{CloseCore}
-use Rattle.rt_ids.specs.declared.order.SendError.{SendError}
-use Rattle.rt_ids.specs.declared.order.SendError.TheVariants.{Closed}
-use Rattle.rt_ids.specs.Assembly.{Assembly, journal_of, order_of}
-use Rattle.rt_ids.specs.Filters.{accepted_orders}
-use Rattle.rt_ids.specs.Journal.{Journal}
-use Rattle.rt_ids.specs.Orders.{without_job}
-use Rattle.rt_jobs.specs.Scripts.{Script}
-use Rattle.rt_runtime.specs.State.{RuntimeView}
-use Rattle.rt_runtime_worker.specs.Rooms.{least_free}
-use Rattle.fairexec_threads_script.specs.Orders.{Told}
+use Rattle.base_words.specs.declared.names.JobId.{JobId}
+use Rattle.base_words.specs.declared.note.Note.TheVariants.{Sent, CoreClosed, Shut}
+use Rattle.base_words.specs.declared.order.Mode.{Mode}
+use Rattle.base_words.specs.declared.order.Mode.TheVariants.{Return}
+use Rattle.base_words.specs.declared.order.Order.TheVariants.{CloseCore}
+use Rattle.base_words.specs.declared.order.SendError.{SendError}
+use Rattle.base_words.specs.declared.order.SendError.TheVariants.{Closed}
+use Rattle.base_words.specs.Assembly.{Assembly, journal_of, order_of}
+use Rattle.base_words.specs.Filters.{accepted_orders}
+use Rattle.base_words.specs.Journal.{Journal}
+use Rattle.base_words.specs.Orders.{without_job}
+use Rattle.base_jobs.specs.Scripts.{Script}
+use Rattle.run_runtime.specs.State.{RuntimeView}
+use Rattle.run_worker.specs.Rooms.{least_free}
+use Rattle.fairexec_script.specs.Orders.{Told}
 use Rattle.fairexec_threads.specs.Offers.{OffersAll}
 use Rattle.fairexec_threads.specs.Rooms.{room_of}
 

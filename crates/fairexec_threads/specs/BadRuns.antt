@@ -1,22 +1,22 @@
 -- Runs of a script on threads that are refused, each for one thing.
 use Rattle.std.specs.Prelude.{◌≡◌, ℕ, Bool, List, [], ◌∷◌, Option, Some, Err, length}
-use Rattle.rt_ids.specs.declared.names.JobId.{JobId}
-use Rattle.rt_ids.specs.declared.note.Note.TheVariants.{Pick, Resume, Yield}
-use Rattle.rt_ids.specs.declared.order.Mode.TheVariants.{Finish, Return}
-use Rattle.rt_ids.specs.declared.order.Order.{Order}
-use Rattle.rt_ids.specs.declared.order.Order.TheVariants.{Job}
-use Rattle.rt_ids.specs.declared.order.SendError.TheVariants.{Full}
-use Rattle.rt_ids.specs.Assembly.{Assembly}
-use Rattle.rt_ids.specs.Journal.{Journal}
-use Rattle.rt_jobs.specs.Scripts.{Script}
-use Rattle.rt_jobs.specs.declared.poll.Poll.{Poll}
-use Rattle.rt_jobs.specs.declared.poll.Poll.TheVariants as poll
-use Rattle.rt_journal.specs.BadPolls.{job, begun}
-use Rattle.rt_runtime.specs.Outcomes.{Orders}
-use Rattle.rt_runtime.specs.State.{RuntimeView}
-use Rattle.rt_text.specs.declared.fault.Fault.TheVariants.{Read}
-use Rattle.fairexec_threads_script.specs.declared.fault.ThreadsFault.TheVariants.{Of}
-use Rattle.fairexec_threads_script.specs.Orders.{Told}
+use Rattle.base_words.specs.declared.names.JobId.{JobId}
+use Rattle.base_words.specs.declared.note.Note.TheVariants.{Pick, Resume, Yield}
+use Rattle.base_words.specs.declared.order.Mode.TheVariants.{Finish, Return}
+use Rattle.base_words.specs.declared.order.Order.{Order}
+use Rattle.base_words.specs.declared.order.Order.TheVariants.{Job}
+use Rattle.base_words.specs.declared.order.SendError.TheVariants.{Full}
+use Rattle.base_words.specs.Assembly.{Assembly}
+use Rattle.base_words.specs.Journal.{Journal}
+use Rattle.base_jobs.specs.Scripts.{Script}
+use Rattle.base_jobs.specs.declared.poll.Poll.{Poll}
+use Rattle.base_jobs.specs.declared.poll.Poll.TheVariants as poll
+use Rattle.actor_core.specs.BadPolls.{job, begun}
+use Rattle.run_runtime.specs.Outcomes.{Orders}
+use Rattle.run_runtime.specs.State.{RuntimeView}
+use Rattle.text_words.specs.declared.fault.Fault.TheVariants.{Read}
+use Rattle.fairexec_script.specs.declared.fault.ThreadsFault.TheVariants.{Of}
+use Rattle.fairexec_script.specs.Orders.{Told}
 use Rattle.fairexec_threads.specs.Accepted.{IsSent, ClosesItself, IsHeard}
 use Rattle.fairexec_threads.specs.Counting.{sent_to, HasPlace, CanClose}
 use Rattle.fairexec_threads.specs.Offers.{Offers}

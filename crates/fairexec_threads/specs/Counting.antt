@@ -1,9 +1,9 @@
 -- Whether there is room for a script's orders, as the outside journal counts them.
 use Rattle.std.specs.Prelude.{◌≡◌, ℕ, ◌+◌, ◌-◌, ◌<◌, ◌≤◌, true, length}
-use Rattle.rt_ids.specs.Filters.{accepted_orders}
-use Rattle.rt_ids.specs.Limits.{most_capacity, most_cores}
-use Rattle.rt_jobs.specs.Scripts.{Script}
-use Rattle.rt_runtime.specs.State.{RuntimeView, closing_at}
+use Rattle.base_words.specs.Filters.{accepted_orders}
+use Rattle.base_words.specs.Limits.{most_capacity, most_cores}
+use Rattle.base_jobs.specs.Scripts.{Script}
+use Rattle.run_runtime.specs.State.{RuntimeView, closing_at}
 use Rattle.fairexec_threads.specs.Rooms.{room_of}
 use Rattle.fairexec_script.specs.TextLimits.{most_lines}
 

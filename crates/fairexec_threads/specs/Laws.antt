@@ -1,7 +1,7 @@
 -- Laws over the definitions alone.
 use Rattle.std.specs.Prelude.{◌≡◌, ℕ, None}
-use Rattle.rt_ids.specs.Assembly.{Assembly, journal_of}
-use Rattle.rt_ids.specs.Closing.{core_mode}
+use Rattle.base_words.specs.Assembly.{Assembly, journal_of}
+use Rattle.base_words.specs.Closing.{core_mode}
 use Rattle.fairexec_threads.specs.Accepted.{HasClosed}
 
 -- a core whose journal tells of no closing refuses no order

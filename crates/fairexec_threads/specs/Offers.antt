@@ -1,15 +1,15 @@
 -- The orders that a script's outside actor sends, one after another.
 use Rattle.std.specs.Prelude.{◌≡◌, ℕ, zero, suc, ◌<◌, ◌++◌, List, [], ◌∷◌, Result, Ok, Err}
-use Rattle.rt_ids.specs.declared.names.JobId.{JobId}
-use Rattle.rt_ids.specs.declared.order.Mode.TheVariants.{Finish}
-use Rattle.rt_ids.specs.declared.order.Order.{Order}
-use Rattle.rt_ids.specs.declared.order.Order.TheVariants.{CloseCore, Job}
-use Rattle.rt_ids.specs.declared.order.SendError.{SendError}
-use Rattle.rt_ids.specs.declared.order.SendError.TheVariants.{Closed}
-use Rattle.rt_jobs.specs.Scripts.{Script, IsScript}
-use Rattle.rt_runtime.specs.Sends.{SendsTo}
-use Rattle.rt_runtime.specs.State.{RuntimeView}
-use Rattle.fairexec_threads_script.specs.Orders.{Told}
+use Rattle.base_words.specs.declared.names.JobId.{JobId}
+use Rattle.base_words.specs.declared.order.Mode.TheVariants.{Finish}
+use Rattle.base_words.specs.declared.order.Order.{Order}
+use Rattle.base_words.specs.declared.order.Order.TheVariants.{CloseCore, Job}
+use Rattle.base_words.specs.declared.order.SendError.{SendError}
+use Rattle.base_words.specs.declared.order.SendError.TheVariants.{Closed}
+use Rattle.base_jobs.specs.Scripts.{Script, IsScript}
+use Rattle.run_runtime.specs.Sends.{SendsTo}
+use Rattle.run_runtime.specs.State.{RuntimeView}
+use Rattle.fairexec_script.specs.Orders.{Told}
 
 -- a send is accepted, or the core is closed already
 abbrev pub IsTaken : Result JobId (SendError Script) → Type 0

@@ -1,11 +1,11 @@
 -- What the journals tell of the orders of a script.
 use Rattle.std.specs.Prelude.{ℕ, List, [], ◌∷◌, IfOk}
-use Rattle.rt_ids.specs.Assembly.{Assembly}
-use Rattle.rt_jobs.specs.ScriptMeaning.{script_meaning}
-use Rattle.rt_jobs.specs.Scripts.{Script}
-use Rattle.rt_runtime.specs.Laws.{IsToldOf}
-use Rattle.rt_runtime.specs.State.{RuntimeView}
-use Rattle.fairexec_threads_script.specs.Orders.{Told}
+use Rattle.base_words.specs.Assembly.{Assembly}
+use Rattle.base_jobs.specs.ScriptMeaning.{script_meaning}
+use Rattle.base_jobs.specs.Scripts.{Script}
+use Rattle.run_runtime.specs.Laws.{IsToldOf}
+use Rattle.run_runtime.specs.State.{RuntimeView}
+use Rattle.fairexec_script.specs.Orders.{Told}
 use Rattle.fairexec_threads.specs.Offers.{OffersAll}
 
 -- The journals tell an outcome of each order that was accepted, and it fits the order: a job is finished with the value of its last poll, or comes

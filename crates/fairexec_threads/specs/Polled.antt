@@ -1,22 +1,22 @@
 -- What the journals tell of the polls of a script's jobs.
 use Rattle.std.specs.Prelude.{◌≡◌, ℕ, List, [], ◌∷◌, IfOk}
-use Rattle.rt_ids.specs.declared.names.JobId.{JobId}
-use Rattle.rt_ids.specs.declared.note.Note.{Note}
-use Rattle.rt_ids.specs.declared.note.Note.TheVariants as writes
-use Rattle.rt_ids.specs.declared.order.Order.{Order}
-use Rattle.rt_ids.specs.declared.order.Order.TheVariants.{Job}
-use Rattle.rt_ids.specs.Assembly.{Assembly, journal_of}
-use Rattle.rt_ids.specs.Journal.{Journal, EachNote}
-use Rattle.rt_ids.specs.Terms.{terms_of}
-use Rattle.rt_jobs.specs.ScriptMeaning.{script_meaning}
-use Rattle.rt_jobs.specs.Scripts.{Script}
-use Rattle.rt_jobs.specs.declared.job.Step.{Step}
-use Rattle.rt_jobs.specs.declared.job.Step.TheVariants as steps
-use Rattle.rt_journal.specs.OwedPolls.{IsPollOf}
-use Rattle.rt_journal.specs.ScriptPolls.{IsPolledByWords}
-use Rattle.rt_runtime.specs.Outcomes.{Orders, seen_at_end}
-use Rattle.rt_runtime.specs.State.{RuntimeView}
-use Rattle.fairexec_threads_script.specs.Orders.{Told}
+use Rattle.base_words.specs.declared.names.JobId.{JobId}
+use Rattle.base_words.specs.declared.note.Note.{Note}
+use Rattle.base_words.specs.declared.note.Note.TheVariants as writes
+use Rattle.base_words.specs.declared.order.Order.{Order}
+use Rattle.base_words.specs.declared.order.Order.TheVariants.{Job}
+use Rattle.base_words.specs.Assembly.{Assembly, journal_of}
+use Rattle.base_words.specs.Journal.{Journal, EachNote}
+use Rattle.base_words.specs.Terms.{terms_of}
+use Rattle.base_jobs.specs.ScriptMeaning.{script_meaning}
+use Rattle.base_jobs.specs.Scripts.{Script}
+use Rattle.base_jobs.specs.declared.job.Step.{Step}
+use Rattle.base_jobs.specs.declared.job.Step.TheVariants as steps
+use Rattle.actor_core.specs.OwedPolls.{IsPollOf}
+use Rattle.actor_core.specs.ScriptPolls.{IsPolledByWords}
+use Rattle.run_runtime.specs.Outcomes.{Orders, seen_at_end}
+use Rattle.run_runtime.specs.State.{RuntimeView}
+use Rattle.fairexec_script.specs.Orders.{Told}
 use Rattle.fairexec_threads.specs.Offers.{OffersAll}
 
 module _ (sent : Orders Script) (assembly : Assembly ℕ) where

@@ -1,25 +1,25 @@
 -- A whole run of a script on threads.
 use Rattle.std.specs.Prelude.{◌≡◌, ◌<◌, ◌++◌, ℕ, Bool, List, Option, Some, Ok}
 use Rattle.std.specs.Option.{IfSome}
-use Rattle.rt_ids.specs.Assembly.{Assembly, journal_of}
-use Rattle.rt_jobs.specs.ScriptMeaning.{script_meaning}
-use Rattle.rt_jobs.specs.Scripts.{Script}
+use Rattle.base_words.specs.Assembly.{Assembly, journal_of}
+use Rattle.base_jobs.specs.ScriptMeaning.{script_meaning}
+use Rattle.base_jobs.specs.Scripts.{Script}
 use Rattle.fairexec_report.specs.Writing as writing
-use Rattle.rt_runtime.specs.Calls.{IsStarted, HasFinished}
-use Rattle.rt_runtime.specs.State.{RuntimeView}
-use Rattle.rt_runtime_config.specs.Configs.{Entry}
-use Rattle.fairexec_threads_script.specs.declared.fault.ThreadsFault.{ThreadsFault}
-use Rattle.fairexec_threads_script.specs.declared.fault.ThreadsFault.TheVariants.{Of, Thread}
-use Rattle.rt_text.specs.Faults.{IfUnjudged}
-use Rattle.fairexec_threads_script.specs.Orders.{Told}
-use Rattle.fairexec_threads_script.specs.Drafts.{Drafted}
-use Rattle.fairexec_threads_script.specs.Scripts.{threads_script_of}
+use Rattle.run_runtime.specs.Calls.{IsStarted, HasFinished}
+use Rattle.run_runtime.specs.State.{RuntimeView}
+use Rattle.run_config.specs.Configs.{Entry}
+use Rattle.fairexec_script.specs.declared.fault.ThreadsFault.{ThreadsFault}
+use Rattle.fairexec_script.specs.declared.fault.ThreadsFault.TheVariants.{Of, Thread}
+use Rattle.text_words.specs.Faults.{IfUnjudged}
+use Rattle.fairexec_script.specs.Orders.{Told}
+use Rattle.fairexec_script.specs.ThreadsDrafts.{Drafted}
+use Rattle.fairexec_script.specs.ThreadsScripts.{threads_script_of}
 use Rattle.fairexec_threads.specs.Accepted.{AreHeard}
 use Rattle.fairexec_threads.specs.Offers.{OffersAll, closings}
 use Rattle.fairexec_threads.specs.Outcomes.{AreAnswered}
 use Rattle.fairexec_threads.specs.Polled.{ArePolledAsTold}
 use Rattle.fairexec_threads.specs.Rooms.{room_of}
-use Rattle.rt_runtime_worker.specs.Queues.{creations}
+use Rattle.run_worker.specs.Queues.{creations}
 use Rattle.actor_seat.specs.Queues.{opening_of}
 
 -- A runtime of these numbers and queues is started, the orders are sent, each core is closed from 0 upwards, and the runtime is finished. The

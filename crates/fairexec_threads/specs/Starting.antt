@@ -1,7 +1,7 @@
 -- Why a script's runtime doesn't start.
-use Rattle.rt_text.specs.declared.fault.Fault.TheVariants.{Memory}
-use Rattle.fairexec_threads_script.specs.declared.fault.ThreadsFault.{ThreadsFault}
-use Rattle.fairexec_threads_script.specs.declared.fault.ThreadsFault.TheVariants.{Of, Thread}
+use Rattle.text_words.specs.declared.fault.Fault.TheVariants.{Memory}
+use Rattle.fairexec_script.specs.declared.fault.ThreadsFault.{ThreadsFault}
+use Rattle.fairexec_script.specs.declared.fault.ThreadsFault.TheVariants.{Of, Thread}
 
 -- want of memory, or of a thread
 abbrev pub IsOfStart : ThreadsFault → Type 0

@@ -1,16 +1,16 @@
 //! The orders of a script's outside actor.
 
 ghost use Rattle.std.specs.Prelude.{◌≡◌, ◌<◌, ◌≤◌, [], length, Some};
-ghost use Rattle.rt_ids.specs.declared.order.Mode.TheVariants as mode;
-ghost use Rattle.rt_ids.specs.declared.order.Order.TheVariants as order;
-ghost use Rattle.fairexec_threads_script.specs.Limits.{IsToldOf, AreTold, HasSpare};
+ghost use Rattle.base_words.specs.declared.order.Mode.TheVariants as mode;
+ghost use Rattle.base_words.specs.declared.order.Order.TheVariants as order;
+ghost use Rattle.fairexec_script.specs.ThreadsLimits.{IsToldOf, AreTold, HasSpare};
 ghost use Rattle.fairexec_threads.specs.Counting.{IsOfScript, HasPlace, CanClose, AreClosedBelow};
 ghost use Rattle.fairexec_threads.specs.Offers.{HasWords, Offers, OffersAll, closings};
 ghost use Rattle.fairexec_script.specs.TextLimits.{most_lines};
 
 use crate::house::House;
-use rt_ids::{CoreNo, Mode, Order};
-use rt_jobs::ScriptJob;
+use base_jobs::ScriptJob;
+use base_words::{CoreNo, Mode, Order};
 
 /// How many polls the job of an order has, 0 if it has none. Each job that is counted is seen to be a script's.
 fn polls_of(order: &Order<ScriptJob>) -> usize

@@ -1,6 +1,6 @@
 //! The clock of a core whose jobs tell their own time.
 
-use rt_runtime_config::Clock;
+use run_config::Clock;
 
 /// A clock that stands still. The jobs of a script tell their own time, so no reading of it counts.
 #[derive(Clone, Copy, Drop)]

@@ -1,23 +1,22 @@
 //! How a script's runtime is started.
 
 ghost use Rattle.std.specs.Prelude.{◌≡◌, ◌≤◌, length, IfOk, IfErr, Some};
-ghost use Rattle.rt_ids.specs.Limits.{most_capacity, most_cores};
-ghost use Rattle.rt_runtime.specs.Calls.{IsStarted};
+ghost use Rattle.base_words.specs.Limits.{most_capacity, most_cores};
+ghost use Rattle.run_runtime.specs.Calls.{IsStarted};
 ghost use Rattle.fairexec_script.specs.Limits.{IsSize, IsBurst, ArePlaced, HasFewQueues};
 ghost use Rattle.fairexec_threads.specs.Rooms as spec;
 ghost use Rattle.fairexec_threads.specs.Starting.{IsOfStart};
 
 use crate::clock::StillClock;
-use fairexec_threads_script::ThreadsFault;
-use rt_ids::CoreNo;
-use rt_jobs::ScriptJob;
-use rt_runtime::{Runtime, StartError};
-use rt_runtime_config::{Config, NoGate};
-use rt_shares::Shares;
-use rt_text::Fault;
+use base_jobs::ScriptJob;
+use base_words::{CoreNo, Shares};
+use fairexec_script::ThreadsFault;
+use run_config::{Config, NoGate};
+use run_runtime::{Runtime, StartError};
 use std::alloc::{AllocError, Global};
 use std::sync::Wait;
 use std::thread::Threads;
+use text_words::Fault;
 
 /// A runtime of script jobs, which tell their own time.
 pub(crate) type House = Runtime<ScriptJob, StillClock, NoGate>;

@@ -2,26 +2,25 @@
 
 ghost use Rattle.std.specs.Prelude.{◌≡◌, Err, IfOk, IfErr, IfSome, true};
 ghost use Rattle.std.specs.Io.KnownBytes.{Keeps};
-ghost use Rattle.fairexec_threads_script.specs.Drafts.{empty_draft};
-ghost use Rattle.fairexec_threads_script.specs.Faults.{IfOf};
-ghost use Rattle.fairexec_threads_script.specs.Scripts.{judge, threads_script_of};
-ghost use Rattle.rt_lines.specs.Taking.{IsPrompt, IsToldByRead};
-ghost use Rattle.rt_sink.specs.Tries.{HasFailedSince};
-ghost use Rattle.rt_text.specs.Faults.{IfRead, IfText, IfUnwritten};
+ghost use Rattle.fairexec_script.specs.ThreadsDrafts.{empty_draft};
+ghost use Rattle.fairexec_script.specs.Faults.{IfOf};
+ghost use Rattle.fairexec_script.specs.ThreadsScripts.{judge, threads_script_of};
+ghost use Rattle.text_bytes.specs.Taking.{IsPrompt, IsToldByRead};
+ghost use Rattle.text_bytes.specs.Tries.{HasFailedSince};
+ghost use Rattle.text_words.specs.Faults.{IfRead, IfText, IfUnwritten};
 ghost use Rattle.fairexec_threads.specs.Runs.{RunsOrders, IsRun, IsCutShort, IfUntold};
 ghost use Rattle.fairexec_threads.specs.Starting.{IsOfStart};
 
 use crate::calls::{close_all, offer_all};
 use crate::house::start_house;
 use fairexec_report::write_report;
-use fairexec_threads_script::{ThreadsFault, ThreadsScript, read_threads_script};
-use rt_journal_notes::Assembly;
-use rt_lines::Source;
-use rt_runtime::FinishError;
-use rt_sink::Sink;
+use fairexec_script::{ThreadsFault, ThreadsScript, read_threads_script};
+use note_journal::Assembly;
+use run_runtime::FinishError;
 use std::alloc::Global;
 use std::sync::Wait;
 use std::thread::Threads;
+use text_bytes::{Sink, Source};
 
 /// Starts the runtime of the script, sends its orders, closes each core, and waits until all workers have ended.
 fn run_orders<H>(rt: H, alloc: Global, script: ThreadsScript) -> Result<Assembly, ThreadsFault>

@@ -9,8 +9,8 @@ use Rattle.fairview_args.specs.Asks.{Wish}
 use Rattle.fairview_report.specs.Faults.{status_of}
 use Rattle.fairview_report.specs.declared.fault.ViewFault.TheVariants as fault
 use Rattle.fairview_report.specs.declared.view.View.{View}
-use Rattle.rt_text.specs.declared.status.Status.{Status}
-use Rattle.rt_text.specs.declared.status.Status.TheVariants as status
+use Rattle.text_words.specs.declared.status.Status.{Status}
+use Rattle.text_words.specs.declared.status.Status.TheVariants as status
 use Rattle.fairview.specs.Answers.{Answer}
 use Rattle.fairview.specs.Ends.{EndsBy, status_unasked}
 

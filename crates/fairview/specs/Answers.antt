@@ -1,10 +1,10 @@
 -- What an answer tells of the source that was read, and of what was written.
 use Rattle.std.specs.Prelude.{◌≡◌, ◌⊎◌, ℕ, List, Option, None, Some, Result, Err, IfErr, IfSome, OnOk}
 use Rattle.std.specs.Io.KnownBytes.{Keeps}
-use Rattle.rt_journal_read.specs.Drafts.{empty_draft}
-use Rattle.rt_journal_read.specs.JournalTexts.{journals_of, judge}
-use Rattle.rt_lines.specs.Taking.{IsToldByRead}
-use Rattle.rt_sink.specs.Tries.{HasFailedSince}
+use Rattle.text_journal.specs.Drafts.{empty_draft}
+use Rattle.text_journal.specs.JournalTexts.{journals_of, judge}
+use Rattle.text_bytes.specs.Taking.{IsToldByRead}
+use Rattle.text_bytes.specs.Tries.{HasFailedSince}
 use Rattle.fairview_report.specs.Faults.{IfCoreless, IfRead, IfText, IfUnshown, IfUnwritten}
 use Rattle.fairview_report.specs.Views.{IsCutShort, IsPromptly, IsViewed, LacksCore}
 use Rattle.fairview_report.specs.declared.fault.ViewFault.{ViewFault}

@@ -11,7 +11,7 @@ use Rattle.fairview_args.specs.Asks as wish
 use Rattle.fairview_report.specs.declared.fault.ViewFault.TheVariants as fault
 use Rattle.fairview_report.specs.declared.view.View.{View}
 use Rattle.fairview_report.specs.declared.view.View.TheVariants.{Polls}
-use Rattle.rt_text.specs.declared.status.Status.TheVariants as status
+use Rattle.text_words.specs.declared.status.Status.TheVariants as status
 use Rattle.fairview.specs.Answers.{Answer, Answers, IsUnopened, ShowsOf}
 use Rattle.fairview.specs.Ends.{EndsBy, EndsFor, EndsUnasked, status_unasked}
 use Rattle.fairview.specs.declared.refusal.Refusal.TheVariants.{Name}

@@ -8,8 +8,8 @@ use Rattle.fair_args.specs.declared.unasked.Unasked.TheVariants as unasked
 use Rattle.fairview_args.specs.Asks.{Wish}
 use Rattle.fairview_report.specs.Faults.{status_of}
 use Rattle.fairview_report.specs.declared.view.View.{View}
-use Rattle.rt_text.specs.declared.status.Status.{Status}
-use Rattle.rt_text.specs.declared.status.Status.TheVariants as status
+use Rattle.text_words.specs.declared.status.Status.{Status}
+use Rattle.text_words.specs.declared.status.Status.TheVariants as status
 use Rattle.fairview.specs.Answers.{Answer}
 use Rattle.fairview.specs.Shows.{view_asked}
 use Rattle.fairview.specs.declared.refusal.Refusal.{Refusal}

@@ -1,7 +1,7 @@
 -- What the words of a command line show, or what is wrong with them.
 use Rattle.std.specs.Prelude.{ℕ, ◌-◌, ◌^◌, nat_lt, if◌then◌else◌, List, Bool, true, false, Option, Some, None, Result, Ok, Err}
-use Rattle.rt_ids.specs.declared.names.JobId.{JobId}
-use Rattle.rt_journal_lines.specs.Fields.{name_of, number_in}
+use Rattle.base_words.specs.declared.names.JobId.{JobId}
+use Rattle.text_journal.specs.Fields.{name_of, number_in}
 use Rattle.fairview_args.specs.Asks.{Wish}
 use Rattle.fairview_args.specs.Asks as wish
 use Rattle.fairview_report.specs.declared.share.Form.{Form}

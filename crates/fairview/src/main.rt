@@ -16,66 +16,72 @@ ghost use Rattle.fairview_args.specs.Asks.{what_named, what_told};
 ghost use Rattle.fairview_args.specs.CommandLine.{our_app};
 ghost use Rattle.fairview_report.specs.Faults.{status_of};
 ghost use Rattle.fairview_report.specs.declared.fault.ViewFault.TheVariants as faults;
-ghost use Rattle.rt_text.specs.declared.status.Status.TheVariants as status;
+ghost use Rattle.text_words.specs.declared.status.Status.TheVariants as status;
 
 use crate::refusal::Refusal;
 use crate::words::view_of;
-use fair_args::Unasked;
+use fair_args::{Console, ReadOnly, ReadOnlyFiles, Unasked, words_of};
 use fairview_args::{What, parse};
 use fairview_report::fault::status_of;
 use fairview_report::{View, ViewFault, view_text};
-use rt_lines::Source;
-use rt_sink::Sink;
-use rt_text::Status;
+use std::io;
 use std::io::ErrorKind;
 use std::process::ExitCode;
-use std::rt::{Env, Files};
-use std::{env, fs, io};
+use text_bytes::{Sink, Source};
+use text_words::Status;
 
+// Only this function has all rights of the system.
 fn main(rt: HostRuntime) -> ExitCode {
-    ExitCode::from(program(&rt).code())
+    let (console, system) = (Console::of(rt), ReadOnly::of(rt));
+    let status = program(&console, &system, words_of(&rt), &mut rt.reader());
+    ExitCode::from(status.code())
 }
 
-/// Does what the command line asks for, and answers how it ended.
-fn program<R>(rt: &R) -> Status
-where
-    R: Files + Input + Print + Eprint + Env + AllocGlobal,
+/// Does what the words of the command line ask for, and answers how it ended.
+fn program<C: Print + Eprint, R: ReadOnlyFiles + AllocGlobal, I: Source>(
+    console: &C,
+    rt: &R,
+    words: Result<Vec<String>, ErrorKind>,
+    input: &mut I,
+) -> Status
     ensures never { result ≢ status.FaultFound }
 {
-    let args = match env::args(rt) {
-        Ok(args) => args,
-        Err(error) => return words_refused(rt, error.kind()),
-    };
-    let Ok(words) = args.collect::<Vec<String>>(rt.alloc()) else {
-        return ended(rt, Err(ViewFault::Memory));
-    };
-    by_words(rt, words.as_slice(), &mut rt.reader(), &mut io::writer(rt))
+    match words {
+        Ok(words) => by_words(
+            console,
+            rt,
+            words.as_slice(),
+            input,
+            &mut io::writer(console),
+        ),
+        Err(kind) => words_refused(console, kind),
+    }
 }
 
 /// Does what these words ask for, the first of which is the program's name. Without a file the input is read, and what is shown is written to
 /// the output.
-fn by_words<R, I: Source, S: Sink>(
+fn by_words<C: Print + Eprint, R: ReadOnlyFiles + AllocGlobal, I: Source, S: Sink>(
+    console: &C,
     rt: &R,
     words: &[String],
     input: &mut I,
     output: &mut S,
 ) -> Status
-where
-    R: Files + Print + Eprint + AllocGlobal,
     ensures ends { EndsBy
         (ShowsOf I.remaining I.tries I.reads I.interrupts I.fails R.File.remaining S.contents S.tries S.interrupts S.fails input.old input.new output.old output.new)
         ((input.new ≡ input.old) × (output.new ≡ output.old))
         (fault_of our_app (map string_bytes words.now)) (asks_of what_named our_app (map string_bytes words.now)) result }
     ensures never { result ≢ status.FaultFound }
 {
-    match parse(rt, rt.alloc(), words) {
-        Ok(asked) => done(rt, asked.what, asked.file, input, output),
-        Err(why) => not_done(rt, why),
+    match parse(console, rt.alloc(), words) {
+        Ok(asked) => done(console, rt, asked.what, asked.file, input, output),
+        Err(why) => not_done(console, why),
     }
 }
 
 /// Does what the command line asks for.
-fn done<R: Files + Eprint + AllocGlobal, I: Source, S: Sink>(
+fn done<C: Eprint, R: ReadOnlyFiles + AllocGlobal, I: Source, S: Sink>(
+    console: &C,
     rt: &R,
     what: What<'_>,
     file: Option<&str>,
@@ -88,25 +94,25 @@ fn done<R: Files + Eprint + AllocGlobal, I: Source, S: Sink>(
     ensures never { result ≢ status.FaultFound }
 {
     match view_of(what) {
-        Ok(view) => ended(rt, show(rt, view, file, input, output)),
-        Err(refusal) => word_refused(rt, refusal),
+        Ok(view) => ended(console, show(rt, view, file, input, output)),
+        Err(refusal) => word_refused(console, refusal),
     }
 }
 
 /// How a command line ends that asks for nothing.
-fn not_done<R: Eprint>(rt: &R, why: Unasked) -> Status
+fn not_done<C: Eprint>(console: &C, why: Unasked) -> Status
     ensures { result ≡ status_unasked why }
 {
     match why {
         Unasked::Told => Status::Done,
         Unasked::Mistake => Status::Refused,
-        Unasked::Write => ended(rt, Err(ViewFault::Write)),
-        Unasked::Memory => ended(rt, Err(ViewFault::Memory)),
+        Unasked::Write => ended(console, Err(ViewFault::Write)),
+        Unasked::Memory => ended(console, Err(ViewFault::Memory)),
     }
 }
 
 /// Shows what is asked for of the journal text of the file, or of the input.
-fn show<R: Files + AllocGlobal, I: Source, S: Sink>(
+fn show<R: ReadOnlyFiles + AllocGlobal, I: Source, S: Sink>(
     rt: &R,
     view: View,
     file: Option<&str>,
@@ -123,7 +129,7 @@ fn show<R: Files + AllocGlobal, I: Source, S: Sink>(
 }
 
 /// Shows what is asked for of the journal text of the file of this path.
-fn show_file<R: Files + AllocGlobal, S: Sink>(
+fn show_file<R: ReadOnlyFiles + AllocGlobal, S: Sink>(
     rt: &R,
     view: View,
     path: &str,
@@ -131,7 +137,7 @@ fn show_file<R: Files + AllocGlobal, S: Sink>(
 ) -> Result<(), ViewFault>
     ensures { OpensFile R.File.remaining S.contents S.tries S.interrupts S.fails view output.old output.new result }
 {
-    match fs::open(rt, path) {
+    match rt.open_to_read(path) {
         Ok(mut source) => view_text(rt.alloc(), view, &mut source, output),
         Err(error) => Err(unopened(error.kind())),
     }
@@ -150,32 +156,32 @@ fn unopened(kind: ErrorKind) -> ViewFault
 }
 
 /// Says on standard error what went wrong, if anything did. Where even that can't be said, the status is the same.
-fn ended<R: Eprint>(rt: &R, answer: Result<(), ViewFault>) -> Status
+fn ended<C: Eprint>(console: &C, answer: Result<(), ViewFault>) -> Status
     ensures { result ≡ status_of answer }
 {
     if let Err(fault) = &answer {
-        let _ = eprintln!(rt; "{fault}");
+        let _ = eprintln!(console; "{fault}");
     }
     status_of(&answer)
 }
 
 /// A word of the command line is refused. What is wrong is told on standard error.
-fn word_refused<R: Eprint>(rt: &R, refusal: Refusal) -> Status
+fn word_refused<C: Eprint>(console: &C, refusal: Refusal) -> Status
     ensures { result ≡ status.Refused }
 {
-    let _ = eprintln!(rt; "error: {refusal}");
+    let _ = eprintln!(console; "error: {refusal}");
     Status::Refused
 }
 
 /// The words of the command line can't be read as text.
-fn words_refused<R: Eprint>(rt: &R, kind: ErrorKind) -> Status
+fn words_refused<C: Eprint>(console: &C, kind: ErrorKind) -> Status
     ensures memory { kind ≡ kinds.OutOfMemory → result ≡ status.Memory }
     ensures other { kind ≢ kinds.OutOfMemory → result ≡ status.Refused }
     ensures never { result ≢ status.FaultFound }
 {
     if kind == ErrorKind::OutOfMemory {
-        return ended(rt, Err(ViewFault::Memory));
+        return ended(console, Err(ViewFault::Memory));
     }
-    let _ = eprintln!(rt; "error: the command line is not UTF-8");
+    let _ = eprintln!(console; "error: the command line is not UTF-8");
     Status::Refused
 }

@@ -5,11 +5,11 @@ ghost use Rattle.fairview_args.specs.Asks.{what_told};
 ghost use Rattle.fairview.specs.Shows as spec;
 
 use crate::refusal::Refusal;
+use base_words::{CoreNo, JobId};
 use fairview_args::What;
+use fairview_pictures::Cut;
 use fairview_report::{Form, View, name_of};
-use fairview_svg::Cut;
-use rt_ids::{CoreNo, JobId};
-use rt_journal_lines::field::number_in;
+use text_journal::field::number_in;
 
 /// What the command line asks for.
 ///

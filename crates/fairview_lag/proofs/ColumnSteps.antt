@@ -2,9 +2,9 @@
 use Rattle.std.proofs.Common.{◌≡◌, ℕ, zero, suc, ◌<◌, [], ◌∷◌, ◌++◌, Bool, true, false, List, length, refl, sym, ap, ◌∙◌, cond, get_or, set, ◌⊎◌, inl, inr, get_or-set_other, get_or-set_same}
 use Rattle.std.specs.Prelude.{◌==◌, Option, Some, None}
 use Rattle.std.proofs.lemmas.Bool.{cases_eq, eqb-true, eqb-false}
-use Rattle.rt_ids.specs.declared.note.Note.{Note}
-use Rattle.rt_ids.specs.Journal.{Journal}
-use Rattle.rt_view.proofs.WatchSteps.{any_default}
+use Rattle.base_words.specs.declared.note.Note.{Note}
+use Rattle.base_words.specs.Journal.{Journal}
+use Rattle.judge_view.proofs.WatchSteps.{any_default}
 use Rattle.fairview_lag.specs.Columns.{cell, with_lag, column_after, AreAfter, AreColumns}
 use Rattle.fairview_lag.specs.Lags.{lag_told}
 use Rattle.fairview_lag.specs.declared.columns.Column.{Column}

@@ -3,16 +3,16 @@ use Rattle.std.proofs.Common.{◌≡◌, ℕ, ◌≤◌, Bool, true, false, List
 use Rattle.std.specs.Prelude.{◌&&◌, nat_lt, Option, Some, None, All}
 use Rattle.std.proofs.lemmas.List.Elements.{All-nil, All-push, All-weaker, Contains-push, Contains-append_left}
 use Rattle.std.proofs.lemmas.Bool.{ltb-true, ltb-false}
-use Rattle.rt_ids.specs.declared.note.Note.{Note}
-use Rattle.rt_ids.specs.declared.note.Note.TheVariants.{Yield, Park, Stayed, Done, Turned}
-use Rattle.rt_ids.specs.Bursts.{has_bursts}
-use Rattle.rt_ids.specs.Journal.{Journal, EachNote, with_last}
-use Rattle.rt_ids.specs.Lag.{KeepsWork, greatest_charge}
-use Rattle.rt_ids.specs.Lawful.{MayStand}
-use Rattle.rt_ids.specs.Terms.{Terms}
-use Rattle.rt_ids.specs.Work.{has_work}
-use Rattle.rt_ids.proofs.Lag.{lag_is_bounded}
-use Rattle.fairview_bars.specs.Leads.{are_together}
+use Rattle.base_words.specs.declared.note.Note.{Note}
+use Rattle.base_words.specs.declared.note.Note.TheVariants.{Yield, Park, Stayed, Done, Turned}
+use Rattle.base_words.specs.Bursts.{has_bursts}
+use Rattle.base_words.specs.Journal.{Journal, EachNote, with_last}
+use Rattle.base_words.specs.Lag.{KeepsWork, greatest_charge}
+use Rattle.base_words.specs.Lawful.{MayStand}
+use Rattle.base_words.specs.Terms.{Terms}
+use Rattle.base_words.specs.Work.{has_work}
+use Rattle.base_words.proofs.Lag.{lag_is_bounded}
+use Rattle.fairview_marks.specs.Leads.{are_together}
 use Rattle.fairview_lag.specs.Lags.{apart, lag, lag_of, lag_polled, lag_turned, lags, lag_told, further, greatest_lag, IsGreatest}
 use Rattle.fairview_lag.specs.Laws.{IsWithinBound, IsStretch, BeginsHere}
 use Rattle.fairview_lag.specs.Stretches.{later_notes, earlier_notes}

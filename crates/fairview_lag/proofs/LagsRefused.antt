@@ -2,7 +2,7 @@
 use Rattle.std.proofs.Common.{◌≡◌, ◌≤◌, true, false, List, [], ◌∷◌, get_or, map, sym, ap, ◌∙◌, arith}
 use Rattle.std.proofs.lemmas.List.Elements.{All-contains, Contains-push}
 use Rattle.fairview_lag.specs.BadLags.{BadLagsAreRefused, both_work, far, near}
-use Rattle.fairview_text.specs.Lists.{lists_below}
+use Rattle.fairview_marks.specs.Lists.{lists_below}
 use Rattle.fairview_lag.specs.Lags.{apart}
 use Rattle.fairview_lag.specs.PairWalks.{idle, names_below, pair_known, pairs_known}
 use Rattle.fairview_lag.specs.declared.pair_walk.PairWalk.{PairWalk}

@@ -5,16 +5,16 @@ use Rattle.std.proofs.lemmas.Bool.{le-ltb, ne_eqb}
 use Rattle.std.proofs.lemmas.Grind.{flat_map-append}
 use Rattle.std.proofs.lemmas.List.{ext_get_or, get_or-map, length-map, map-append}
 use Rattle.std.proofs.lemmas.List.Folds.{flat_map-map}
-use Rattle.rt_ids.specs.declared.note.Note.{Note}
-use Rattle.rt_ids.specs.declared.note.Note.TheVariants.{Took, Yield, Park, Stayed, Done, Turned}
-use Rattle.rt_ids.specs.Bursts.{has_bursts}
-use Rattle.rt_ids.specs.Journal.{Journal}
-use Rattle.rt_ids.specs.Names.{is_number}
-use Rattle.rt_ids.specs.Parks.{parked}
-use Rattle.rt_ids.specs.Work.{entered_count, has_work, left_count, number_if, queue_joined}
-use Rattle.rt_view.proofs.Tables.{AreChanged}
-use Rattle.fairview_bars.specs.Leads.{are_together}
-use Rattle.fairview_text.specs.Lists.{lists_below, one_of}
+use Rattle.base_words.specs.declared.note.Note.{Note}
+use Rattle.base_words.specs.declared.note.Note.TheVariants.{Took, Yield, Park, Stayed, Done, Turned}
+use Rattle.base_words.specs.Bursts.{has_bursts}
+use Rattle.base_words.specs.Journal.{Journal}
+use Rattle.base_words.specs.Names.{is_number}
+use Rattle.base_words.specs.Parks.{parked}
+use Rattle.base_words.specs.Work.{entered_count, has_work, left_count, number_if, queue_joined}
+use Rattle.judge_view.proofs.Tables.{AreChanged}
+use Rattle.fairview_marks.specs.Leads.{are_together}
+use Rattle.fairview_marks.specs.Lists.{lists_below, one_of}
 use Rattle.fairview_lag.specs.Lags.{further, greatest_lag, lag, lag_of, lag_polled, lag_told, lag_turned}
 use Rattle.fairview_lag.specs.Pairs.{core_pairs, pair_told, pairs_with, queue_count, queues_told}
 use Rattle.fairview_lag.specs.PairWalks.{idle, idle_with, lags_of, names_below, names_with, pair_known, pairs_known}

@@ -2,8 +2,8 @@
 use Rattle.std.proofs.Common.{◌≡◌, ℕ, ◌<◌, ◌≤◌, Bool, true, false, [], refl, ◌∙◌, cond}
 use Rattle.std.specs.Prelude.{nat_lt}
 use Rattle.std.proofs.lemmas.Bool.{lt-ltb, le-ltb}
-use Rattle.rt_ids.specs.Assembly.{Assembly, journal_of}
-use Rattle.rt_ids.specs.Journal.{Journal}
+use Rattle.base_words.specs.Assembly.{Assembly, journal_of}
+use Rattle.base_words.specs.Journal.{Journal}
 use Rattle.fairview_lag.specs.Panels.{panel_text}
 use Rattle.fairview_lag.specs.Pictures.{panel_if}
 use Rattle.fairview_lag.specs.declared.pairs.PairLag.{PairLag}

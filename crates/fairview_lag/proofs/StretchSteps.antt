@@ -2,11 +2,11 @@
 use Rattle.std.proofs.Common.{◌≡◌, ℕ, ◌+◌, ◌-◌, Bool, true, false, [], ◌∷◌, ◌++◌, refl, ap, cond, arith}
 use Rattle.std.specs.Prelude.{Option, Some, None}
 use Rattle.std.proofs.lemmas.Option.{same_Some}
-use Rattle.rt_ids.specs.declared.note.Note.{Note}
-use Rattle.rt_ids.specs.Journal.{Journal}
-use Rattle.rt_ids.specs.Lag.{gained}
-use Rattle.rt_stats.specs.Sums.{charges}
-use Rattle.fairview_bars.specs.Leads.{are_together}
+use Rattle.base_words.specs.declared.note.Note.{Note}
+use Rattle.base_words.specs.Journal.{Journal}
+use Rattle.base_words.specs.Lag.{gained}
+use Rattle.note_stats.specs.Sums.{charges}
+use Rattle.fairview_marks.specs.Leads.{are_together}
 use Rattle.fairview_lag.specs.Stretches.{later_notes, earlier_notes, gained_together, charged_of, begun_of, begun}
 use Rattle.fairview_lag.specs.declared.stretch.Begun.{Begun}
 

@@ -1,8 +1,8 @@
 -- Small cases that the definitions of lags refuse.
 use Rattle.std.specs.Prelude.{◌≡◌, ℕ, Some, None, [], ◌∷◌, map}
-use Rattle.rt_ids.specs.declared.note.Note.TheVariants.{Took, Pick}
-use Rattle.rt_ids.specs.BadJournals.{submission}
-use Rattle.rt_ids.specs.Journal.{Journal}
+use Rattle.base_words.specs.declared.note.Note.TheVariants.{Took, Pick}
+use Rattle.base_words.specs.BadJournals.{submission}
+use Rattle.base_words.specs.Journal.{Journal}
 use Rattle.fairview_lag.specs.Lags.{IsGreatest}
 use Rattle.fairview_lag.specs.Laws.{IsWithinBound, IsStretch, BeginsHere}
 use Rattle.fairview_lag.specs.PairWalks.{KnowsLags, idle as never_together, names_below}

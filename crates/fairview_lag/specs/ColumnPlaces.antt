@@ -1,8 +1,8 @@
 -- The places of a column's parts.
 use Rattle.std.specs.Prelude.{ℕ, ◌+◌, ◌-◌, ◌*◌, ◌/◌, min, max, Some}
-use Rattle.fairview_svg.specs.Frames.{fitting}
-use Rattle.fairview_svg.specs.Marks.{fitting_line}
-use Rattle.fairview_svg.specs.declared.shapes.BoxText.{BoxText}
+use Rattle.fairview_pictures.specs.Frames.{fitting}
+use Rattle.fairview_pictures.specs.Marks.{fitting_line}
+use Rattle.fairview_pictures.specs.declared.shapes.BoxText.{BoxText}
 use Rattle.fairview_lag.specs.Columns.{edge, cell}
 use Rattle.fairview_lag.specs.declared.column_texts.Strip.{Strip}
 use Rattle.fairview_lag.specs.declared.columns.Column.{Column}

@@ -1,10 +1,10 @@
 -- A column of a panel as text.
 use Rattle.std.specs.Prelude.{ℕ, Option, Some, None, List, [], ◌++◌, codes, decimal}
-use Rattle.rt_ids.specs.Journal.{Journal}
-use Rattle.fairview_svg.specs.Shapes.{box_text}
+use Rattle.base_words.specs.Journal.{Journal}
+use Rattle.fairview_pictures.specs.Shapes.{box_text}
 use Rattle.fairview_lag.specs.ColumnPlaces.{ahead_box, behind_box, strip_at, above_strip, below_strip}
 use Rattle.fairview_lag.specs.Columns.{column}
-use Rattle.fairview_text.specs.Lists.{lists_below}
+use Rattle.fairview_marks.specs.Lists.{lists_below}
 use Rattle.fairview_lag.specs.declared.column_texts.Strip.{Strip}
 use Rattle.fairview_lag.specs.declared.columns.Column.{Column}
 use Rattle.fairview_lag.specs.declared.columns.Panel.{Panel}

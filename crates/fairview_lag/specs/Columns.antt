@@ -1,6 +1,6 @@
 -- The columns of a panel: the greatest leads of two queues in some turns of their core.
 use Rattle.std.specs.Prelude.{◌≡◌, ℕ, ◌-◌, ◌*◌, ◌/◌, ◌==◌, min, max, if◌then◌else◌, Option, Some, None, List, [], ◌∷◌, get_or}
-use Rattle.rt_ids.specs.Journal.{Journal}
+use Rattle.base_words.specs.Journal.{Journal}
 use Rattle.fairview_lag.specs.Lags.{ahead, behind, lag_told}
 use Rattle.fairview_lag.specs.declared.columns.Column.{Column}
 use Rattle.fairview_lag.specs.declared.columns.Panel.{Panel}

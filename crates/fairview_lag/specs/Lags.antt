@@ -1,12 +1,12 @@
 -- The lags of two queues: what each gained since both have work, behind each turn.
 use Rattle.std.specs.Prelude.{◌≡◌, ℕ, ◌+◌, ◌-◌, ◌≤◌, nat_lt, if◌then◌else◌, Option, Some, None, List, [], ◌∷◌, All, Contains}
-use Rattle.rt_ids.specs.declared.note.Note.{Note}
-use Rattle.rt_ids.specs.declared.note.Note.TheVariants.{Yield, Park, Stayed, Done, Turned}
-use Rattle.rt_ids.specs.Bursts.{has_bursts}
-use Rattle.rt_ids.specs.Journal.{Journal, with_last}
-use Rattle.rt_ids.specs.Lag.{greatest_charge}
-use Rattle.rt_ids.specs.Picks.{turns}
-use Rattle.fairview_bars.specs.Leads.{are_together}
+use Rattle.base_words.specs.declared.note.Note.{Note}
+use Rattle.base_words.specs.declared.note.Note.TheVariants.{Yield, Park, Stayed, Done, Turned}
+use Rattle.base_words.specs.Bursts.{has_bursts}
+use Rattle.base_words.specs.Journal.{Journal, with_last}
+use Rattle.base_words.specs.Lag.{greatest_charge}
+use Rattle.base_words.specs.Picks.{turns}
+use Rattle.fairview_marks.specs.Leads.{are_together}
 use Rattle.fairview_lag.specs.Stretches.{gained_together}
 use Rattle.fairview_lag.specs.declared.stretch.Lag.{Lag}
 

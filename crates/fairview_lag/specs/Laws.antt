@@ -1,10 +1,10 @@
 -- Laws of lags.
 use Rattle.std.specs.Prelude.{◌≡◌, ℕ, ◌+◌, ◌≤◌, true, false, All, ◌++◌, [], ◌∷◌}
-use Rattle.rt_ids.specs.Journal.{Journal, EachNote}
-use Rattle.rt_ids.specs.Lag.{KeepsWork}
-use Rattle.rt_ids.specs.Lawful.{MayStand}
-use Rattle.rt_ids.specs.Terms.{Terms}
-use Rattle.fairview_bars.specs.Leads.{are_together}
+use Rattle.base_words.specs.Journal.{Journal, EachNote}
+use Rattle.base_words.specs.Lag.{KeepsWork}
+use Rattle.base_words.specs.Lawful.{MayStand}
+use Rattle.base_words.specs.Terms.{Terms}
+use Rattle.fairview_marks.specs.Leads.{are_together}
 use Rattle.fairview_lag.specs.Lags.{lags, greatest_lag, IsGreatest}
 use Rattle.fairview_lag.specs.Stretches.{later_notes, earlier_notes}
 use Rattle.fairview_lag.specs.declared.stretch.Lag.{Lag}

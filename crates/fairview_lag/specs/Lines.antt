@@ -1,6 +1,6 @@
 -- The greatest lags of a run as lines of text.
 use Rattle.std.specs.Prelude.{ℕ, ◌++◌, nat_lt, if◌then◌else◌, List, codes, decimal, flat_map}
-use Rattle.rt_ids.specs.Assembly.{Assembly}
+use Rattle.base_words.specs.Assembly.{Assembly}
 use Rattle.fairview_lag.specs.Lags.{apart}
 use Rattle.fairview_lag.specs.Pairs.{run_pairs}
 use Rattle.fairview_lag.specs.declared.pairs.PairLag.{PairLag}

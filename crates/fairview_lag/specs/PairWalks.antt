@@ -1,8 +1,8 @@
 -- What a walk over the journal of a core knows of each two of its queues.
 use Rattle.std.specs.Prelude.{◌≡◌, ℕ, None, Option, List, [], ◌∷◌, map}
-use Rattle.rt_ids.specs.Journal.{Journal}
-use Rattle.fairview_bars.specs.Leads.{KnowsStanding}
-use Rattle.fairview_text.specs.Lists.{lists_below, one_of}
+use Rattle.base_words.specs.Journal.{Journal}
+use Rattle.fairview_marks.specs.Leads.{KnowsStanding}
+use Rattle.fairview_marks.specs.Lists.{lists_below, one_of}
 use Rattle.fairview_lag.specs.Lags.{greatest_lag}
 use Rattle.fairview_lag.specs.Pairs.{pair_of, queue_count}
 use Rattle.fairview_lag.specs.Stretches.{begun}

@@ -1,10 +1,10 @@
 -- The greatest lags of all pairs of queues of a run.
 use Rattle.std.specs.Prelude.{ℕ, ◌+◌, max, Option, Some, None, List, [], ◌∷◌}
-use Rattle.rt_ids.specs.declared.note.Note.{Note}
-use Rattle.rt_ids.specs.declared.note.Note.TheVariants.{Took}
-use Rattle.rt_ids.specs.Assembly.{Assembly, journal_of}
-use Rattle.rt_ids.specs.Journal.{Journal}
-use Rattle.fairview_text.specs.Lists.{lists_below, one_of}
+use Rattle.base_words.specs.declared.note.Note.{Note}
+use Rattle.base_words.specs.declared.note.Note.TheVariants.{Took}
+use Rattle.base_words.specs.Assembly.{Assembly, journal_of}
+use Rattle.base_words.specs.Journal.{Journal}
+use Rattle.fairview_marks.specs.Lists.{lists_below, one_of}
 use Rattle.fairview_lag.specs.Lags.{greatest_lag}
 use Rattle.fairview_lag.specs.declared.stretch.Lag.{Lag}
 use Rattle.fairview_lag.specs.declared.pairs.PairLag.{PairLag}

@@ -1,8 +1,8 @@
 -- A panel of two queues: its ground, what is told of the pair, and its columns.
 use Rattle.std.specs.Prelude.{ℕ, ◌+◌, ◌*◌, List, ◌++◌, codes, decimal}
-use Rattle.rt_ids.specs.Journal.{Journal}
-use Rattle.rt_ids.specs.Picks.{turns}
-use Rattle.fairview_svg.specs.Marks.{fitting_line}
+use Rattle.base_words.specs.Journal.{Journal}
+use Rattle.base_words.specs.Picks.{turns}
+use Rattle.fairview_pictures.specs.Marks.{fitting_line}
 use Rattle.fairview_lag.specs.ColumnTexts.{columns_text}
 use Rattle.fairview_lag.specs.Lags.{bound}
 use Rattle.fairview_lag.specs.Lines.{pair_text}

@@ -1,9 +1,9 @@
 -- The picture of the leads of a run: a panel for each pair of queues.
 use Rattle.std.specs.Prelude.{ℕ, zero, suc, ◌+◌, ◌-◌, ◌*◌, min, nat_lt, if◌then◌else◌, Option, Some, None, List, [], ◌++◌, length, slice_get, codes, decimal}
-use Rattle.rt_ids.specs.Assembly.{Assembly, journal_of}
-use Rattle.fairview_svg.specs.Heads.{end_text}
-use Rattle.fairview_svg.specs.Styles.{style}
-use Rattle.fairview_text.specs.Lists.{lists_below}
+use Rattle.base_words.specs.Assembly.{Assembly, journal_of}
+use Rattle.fairview_pictures.specs.Heads.{end_text}
+use Rattle.fairview_pictures.specs.Styles.{style}
+use Rattle.fairview_marks.specs.Lists.{lists_below}
 use Rattle.fairview_lag.specs.Pairs.{run_pairs}
 use Rattle.fairview_lag.specs.Panels.{panel_text}
 use Rattle.fairview_lag.specs.declared.pairs.PairLag.{PairLag}

@@ -1,9 +1,9 @@
 -- A stretch of two queues: the notes of a core over which both have work without a break.
 use Rattle.std.specs.Prelude.{◌≡◌, ℕ, [], ◌∷◌, if◌then◌else◌, Option, Some, None}
-use Rattle.rt_ids.specs.Journal.{Journal}
-use Rattle.rt_ids.specs.Lag.{gained}
-use Rattle.rt_stats.specs.Sums.{charges}
-use Rattle.fairview_bars.specs.Leads.{are_together, KnowsStanding}
+use Rattle.base_words.specs.Journal.{Journal}
+use Rattle.base_words.specs.Lag.{gained}
+use Rattle.note_stats.specs.Sums.{charges}
+use Rattle.fairview_marks.specs.Leads.{are_together, KnowsStanding}
 use Rattle.fairview_lag.specs.declared.stretch.Begun.{Begun}
 use Rattle.fairview_lag.specs.declared.stretch.Stretch.{Stretch}
 

@@ -1,12 +1,12 @@
 //! A column of a panel as text.
 
 ghost use Rattle.std.specs.Prelude.{◌≡◌, Some};
-ghost use Rattle.fairview_svg.specs.Shapes.{box_text};
+ghost use Rattle.fairview_pictures.specs.Shapes.{box_text};
 ghost use Rattle.fairview_lag.specs.ColumnPlaces as places;
 ghost use Rattle.fairview_lag.specs.ColumnTexts as spec;
 
 use crate::columns::{Column, Panel};
-use fairview_svg::shapes::BoxText;
+use fairview_pictures::shapes::BoxText;
 use std::fmt;
 
 /// A part of a column, from a line on.

@@ -4,9 +4,9 @@ ghost use Rattle.std.specs.Prelude.{◌≡◌, ◌<◌, ℕ, IfOk, None, length,
 ghost use Rattle.fairview_lag.specs.Columns as spec;
 
 use crate::stretch::{Lag, Stretch};
-use rt_ids::QueueNo;
-use rt_journal_facts::note_at;
-use rt_journal_notes::Journal;
+use base_words::QueueNo;
+use note_facts::note_at;
+use note_journal::Journal;
 use std::alloc::{AllocError, Global};
 
 /// The place of a panel in the picture, how many polls a turn may have, its two queues, how many turns their core has, and the bound at its last.

@@ -1,19 +1,19 @@
 //! The greatest lags of all pairs of queues, by a walk over the journal of each core.
 
 ghost use Rattle.std.specs.Prelude.{◌≡◌, ◌≤◌, ◌<◌, ◌∷◌, ◌++◌, [], ℕ, length, max, flat_map, OnOk, IfOk};
-ghost use Rattle.rt_ids.specs.Journal.{Journal as Notes};
-ghost use Rattle.rt_journal_facts.specs.Accounts.{greatest_count};
-ghost use Rattle.fairview_bars.specs.Leads.{KnowsStanding};
-ghost use Rattle.fairview_text.specs.Lists.{one_of};
+ghost use Rattle.base_words.specs.Journal.{Journal as Notes};
+ghost use Rattle.note_facts.specs.Accounts.{greatest_count};
+ghost use Rattle.fairview_marks.specs.Leads.{KnowsStanding};
+ghost use Rattle.fairview_marks.specs.Lists.{one_of};
 ghost use Rattle.fairview_lag.specs.Pairs.{core_pairs, queue_count, run_pairs};
 ghost use Rattle.fairview_lag.specs.PairWalks as spec;
 
 use crate::pair_walk::PairWalk;
 use crate::pairs::{PairLag, queues_told};
-use fairview_bars::standing::Standing;
-use rt_ids::{ActorNo, CoreNo, Note, QueueNo};
-use rt_journal_facts::note_at;
-use rt_journal_notes::{Assembly, Journal};
+use base_words::{ActorNo, CoreNo, Note, QueueNo};
+use fairview_marks::standing::Standing;
+use note_facts::note_at;
+use note_journal::{Assembly, Journal};
 use std::alloc::{AllocError, Global};
 
 /// Of the notes that were read: what is known of all queues of a core, and of each two of them up to the last one that a job entered.

@@ -5,7 +5,7 @@ ghost use Rattle.fairview_lag.specs.Lines as spec;
 
 use crate::pairs::PairLag;
 use crate::stretch::Lag;
-use rt_ids::QueueNo;
+use base_words::QueueNo;
 use std::fmt;
 
 /// Which of two queues is ahead of which.

@@ -1,15 +1,15 @@
 //! What a walk over the journal of a core knows of two of its queues.
 
 ghost use Rattle.std.specs.Prelude.{◌≡◌, ◌∷◌, ℕ};
-ghost use Rattle.rt_ids.specs.Journal.{Journal as Notes};
-ghost use Rattle.fairview_bars.specs.Leads.{KnowsStanding};
+ghost use Rattle.base_words.specs.Journal.{Journal as Notes};
+ghost use Rattle.fairview_marks.specs.Leads.{KnowsStanding};
 ghost use Rattle.fairview_lag.specs.Lags as lags;
 ghost use Rattle.fairview_lag.specs.PairWalks as spec;
 
 use crate::pairs::{PairLag, pair_of};
 use crate::stretch::{Begun, Lag, begun_after, lag_told};
-use fairview_bars::standing::Standing;
-use rt_ids::{CoreNo, Note, QueueNo};
+use base_words::{CoreNo, Note, QueueNo};
+use fairview_marks::standing::Standing;
 
 /// Of the notes that were read: the beginning of the stretch of two queues, if both have work, and the first lag in which they were the furthest apart.
 /// The first queue has the lower number.

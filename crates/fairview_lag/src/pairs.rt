@@ -4,7 +4,7 @@ ghost use Rattle.std.specs.Prelude.{◌≡◌, ◌≤◌};
 ghost use Rattle.fairview_lag.specs.Pairs as spec;
 
 use crate::stretch::Lag;
-use rt_ids::{CoreNo, Note, QueueNo};
+use base_words::{CoreNo, Note, QueueNo};
 
 /// The greatest lag of two queues of a core. The first has the lower number.
 #[derive(Clone, Copy)]

@@ -1,7 +1,7 @@
 //! A panel of two queues.
 
 ghost use Rattle.std.specs.Prelude.{◌≡◌, ◌++◌, OnOk, IfOk, Option, Some, length, string_bytes};
-ghost use Rattle.fairview_bars.specs.Leads.{KnowsStanding};
+ghost use Rattle.fairview_marks.specs.Leads.{KnowsStanding};
 ghost use Rattle.fairview_lag.specs.ColumnTexts as columns;
 ghost use Rattle.fairview_lag.specs.Columns.{AreColumns};
 ghost use Rattle.fairview_lag.specs.Panels as spec;
@@ -10,9 +10,9 @@ use crate::column_texts::ColumnText;
 use crate::columns::{Column, Panel, columns_of};
 use crate::line::PairText;
 use crate::pairs::PairLag;
-use fairview_bars::standing::Standing;
-use rt_journal_facts::note_at;
-use rt_journal_notes::Journal;
+use fairview_marks::standing::Standing;
+use note_facts::note_at;
+use note_journal::Journal;
 use std::alloc::{AllocError, Global};
 use std::fmt;
 

@@ -1,15 +1,15 @@
 //! Puts the picture of the leads of a run.
 
 ghost use Rattle.std.specs.Prelude.{◌≡◌, ◌≤◌, ◌++◌, OnOk, Option, Some, slice_get, string_bytes};
-ghost use Rattle.fairview_svg.specs.Heads.{end_text};
+ghost use Rattle.fairview_pictures.specs.Heads.{end_text};
 ghost use Rattle.fairview_lag.specs.Pictures as spec;
 
 use crate::core_lags::lags_of_run;
 use crate::pairs::PairLag;
 use crate::panel::put_panel;
-use fairview_svg::style::style;
-use rt_ids::ActorNo;
-use rt_journal_notes::Assembly;
+use base_words::ActorNo;
+use fairview_pictures::style::style;
+use note_journal::Assembly;
 use std::alloc::{AllocError, Global};
 use std::fmt;
 

@@ -1,15 +1,15 @@
 //! What a walk knows of two queues.
 
 ghost use Rattle.std.specs.Prelude.{◌≡◌, ◌<◌, ◌∷◌, ℕ, [], length, OnOk};
-ghost use Rattle.rt_ids.specs.Journal.{Journal as Notes};
-ghost use Rattle.rt_journal_facts.specs.Accounts.{greatest_count};
-ghost use Rattle.rt_ids.specs.declared.note.Note.{Note as NoteSeen};
-ghost use Rattle.fairview_bars.specs.Leads.{KnowsStanding};
+ghost use Rattle.base_words.specs.Journal.{Journal as Notes};
+ghost use Rattle.note_facts.specs.Accounts.{greatest_count};
+ghost use Rattle.base_words.specs.declared.note.Note.{Note as NoteSeen};
+ghost use Rattle.fairview_marks.specs.Leads.{KnowsStanding};
 ghost use Rattle.fairview_lag.specs.Lags as lags;
 ghost use Rattle.fairview_lag.specs.Stretches as spec;
 
-use fairview_bars::standing::Standing;
-use rt_ids::{Note, QueueNo};
+use base_words::{Note, QueueNo};
+use fairview_marks::standing::Standing;
 use std::alloc::{AllocError, Global};
 
 /// What two queues gained, in virtual runtime, since both have work without a break.

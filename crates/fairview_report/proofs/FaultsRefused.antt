@@ -1,14 +1,14 @@
 -- Faults that are not those of what was read are refused.
 use Rattle.std.proofs.Common.{◌≡◌, ℕ, [], refl, sym, ap, ◌∙◌, arith}
 use Rattle.std.specs.Prelude.{Option, None, Some, Ok, Err, Result}
-use Rattle.rt_journal_lines.specs.Fields.{number_in}
-use Rattle.rt_journal_read.specs.declared.draft.Part.TheVariants.{After}
-use Rattle.rt_journal_read.specs.declared.fault.JournalCause.{JournalCause}
-use Rattle.rt_journal_read.specs.declared.fault.JournalCause.TheVariants.{Header, Cores}
-use Rattle.rt_journal_read.specs.Drafts.{Drafted, form_of, burst_of, size_of}
-use Rattle.rt_journal_read.specs.JournalTexts.{Fault, journals_of}
-use Rattle.rt_journal_read.proofs.FaultyForms.{all_faulty}
-use Rattle.rt_sink.proofs.BadLemmas.{stale_refused}
+use Rattle.text_journal.specs.Fields.{number_in}
+use Rattle.text_journal.specs.declared.draft.Part.TheVariants.{After}
+use Rattle.text_journal.specs.declared.fault.JournalCause.{JournalCause}
+use Rattle.text_journal.specs.declared.fault.JournalCause.TheVariants.{Header, Cores}
+use Rattle.text_journal.specs.Drafts.{Drafted, form_of, burst_of, size_of}
+use Rattle.text_journal.specs.JournalTexts.{Fault, journals_of}
+use Rattle.text_journal.proofs.FaultyForms.{all_faulty}
+use Rattle.text_bytes.proofs.BadLemmas.{stale_refused}
 use Rattle.fairview_report.specs.BadFaults.{BadFaultsAreRefused, faultless, third_form}
 
 abbrev whole : Drafted

@@ -1,10 +1,10 @@
 -- A page that shows what is asked for.
 use Rattle.std.proofs.Common.{◌≡◌, ℕ, List, Option, None, Some}
 use Rattle.std.specs.Option.{IfSome}
-use Rattle.rt_ids.specs.Assembly.{Assembly}
-use Rattle.rt_ids.specs.Spelled.{IsSpelled}
-use Rattle.rt_journal_read.specs.Handed.{Handed, IsLast, assembly_handed}
-use Rattle.rt_journal_write.specs.Texts.{journal_text}
+use Rattle.base_words.specs.Assembly.{Assembly}
+use Rattle.base_words.specs.Spelled.{IsSpelled}
+use Rattle.text_journal.specs.Handed.{Handed, IsLast, assembly_handed}
+use Rattle.text_journal.specs.Texts.{journal_text}
 use Rattle.fairview_report.specs.Views.{IsShown, ShowsText, absent_core}
 use Rattle.fairview_report.specs.declared.view.View.{View}
 

@@ -6,13 +6,13 @@ use Rattle.std.proofs.lemmas.Grind.{flat_map-append}
 use Rattle.std.proofs.lemmas.List.{get_or_append_left}
 use Rattle.std.proofs.lemmas.Option.{unwrap_or-slice_get}
 use Rattle.std.proofs.Math.Seq.{get_or-append_seam}
-use Rattle.rt_ids.specs.declared.note.Note.{Note}
-use Rattle.rt_ids.specs.Assembly.{Assembly, journal_of}
-use Rattle.rt_ids.specs.Journal.{Journal, with_last}
-use Rattle.rt_view.specs.Polls.{poll_noted, polls}
-use Rattle.rt_view.specs.declared.polls.Poll.{Poll}
-use Rattle.fairview_text.specs.Lists.{lists_below}
-use Rattle.fairview_text.proofs.Lists.{after_one}
+use Rattle.base_words.specs.declared.note.Note.{Note}
+use Rattle.base_words.specs.Assembly.{Assembly, journal_of}
+use Rattle.base_words.specs.Journal.{Journal, with_last}
+use Rattle.judge_view.specs.Polls.{poll_noted, polls}
+use Rattle.judge_view.specs.declared.polls.Poll.{Poll}
+use Rattle.fairview_marks.specs.Lists.{lists_below}
+use Rattle.fairview_marks.proofs.Lists.{after_one}
 use Rattle.fairview_report.specs.PollTexts.{core_text, cores_text, poll_row, row_told, rows_now, rows_of}
 
 -- the same lists below a number, one behind another

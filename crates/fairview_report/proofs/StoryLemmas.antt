@@ -1,12 +1,12 @@
 -- The lines of a story, one note after another.
 use Rattle.std.proofs.Common.{◌≡◌, ℕ, List, [], ◌∷◌, ◌++◌, refl, sym, ap, ◌∙◌, append_assoc, append-nil}
 use Rattle.std.specs.Prelude.{Option, Some, None, codes}
-use Rattle.rt_ids.specs.declared.names.JobId.{JobId}
-use Rattle.rt_ids.specs.declared.note.Note.{Note}
-use Rattle.rt_ids.specs.Journal.{Journal, with_last}
-use Rattle.rt_view.specs.Stories.{chapter_told, chapters}
-use Rattle.rt_view.specs.declared.stories.Chapter.{Chapter}
-use Rattle.rt_view.specs.declared.stories.Part.{Part}
+use Rattle.base_words.specs.declared.names.JobId.{JobId}
+use Rattle.base_words.specs.declared.note.Note.{Note}
+use Rattle.base_words.specs.Journal.{Journal, with_last}
+use Rattle.judge_view.specs.Stories.{chapter_told, chapters}
+use Rattle.judge_view.specs.declared.stories.Chapter.{Chapter}
+use Rattle.judge_view.specs.declared.stories.Part.{Part}
 use Rattle.fairview_report.specs.StoryTexts.{chapter_if, chapter_line, chapters_text}
 
 -- the lines of some chapters and of one more

@@ -1,7 +1,7 @@
 -- What is written of a page.
 use Rattle.std.proofs.Common.{ℕ, List, [], ◌++◌, Option, append-nil, Result, Ok, Err, OnOk}
 use Rattle.std.specs.Io.KnownBytes.{Appends}
-use Rattle.rt_journal_write.specs.Pages.{AppendsFront}
+use Rattle.text_journal.specs.Pages.{AppendsFront}
 
 pub OnOk-any : {T E P : Type 0} (result : Result T E) → P → OnOk result P
 OnOk-any (Ok value) p = p

@@ -1,14 +1,14 @@
 -- The text of waits and runs, part after part.
 use Rattle.std.proofs.Common.{◌≡◌, ℕ, List, [], ◌++◌, Bool, refl, sym, ap, ◌∙◌, subst, append_assoc, append-nil}
 use Rattle.std.specs.Prelude.{Some, None, codes}
-use Rattle.rt_ids.specs.Journal.{Journal}
-use Rattle.rt_view.specs.Histograms.{count_within}
-use Rattle.rt_view.specs.Summaries.{IsSummary}
-use Rattle.rt_view.specs.Waits.{waits, runs}
-use Rattle.rt_view.specs.declared.spans.Span.{Span}
-use Rattle.rt_view.specs.declared.summaries.Measure.{Measure}
-use Rattle.rt_view.specs.declared.summaries.Measure.TheVariants.{Turns, Time}
-use Rattle.rt_view.specs.declared.summaries.Summary.{Summary}
+use Rattle.base_words.specs.Journal.{Journal}
+use Rattle.judge_view.specs.Histograms.{count_within}
+use Rattle.judge_view.specs.Summaries.{IsSummary}
+use Rattle.judge_view.specs.Waits.{waits, runs}
+use Rattle.judge_view.specs.declared.spans.Span.{Span}
+use Rattle.judge_view.specs.declared.summaries.Measure.{Measure}
+use Rattle.judge_view.specs.declared.summaries.Measure.TheVariants.{Turns, Time}
+use Rattle.judge_view.specs.declared.summaries.Summary.{Summary}
 use Rattle.fairview_report.specs.Texts.{Puts}
 use Rattle.fairview_report.specs.WaitTexts.{IsCoreText, IsKindText, IsSpansText, digits_text, greatest_with, histogram_text, least_with, range_text, summary_line}
 use Rattle.fairview_report.specs.declared.wait.Kind.{Kind}

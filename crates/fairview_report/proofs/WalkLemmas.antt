@@ -1,8 +1,8 @@
 -- What is told of journals, one after another.
 use Rattle.std.proofs.Common.{◌≡◌, ℕ, zero, suc, ◌<◌, List, [], ◌∷◌, ◌++◌, length, get_or, refl, sym, ap, subst, arith}
 use Rattle.std.proofs.lemmas.Option.{unwrap_or-slice_get}
-use Rattle.rt_ids.specs.Assembly.{Assembly, journal_of}
-use Rattle.rt_ids.specs.Journal.{Journal}
+use Rattle.base_words.specs.Assembly.{Assembly, journal_of}
+use Rattle.base_words.specs.Journal.{Journal}
 use Rattle.fairview_report.specs.Walks.{AreTold, TellsAll}
 
 module _ {W : Type 0} (tells : W → ℕ → Journal ℕ → Type 0) (burst : ℕ) where

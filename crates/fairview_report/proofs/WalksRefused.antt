@@ -1,9 +1,9 @@
 -- What is told of other journals than those that were handed over is refused.
 use Rattle.std.proofs.Common.{◌≡◌, ℕ, [], ◌∷◌, ◌++◌, List, refl, sym, ap, ◌∙◌, get_or, length, length-append, append-nil, arith}
 use Rattle.std.specs.Prelude.{codes}
-use Rattle.rt_view.specs.Rows.{first_poll, poll_row as poll_of}
-use Rattle.rt_view.specs.declared.ends.End.TheVariants as ends
-use Rattle.fairview_text.specs.Lists.{lists_below}
+use Rattle.judge_view.specs.Rows.{first_poll, poll_row as poll_of}
+use Rattle.judge_view.specs.declared.ends.End.TheVariants as ends
+use Rattle.fairview_marks.specs.Lists.{lists_below}
 use Rattle.fairview_report.specs.BadWalks.{BadWalksAreRefused}
 use Rattle.fairview_report.specs.PollTexts.{head_text, poll_row, rows_now, rows_of}
 

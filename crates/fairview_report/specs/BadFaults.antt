@@ -1,7 +1,7 @@
 -- Small cases in which a fault is not that of what was read.
 use Rattle.std.specs.Prelude.{ℕ, List, codes, Some}
-use Rattle.rt_journal_read.specs.declared.fault.JournalCause.TheVariants.{Header, Cores}
-use Rattle.rt_sink.specs.BadFaults.{IsNever, IsNext}
+use Rattle.text_journal.specs.declared.fault.JournalCause.TheVariants.{Header, Cores}
+use Rattle.text_bytes.specs.BadFaults.{IsNever, IsNext}
 use Rattle.fairview_report.specs.Views.{IsFaultOf}
 use Rattle.fairview_report.specs.declared.fault.ViewFault.{ViewFault}
 use Rattle.fairview_report.specs.declared.fault.ViewFault.TheVariants as fault

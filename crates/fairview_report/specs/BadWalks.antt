@@ -1,10 +1,10 @@
 -- Small cases in which what was told is not of the journals that were handed over.
 use Rattle.std.specs.Prelude.{◌≡◌, ℕ, ◌+◌, List, [], ◌∷◌, length, string_bytes}
-use Rattle.rt_ids.specs.declared.note.Note.TheVariants.{Pick}
-use Rattle.rt_ids.specs.Assembly.{Assembly}
-use Rattle.rt_ids.specs.Journal.{Journal}
-use Rattle.rt_journal_read.specs.Handed.{Handed, nothing_handed}
-use Rattle.rt_view.specs.Rows.{first_poll}
+use Rattle.base_words.specs.declared.note.Note.TheVariants.{Pick}
+use Rattle.base_words.specs.Assembly.{Assembly}
+use Rattle.base_words.specs.Journal.{Journal}
+use Rattle.text_journal.specs.Handed.{Handed, nothing_handed}
+use Rattle.judge_view.specs.Rows.{first_poll}
 use Rattle.fairview_report.specs.PollTexts.{HasRows, head_text}
 use Rattle.fairview_report.specs.Walks.{AreTold, TellsAll}
 use Rattle.fairview_report.specs.declared.poll.PollRows.{PollRows}

@@ -1,11 +1,11 @@
 -- Why nothing is shown, and what is printed of it.
 use Rattle.std.specs.Prelude.{ℕ, ◌++◌, List, codes, decimal, Result, Ok, Err}
-use Rattle.rt_journal_read.specs.declared.fault.JournalCause.{JournalCause}
-use Rattle.rt_text.specs.declared.fault.Fault as text
-use Rattle.rt_text.specs.declared.fault.Fault.TheVariants as fault
-use Rattle.rt_journal_read.specs.Faults.{cause_text}
-use Rattle.rt_text.specs.declared.status.Status.{Status}
-use Rattle.rt_text.specs.declared.status.Status.TheVariants as status
+use Rattle.text_journal.specs.declared.fault.JournalCause.{JournalCause}
+use Rattle.text_words.specs.declared.fault.Fault as text
+use Rattle.text_words.specs.declared.fault.Fault.TheVariants as fault
+use Rattle.text_journal.specs.Faults.{cause_text}
+use Rattle.text_words.specs.declared.status.Status.{Status}
+use Rattle.text_words.specs.declared.status.Status.TheVariants as status
 use Rattle.fairview_report.specs.declared.fault.ViewFault.{ViewFault}
 use Rattle.fairview_report.specs.declared.fault.ViewFault.TheVariants.{Text, Core, Read, Write, Memory}
 

@@ -1,13 +1,13 @@
 -- The polls of all cores as rows with commas.
 use Rattle.std.specs.Prelude.{◌≡◌, ◌≤◌, ℕ, nat_lt, if◌then◌else◌, Option, Some, None, List, [], ◌++◌, codes, decimal, flat_map, get_or, length, string_bytes}
-use Rattle.rt_ids.specs.Assembly.{Assembly, journal_of}
-use Rattle.rt_ids.specs.Journal.{Journal}
-use Rattle.rt_text.specs.Notes.{name_text}
-use Rattle.rt_view.specs.Ends.{end_word}
-use Rattle.rt_journal_read.specs.Handed.{Handed}
-use Rattle.rt_view.specs.Polls.{KnowsTurns, polls}
-use Rattle.rt_view.specs.declared.polls.Poll.{Poll}
-use Rattle.fairview_text.specs.Lists.{lists_below}
+use Rattle.base_words.specs.Assembly.{Assembly, journal_of}
+use Rattle.base_words.specs.Journal.{Journal}
+use Rattle.text_words.specs.Notes.{name_text}
+use Rattle.judge_view.specs.Ends.{end_word}
+use Rattle.text_journal.specs.Handed.{Handed}
+use Rattle.judge_view.specs.Polls.{KnowsTurns, polls}
+use Rattle.judge_view.specs.declared.polls.Poll.{Poll}
+use Rattle.fairview_marks.specs.Lists.{lists_below}
 use Rattle.fairview_report.specs.declared.poll.PollRows.{PollRows}
 
 -- the first line

@@ -1,12 +1,12 @@
 -- What each queue got and what it should have got, as text.
 use Rattle.std.specs.Prelude.{ℕ, ◌/◌, Bool, true, false, Option, Some, None, List, [], ◌++◌, codes, decimal}
-use Rattle.rt_ids.specs.declared.stats.QueueStats.{QueueStats}
-use Rattle.rt_ids.specs.Assembly.{Assembly, journal_of}
-use Rattle.rt_ids.specs.Journal.{Journal}
-use Rattle.rt_view.specs.Clocks.{busy_time}
-use Rattle.rt_view.specs.Shares.{queue_share}
-use Rattle.rt_view.specs.declared.shares.QueueShare.{QueueShare}
-use Rattle.fairview_text.specs.Lists.{lists_below}
+use Rattle.base_words.specs.declared.stats.QueueStats.{QueueStats}
+use Rattle.base_words.specs.Assembly.{Assembly, journal_of}
+use Rattle.base_words.specs.Journal.{Journal}
+use Rattle.judge_view.specs.Clocks.{busy_time}
+use Rattle.judge_view.specs.Shares.{queue_share}
+use Rattle.judge_view.specs.declared.shares.QueueShare.{QueueShare}
+use Rattle.fairview_marks.specs.Lists.{lists_below}
 use Rattle.fairview_report.specs.Texts.{right, bar}
 use Rattle.fairview_report.specs.declared.share.Form.{Form}
 use Rattle.fairview_report.specs.declared.share.Form.TheVariants.{Blocks, Plain, Csv}

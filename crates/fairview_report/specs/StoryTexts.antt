@@ -1,13 +1,13 @@
 -- The story of a submission as text.
 use Rattle.std.specs.Prelude.{ℕ, ◌-◌, ◌==◌, if◌then◌else◌, List, [], ◌++◌, Option, Some, None, flat_map, length, codes, decimal}
-use Rattle.rt_ids.specs.declared.names.JobId.{JobId}
-use Rattle.rt_ids.specs.Assembly.{Assembly}
-use Rattle.rt_text.specs.Notes.{name_text, note_text}
-use Rattle.rt_view.specs.Stories.{story, teller}
-use Rattle.rt_view.specs.declared.clocks.Clock.{Clock}
-use Rattle.rt_view.specs.declared.stories.Chapter.{Chapter}
-use Rattle.rt_view.specs.declared.stories.Part.{Part}
-use Rattle.rt_view.specs.declared.stories.Part.TheVariants.{Sending, Serving, Fetching}
+use Rattle.base_words.specs.declared.names.JobId.{JobId}
+use Rattle.base_words.specs.Assembly.{Assembly}
+use Rattle.text_words.specs.Notes.{name_text, note_text}
+use Rattle.judge_view.specs.Stories.{story, teller}
+use Rattle.judge_view.specs.declared.clocks.Clock.{Clock}
+use Rattle.judge_view.specs.declared.stories.Chapter.{Chapter}
+use Rattle.judge_view.specs.declared.stories.Part.{Part}
+use Rattle.judge_view.specs.declared.stories.Part.TheVariants.{Sending, Serving, Fetching}
 
 -- where a chapter stands: its actor, and its place in the journal
 abbrev pub place_text : ℕ → Chapter → List ℕ

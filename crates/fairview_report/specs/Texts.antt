@@ -1,7 +1,7 @@
 -- Pieces of text: numbers in columns, bars, and texts one behind another.
 use Rattle.std.specs.Prelude.{◌≡◌, ℕ, zero, suc, ◌-◌, ◌*◌, ◌/◌, min, max, Bool, true, false, List, [], ◌∷◌, ◌++◌, length, codes}
 use Rattle.std.specs.List.{repeat}
-use Rattle.rt_journal_facts.specs.Accounts.{greatest_runtime}
+use Rattle.note_facts.specs.Accounts.{greatest_runtime}
 
 -- a text at the right end of so many places
 abbrev pub right : ℕ → List ℕ → List ℕ

@@ -1,12 +1,12 @@
 -- What is told of all cores of a run.
 use Rattle.std.specs.Prelude.{ℕ, List}
-use Rattle.rt_ids.specs.Assembly.{Assembly}
+use Rattle.base_words.specs.Assembly.{Assembly}
 use Rattle.fairview_lag.specs.PairWalks.{KnowsLags}
 use Rattle.fairview_lag.specs.declared.core_lags.CoreLags.{CoreLags}
-use Rattle.rt_view.specs.Waits.{AreSpans}
-use Rattle.rt_view.specs.Watches.{KnowsShares}
-use Rattle.rt_view.specs.declared.shares.CoreShares.{CoreShares}
-use Rattle.rt_view.specs.declared.waits.JobSpans.{JobSpans}
+use Rattle.judge_view.specs.Waits.{AreSpans}
+use Rattle.judge_view.specs.Watches.{KnowsShares}
+use Rattle.judge_view.specs.declared.shares.CoreShares.{CoreShares}
+use Rattle.judge_view.specs.declared.waits.JobSpans.{JobSpans}
 use Rattle.fairview_report.specs.Walks.{TellsAll}
 
 -- the shares of all queues

@@ -2,20 +2,20 @@
 use Rattle.std.specs.Prelude.{◌≡◌, ℕ, Bool, true, false, List, Option, Some, None, Err, nat_lt, if◌then◌else◌}
 use Rattle.std.specs.Option.{IfSome}
 use Rattle.std.specs.Io.KnownBytes.{Appends}
-use Rattle.rt_ids.specs.Assembly.{Assembly}
-use Rattle.rt_ids.specs.Spelled.{IsSpelled}
-use Rattle.rt_journal_read.specs.declared.fault.JournalCause.{JournalCause}
-use Rattle.rt_journal_read.specs.Drafts.{empty_draft}
-use Rattle.rt_journal_read.specs.JournalTexts.{journals_of, judge as journal_judge}
-use Rattle.rt_journal_write.specs.Pages.{AppendsFront}
-use Rattle.rt_journal_write.specs.Texts.{journal_text}
-use Rattle.rt_lines.specs.Taking.{IsReadSoFar, IsToldAtOnce, IsToldByRead}
-use Rattle.rt_lines.specs.Texts.{Judge}
-use Rattle.rt_sink.specs.Tries.{HasFailedSince}
+use Rattle.base_words.specs.Assembly.{Assembly}
+use Rattle.base_words.specs.Spelled.{IsSpelled}
+use Rattle.text_journal.specs.declared.fault.JournalCause.{JournalCause}
+use Rattle.text_journal.specs.Drafts.{empty_draft}
+use Rattle.text_journal.specs.JournalTexts.{journals_of, judge as journal_judge}
+use Rattle.text_journal.specs.Pages.{AppendsFront}
+use Rattle.text_journal.specs.Texts.{journal_text}
+use Rattle.text_bytes.specs.Taking.{IsReadSoFar, IsToldAtOnce, IsToldByRead}
+use Rattle.text_bytes.specs.Texts.{Judge}
+use Rattle.text_bytes.specs.Tries.{HasFailedSince}
 use Rattle.fairview_lag.specs.Lines.{lag_text}
 use Rattle.fairview_lag.specs.Pictures.{lag_picture}
-use Rattle.fairview_svg.specs.Gantts.{gantt_text}
-use Rattle.fairview_trace.specs.Traces.{trace_text}
+use Rattle.fairview_pictures.specs.Gantts.{gantt_text}
+use Rattle.fairview_pictures.specs.Traces.{trace_text}
 use Rattle.fairview_report.specs.PollTexts.{polls_text}
 use Rattle.fairview_report.specs.ShareTexts.{shares_text}
 use Rattle.fairview_report.specs.StoryTexts.{story_text}

@@ -1,17 +1,17 @@
 -- How long the jobs of each core waited and ran, as text.
 use Rattle.std.specs.Prelude.{◌≡◌, ℕ, ◌-◌, ◌^◌, ◌==◌, Bool, Option, Some, None, List, [], ◌++◌, codes, decimal, if◌then◌else◌}
-use Rattle.rt_ids.specs.Assembly.{Assembly, journal_of}
-use Rattle.rt_ids.specs.Journal.{Journal}
-use Rattle.rt_text.specs.Notes.{name_text}
-use Rattle.rt_view.specs.Histograms.{count_within}
-use Rattle.rt_view.specs.Summaries.{IsSummary}
-use Rattle.rt_view.specs.Waits.{waits, runs}
-use Rattle.rt_view.specs.declared.percentiles.Percentiles.{Percentiles}
-use Rattle.rt_view.specs.declared.spans.Span.{Span}
-use Rattle.rt_view.specs.declared.summaries.Measure.{Measure}
-use Rattle.rt_view.specs.declared.summaries.Measure.TheVariants.{Turns, Time}
-use Rattle.rt_view.specs.declared.summaries.Summary.{Summary}
-use Rattle.fairview_text.specs.Lists.{lists_below}
+use Rattle.base_words.specs.Assembly.{Assembly, journal_of}
+use Rattle.base_words.specs.Journal.{Journal}
+use Rattle.text_words.specs.Notes.{name_text}
+use Rattle.judge_view.specs.Histograms.{count_within}
+use Rattle.judge_view.specs.Summaries.{IsSummary}
+use Rattle.judge_view.specs.Waits.{waits, runs}
+use Rattle.judge_view.specs.declared.percentiles.Percentiles.{Percentiles}
+use Rattle.judge_view.specs.declared.spans.Span.{Span}
+use Rattle.judge_view.specs.declared.summaries.Measure.{Measure}
+use Rattle.judge_view.specs.declared.summaries.Measure.TheVariants.{Turns, Time}
+use Rattle.judge_view.specs.declared.summaries.Summary.{Summary}
+use Rattle.fairview_marks.specs.Lists.{lists_below}
 use Rattle.fairview_report.specs.Texts.{right, bar, AreTextsBelow}
 use Rattle.fairview_report.specs.declared.wait.Kind.{Kind}
 use Rattle.fairview_report.specs.declared.wait.Kind.TheVariants.{Wait, Run}

@@ -1,8 +1,8 @@
 -- What is told of the journals of a text, without the journals.
 use Rattle.std.specs.Prelude.{◌≡◌, ℕ, List, [], ◌∷◌}
-use Rattle.rt_ids.specs.Assembly.{Assembly}
-use Rattle.rt_ids.specs.Journal.{Journal}
-use Rattle.rt_journal_read.specs.Handed.{Handed, assembly_handed}
+use Rattle.base_words.specs.Assembly.{Assembly}
+use Rattle.base_words.specs.Journal.{Journal}
+use Rattle.text_journal.specs.Handed.{Handed, assembly_handed}
 
 -- of each of these journals this is told, where a turn may have so many polls
 abbrev pub AreTold : {W : Type 0} → (W → ℕ → Journal ℕ → Type 0) → ℕ → List W → List (Journal ℕ) → Type 0

@@ -3,11 +3,11 @@
 ghost use Rattle.std.specs.Prelude.{◌≡◌, Some};
 ghost use Rattle.fairview_report.specs.Faults as spec;
 
-use rt_ids::CoreNo;
-use rt_journal_read::JournalCause;
-use rt_text::{CauseWords, Fault, Status};
+use base_words::CoreNo;
 use std::alloc::AllocError;
 use std::fmt;
+use text_journal::JournalCause;
+use text_words::{CauseWords, Fault, Status};
 
 /// Why nothing is shown of a text, or not all of it.
 #[derive(Clone, Copy, PartialEq, Eq, Debug)]

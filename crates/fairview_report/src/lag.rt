@@ -1,14 +1,14 @@
 //! How far each two queues of all cores were apart, as text.
 
 ghost use Rattle.std.specs.Prelude.{◌≡◌, ◌++◌, ℕ, IfOk, OnOk, string_bytes};
-ghost use Rattle.rt_ids.specs.Assembly.{Assembly};
+ghost use Rattle.base_words.specs.Assembly.{Assembly};
 ghost use Rattle.fairview_lag.specs.Lines.{lag_text};
 ghost use Rattle.fairview_lag.specs.Pairs.{run_pairs};
 ghost use Rattle.fairview_report.specs.Told.{AreLags};
 
 use crate::walks::Walked;
+use base_words::CoreNo;
 use fairview_lag::{CoreLags, PairLag, put_pair_lines};
-use rt_ids::CoreNo;
 use std::alloc::{AllocError, Global};
 
 /// Puts a line for each core and two queues of it that ever had work at once.

@@ -1,14 +1,14 @@
 //! The name of a submission, as a word of the command line.
 
 ghost use Rattle.std.specs.Prelude.{◌≡◌};
-ghost use Rattle.rt_journal_lines.specs.Fields as fields;
+ghost use Rattle.text_journal.specs.Fields as fields;
 
-use rt_ids::{ActorNo, CoreNo, JobId, LAST_NUMBER};
-use rt_journal_lines::field::number_in;
-use rt_words::words::cut_at;
+use base_words::{ActorNo, CoreNo, JobId, LAST_NUMBER};
+use text_journal::field::number_in;
+use text_words::words::cut_at;
 
 /// The name that a word spells, as in a journal of 16 cores: `s>d#n`, an actor, a core and a number of their link.
-#[tactic(auto, unfolding(rt_journal_lines::specs::Fields::name_of))]
+#[tactic(auto, unfolding(text_journal::specs::Fields::name_of))]
 pub fn name_of(word: &[u8]) -> Option<JobId>
     ensures { result ≡ fields.name_of 16 word.now }
 {

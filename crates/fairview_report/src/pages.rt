@@ -13,15 +13,14 @@ use crate::story::put_story;
 use crate::view::View;
 use crate::wait::put_waits;
 use crate::walks::Walks;
+use base_words::{CoreNo, JobId};
 use fairview_lag::{CoreLags, put_lag};
-use fairview_svg::{Cut, put_gantt};
-use fairview_trace::put_trace;
-use rt_ids::{CoreNo, JobId};
-use rt_journal_notes::Assembly;
-use rt_journal_read::{pass_journal, read_journal};
-use rt_lines::Source;
-use rt_view::{CoreShares, JobWalk};
+use fairview_pictures::{Cut, put_gantt, put_trace};
+use judge_view::{CoreShares, JobWalk};
+use note_journal::Assembly;
 use std::alloc::Global;
+use text_bytes::Source;
+use text_journal::{pass_journal, read_journal};
 
 /// What is asked for of the journals whose text the source tells.
 ///

@@ -1,14 +1,14 @@
 //! The polls of all cores as rows with commas.
 
 ghost use Rattle.std.specs.Prelude.{◌≡◌, ◌++◌, codes, IfOk, OnOk, string_bytes};
-ghost use Rattle.rt_journal_read.specs.Handed.{nothing_handed};
+ghost use Rattle.text_journal.specs.Handed.{nothing_handed};
 ghost use Rattle.fairview_report.specs.PollTexts as spec;
 
 use crate::poll_line::PollLine;
-use rt_ids::{CoreNo, Note};
-use rt_journal_read::NoteTaker;
-use rt_view::{Poll, PollWalk};
+use base_words::{CoreNo, Note};
+use judge_view::{Poll, PollWalk};
 use std::alloc::{AllocError, Global};
+use text_journal::NoteTaker;
 
 /// The first line.
 const HEAD: &str = "core,turn,queue,name,step,time,virtual_runtime,end\n";
@@ -49,7 +49,7 @@ impl NoteTaker for PollRows {
     type Whole = String;
 
     ghost use Rattle.std.specs.Prelude.{◌≡◌, string_bytes};
-    ghost use Rattle.rt_journal_read.specs.Handed.{assembly_handed};
+    ghost use Rattle.text_journal.specs.Handed.{assembly_handed};
     ghost use Rattle.fairview_report.specs.PollTexts.{HasRows, polls_text};
 
     ghost has = { λ rows handed. HasRows rows handed };

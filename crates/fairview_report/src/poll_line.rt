@@ -3,10 +3,10 @@
 ghost use Rattle.std.specs.Prelude.{Some};
 ghost use Rattle.fairview_report.specs.PollTexts as spec;
 
-use rt_ids::CoreNo;
-use rt_text::name::NameText;
-use rt_view::Poll;
+use base_words::CoreNo;
+use judge_view::Poll;
 use std::fmt;
+use text_words::name::NameText;
 
 /// The row of a poll, without its line feed.
 #[derive(Clone, Copy)]

@@ -1,19 +1,19 @@
 //! What each queue got and what it should have got, as text.
 
 ghost use Rattle.std.specs.Prelude.{◌≡◌, ◌++◌, ℕ, codes, OnOk, string_bytes};
-ghost use Rattle.rt_ids.specs.Assembly.{Assembly};
-ghost use Rattle.rt_ids.specs.Journal.{Journal as Notes};
-ghost use Rattle.rt_view.specs.Shares.{queue_share};
-ghost use Rattle.rt_view.specs.Watches.{KnowsShares};
+ghost use Rattle.base_words.specs.Assembly.{Assembly};
+ghost use Rattle.base_words.specs.Journal.{Journal as Notes};
+ghost use Rattle.judge_view.specs.Shares.{queue_share};
+ghost use Rattle.judge_view.specs.Watches.{KnowsShares};
 ghost use Rattle.fairview_report.specs.ShareTexts as spec;
 ghost use Rattle.fairview_report.specs.Told.{AreShares};
-ghost use Rattle.fairview_text.specs.Lists.{lists_below};
+ghost use Rattle.fairview_marks.specs.Lists.{lists_below};
 
 use crate::page::{put_bar, put_right};
 use crate::share_line::ShareLine;
 use crate::walks::Walked;
-use rt_ids::{CoreNo, QueueNo};
-use rt_view::{CoreShares, QueueShare};
+use base_words::{CoreNo, QueueNo};
+use judge_view::{CoreShares, QueueShare};
 use std::alloc::{AllocError, Global};
 
 /// How the table is written.

@@ -3,8 +3,8 @@
 ghost use Rattle.std.specs.Prelude.{Some};
 ghost use Rattle.fairview_report.specs.ShareTexts as spec;
 
-use rt_ids::{CoreNo, QueueNo, QueueStats};
-use rt_view::QueueShare;
+use base_words::{CoreNo, QueueNo, QueueStats};
+use judge_view::QueueShare;
 use std::fmt;
 
 /// The row of a queue, without its line feed.

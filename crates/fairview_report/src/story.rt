@@ -1,16 +1,16 @@
 //! The story of a submission as text.
 
 ghost use Rattle.std.specs.Prelude.{◌≡◌, ◌++◌, OnOk, string_bytes};
-ghost use Rattle.rt_view.specs.Stories.{chapters};
+ghost use Rattle.judge_view.specs.Stories.{chapters};
 ghost use Rattle.fairview_report.specs.StoryTexts as spec;
 
 use crate::story_line::ChapterLine;
-use rt_ids::{ActorNo, JobId};
-use rt_journal_facts::note_at;
-use rt_journal_notes::{Assembly, Journal};
-use rt_text::name::NameText;
-use rt_view::{Chapter, Part, StoryWalk};
+use base_words::{ActorNo, JobId};
+use judge_view::{Chapter, Part, StoryWalk};
+use note_facts::note_at;
+use note_journal::{Assembly, Journal};
 use std::alloc::{AllocError, Global};
+use text_words::name::NameText;
 
 /// Puts the story of a submission, or that nothing is told of it.
 ///

@@ -3,10 +3,10 @@
 ghost use Rattle.std.specs.Prelude.{Some};
 ghost use Rattle.fairview_report.specs.StoryTexts as spec;
 
-use rt_ids::ActorNo;
-use rt_text::note::NoteText;
-use rt_view::{Chapter, Clock};
+use base_words::ActorNo;
+use judge_view::{Chapter, Clock};
 use std::fmt;
+use text_words::note::NoteText;
 
 /// A note of a story as a line, without its line feed: its actor, its place, the clock, how far that went since the note before it in the story, the note.
 #[derive(Clone, Copy)]

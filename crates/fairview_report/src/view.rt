@@ -2,22 +2,21 @@
 
 ghost use Rattle.std.specs.Prelude.{◌≡◌, Err, IfErr, IfSome, OnOk, OnErr};
 ghost use Rattle.std.specs.Io.KnownBytes.{Keeps, Appends};
-ghost use Rattle.rt_journal_read.specs.Drafts.{empty_draft};
-ghost use Rattle.rt_journal_read.specs.JournalTexts.{journals_of, judge};
-ghost use Rattle.rt_journal_write.specs.Pages.{AppendsFront};
-ghost use Rattle.rt_lines.specs.Taking.{IsToldByRead};
-ghost use Rattle.rt_sink.specs.Tries.{HasFailedSince};
+ghost use Rattle.text_journal.specs.Drafts.{empty_draft};
+ghost use Rattle.text_journal.specs.JournalTexts.{journals_of, judge};
+ghost use Rattle.text_journal.specs.Pages.{AppendsFront};
+ghost use Rattle.text_bytes.specs.Taking.{IsToldByRead};
+ghost use Rattle.text_bytes.specs.Tries.{HasFailedSince};
 ghost use Rattle.fairview_report.specs.Faults.{IfCoreless, IfRead, IfText, IfUnshown, IfUnwritten};
 ghost use Rattle.fairview_report.specs.Views.{IsPromptly, IsViewed, IsCutShort, LacksCore};
 
 use crate::fault::ViewFault;
 use crate::pages::page_of;
 use crate::share::Form;
-use fairview_svg::Cut;
-use rt_ids::JobId;
-use rt_lines::Source;
-use rt_sink::{DeviceFault, Sink, flush, write_all};
+use base_words::JobId;
+use fairview_pictures::Cut;
 use std::alloc::Global;
+use text_bytes::{DeviceFault, Sink, Source, flush, write_all};
 
 /// What is asked for of journals.
 #[derive(Clone, Copy)]

@@ -1,9 +1,9 @@
 //! How long the jobs of each core waited and ran, as text.
 
 ghost use Rattle.std.specs.Prelude.{◌≡◌, ◌≤◌, ◌<◌, ◌++◌, ℕ, codes, OnOk, string_bytes};
-ghost use Rattle.rt_ids.specs.Assembly.{Assembly};
-ghost use Rattle.rt_ids.specs.Journal.{Journal as Notes};
-ghost use Rattle.rt_view.specs.Waits.{AreSpans};
+ghost use Rattle.base_words.specs.Assembly.{Assembly};
+ghost use Rattle.base_words.specs.Journal.{Journal as Notes};
+ghost use Rattle.judge_view.specs.Waits.{AreSpans};
 ghost use Rattle.fairview_report.specs.Texts.{Puts, bar};
 ghost use Rattle.fairview_report.specs.Told.{AreWaits};
 ghost use Rattle.fairview_report.specs.WaitTexts as spec;
@@ -11,8 +11,8 @@ ghost use Rattle.fairview_report.specs.WaitTexts as spec;
 use crate::page::{put_bar, put_right};
 use crate::wait_line::SummaryLine;
 use crate::walks::Walked;
-use rt_ids::CoreNo;
-use rt_view::{JobSpans, JobWalk, Measure, Span, Summary, count_within, summarize};
+use base_words::CoreNo;
+use judge_view::{JobSpans, JobWalk, Measure, Span, Summary, count_within, summarize};
 use std::alloc::{AllocError, Global};
 
 /// A kind of span.

@@ -4,10 +4,10 @@ ghost use Rattle.std.specs.Prelude.{◌≡◌, Some};
 ghost use Rattle.fairview_report.specs.WaitTexts as spec;
 
 use crate::wait::Kind;
-use rt_ids::CoreNo;
-use rt_text::name::NameText;
-use rt_view::{Measure, Percentiles, Summary};
+use base_words::CoreNo;
+use judge_view::{Measure, Percentiles, Summary};
 use std::fmt;
+use text_words::name::NameText;
 
 /// A summary as a line, without its line feed: `core D wait turns jobs N p50 .. p90 .. p99 .. p99.9 .. greatest G of NAME`.
 #[derive(Clone, Copy)]

@@ -1,12 +1,12 @@
 //! What is told of the journal of one core, note by note.
 
 ghost use Rattle.std.specs.Prelude.{◌<◌, ◌∷◌, ℕ, [], length, OnOk};
-ghost use Rattle.rt_ids.specs.Journal.{Journal as Notes};
-ghost use Rattle.rt_journal_facts.specs.Accounts.{greatest_count};
+ghost use Rattle.base_words.specs.Journal.{Journal as Notes};
+ghost use Rattle.note_facts.specs.Accounts.{greatest_count};
 
+use base_words::Note;
 use fairview_lag::CoreLags;
-use rt_ids::Note;
-use rt_view::{CoreShares, JobSpans, JobWalk};
+use judge_view::{CoreShares, JobSpans, JobWalk};
 use std::alloc::{AllocError, Global};
 
 /// Reads the journal of one core note by note, and keeps none of them.
@@ -37,7 +37,7 @@ pub trait CoreWalk: Drop {
 impl CoreWalk for CoreShares {
     type Told = CoreShares;
 
-    ghost use Rattle.rt_view.specs.Watches.{KnowsShares};
+    ghost use Rattle.judge_view.specs.Watches.{KnowsShares};
 
     ghost knows = { λ shares burst journal. KnowsShares burst shares journal };
 
@@ -60,7 +60,7 @@ impl CoreWalk for CoreShares {
 impl CoreWalk for JobWalk {
     type Told = JobSpans;
 
-    ghost use Rattle.rt_view.specs.Waits.{AreSpans, KnowsWalk};
+    ghost use Rattle.judge_view.specs.Waits.{AreSpans, KnowsWalk};
 
     ghost knows = { λ walk burst journal. KnowsWalk walk journal };
 

@@ -1,14 +1,14 @@
 //! What is told of the journals of a text, without the journals.
 
 ghost use Rattle.std.specs.Prelude.{◌≡◌, ◌+◌, length};
-ghost use Rattle.rt_journal_read.specs.Handed.{nothing_handed};
+ghost use Rattle.text_journal.specs.Handed.{nothing_handed};
 ghost use Rattle.fairview_report.specs.Walks.{AreWalked};
 
 use crate::walk::CoreWalk;
-use rt_ids::Note;
-use rt_journal_read::NoteTaker;
+use base_words::Note;
 use std::alloc::{AllocError, Global};
 use std::mem::replace;
+use text_journal::NoteTaker;
 
 /// What was told of the journals of the actors before, and the walk over the journal of the actor whose notes come now.
 #[derive(Drop)]

@@ -19,25 +19,30 @@
 //! - [`House`] opens the cores and the outside actor, and takes them back at the end: [`Journals`] has the notes of all, and their audit.
 //! - [`Core`] runs jobs of any type, by [`Core::run_turn`], [`Core::round`] or [`Core::run`]. [`Job`] is a closure. [`Outside`] only submits.
 //! - A job may submit to any core by its [`Cx`]. A submission has a [`Ticket`], by which its [`Outcome`] is asked for.
+//! - What becomes of notes, [`Journal`] says. Without it a house lives for as many notes as its journals have room for.
 //! - A core that has nothing to do sleeps, or waits by the host's own means: [`Core::wait_by`], [`Core::set_bell`].
 //! - [`Task`] is a job that is a future: [`spawn`] starts one on any core.
 
 mod actor;
 mod core;
+mod cx;
 mod fresh;
 mod house;
 mod jobs;
 mod lanes;
 mod names;
+mod notes;
 mod outside;
 mod seat;
 mod tasks;
 
 pub use actor::Ticket;
-pub use core::{Core, Cx, Turn};
+pub use core::Core;
+pub use cx::Cx;
 pub use house::{Config, Ended, House, Journals, Opened, Verdict};
 pub use jobs::Job;
 pub use lanes::Ringer;
-pub use names::{Answer, Name, Outcome, Reason, Step};
+pub use names::{Answer, Name, Outcome, Reason, Step, Turn};
+pub use notes::{Journal, NoteCounts};
 pub use outside::Outside;
 pub use tasks::{spawn, yield_now, Cancelled, Join, Task};

@@ -187,6 +187,7 @@ extern "C" {
     pub fn fx_seat_free(seat: *mut fx_seat) -> u32;
     pub fn fx_seat_next(seat: *mut fx_seat, turn: *mut fx_turn) -> u32;
     pub fn fx_seat_settle(seat: *mut fx_seat, step: u32, answer: u64, spent: u64) -> u32;
+    pub fn fx_seat_step(seat: *mut fx_seat, step: u32, answer: u64, spent: u64, turn: *mut fx_turn) -> u32;
     pub fn fx_seat_deliver(seat: *mut fx_seat, sender: u32) -> u32;
     pub fn fx_seat_collect(seat: *mut fx_seat, core: u32, count: *mut u64) -> u32;
     pub fn fx_seat_submit(seat: *mut fx_seat, to: u32, queue: u32, job: u64, name: *mut fx_name) -> u32;
@@ -198,6 +199,9 @@ extern "C" {
     pub fn fx_seat_redeem(seat: *mut fx_seat, name: *const fx_name, outcome: *mut fx_outcome) -> u32;
     pub fn fx_seat_detach(seat: *mut fx_seat, name: *const fx_name) -> u32;
     pub fn fx_seat_pass_on(seat: *mut fx_seat, bytes: *mut u8, room: usize, count: *mut u64) -> u32;
+    pub fn fx_seat_notes(seat: *mut fx_seat, kept: *mut u64, free_notes: *mut u64) -> u32;
+    pub fn fx_seat_copy(seat: *mut fx_seat, from: u64, most: u64, bytes: *mut u8, room: usize, count: *mut u64, notes: *mut u64) -> u32;
+    pub fn fx_seat_forget(seat: *mut fx_seat, count: *mut u64) -> u32;
     pub fn fx_seat_close(seat: *mut fx_seat, mode: u32) -> u32;
     pub fn fx_seat_shut(seat: *mut fx_seat, sender: u32) -> u32;
     pub fn fx_seat_drained(seat: *mut fx_seat) -> u32;

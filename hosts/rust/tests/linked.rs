@@ -49,7 +49,7 @@ fn actors_go_to_threads() {
 #[test]
 fn bad_numbers_open_no_house() {
     for (cores, places, burst, notes) in [(0, 1, 1, 1), (17, 1, 1, 1), (1, 0, 1, 1), (1, 1025, 1, 1), (1, 1, 0, 1), (1, 1, 65, 1), (1, 1, 1, (1 << 24) + 1)] {
-        assert_eq!(House::<u64>::open(&Config { cores, places, burst, notes }).err(), Some(Error::BadNumber));
+        assert_eq!(House::<u64>::open(&Config { cores, places, burst, notes, ..Config::default() }).err(), Some(Error::BadNumber));
     }
 }
 

@@ -6,7 +6,7 @@ use std::sync::atomic::{AtomicU64, Ordering};
 use std::sync::Arc;
 
 fn open<J>(places: u32) -> Result<(House<J>, [Core<J>; 2], Outside<J>), Error> {
-    let (house, cores, outside): Opened<J> = House::open(&Config { cores: 2, places, burst: 2, notes: 1 << 12 })?;
+    let (house, cores, outside): Opened<J> = House::open(&Config { cores: 2, places, burst: 2, notes: 1 << 12, ..Config::default() })?;
     Ok((house, cores.try_into().ok().expect("two cores"), outside))
 }
 

@@ -7,11 +7,12 @@ use crate::local::{on_core, Job, Local};
 use crate::pin::Pin;
 use crate::reactor::Reactor;
 use crate::report::{CoreStats, Report};
+use crate::root::{self, Termination};
 use crate::shared::{lock, Handle, Port, Queue, QueueSetup, Shared};
 use crate::signal::Stops;
-use crate::stop::Ending;
-use crate::{task, Error};
-use fairexec::linked::{Answer, Config, Core, House, Outcome, Outside, Ticket};
+use crate::stop::{Ending, Failure};
+use crate::Error;
+use fairexec::linked::{self, Answer, Config, Core, House, Outcome, Outside, Ticket};
 use fairexec::Mode;
 use std::future::Future;
 use std::panic::resume_unwind;
@@ -19,6 +20,12 @@ use std::sync::Arc;
 use std::time::Duration;
 
 /// An executor. It is made by [`Executor::builder`], and lives as long as [`Builder::run`] goes on.
+///
+/// ```
+/// let report = fairexec_rt::Executor::builder().run(|here| async move { assert_eq!((here.core(), here.cores()), (0, 1)) })?;
+/// assert_eq!(report.cores[0].queues[0].shares, 1000);
+/// # Ok::<(), fairexec_rt::Error>(())
+/// ```
 pub struct Executor;
 
 impl Executor {
@@ -29,6 +36,17 @@ impl Executor {
 }
 
 /// A run that took longer than [`Builder::slow_poll`] allows.
+///
+/// ```
+/// use fairexec_rt::{Executor, SlowPoll};
+/// use std::time::Duration;
+///
+/// fn warn(it: SlowPoll) {
+///     eprintln!("core {}, queue {} ({}): {:?}", it.core, it.queue.number(), it.name, it.ran);
+/// }
+/// Executor::builder().slow_poll(Duration::from_millis(2), warn).run(|_| async {})?;
+/// # Ok::<(), fairexec_rt::Error>(())
+/// ```
 #[derive(Clone, PartialEq, Eq, Debug)]
 pub struct SlowPoll {
     /// The core.
@@ -55,6 +73,18 @@ pub(crate) struct Setup {
 }
 
 /// Says what an executor is made of.
+///
+/// ```
+/// use fairexec_rt::{Executor, Journal, Pin};
+/// use std::time::Duration;
+///
+/// let builder = Executor::builder().cores(2).pin(Pin::No).journal(Journal::Last(1000)).places(256).notes(1024);
+/// let builder = builder.queue("requests", 1000).queue("background", 100).slice(Duration::from_micros(5)).burst(2);
+/// let builder = builder.reactor_every(Duration::from_micros(30)).round(Duration::from_micros(20));
+/// let report = builder.stop_on_signals(Duration::from_secs(2)).run(|_| async {})?;
+/// assert_eq!(report.cores.len(), 2);
+/// # Ok::<(), fairexec_rt::Error>(())
+/// ```
 pub struct Builder {
     cores: u32,
     queues: Vec<QueueSetup>,
@@ -180,13 +210,35 @@ impl Builder {
     /// Starts a future on each core, in queue 0, and runs the cores until all these futures have ended. Then the tasks that are left are dropped. If
     /// [`stop`](crate::stop()) was called before, the tasks that are left have its grace.
     ///
+    /// The first of these futures that comes to an error or panics ends the executor at once.
+    ///
     /// # Errors
     ///
-    /// `Setup` for a number that is out of its range; `Library` and `Io` if a core failed.
+    /// `Setup` for a number that is out of its range; `Begin` with the error of a future; `Library` and `Io` if a core failed.
+    ///
+    /// # Panics
+    ///
+    /// As the future that panicked.
+    ///
+    /// ```
+    /// use fairexec_rt::Executor;
+    ///
+    /// // What the cores need of `main` is cloned for each of them.
+    /// let names = std::sync::Arc::new(["one".to_owned(), "two".to_owned()]);
+    /// let told = Executor::builder().cores(2).run(|here| {
+    ///     let names = names.clone();
+    ///     async move {
+    ///         assert_eq!(names.len(), 2);
+    ///         (here.core() < 7).then_some(()).ok_or("there are too many cores")
+    ///     }
+    /// });
+    /// assert_eq!(told.unwrap().cores.len(), 2);
+    /// ```
     pub fn run<F, Fut>(mut self, begin: F) -> Result<Report, Error>
     where
         F: Fn(Here) -> Fut + Send + Sync,
-        Fut: Future<Output = ()> + 'static,
+        Fut: Future + 'static,
+        Fut::Output: Termination,
     {
         if self.queues.is_empty() {
             self = self.queue("default", 1000);
@@ -194,7 +246,9 @@ impl Builder {
         let journal = self.setup.journal.clone();
         self.check()?;
         let notes = self.notes.unwrap_or(if journal == Journal::Keep { 1 << 20 } else { 4 * self.places.max(64) });
-        let (house, mut cores, mut outside) = House::open(&Config { cores: self.cores, places: self.places, burst: self.burst, notes })?;
+        let becomes = if journal == Journal::Off { linked::Journal::Forget } else { linked::Journal::Keep };
+        let (house, mut cores, mut outside) =
+            House::open(&Config { cores: self.cores, places: self.places, burst: self.burst, notes, journal: becomes })?;
         self.setup.takers = (0..=self.cores).map(|it| Taker::new(&journal, it)).collect::<Result<_, _>>()?;
         outside.keep(&self.setup.takers[self.cores as usize]);
         let ports = cores.iter().map(|it| Port::new(it.ringer(), CoreStats { core: it.number(), ..CoreStats::default() })).collect();
@@ -225,7 +279,12 @@ impl Builder {
             let cores = ended.into_iter().map(|it| it.map_err(Error::Io).and_then(|it| it)).collect::<Result<Vec<_>, _>>();
             cores.and_then(|it| closed.map_err(Error::from).map(|()| it))
         })?;
-        self.end(house, cores, outside, &shared, &journal)
+        let report = self.end(house, cores, outside, &shared, &journal)?;
+        match shared.ending.failure() {
+            None => Ok(report),
+            Some(Failure::Error(error)) => Err(Error::Begin(error)),
+            Some(Failure::Panic(panic)) => resume_unwind(panic),
+        }
     }
 
     fn end(&self, house: House<Job>, cores: Vec<Core<Job>>, mut outside: Outside<Job>, shared: &Shared, journal: &Journal) -> Result<Report, Error> {
@@ -259,6 +318,17 @@ impl Builder {
 }
 
 /// What a future of [`Builder::run`] is told of where it is.
+///
+/// ```
+/// use fairexec_rt::{Executor, Queue};
+///
+/// Executor::builder().cores(2).queue("requests", 1000).queue("background", 100).run(|here| async move {
+///     assert!(here.core() < here.cores());
+///     assert_eq!(here.queue("background"), Some(Queue::new(1)));
+///     assert_eq!(here.handle().cores(), 2);
+/// })?;
+/// # Ok::<(), fairexec_rt::Error>(())
+/// ```
 #[derive(Clone)]
 pub struct Here {
     core: u32,
@@ -328,7 +398,8 @@ fn make_queues(core: &mut Core<Job>, queues: &[QueueSetup]) -> Result<(), Error>
 fn serve<F, Fut>(mut core: Core<Job>, shared: Arc<Shared>, setup: &Setup, stops: Option<Stops>, begin: &F) -> Result<Core<Job>, Error>
 where
     F: Fn(Here) -> Fut,
-    Fut: Future<Output = ()> + 'static,
+    Fut: Future + 'static,
+    Fut::Output: Termination,
 {
     struct Failing(Option<Arc<Shared>>);
     impl Drop for Failing {
@@ -348,12 +419,7 @@ where
     on_core(Local::new(number, Arc::clone(&shared), reactor), |local| {
         let mut driver = Driver::new(local, &mut core, setup);
         let here = Here { core: number, shared: Arc::clone(&shared) };
-        let (root, ends) = (begin(here), Rooted(Arc::clone(&shared)));
-        task::spawn_local(Queue::FIRST, async move {
-            let _ends = ends;
-            root.await;
-        })
-        .detach();
+        root::start(&shared, begin(here));
         if let Some(stops) = stops {
             stops.watch()?;
         }
@@ -362,13 +428,4 @@ where
     core.hand_on(&setup.takers[number as usize], &mut Vec::new())?;
     failing.0 = None;
     Ok(core)
-}
-
-/// Tells as a future of `run` ends, also by a panic or a drop.
-struct Rooted(Arc<Shared>);
-
-impl Drop for Rooted {
-    fn drop(&mut self) {
-        self.0.ending.root_ended();
-    }
 }

@@ -12,6 +12,19 @@ use std::sync::{Arc, Mutex};
 use std::task::{Context, Poll, Waker};
 
 /// Why a call has no answer.
+///
+/// ```
+/// use fairexec_rt::{stop, submit, CallError, Executor, Queue};
+/// use std::{future::pending, time::Duration};
+///
+/// Executor::builder().cores(2).run(|here| async move {
+///     // The grace is over at once, so the core of the call is closed, and this one.
+///     stop(Duration::ZERO);
+///     let told = submit(1 - here.core(), Queue::FIRST, pending::<()>).await;
+///     assert_eq!(told, Err(CallError::Dropped));
+/// })?;
+/// # Ok::<(), fairexec_rt::Error>(())
+/// ```
 #[derive(Clone, Copy, PartialEq, Eq, Debug)]
 #[non_exhaustive]
 pub enum CallError {
@@ -166,6 +179,26 @@ async fn answer<F: Future>(slot: Slot<F::Output>, make: impl FnOnce() -> F) {
 }
 
 /// The link to a core is full. The function comes back.
+///
+/// ```
+/// use fairexec_rt::{try_submit, yield_now, Executor, Queue};
+///
+/// Executor::builder().cores(2).places(2).run(|here| async move {
+///     let mut calls = Vec::new();
+///     for number in 0..100 {
+///         let mut told = try_submit(1 - here.core(), Queue::FIRST, move || async move { number });
+///         while let Err(full) = told {
+///             yield_now().await;
+///             told = try_submit(1 - here.core(), Queue::FIRST, full.0);
+///         }
+///         calls.extend(told);
+///     }
+///     for (number, call) in calls.into_iter().enumerate() {
+///         assert_eq!(call.await, Ok(number));
+///     }
+/// })?;
+/// # Ok::<(), fairexec_rt::Error>(())
+/// ```
 pub struct Full<M>(pub M);
 
 impl<M> fmt::Debug for Full<M> {

@@ -33,18 +33,27 @@ struct Own {
     first: u64,
     // Numbers of runs that ended, whose outcomes aren't redeemed yet.
     ended: Vec<u64>,
-    // By the queue, how many places its tasks have.
+    // By the queue, how many tasks it has inside.
     inside: Vec<u32>,
-    // So many places of the link are a queue's: none is kept out by another one.
+    // So many may be: none is kept out by another queue's.
     most: u32,
-    // By the place in `tickets`, the queue.
-    queues: VecDeque<u32>,
 }
 
 impl Own {
     fn new(queues: usize, places: u32) -> Own {
         let most = (places / (queues as u32 + 1)).max(1);
-        Own { tickets: VecDeque::new(), first: 1, ended: Vec::new(), inside: vec![0; queues], most, queues: VecDeque::new() }
+        Own { tickets: VecDeque::new(), first: 1, ended: Vec::new(), inside: vec![0; queues], most }
+    }
+
+    /// How many more tasks of a queue may come inside.
+    fn room(&self, queue: u32) -> u32 {
+        self.most - self.inside[queue as usize]
+    }
+
+    /// A run ended, and its task is inside no more.
+    fn end(&mut self, number: u64, queue: u32) {
+        self.ended.push(number);
+        self.inside[queue as usize] -= 1;
     }
 
     fn add(&mut self, ticket: Ticket, queue: u32) {
@@ -55,10 +64,8 @@ impl Own {
         // Numbers between belong to orders.
         while self.first + (self.tickets.len() as u64) < number {
             self.tickets.push_back(None);
-            self.queues.push_back(0);
         }
         self.tickets.push_back(Some(ticket));
-        self.queues.push_back(queue);
         self.inside[queue as usize] += 1;
     }
 
@@ -72,10 +79,8 @@ impl Own {
             told => drop(told?),
         }
         self.tickets[at] = None;
-        self.inside[self.queues[at] as usize] -= 1;
         while let Some(None) = self.tickets.front() {
             self.tickets.pop_front();
-            self.queues.pop_front();
             self.first += 1;
         }
         Ok(true)
@@ -93,15 +98,20 @@ pub(crate) struct Driver<'a> {
 }
 
 /// One run of a job.
-fn run(local: &Local, job: &mut Job, cx: &mut Cx<'_, Job>, ended: &mut Vec<u64>, setup: &Setup) -> Step {
-    local.begin(cx.queue());
+fn run(local: &Local, job: &mut Job, cx: &mut Cx<'_, Job>, own: &mut Own, setup: &Setup) -> Step {
+    let queue = cx.queue();
+    local.begin(queue);
     let step = match job {
         Job::Task(slot) => {
             *slot = slot.take().and_then(|turn| local.poll(turn));
+            // One that yields leaves if others of its queue have no place, and stands behind them.
+            if let Some(turn) = slot.take_if(|_| local.waiting(queue) > 2 * own.room(queue) as usize) {
+                local.hand_in(queue, turn);
+            }
             if slot.is_some() {
                 Step::Yield
             } else {
-                ended.push(cx.name().number);
+                own.end(cx.name().number, queue);
                 Step::Done(0)
             }
         }
@@ -109,13 +119,13 @@ fn run(local: &Local, job: &mut Job, cx: &mut Cx<'_, Job>, ended: &mut Vec<u64>,
             // Before the caller can see that it ended.
             local.tell_busy();
             if let Some(start) = start.take() {
-                start.start(cx.queue());
+                start.start(queue);
             }
             Step::Done(0)
         }
     };
     if setup.slow_poll.is_some() {
-        tell_slow(local, cx.queue(), setup);
+        tell_slow(local, queue, setup);
     }
     step
 }
@@ -174,8 +184,8 @@ impl<'a> Driver<'a> {
         let mut did = local.take_mail();
         did |= self.submit_ready()?;
         did |= self.send()?;
-        let (setup, ended) = (self.setup, &mut self.own.ended);
-        did |= self.core.round(|job, cx| run(local, job, cx, ended, setup))?;
+        let (setup, own) = (self.setup, &mut self.own);
+        did |= self.core.round(|job, cx| run(local, job, cx, own, setup))?;
         self.redeem_own()?;
         did |= self.redeem_sent()?;
         if local.runs.get() >= HANDED_EVERY {
@@ -201,13 +211,13 @@ impl<'a> Driver<'a> {
     /// Hands in the tasks that can go on.
     fn submit_ready(&mut self) -> Result<bool, Error> {
         let mut did = false;
-        for queue in 0..self.local.ready.len() {
-            while self.own.inside[queue] < self.own.most {
-                let Some(turn) = self.local.ready[queue].borrow_mut().pop_front() else { break };
-                match self.core.submit(self.local.number, queue as u32, Job::Task(Some(turn))) {
-                    Ok(ticket) => self.own.add(ticket, queue as u32),
+        for (queue, ready) in (0..).zip(&self.local.ready) {
+            while self.own.room(queue) > 0 {
+                let Some(turn) = ready.borrow_mut().pop_front() else { break };
+                match self.core.submit(self.local.number, queue, Job::Task(Some(turn))) {
+                    Ok(ticket) => self.own.add(ticket, queue),
                     Err((fairexec::Error::Full, Job::Task(Some(turn)))) => {
-                        self.local.ready[queue].borrow_mut().push_front(turn);
+                        ready.borrow_mut().push_front(turn);
                         return Ok(did);
                     }
                     // The core is closing, and its tasks are dropped.
@@ -329,9 +339,8 @@ impl<'a> Driver<'a> {
         local.drop_tasks();
         loop {
             local.take_mail();
-            let ended = &mut self.own.ended;
-            let setup = self.setup;
-            let did = self.core.round(|job, cx| run(local, job, cx, ended, setup))?;
+            let (setup, own) = (self.setup, &mut self.own);
+            let did = self.core.round(|job, cx| run(local, job, cx, own, setup))?;
             let numbers = self.own.first..self.own.first + self.own.tickets.len() as u64;
             for number in numbers {
                 if number >= self.own.first {

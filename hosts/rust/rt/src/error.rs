@@ -4,6 +4,13 @@ use std::fmt;
 use std::io;
 
 /// Why [`Builder::run`](crate::Builder::run) failed.
+///
+/// ```
+/// use fairexec_rt::{Error, Executor};
+///
+/// let told = Executor::builder().cores(17).run(|_| async {}).unwrap_err();
+/// assert!(matches!(&told, Error::Setup(text) if *text == told.to_string()));
+/// ```
 #[derive(Debug)]
 #[non_exhaustive]
 pub enum Error {
@@ -13,6 +20,8 @@ pub enum Error {
     Io(io::Error),
     /// The builder was told what can't be: the text says which.
     Setup(String),
+    /// A future of `run` came to this.
+    Begin(Box<dyn std::error::Error + Send + Sync>),
 }
 
 impl fmt::Display for Error {
@@ -21,6 +30,7 @@ impl fmt::Display for Error {
             Error::Library(error) => write!(f, "the library: {error}"),
             Error::Io(error) => write!(f, "input and output: {error}"),
             Error::Setup(text) => f.write_str(text),
+            Error::Begin(error) => error.fmt(f),
         }
     }
 }
@@ -31,6 +41,7 @@ impl std::error::Error for Error {
             Error::Library(error) => Some(error),
             Error::Io(error) => Some(error),
             Error::Setup(_) => None,
+            Error::Begin(error) => error.source(),
         }
     }
 }

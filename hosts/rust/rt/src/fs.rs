@@ -13,14 +13,22 @@ pub use blocking::unblock;
 ///
 /// ```
 /// use fairexec_rt::{fs::File, Executor};
+/// use std::{fs::OpenOptions, io};
 ///
 /// Executor::builder().run(|_| async {
 ///     let path = std::env::temp_dir().join(format!("fairexec-rt-{}", std::process::id()));
-///     let file = File::create(&path).await.unwrap();
-///     file.write_all_at(b"forty-two".to_vec(), 0).await.unwrap();
-///     file.sync_data().await.unwrap();
-///     assert_eq!(file.read_at(3, 6).await.unwrap(), b"ty-");
-///     std::fs::remove_file(&path).unwrap();
+///     let file = File::create(&path).await?;
+///     assert!(file.is_empty().await?);
+///     file.write_all_at(b"forty-two".to_vec(), 0).await?;
+///     file.set_len(5).await?;
+///     file.sync_data().await?;
+///     let file = File::open(&path).await?;
+///     assert_eq!((file.read_at(3, 100).await?, file.len().await?), (b"ty".to_vec(), 5));
+///     let mut options = OpenOptions::new();
+///     options.create_new(true).write(true);
+///     assert!(File::open_with(options, &path).await.is_err());
+///     std::fs::remove_file(&path)?;
+///     io::Result::Ok(())
 /// })?;
 /// # Ok::<(), fairexec_rt::Error>(())
 /// ```

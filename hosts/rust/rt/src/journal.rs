@@ -10,8 +10,8 @@ use std::sync::{Arc, Mutex, PoisonError};
 
 /// What becomes of the notes that each core makes of what it did.
 ///
-/// The library hands on notes as text alone, which takes some 250 ns a note. So `Off` and `Last` cost as much as `Parts` does without its writes,
-/// until the library learns to forget notes as they are made.
+/// The library forgets notes, or hands them on as text, which takes some 250 ns a note. So `Off` costs next to nothing, and `Last` as much as `Parts`
+/// without its writes.
 ///
 /// ```
 /// use fairexec_rt::{yield_now, Executor, Journal};
@@ -25,7 +25,7 @@ use std::sync::{Arc, Mutex, PoisonError};
 #[derive(Clone, PartialEq, Eq, Debug, Default)]
 #[non_exhaustive]
 pub enum Journal {
-    /// They go nowhere. So a server runs without end.
+    /// They are forgotten. So a server runs without end.
     #[default]
     Off,
     /// So many of the newest notes of each actor are kept, and told by the [`Report`](crate::Report), for a look after an incident. They are the end of
@@ -67,7 +67,6 @@ impl Newest {
 
 /// What has the notes of an actor that it doesn't keep.
 enum Place {
-    Nowhere,
     Newest(usize, Newest),
     // Why it couldn't be written, if it couldn't.
     Part(File, Option<io::Error>),
@@ -83,11 +82,10 @@ struct Taken {
 pub(crate) struct Taker(Arc<Mutex<Taken>>);
 
 impl Taker {
-    /// The taker of this actor, or none if its journal is kept.
+    /// The taker of this actor, or none if its notes are kept or forgotten.
     pub(crate) fn new(journal: &Journal, actor: u32) -> Result<Option<Taker>, Error> {
         let place = match journal {
-            Journal::Keep => return Ok(None),
-            Journal::Off => Place::Nowhere,
+            Journal::Keep | Journal::Off => return Ok(None),
             Journal::Last(most) => Place::Newest(*most, Newest::default()),
             Journal::Parts(folder) => {
                 create_dir_all(folder)?;
@@ -105,7 +103,6 @@ impl Taker {
         self.with(|it| {
             it.bytes += text.len() as u64;
             match &mut it.place {
-                Place::Nowhere => {}
                 Place::Newest(most, newest) => newest.push(text, *most),
                 Place::Part(file, failed) => {
                     if let Err(error) = file.write_all(text) {
@@ -128,7 +125,6 @@ impl Taker {
     /// If a part couldn't be written.
     pub(crate) fn end(&self) -> Result<Option<String>, Error> {
         self.with(|it| match &mut it.place {
-            Place::Nowhere => Ok(None),
             Place::Newest(most, newest) => Ok(Some(newest.text(*most))),
             Place::Part(_, failed) => failed.take().map_or(Ok(None), |error| Err(error.into())),
         })

@@ -235,6 +235,11 @@ impl Local {
         self.timers.clear();
     }
 
+    /// Tasks of a queue that can go on and aren't in the core.
+    pub(crate) fn waiting(&self, queue: u32) -> usize {
+        self.ready[queue as usize].borrow().len()
+    }
+
     pub(crate) fn has_some_ready(&self) -> bool {
         self.ready.iter().any(|it| !it.borrow().is_empty())
     }

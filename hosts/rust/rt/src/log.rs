@@ -12,6 +12,25 @@ use std::rc::Rc;
 use std::time::Duration;
 
 /// When what was appended to a [`Log`] goes to the disk.
+///
+/// ```
+/// use fairexec_rt::fs::{Fsync, Log};
+/// use fairexec_rt::{Executor, Queue};
+/// use std::{env::temp_dir, fs::remove_dir_all, io, process, time::Duration};
+///
+/// Executor::builder().run(|_| async {
+///     let folder = temp_dir().join(format!("fairexec-rt-fsync-{}", process::id()));
+///     let (log, _) = Log::open(Queue::FIRST, &folder, Fsync::Every(Duration::from_secs(1)), |_| {}).await?;
+///     assert!(log.is_empty());
+///     log.append(&[b"forty-two"]);
+///     // This waits for nothing, and that for the disk.
+///     log.safe().await?;
+///     log.sync().await?;
+///     remove_dir_all(folder)?;
+///     io::Result::Ok(())
+/// })?;
+/// # Ok::<(), fairexec_rt::Error>(())
+/// ```
 #[derive(Clone, Copy, PartialEq, Eq, Debug)]
 pub enum Fsync {
     /// Before [`Log::safe`] ends.
@@ -186,8 +205,9 @@ impl Log {
 ///             log.append(&[&it.to_le_bytes()]);
 ///         }
 ///         let compacts = log.compaction(1000).unwrap();
-///         let compacts = compacts.begin(Queue::new(1)).await.unwrap();
+///         let mut compacts = compacts.begin(Queue::new(1)).await.unwrap();
 ///         compacts.append(&[&sum.to_le_bytes()]);
+///         compacts.step().await.unwrap();
 ///         compacts.end().await.unwrap();
 ///         assert_eq!(log.len(), 16);
 ///         drop(log);
@@ -225,6 +245,32 @@ impl Compaction {
 }
 
 /// A compaction that goes on: see [`Compaction`]. To drop it leaves what was appended where it is.
+///
+/// ```
+/// use fairexec_rt::fs::{Compacting, Fsync, Log};
+/// use fairexec_rt::{Executor, Queue};
+/// use std::{env::temp_dir, fs::remove_dir_all, io, process};
+///
+/// /// What is left is these numbers.
+/// async fn compact(mut compacting: Compacting, numbers: Vec<u32>) -> io::Result<()> {
+///     for it in numbers {
+///         compacting.append(&[&it.to_le_bytes()]);
+///         compacting.step().await?;
+///     }
+///     compacting.end().await
+/// }
+/// Executor::builder().run(|_| async {
+///     let folder = temp_dir().join(format!("fairexec-rt-compacting-{}", process::id()));
+///     let (log, _) = Log::open(Queue::FIRST, &folder, Fsync::Never, |_| {}).await?;
+///     log.append(&[&[7; 1000]]);
+///     let compaction = log.compaction(100).expect("it pays");
+///     compact(compaction.begin(Queue::FIRST).await?, vec![1, 2, 3]).await?;
+///     assert_eq!(log.len(), 3 * 12);
+///     remove_dir_all(folder)?;
+///     io::Result::Ok(())
+/// })?;
+/// # Ok::<(), fairexec_rt::Error>(())
+/// ```
 pub struct Compacting {
     compaction: Compaction,
     base: Appender,

@@ -2,20 +2,17 @@
 //! reactor, and `from_std` puts it into that of another core.
 
 pub use crate::reads::Reads;
+pub use crate::unix::{UnixListener, UnixStream};
 
 use crate::reactor::{Registered, Side};
-use crate::{sleep, stopping};
+use crate::streams::{connected, is_begun, streams, until_stop};
 use futures_io::{AsyncRead, AsyncWrite};
-use futures_lite::future;
-use socket2::{Domain, Protocol, SockAddr, Socket, Type};
+use socket2::{Domain, Protocol, Socket, Type};
 use std::future::poll_fn;
 use std::io::{self, IoSlice, Read, Write};
 use std::net::{Shutdown, SocketAddr, ToSocketAddrs};
-use std::os::unix::net as unix;
-use std::path::Path;
 use std::pin::Pin;
 use std::task::{Context, Poll};
-use std::time::Duration;
 
 /// Connections that wait to be accepted.
 const BACKLOG: i32 = 1024;
@@ -93,19 +90,7 @@ impl TcpListener {
     /// The next connection, or none once the executor [stops](crate::stop()). If the system has none to give, as when the process has no file left,
     /// it is asked again a little later.
     pub async fn accept_until_stop(&self) -> Option<TcpStream> {
-        let accepted = async {
-            loop {
-                match self.accept().await {
-                    Ok((stream, _)) => return Some(stream),
-                    Err(_) => sleep(Duration::from_millis(20)).await,
-                }
-            }
-        };
-        let stops = async {
-            stopping().await;
-            None
-        };
-        future::or(stops, accepted).await
+        until_stop(|| async { Ok(self.accept().await?.0) }).await
     }
 
     /// Where it listens.
@@ -115,6 +100,28 @@ impl TcpListener {
     /// As the system answers.
     pub fn local_addr(&self) -> io::Result<SocketAddr> {
         self.0.get().local_addr()
+    }
+
+    /// A socket that listens already, as one that the process was started with.
+    ///
+    /// # Errors
+    ///
+    /// As the system answers.
+    ///
+    /// ```
+    /// use fairexec_rt::{net::TcpListener, Executor};
+    ///
+    /// let socket = std::net::TcpListener::bind("127.0.0.1:0").unwrap();
+    /// Executor::builder().cores(2).run(|_| {
+    ///     // Both cores accept at one socket.
+    ///     let socket = socket.try_clone();
+    ///     async { TcpListener::from_std(socket?)?.local_addr().map(drop) }
+    /// })?;
+    /// # Ok::<(), fairexec_rt::Error>(())
+    /// ```
+    pub fn from_std(socket: std::net::TcpListener) -> io::Result<TcpListener> {
+        socket.set_nonblocking(true)?;
+        Registered::new(socket).map(TcpListener)
     }
 }
 
@@ -127,85 +134,33 @@ fn listen_at(address: SocketAddr, is_shared: bool) -> io::Result<Socket> {
     Ok(socket)
 }
 
-/// A socket whose connection is being made ends with what became of it.
-async fn connected<T: std::os::fd::AsRawFd>(socket: &Registered<T>, error: impl Fn(&T) -> io::Result<Option<io::Error>>) -> io::Result<()> {
-    let mut has_waited = false;
-    poll_fn(|cx| socket.poll_writable(cx, &mut has_waited)).await?;
-    match error(socket.get())? {
-        Some(error) => Err(error),
-        None => Ok(()),
-    }
-}
-
-fn is_begun(error: &io::Error) -> bool {
-    error.raw_os_error() == Some(libc::EINPROGRESS)
-}
-
-/// The reads and writes of a stream, by the stream and by a reference to it.
-macro_rules! streams {
-    ($stream:ident) => {
-        impl AsyncRead for &$stream {
-            fn poll_read(self: Pin<&mut Self>, cx: &mut Context<'_>, to: &mut [u8]) -> Poll<io::Result<usize>> {
-                self.0.poll_read_with(cx, to.len(), |mut it| it.read(to))
-            }
-        }
-
-        impl AsyncWrite for &$stream {
-            fn poll_write(self: Pin<&mut Self>, cx: &mut Context<'_>, bytes: &[u8]) -> Poll<io::Result<usize>> {
-                self.0.poll_with(cx, Side::Write, |mut it| it.write(bytes))
-            }
-
-            fn poll_write_vectored(self: Pin<&mut Self>, cx: &mut Context<'_>, bytes: &[IoSlice<'_>]) -> Poll<io::Result<usize>> {
-                self.0.poll_with(cx, Side::Write, |mut it| it.write_vectored(bytes))
-            }
-
-            fn poll_flush(self: Pin<&mut Self>, _: &mut Context<'_>) -> Poll<io::Result<()>> {
-                Poll::Ready(Ok(()))
-            }
-
-            fn poll_close(self: Pin<&mut Self>, _: &mut Context<'_>) -> Poll<io::Result<()>> {
-                Poll::Ready(self.shutdown(Shutdown::Write))
-            }
-        }
-
-        impl AsyncRead for $stream {
-            fn poll_read(self: Pin<&mut Self>, cx: &mut Context<'_>, to: &mut [u8]) -> Poll<io::Result<usize>> {
-                Pin::new(&mut &*self).poll_read(cx, to)
-            }
-        }
-
-        impl AsyncWrite for $stream {
-            fn poll_write(self: Pin<&mut Self>, cx: &mut Context<'_>, bytes: &[u8]) -> Poll<io::Result<usize>> {
-                Pin::new(&mut &*self).poll_write(cx, bytes)
-            }
-
-            fn poll_write_vectored(self: Pin<&mut Self>, cx: &mut Context<'_>, bytes: &[IoSlice<'_>]) -> Poll<io::Result<usize>> {
-                Pin::new(&mut &*self).poll_write_vectored(cx, bytes)
-            }
-
-            fn poll_flush(self: Pin<&mut Self>, cx: &mut Context<'_>) -> Poll<io::Result<()>> {
-                Pin::new(&mut &*self).poll_flush(cx)
-            }
-
-            fn poll_close(self: Pin<&mut Self>, cx: &mut Context<'_>) -> Poll<io::Result<()>> {
-                Pin::new(&mut &*self).poll_close(cx)
-            }
-        }
-
-        impl $stream {
-            /// Ends reads, writes or both.
-            ///
-            /// # Errors
-            ///
-            /// As the system answers.
-            pub fn shutdown(&self, how: Shutdown) -> io::Result<()> {
-                self.0.get().shutdown(how)
-            }
-        }
-    };
-}
-
 /// A TCP connection.
+///
+/// ```
+/// use fairexec_rt::net::{TcpListener, TcpStream};
+/// use fairexec_rt::{submit, Executor, Queue};
+/// use futures_lite::{AsyncReadExt, AsyncWriteExt};
+/// use std::{io, net::Shutdown};
+///
+/// // Each core listens at a port of its own, and the other core serves what it accepts.
+/// Executor::builder().cores(2).run(|here| async move {
+///     let listener = TcpListener::reuse_port("127.0.0.1:0")?;
+///     let mut client = TcpStream::connect(listener.local_addr()?).await?;
+///     let (accepted, address) = listener.accept().await?;
+///     assert_eq!((address, accepted.peer_addr()?), (client.local_addr()?, address));
+///     accepted.set_nodelay(false)?;
+///     let accepted = accepted.into_std();
+///     let served = submit(1 - here.core(), Queue::FIRST, || async move {
+///         TcpStream::from_std(accepted)?.write_all(b"from the other core").await
+///     });
+///     client.shutdown(Shutdown::Write)?;
+///     let mut text = String::new();
+///     client.read_to_string(&mut text).await?;
+///     assert_eq!(text, "from the other core");
+///     served.await.map_err(io::Error::other)?
+/// })?;
+/// # Ok::<(), fairexec_rt::Error>(())
+/// ```
 pub struct TcpStream(Registered<std::net::TcpStream>);
 
 streams!(TcpStream);
@@ -273,101 +228,13 @@ impl TcpStream {
     pub fn peer_addr(&self) -> io::Result<SocketAddr> {
         self.0.get().peer_addr()
     }
-}
 
-/// A socket that accepts connections by a path.
-///
-/// ```
-/// use fairexec_rt::net::{Reads, UnixListener, UnixStream};
-/// use fairexec_rt::{spawn_local, Executor, Queue};
-/// use futures_lite::AsyncWriteExt;
-///
-/// let path = std::env::temp_dir().join(format!("fairexec-rt-{}", std::process::id()));
-/// let at = path.clone();
-/// Executor::builder().run(move |_| {
-///     let listener = UnixListener::bind(&at).unwrap();
-///     let connects = UnixStream::connect(at.clone());
-///     async move {
-///         spawn_local(Queue::FIRST, async { connects.await.unwrap().write_all(b"by a path").await });
-///         let (stream, mut bytes) = (listener.accept().await.unwrap(), Vec::new());
-///         let mut reads = Reads::new(None);
-///         while reads.read(&stream, &mut bytes).await.unwrap() {}
-///         assert_eq!(bytes, b"by a path");
-///     }
-/// })?;
-/// std::fs::remove_file(path).unwrap();
-/// # Ok::<(), fairexec_rt::Error>(())
-/// ```
-pub struct UnixListener(Registered<unix::UnixListener>);
-
-impl UnixListener {
-    /// Listens at a path, where no file is.
+    /// The address of this end.
     ///
     /// # Errors
     ///
     /// As the system answers.
-    pub fn bind(path: impl AsRef<Path>) -> io::Result<UnixListener> {
-        let socket = unix::UnixListener::bind(path)?;
-        socket.set_nonblocking(true)?;
-        Registered::new(socket).map(UnixListener)
-    }
-
-    /// The next connection.
-    ///
-    /// # Errors
-    ///
-    /// As the system answers.
-    pub async fn accept(&self) -> io::Result<UnixStream> {
-        let (socket, _) = poll_fn(|cx| self.0.poll_with(cx, Side::Read, unix::UnixListener::accept)).await?;
-        UnixStream::from_std(socket)
-    }
-}
-
-/// A connection by a path.
-pub struct UnixStream(Registered<unix::UnixStream>);
-
-streams!(UnixStream);
-
-impl UnixStream {
-    /// Connects to who listens at a path.
-    ///
-    /// # Errors
-    ///
-    /// As the system answers; `WouldBlock` if as many connections wait there as may.
-    pub async fn connect(path: impl AsRef<Path>) -> io::Result<UnixStream> {
-        let socket = Socket::new(Domain::UNIX, Type::STREAM.nonblocking().cloexec(), None)?;
-        if let Err(error) = socket.connect(&SockAddr::unix(path)?) {
-            if !is_begun(&error) {
-                return Err(error);
-            }
-        }
-        let stream = Registered::new(socket.into())?;
-        connected(&stream, unix::UnixStream::take_error).await?;
-        Ok(UnixStream(stream))
-    }
-
-    /// Two ends of one connection.
-    ///
-    /// # Errors
-    ///
-    /// As the system answers.
-    pub fn pair() -> io::Result<(UnixStream, UnixStream)> {
-        let (one, other) = unix::UnixStream::pair()?;
-        Ok((UnixStream::from_std(one)?, UnixStream::from_std(other)?))
-    }
-
-    /// A connection that comes from elsewhere.
-    ///
-    /// # Errors
-    ///
-    /// As the system answers.
-    pub fn from_std(socket: unix::UnixStream) -> io::Result<UnixStream> {
-        socket.set_nonblocking(true)?;
-        Registered::new(socket).map(UnixStream)
-    }
-
-    /// The connection without this core's reactor, for `from_std` on another one. It doesn't block.
-    pub fn into_std(self) -> unix::UnixStream {
-        self.0.take_out()
+    pub fn local_addr(&self) -> io::Result<SocketAddr> {
+        self.0.get().local_addr()
     }
 }

@@ -12,6 +12,24 @@ use std::time::{Duration, Instant};
 thread_local!(static ROOM: RefCell<Vec<u8>> = RefCell::new(vec![0; 1 << 16]));
 
 /// The reads of a server's connection. They end when nothing came for a time, and once the executor stops.
+///
+/// ```
+/// use fairexec_rt::net::{Reads, UnixStream};
+/// use fairexec_rt::Executor;
+/// use futures_lite::AsyncWriteExt;
+/// use std::{io, time::Duration};
+///
+/// Executor::builder().run(|_| async {
+///     let (mut client, stream) = UnixStream::pair()?;
+///     let (mut reads, mut bytes) = (Reads::new(Some(Duration::from_millis(200))), Vec::new());
+///     client.write_all(b"some").await?;
+///     assert!(reads.read(&stream, &mut bytes).await? && bytes == b"some");
+///     // Nothing comes any more.
+///     assert!(!reads.read(&stream, &mut bytes).await?);
+///     io::Result::Ok(())
+/// })?;
+/// # Ok::<(), fairexec_rt::Error>(())
+/// ```
 pub struct Reads {
     stop: Stopping,
     // When something came last, and what ends the wait.

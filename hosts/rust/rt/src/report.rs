@@ -5,6 +5,16 @@ use std::path::PathBuf;
 use std::time::Duration;
 
 /// The counts of one core.
+///
+/// ```
+/// use fairexec_rt::{yield_now, Executor};
+///
+/// let report = Executor::builder().run(|_| yield_now())?;
+/// let core = &report.cores[0];
+/// assert_eq!((core.core, core.tasks, core.queues.len()), (0, 0, 1));
+/// assert!(core.turns >= 2);
+/// # Ok::<(), fairexec_rt::Error>(())
+/// ```
 #[derive(Clone, PartialEq, Eq, Debug, Default)]
 pub struct CoreStats {
     /// Its number.
@@ -20,6 +30,17 @@ pub struct CoreStats {
 }
 
 /// The counts of one queue of a core.
+///
+/// ```
+/// use fairexec_rt::Executor;
+/// use std::{thread, time::Duration};
+///
+/// let report = Executor::builder().queue("requests", 500).run(|_| async { thread::sleep(Duration::from_millis(2)) })?;
+/// let queue = &report.cores[0].queues[0];
+/// assert_eq!((queue.name.as_str(), queue.shares, queue.picks), ("requests", 500, 1));
+/// assert!(queue.time >= Duration::from_millis(2) && queue.virtual_runtime >= 2 * 2_000_000);
+/// # Ok::<(), fairexec_rt::Error>(())
+/// ```
 #[derive(Clone, PartialEq, Eq, Debug, Default)]
 pub struct QueueStats {
     /// The name that the builder gave it.

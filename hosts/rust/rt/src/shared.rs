@@ -16,6 +16,17 @@ pub(crate) fn lock<T>(of: &Mutex<T>) -> MutexGuard<'_, T> {
 }
 
 /// A task queue, by its number. [`Builder::queue`](crate::Builder::queue) numbers them from 0, and each core has all of them.
+///
+/// ```
+/// use fairexec_rt::{spawn_local, Executor, Queue};
+///
+/// const BACKGROUND: Queue = Queue::new(1);
+/// assert_eq!((Queue::FIRST.number(), BACKGROUND.number()), (0, 1));
+/// Executor::builder().queue("requests", 1000).queue("background", 100).run(|_| async {
+///     spawn_local(BACKGROUND, async {}).await.unwrap();
+/// })?;
+/// # Ok::<(), fairexec_rt::Error>(())
+/// ```
 #[derive(Clone, Copy, PartialEq, Eq, Hash, Debug)]
 pub struct Queue(pub(crate) u32);
 
@@ -130,6 +141,8 @@ impl Shared {
 ///         2 * futures_lite::future::block_on(call).unwrap()
 ///     });
 ///     assert_eq!(fairexec_rt::fs::unblock(move || other.join().unwrap()).await, 42);
+///     assert_eq!(here.handle().stats().len(), here.handle().cores() as usize);
+///     here.handle().stop(std::time::Duration::from_secs(1));
 /// })?;
 /// # Ok::<(), fairexec_rt::Error>(())
 /// ```

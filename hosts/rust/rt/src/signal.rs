@@ -10,6 +10,23 @@ use std::time::Duration;
 
 /// The signals of one number that come to this process.
 ///
+/// ```
+/// use fairexec_rt::{signal::{signals, Signals}, spawn_local, Executor, Queue};
+/// use std::io;
+///
+/// async fn read_again_at(mut hangs_up: Signals) -> io::Result<()> {
+///     loop {
+///         hangs_up.next().await?;
+///         println!("the setup is read again");
+///     }
+/// }
+/// Executor::builder().run(|_| async {
+///     spawn_local(Queue::FIRST, read_again_at(signals(libc::SIGHUP)?));
+///     io::Result::Ok(())
+/// })?;
+/// # Ok::<(), fairexec_rt::Error>(())
+/// ```
+///
 /// The first one that asks takes the place of what the signal did before, such as to end the process, and it stays so when this is dropped.
 pub struct Signals {
     // It is dropped before the pipe that it writes to.

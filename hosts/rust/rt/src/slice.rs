@@ -39,6 +39,19 @@ pub async fn yield_now() {
 /// # Panics
 ///
 /// Outside a task.
+///
+/// ```
+/// use fairexec_rt::{ran_for, yield_now, Executor};
+/// use std::time::Duration;
+///
+/// Executor::builder().run(|_| async {
+///     std::thread::sleep(Duration::from_millis(2));
+///     assert!(ran_for() >= Duration::from_millis(1));
+///     yield_now().await;
+///     println!("the next run took {:?} so far", ran_for());
+/// })?;
+/// # Ok::<(), fairexec_rt::Error>(())
+/// ```
 pub fn ran_for() -> Duration {
     Duration::from_nanos(here(|it| wall_clock().saturating_sub(it.began.get())))
 }

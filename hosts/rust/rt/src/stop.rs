@@ -4,6 +4,8 @@ use crate::call::{Call, Slot};
 use crate::local::{here, with_here, Sending};
 use crate::report::CoreStats;
 use crate::shared::{check_shares, lock, Queue};
+use std::any::Any;
+use std::error::Error;
 use std::future::Future;
 use std::marker::PhantomData;
 use std::pin::Pin;
@@ -12,14 +14,22 @@ use std::sync::{Condvar, Mutex, PoisonError};
 use std::task::{Context, Poll};
 use std::time::{Duration, Instant};
 
+/// Why a future of `run` ends the executor.
+pub(crate) enum Failure {
+    Panic(Box<dyn Any + Send>),
+    Error(Box<dyn Error + Send + Sync>),
+}
+
 /// How far the executor is from its end.
 struct State {
     /// Futures of `run` that haven't ended.
     roots: u32,
     /// When the grace of a stop is over, if one was asked for.
     deadline: Option<Instant>,
-    /// Whether a core failed.
+    /// Whether a core or a future of `run` failed.
     has_failed: bool,
+    /// What the first of these futures came to.
+    failure: Option<Failure>,
     /// By the core, whether it has no task and waits for no call.
     is_quiet: Vec<bool>,
 }
@@ -34,7 +44,7 @@ pub(crate) struct Ending {
 
 impl Ending {
     pub(crate) fn new(cores: u32) -> Ending {
-        let state = State { roots: cores, deadline: None, has_failed: false, is_quiet: vec![false; cores as usize] };
+        let state = State { roots: cores, deadline: None, has_failed: false, failure: None, is_quiet: vec![false; cores as usize] };
         Ending { state: Mutex::new(state), changed: Condvar::new(), is_stopping: AtomicBool::new(false), is_closing: AtomicBool::new(false) }
     }
 
@@ -56,6 +66,19 @@ impl Ending {
 
     pub(crate) fn fail(&self) {
         self.change(|it| it.has_failed = true);
+    }
+
+    /// A future of `run` failed. The first one is told.
+    pub(crate) fn fail_by(&self, failure: Failure) {
+        self.change(|it| {
+            it.has_failed = true;
+            it.failure.get_or_insert(failure);
+        });
+    }
+
+    /// What the first future that failed came to.
+    pub(crate) fn failure(&self) -> Option<Failure> {
+        lock(&self.state).failure.take()
     }
 
     /// A core that is called tells that it isn't quiet before who called it learns of an outcome. So of two cores one is not quiet until the
@@ -123,6 +146,21 @@ pub fn stop(grace: Duration) {
 }
 
 /// Ends once [`stop`] was called: see [`stopping`].
+///
+/// ```
+/// use fairexec_rt::{sleep, stop, stopping, Executor, Stopping};
+/// use futures_lite::future;
+/// use std::time::Duration;
+///
+/// struct Server(Stopping);
+/// Executor::builder().run(|_| async {
+///     let mut server = Server(stopping());
+///     assert!(future::poll_once(&mut server.0).await.is_none());
+///     stop(Duration::from_secs(1));
+///     server.0.await;
+/// })?;
+/// # Ok::<(), fairexec_rt::Error>(())
+/// ```
 #[must_use = "a future does nothing unless it is awaited"]
 pub struct Stopping {
     // Its place among those that wait.

@@ -16,6 +16,17 @@ use std::thread::{self, ThreadId};
 type Panic = Box<dyn Any + Send>;
 
 /// Why a task has no value: it was dropped before its end, or it panicked.
+///
+/// ```
+/// use fairexec_rt::{spawn_local, Executor, Queue};
+///
+/// Executor::builder().run(|_| async {
+///     let error = spawn_local(Queue::FIRST, async { panic!("it ends alone") }).await.map(|()| "").unwrap_err();
+///     assert!(error.is_panic() && !error.is_cancelled());
+///     assert_eq!(error.into_panic().unwrap().downcast_ref(), Some(&"it ends alone"));
+/// })?;
+/// # Ok::<(), fairexec_rt::Error>(())
+/// ```
 pub struct JoinError(Option<Mutex<Panic>>);
 
 impl JoinError {

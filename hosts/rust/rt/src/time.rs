@@ -45,6 +45,19 @@ impl Timers {
 }
 
 /// A future that ends at a time. It stays on its core.
+///
+/// ```
+/// use fairexec_rt::{sleep, Executor};
+/// use std::time::{Duration, Instant};
+///
+/// Executor::builder().run(|_| async {
+///     let (began, mut ends) = (Instant::now(), sleep(Duration::from_secs(3600)));
+///     ends.reset(Duration::from_millis(2));
+///     ends.await;
+///     assert!(began.elapsed() < Duration::from_secs(60));
+/// })?;
+/// # Ok::<(), fairexec_rt::Error>(())
+/// ```
 pub struct Sleep {
     deadline: u64,
     // Its place among the timers, while it waits.
@@ -59,14 +72,13 @@ fn after(time: Duration) -> u64 {
 /// Ends behind so much time.
 ///
 /// ```
-/// use fairexec_rt::{sleep, sleep_until, Executor};
+/// use fairexec_rt::{sleep, Executor};
 /// use std::time::{Duration, Instant};
 ///
 /// Executor::builder().run(|_| async {
 ///     let began = Instant::now();
-///     sleep(Duration::from_millis(2)).await;
-///     sleep_until(began + Duration::from_millis(5)).await;
-///     assert!(began.elapsed() >= Duration::from_millis(4));
+///     sleep(Duration::from_millis(3)).await;
+///     assert!(began.elapsed() >= Duration::from_millis(2));
 /// })?;
 /// # Ok::<(), fairexec_rt::Error>(())
 /// ```
@@ -76,6 +88,19 @@ pub fn sleep(time: Duration) -> Sleep {
 }
 
 /// Ends at this time, at once if it is over.
+///
+/// ```
+/// use fairexec_rt::{sleep_until, Executor};
+/// use std::time::{Duration, Instant};
+///
+/// Executor::builder().run(|_| async {
+///     let end = Instant::now() + Duration::from_millis(3);
+///     sleep_until(end).await;
+///     assert!(Instant::now() > end - Duration::from_millis(1));
+///     sleep_until(end).await;
+/// })?;
+/// # Ok::<(), fairexec_rt::Error>(())
+/// ```
 pub fn sleep_until(time: Instant) -> Sleep {
     sleep(time.saturating_duration_since(Instant::now()))
 }
@@ -124,7 +149,18 @@ impl Drop for Sleep {
     }
 }
 
-/// The time was over before the future ended.
+/// The time was over before the future ended. It becomes an error of reads and writes by `?`.
+///
+/// ```
+/// use fairexec_rt::{timeout, Executor};
+/// use std::{future::pending, io, time::Duration};
+///
+/// let told = Executor::builder().run(|_| async {
+///     timeout(Duration::from_millis(1), pending::<()>()).await?;
+///     io::Result::Ok(())
+/// });
+/// assert_eq!(told.unwrap_err().to_string(), io::Error::from(io::ErrorKind::TimedOut).to_string());
+/// ```
 #[derive(Clone, Copy, PartialEq, Eq, Debug)]
 pub struct Elapsed;
 
@@ -168,7 +204,22 @@ pub async fn timeout<F: Future>(time: Duration, future: F) -> Result<F::Output, 
     .await
 }
 
-/// Ticks in even distances.
+/// Ticks in even distances: see [`interval`].
+///
+/// ```
+/// use fairexec_rt::{interval, sleep, Executor, Interval};
+/// use std::time::{Duration, Instant};
+///
+/// Executor::builder().run(|_| async {
+///     let (began, mut ticks): (_, Interval) = (Instant::now(), interval(Duration::from_millis(20)));
+///     sleep(Duration::from_millis(50)).await;
+///     // The first tick comes at once. The second was missed, so the third is next.
+///     ticks.tick().await;
+///     ticks.tick().await;
+///     assert!(began.elapsed() >= Duration::from_millis(59));
+/// })?;
+/// # Ok::<(), fairexec_rt::Error>(())
+/// ```
 pub struct Interval {
     every: u64,
     sleep: Sleep,

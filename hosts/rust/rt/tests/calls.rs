@@ -92,7 +92,12 @@ fn a_full_link_gives_the_function_back() {
             for call in calls {
                 assert_eq!(call.await, Ok(1));
             }
-            assert!(try_submit(1, Queue::FIRST, full.0).is_ok());
+            // The link has room again once the core has seen the outcomes.
+            let mut told = try_submit(1, Queue::FIRST, full.0);
+            while let Err(full) = told {
+                yield_now().await;
+                told = try_submit(1, Queue::FIRST, full.0);
+            }
         })
         .unwrap();
 }

@@ -190,11 +190,12 @@ fn wrong_setups_are_told() {
 
 #[test]
 fn a_journal_that_is_kept_and_full_ends_the_run() {
-    let told = Executor::builder().places(8).journal(Journal::Keep).notes(200).run(|_| async {
+    async fn for_ever() {
         loop {
             yield_now().await;
         }
-    });
+    }
+    let told = Executor::builder().places(8).journal(Journal::Keep).notes(200).run(|_| for_ever());
     assert_eq!(told.unwrap_err().to_string(), format!("the library: {}", fairexec::Error::JournalFull));
 }
 

@@ -13,6 +13,18 @@ use std::time::Duration;
 /// The right to ask for the outcome of one submission. Only the actor that made it has an answer.
 ///
 /// A ticket that is dropped lets nothing go: its submission keeps its place of the link until it is redeemed or detached.
+///
+/// ```
+/// use fairexec::linked::{Config, House, Outcome, Step};
+///
+/// let (_house, mut cores, mut outside) = House::open(&Config::default())?;
+/// let ticket = outside.submit(0, 0, ()).map_err(|(error, ())| error)?;
+/// assert_eq!(ticket.name().number, 1);
+/// while cores[0].round(|(), _| Step::Done(7))? {}
+/// assert_eq!(outside.collect()?, 1);
+/// assert_eq!(outside.redeem(&ticket)?, Outcome::Done(7));
+/// # Ok::<(), fairexec::Error>(())
+/// ```
 #[must_use = "a ticket that is dropped keeps its place of the link: redeem or detach it"]
 #[derive(PartialEq, Eq, Debug)]
 pub struct Ticket {
@@ -42,6 +54,8 @@ impl Ticket {
 struct Sent {
     // The places where no job of this actor stands, from that which is vacant longest: neighbours are on one line of a cache.
     vacant: VecDeque<u32>,
+    // So many stay vacant. On its link to itself a core keeps a place for orders: if jobs that wait had all of them, no wake could go out.
+    kept: usize,
     // Submissions whose outcome wasn't collected.
     pending: u64,
     // Whether the core was told that it has to look at the link.
@@ -100,7 +114,8 @@ impl<J> DerefMut for Entered<'_, J> {
 
 impl<J> Actor<J> {
     pub(super) fn new(number: u32, seat: Seat, lanes: Arc<Lanes<J>>) -> Actor<J> {
-        let none = |_| Sent { vacant: (0..Lanes::<J>::room(lanes.places())).collect(), pending: 0, is_used: false, loose: VecDeque::new() };
+        let (room, keeps) = (Lanes::<J>::room(lanes.places()), |to| if to == number && lanes.places() > 1 { 2 } else { 0 });
+        let none = |to| Sent { vacant: (0..room).collect(), kept: keeps(to), pending: 0, is_used: false, loose: VecDeque::new() };
         let sent = (0..lanes.cores()).map(none).collect();
         let fresh = Fresh::new(lanes.cores() + 1);
         Actor { seat, number, lanes, sent, misses: false, fresh }
@@ -117,7 +132,7 @@ impl<J> Actor<J> {
     pub(super) fn submit(&mut self, to: u32, queue: u32, job: J) -> Result<Ticket, (Error, J)> {
         let Some(sent) = self.sent.get_mut(to as usize) else { return Err((Error::UnknownCore, job)) };
         // A link that is full has a job in each place but one at most.
-        let Some(&place) = sent.vacant.front() else { return Err((Error::Full, job)) };
+        let Some(&place) = sent.vacant.front().filter(|_| sent.vacant.len() > sent.kept) else { return Err((Error::Full, job)) };
         sent.tell_use(&self.lanes, self.number, to);
         // SAFETY: a vacant place is the sender's.
         unsafe { self.lanes.put(self.number, to, place, job) };
@@ -270,11 +285,6 @@ impl<J> Actor<J> {
         Ok(())
     }
 
-    /// Whether one more task may go to this core: on the link to the own core a place stays free for wakes.
-    pub(super) fn may_submit_task(&self, to: u32) -> bool {
-        to != self.number || self.sent[to as usize].loose.len() + 1 < self.lanes.places() as usize
-    }
-
     /// Sleeps until its bell is rung, for so long at most.
     pub(super) fn sleep(&mut self, longest: Duration) {
         let Actor { seat, number, lanes, .. } = self;
@@ -369,8 +379,8 @@ macro_rules! submissions {
             self.$($entered)+.detach(ticket)
         }
 
-        /// Puts the text of the notes that the journal keeps behind this text. The journal keeps none of them then, and all its notes are free.
-        /// All parts of an actor are its notes in the text of the journals.
+        /// Puts the text of the notes that the journal keeps behind this text, and forgets them. The journal keeps none of them then, and all its notes
+        /// are free. All parts of an actor are its notes in the text of the journals.
         ///
         /// # Errors
         ///
@@ -379,9 +389,39 @@ macro_rules! submissions {
             self.$($entered)+.seat.pass_on(text)
         }
 
-        /// Whenever the journal is full from now on, the text of its notes goes to `takes`, and the call that needs room is made again. So
-        /// `JournalFull` comes only if the journal has room for fewer notes than one call may need. What is kept at the end goes out by `pass_on`.
-        /// If `takes` panics, the text goes first to who takes notes the next time, or out by `pass_on`.
+        /// How many notes the journal keeps, and how many more it has room for. One of these is for the settling of a job that runs.
+        ///
+        /// # Errors
+        ///
+        /// `Ended`.
+        pub fn note_counts(&mut self) -> Result<crate::linked::NoteCounts, Error> {
+            self.$($entered)+.seat.counts()
+        }
+
+        /// Forgets the notes that the journal keeps. How many they were. All its notes are free then, and the house can't be judged.
+        ///
+        /// # Errors
+        ///
+        /// `Ended`.
+        pub fn forget(&mut self) -> Result<u64, Error> {
+            self.$($entered)+.seat.forget()
+        }
+
+        /// Puts the text of so many of the newest notes behind this text: of those that the journal keeps, and with [`Journal::Last`] of those that stayed
+        /// of the ones before. How many notes these are. All of them stay.
+        ///
+        /// # Errors
+        ///
+        /// `NoMemory`, `Ended`. Then nothing changes.
+        ///
+        /// [`Journal::Last`]: super::Journal::Last
+        pub fn newest(&mut self, most: u64, text: &mut Vec<u8>) -> Result<u64, Error> {
+            self.$($entered)+.seat.newest(most, text)
+        }
+
+        /// From now on the text of the notes goes to `takes`, before the journal is full: about a thousand at a time, or all of a journal that has room
+        /// for fewer than two thousand. So `JournalFull` comes only if the journal has room for fewer notes than one call may need. What is kept at
+        /// the end goes out by `pass_on`. If `takes` panics, the text goes first to who takes notes the next time, or out by `pass_on`.
         pub fn keep_notes_by(&mut self, takes: impl FnMut(&[u8]) + Send + 'static) {
             self.$($entered)+.seat.keep_notes_by(Box::new(takes));
         }

@@ -1,15 +1,15 @@
-//! A core of a house, and what its jobs may do.
+//! A core of a house.
 
 use super::actor::{submissions, Actor, Ticket};
+use super::cx::Cx;
 use super::lanes::{Bell, Ringer, LONGEST_SLEEP};
-use super::names::{Name, Outcome, Step};
+use super::names::{Name, Outcome, Step, Turn};
 use super::seat::{Next, Settled};
 use crate::clock::{now, Clock};
 use crate::core::Mode;
 use crate::error::Error;
 use crate::stats::{CoreStats, QueueStats};
 use std::collections::VecDeque;
-use std::marker::PhantomData;
 use std::panic::catch_unwind;
 use std::sync::Arc;
 use std::time::Duration;
@@ -19,21 +19,6 @@ const LONGEST: u64 = 5_000;
 
 /// A round delivers so many orders of an actor at most, and runs so many jobs.
 const MOST: u32 = 64;
-
-/// What a turn came to.
-#[derive(Clone, Copy, PartialEq, Eq, Debug)]
-pub enum Turn {
-    /// A job ran, and is at the tail of its queue.
-    Yielded,
-    /// A job ran, and runs again once it was woken.
-    Parked,
-    /// A job ran, is done, and was dropped.
-    Done,
-    /// A job went back to who submitted it.
-    Back(Name),
-    /// No queue has work.
-    Idle,
-}
 
 /// Tells who waits for jobs of a core that it was dropped, as by an error or a panic that ends its thread.
 struct Leaving {
@@ -48,6 +33,34 @@ impl Drop for Leaving {
 }
 
 /// A core of a house. It goes to the thread that runs it, and no other thread uses it then.
+///
+/// ```
+/// use fairexec::linked::{Config, Cx, House, Step};
+/// use fairexec::Mode;
+///
+/// /// It counts down.
+/// fn run(job: &mut u64, _: &mut Cx<'_, u64>) -> Step {
+///     *job -= 1;
+///     if *job > 0 { Step::Yield } else { Step::Done(7) }
+/// }
+/// let (_house, mut cores, mut outside) = House::open(&Config::default())?;
+/// let core = &mut cores[0];
+/// core.set_clock(|| 0);
+/// core.set_round_time(20_000);
+/// let ticket = outside.submit(core.number(), 0, 3).map_err(|(error, _)| error)?;
+/// outside.detach(ticket)?;
+/// assert!(core.shows() && core.deliver()?);
+/// core.run_turn(run)?;
+/// assert_eq!((core.stats().held, core.stats_of(0)?.picks), (1, 1));
+/// core.close(Mode::Finish)?;
+/// while !core.is_drained() {
+///     if !core.round(run)? {
+///         core.sleep();
+///     }
+/// }
+/// core.run(run)?;
+/// # Ok::<(), fairexec::Error>(())
+/// ```
 ///
 /// ```compile_fail,E0277
 /// fn is_sync<T: Sync>() {}
@@ -65,39 +78,6 @@ pub struct Core<J> {
     pub(super) spawned: Vec<VecDeque<(u32, J)>>,
     // It stands behind the actor, whose seat is freed before.
     _leaving: Leaving,
-}
-
-/// What a job may do while it runs. It stays on the thread of its core.
-///
-/// ```compile_fail,E0277
-/// fn is_send<T: Send>() {}
-/// is_send::<fairexec::linked::Cx<'static, u64>>();
-/// ```
-pub struct Cx<'a, J> {
-    actor: &'a mut Actor<J>,
-    name: Name,
-    queue: u32,
-    // The seat of the actor was entered by this thread.
-    stays: PhantomData<*const ()>,
-}
-
-impl<J> Cx<'_, J> {
-    submissions!(actor);
-
-    /// The number of the core that the job runs on.
-    pub fn core(&self) -> u32 {
-        self.actor.number
-    }
-
-    /// The queue that the job is in.
-    pub fn queue(&self) -> u32 {
-        self.queue
-    }
-
-    /// The job's name: who has it may wake the job.
-    pub fn name(&self) -> Name {
-        self.name
-    }
 }
 
 /// The run of a job. If it ends by a panic, also of the clock, the job counts as done with answer 0, and is dropped.
@@ -174,7 +154,7 @@ where
     // SAFETY: the library told this run, so the place is this core's until the run is settled, and the job is used before that. What a job may do
     // uses other places: those of its own submissions.
     if let Some(job) = unsafe { running.actor.lanes.standing(name.from, name.to, place) } {
-        running.step = run(job, &mut Cx { actor: running.actor, name, queue, stays: PhantomData });
+        running.step = run(job, &mut Cx::new(running.actor, name, queue));
     }
     running.settle();
     let turn = match running.settled {

@@ -3,6 +3,7 @@
 use super::actor::Actor;
 use super::core::Core;
 use super::lanes::Lanes;
+use super::notes::Journal;
 use super::outside::Outside;
 use super::seat::Seat;
 use crate::error::{refused, Error};
@@ -11,21 +12,32 @@ use std::marker::PhantomData;
 use std::sync::Arc;
 
 /// What a house is opened with.
+///
+/// ```
+/// use fairexec::linked::{Config, House, Job};
+///
+/// let (_house, cores, _outside) = House::<Job>::open(&Config { cores: 2, places: 256, ..Config::default() })?;
+/// assert_eq!(cores.len(), 2);
+/// # Ok::<(), fairexec::Error>(())
+/// ```
 #[derive(Clone, Copy, PartialEq, Eq, Debug)]
 pub struct Config {
     /// 1 to 16.
     pub cores: u32,
-    /// Submissions that may be outstanding from one actor to one core, 1 to 1024.
+    /// Submissions that may be outstanding from one actor to one core, 1 to 1024. If there is more than one place, a core keeps one of the link to
+    /// itself for orders that are no jobs, so that it can always wake its own.
     pub places: u32,
     /// Runs that one turn of a queue may have, 1 to 64.
     pub burst: u32,
     /// Notes that the journal of each actor has room for, at most 2^24.
     pub notes: u32,
+    /// What becomes of them.
+    pub journal: Journal,
 }
 
 impl Default for Config {
     fn default() -> Config {
-        Config { cores: 1, places: 64, burst: 1, notes: 1 << 20 }
+        Config { cores: 1, places: 64, burst: 1, notes: 1 << 20, journal: Journal::Keep }
     }
 }
 
@@ -42,6 +54,20 @@ impl Drop for Handle {
 /// A house whose actors were taken. It takes them back at its end.
 ///
 /// It stays on its thread, since the library asks for more than `Send` does.
+///
+/// ```
+/// use fairexec::linked::{Config, House, Outcome, Step};
+/// use fairexec::Mode;
+///
+/// let (house, mut cores, mut outside) = House::open(&Config::default())?;
+/// let ticket = outside.submit(0, 0, 20_u64).map_err(|(error, _)| error)?;
+/// while cores[0].round(|job, _| Step::Done(2 * *job))? {}
+/// assert_eq!(outside.wait_for(&ticket)?, Outcome::Done(40));
+/// outside.close_all(Mode::Finish)?;
+/// cores[0].run(|_, _| Step::Done(0))?;
+/// assert!(house.end(cores, outside).map_err(|(error, ..)| error)?.audit()?.is_sound);
+/// # Ok::<(), fairexec::Error>(())
+/// ```
 pub struct House<J> {
     handle: Handle,
     lanes: Arc<Lanes<J>>,
@@ -68,14 +94,14 @@ impl<J> House<J> {
         // SAFETY: it takes nothing.
         let version = unsafe { raw::fx_version() };
         assert_eq!(version, raw::FX_VERSION, "libfairexec.a has another version");
-        let Config { cores, places, burst, notes } = *config;
+        let Config { cores, places, burst, notes, journal } = *config;
         let asked = raw::fx_config { size: size_of::<raw::fx_config>() as u32, cores, places, burst, notes };
         let mut handle = Handle(raw::fx_house { at: std::ptr::null_mut() });
         // SAFETY: the handle is empty, and both pointers are to local values.
         refused(unsafe { raw::fx_house_open(&mut handle.0, &asked) })?;
         let lanes = Arc::new(Lanes::new(cores, places));
         let mut actors = (0..=cores)
-            .map(|_| Seat::take(&mut handle.0).map(|(number, seat)| Actor::new(number, seat, Arc::clone(&lanes))))
+            .map(|_| Seat::take(&mut handle.0, journal).map(|(number, seat)| Actor::new(number, seat, Arc::clone(&lanes))))
             .collect::<Result<Vec<_>, _>>()?;
         // The outside actor comes first, and then the cores from the greatest number on.
         actors.reverse();
@@ -110,6 +136,19 @@ impl<J> House<J> {
 }
 
 /// What an audit found.
+///
+/// ```
+/// use fairexec::linked::{Config, House, Job};
+/// use fairexec::Mode;
+///
+/// let (house, mut cores, outside) = House::<Job>::open(&Config::default())?;
+/// cores[0].close(Mode::Finish)?;
+/// cores[0].run_jobs()?;
+/// let mut journals = house.end(cores, outside).map_err(|(error, ..)| error)?;
+/// let verdict = journals.audit()?;
+/// assert_eq!((verdict.is_sound, verdict.rule), (true, 0));
+/// # Ok::<(), fairexec::Error>(())
+/// ```
 #[must_use]
 #[derive(Clone, Copy, PartialEq, Eq, Debug)]
 pub struct Verdict {
@@ -124,6 +163,19 @@ pub struct Verdict {
 }
 
 /// The journals of a house that has ended.
+///
+/// ```
+/// use fairexec::linked::{Config, House, Job};
+/// use fairexec::Mode;
+///
+/// let (house, mut cores, outside) = House::<Job>::open(&Config::default())?;
+/// cores[0].close(Mode::Finish)?;
+/// cores[0].run_jobs()?;
+/// let mut journals = house.end(cores, outside).map_err(|(error, ..)| error)?;
+/// assert!(journals.audit()?.is_sound);
+/// assert!(journals.text()?.starts_with("journal 1\ncores 1 cap 64\n"));
+/// # Ok::<(), fairexec::Error>(())
+/// ```
 pub struct Journals {
     handle: Handle,
 }

@@ -90,6 +90,31 @@ impl Bell {
 }
 
 /// Rings for one core of a house, from any thread. It is cheap to clone.
+///
+/// ```
+/// use fairexec::linked::{Config, House, Job};
+/// use std::{sync::mpsc, thread};
+///
+/// let (_house, mut cores, _outside) = House::<Job>::open(&Config::default())?;
+/// let (rings, hears) = mpsc::channel();
+/// cores[0].set_bell(move || rings.send(()).expect("it is heard"));
+/// let (ringer, (gives, has)) = (cores[0].ringer(), mpsc::channel());
+/// let other = thread::spawn(move || {
+///     // First what there is to do, and then the ring.
+///     gives.send(42).expect("it is taken");
+///     ringer.ring();
+/// });
+/// let mut found = None;
+/// while found.is_none() {
+///     let looks = || {
+///         found = has.try_recv().ok();
+///         found.is_some()
+///     };
+///     cores[0].wait_by(looks, |longest| hears.recv_timeout(longest).ok());
+/// }
+/// other.join().expect("it ends");
+/// # Ok::<(), fairexec::Error>(())
+/// ```
 #[derive(Clone)]
 pub struct Ringer {
     bells: Arc<[Bell]>,

@@ -3,6 +3,25 @@
 use crate::raw;
 
 /// The name of a submission: its sender, the core that it went to, and its number on that link.
+///
+/// ```
+/// use fairexec::linked::{Answer, Config, Cx, House, Outcome, Step};
+///
+/// /// It counts its runs, and waits once.
+/// fn run(job: &mut u64, _: &mut Cx<'_, u64>) -> Step {
+///     *job += 1;
+///     if *job == 1 { Step::Park } else { Step::Done(*job) }
+/// }
+/// let (_house, mut cores, mut outside) = House::open(&Config::default())?;
+/// let ticket = outside.submit(0, 0, 0).map_err(|(error, _)| error)?;
+/// while cores[0].round(run)? {}
+/// // Who has the name wakes the job.
+/// let wake = outside.wake(ticket.name())?;
+/// while cores[0].round(run)? {}
+/// assert_eq!(outside.wait_for(&wake)?, Outcome::Answered(Answer::Woken));
+/// assert_eq!(outside.wait_for(&ticket)?, Outcome::Done(2));
+/// # Ok::<(), fairexec::Error>(())
+/// ```
 #[derive(Clone, Copy, PartialEq, Eq, Hash, Debug)]
 pub struct Name {
     /// An actor: a core, or the outside actor, whose number is the count of the cores.
@@ -24,6 +43,17 @@ impl Name {
 }
 
 /// What the run of a job came to.
+///
+/// ```
+/// use fairexec::linked::{Config, House, Step, Turn};
+///
+/// let (_house, mut cores, mut outside) = House::open(&Config::default())?;
+/// outside.submit(0, 0, ()).map(drop).map_err(|(error, ()): (_, ())| error)?;
+/// cores[0].deliver()?;
+/// assert_eq!(cores[0].run_turn(|(), _| Step::Yield)?, Turn::Yielded);
+/// assert_eq!(cores[0].run_turn(|(), _| Step::Done(7))?, Turn::Done);
+/// # Ok::<(), fairexec::Error>(())
+/// ```
 #[derive(Clone, Copy, PartialEq, Eq, Debug)]
 pub enum Step {
     /// It wants to run again: it goes to the tail of its queue.
@@ -34,7 +64,43 @@ pub enum Step {
     Done(u64),
 }
 
+/// What a turn came to.
+///
+/// ```
+/// use fairexec::linked::{Config, House, Step, Turn};
+///
+/// let (_house, mut cores, mut outside) = House::open(&Config::default())?;
+/// assert_eq!(cores[0].run_turn(|(), _| Step::Park)?, Turn::Idle);
+/// let _ticket = outside.submit(0, 0, ()).map_err(|(error, ())| error)?;
+/// cores[0].deliver()?;
+/// assert_eq!(cores[0].run_turn(|(), _| Step::Park)?, Turn::Parked);
+/// # Ok::<(), fairexec::Error>(())
+/// ```
+#[derive(Clone, Copy, PartialEq, Eq, Debug)]
+pub enum Turn {
+    /// A job ran, and is at the tail of its queue.
+    Yielded,
+    /// A job ran, and runs again once it was woken.
+    Parked,
+    /// A job ran, is done, and was dropped.
+    Done,
+    /// A job went back to who submitted it.
+    Back(Name),
+    /// No queue has work.
+    Idle,
+}
+
 /// Why a job comes back.
+///
+/// ```
+/// use fairexec::linked::{Config, House, Outcome, Reason};
+///
+/// let (_house, mut cores, mut outside) = House::open(&Config::default())?;
+/// let ticket = outside.submit(0, 9, "a job").map_err(|(error, _)| error)?;
+/// cores[0].deliver()?;
+/// assert_eq!(outside.wait_for(&ticket)?, Outcome::Back(Reason::NoQueue, "a job"));
+/// # Ok::<(), fairexec::Error>(())
+/// ```
 #[derive(Clone, Copy, PartialEq, Eq, Debug)]
 pub enum Reason {
     /// At its delivery: the core has no queue of that number.
@@ -63,6 +129,16 @@ impl Reason {
 }
 
 /// What an order that is no job was answered.
+///
+/// ```
+/// use fairexec::linked::{Answer, Config, House, Job, Outcome};
+///
+/// let (_house, mut cores, mut outside) = House::<Job>::open(&Config::default())?;
+/// let ticket = outside.create(0, 300)?;
+/// cores[0].deliver()?;
+/// assert!(matches!(outside.wait_for(&ticket)?, Outcome::Answered(Answer::Created(1))));
+/// # Ok::<(), fairexec::Error>(())
+/// ```
 #[derive(Clone, Copy, PartialEq, Eq, Debug)]
 pub enum Answer {
     /// The queue was made, under this number.
@@ -106,6 +182,20 @@ impl Answer {
 }
 
 /// What became of a submission.
+///
+/// ```
+/// use fairexec::linked::{Config, House, Outcome, Step};
+///
+/// let (_house, mut cores, mut outside) = House::open(&Config::default())?;
+/// let ticket = outside.submit(0, 0, 6_u64).map_err(|(error, _)| error)?;
+/// while cores[0].round(|job, _| Step::Done(7 * *job))? {}
+/// match outside.wait_for(&ticket)? {
+///     Outcome::Done(answer) => assert_eq!(answer, 42),
+///     Outcome::Back(reason, job) => panic!("{job} came back: {reason:?}"),
+///     Outcome::Answered(_) => unreachable!("it is a job"),
+/// }
+/// # Ok::<(), fairexec::Error>(())
+/// ```
 #[must_use = "an outcome may be that the job came back"]
 #[derive(PartialEq, Eq, Debug)]
 pub enum Outcome<J> {

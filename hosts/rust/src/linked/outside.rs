@@ -8,6 +8,30 @@ use crate::error::Error;
 use std::time::{Duration, Instant};
 
 /// The outside actor: the part of the host that belongs to no core. It submits, and receives nothing.
+///
+/// ```
+/// use fairexec::linked::{Answer, Config, House, Outcome, Step};
+/// use fairexec::{Error, Mode};
+/// use std::time::Duration;
+///
+/// let (_house, mut cores, mut outside) = House::open(&Config::default())?;
+/// outside.keep_notes_by(|text| print!("{}", String::from_utf8_lossy(text)));
+/// let job = outside.submit(0, 0, 42_u64).map_err(|(error, _)| error)?;
+/// assert_eq!(outside.wait_timeout(&job, Duration::ZERO), Err(Error::Pending));
+/// let orders = [outside.create(0, 300)?, outside.set_shares(0, 0, 500)?, outside.close_queue(0, 1, Mode::Finish)?];
+/// while cores[0].round(|job, _| Step::Done(*job))? {}
+/// assert_eq!(outside.collect()?, 4);
+/// let told = orders.each_ref().map(|it| outside.redeem(it));
+/// assert_eq!(told, [Answer::Created(1), Answer::SharesSet, Answer::Closed].map(|it| Ok(Outcome::Answered(it))));
+/// // Nobody asks for this outcome, nor for that of `close_all`.
+/// outside.detach(job)?;
+/// let closes = outside.close_core(0, Mode::Finish)?;
+/// outside.detach(closes)?;
+/// outside.close_all(Mode::Return)?;
+/// assert!(cores[0].deliver()?);
+/// outside.pass_on(&mut Vec::new())?;
+/// # Ok::<(), fairexec::Error>(())
+/// ```
 pub struct Outside<J> {
     pub(super) actor: Actor<J>,
 }

@@ -1,6 +1,7 @@
 //! A seat of a house: the calls of the library, without the jobs.
 
 use super::names::{Name, Step};
+use super::notes::{counts, forget, pass_on, Journal, Newest, NoteCounts, PIECE};
 use crate::core::Mode;
 use crate::error::{refused, Error};
 use crate::raw;
@@ -38,11 +39,19 @@ struct Keeper {
     text: Vec<u8>,
 }
 
+/// Behind so many calls that make notes, those that are kept are counted.
+const CALLS: u32 = 256;
+
 /// A seat that was taken. It is freed as it is dropped.
 pub(super) struct Seat {
     handle: raw::fx_seat,
-    // Whoever takes the notes if the journal is full.
+    // What becomes of notes, and the newest of those that were forgotten.
+    journal: Journal,
+    newest: Newest,
+    // Whoever takes the notes, before that.
     keeper: Option<Keeper>,
+    // The notes are counted behind so many more calls.
+    left: u32,
     // The thread that used the seat last. The library asks that a lock, the start or the join of a thread, or a sequentially consistent atomic
     // stands between two calls on different threads. A channel may hand a value over by less. So another thread begins with such an atomic,
     // which finds what the last one left behind its calls.
@@ -68,34 +77,17 @@ fn this_thread() -> u64 {
     })
 }
 
-/// Puts the text of the notes that the journal of a seat keeps behind this text.
-fn pass_on(seat: &mut raw::fx_seat, text: &mut Vec<u8>) -> Result<(), Error> {
-    loop {
-        let (had, room) = (text.len(), text.capacity() - text.len());
-        let mut count = 0;
-        // SAFETY: as below; behind what it has the vector has room for as many bytes as the call is told.
-        match unsafe { raw::fx_seat_pass_on(seat, text.as_mut_ptr().add(had), room, &mut count) } {
-            raw::FX_SHORT => text.reserve(count as usize),
-            code => {
-                refused(code)?;
-                // SAFETY: the call wrote so many bytes there.
-                unsafe { text.set_len(had + count as usize) };
-                return Ok(());
-            }
-        }
-    }
-}
-
 // In each call below the handle is that of an open seat and of this `Seat` alone, and every pointer is to a local value that outlives the call.
 // The calls of one thread stand between `enter` and `leave`.
 impl Seat {
     /// The next seat of a house, with its number.
-    pub(super) fn take(house: &mut raw::fx_house) -> Result<(u32, Seat), Error> {
-        let mut seat = Seat { handle: raw::fx_seat { at: std::ptr::null_mut() }, keeper: None, user: AtomicU64::new(0) };
+    pub(super) fn take(house: &mut raw::fx_house, journal: Journal) -> Result<(u32, Seat), Error> {
+        let handle = raw::fx_seat { at: std::ptr::null_mut() };
+        let mut seat = Seat { handle, journal, newest: Newest::default(), keeper: None, left: CALLS, user: AtomicU64::new(0) };
         let mut actor = 0;
         seat.enter();
         // SAFETY: the house is open, and the seat is empty.
-        refused(seat.call(|it| unsafe { raw::fx_house_take(house, it, &mut actor) }))?;
+        refused(unsafe { raw::fx_house_take(house, &mut seat.handle, &mut actor) })?;
         seat.leave();
         Ok((actor, seat))
     }
@@ -127,17 +119,35 @@ impl Seat {
         }
         self.enter();
         // SAFETY: the house is open, and the seat is of it.
-        refused(self.call(|it| unsafe { raw::fx_house_end(house, it) }))
+        refused(unsafe { raw::fx_house_end(house, &mut self.handle) })
     }
 
+    /// A call that makes notes.
     #[inline]
     fn call(&mut self, mut call: impl FnMut(&mut raw::fx_seat) -> u32) -> u32 {
+        self.left -= 1;
+        if self.left == 0 {
+            self.look();
+        }
         let code = call(&mut self.handle);
-        // If the notes are taken, the journal is as good as new.
+        // If the notes are gone, the journal is as good as new.
         if code == raw::FX_JOURNAL_FULL && self.hand_on().is_ok() {
             return call(&mut self.handle);
         }
         code
+    }
+
+    /// Lets notes go before the journal is full: as soon as there is a piece of them, or half of the room if the newest of them stay. A journal of few
+    /// notes, or one that is kept, waits until it is full.
+    #[cold]
+    fn look(&mut self) {
+        self.left = CALLS;
+        let Ok(NoteCounts { kept, free }) = self.counts() else { return };
+        let keeps_newest = self.keeper.is_none() && matches!(self.journal, Journal::Last(_));
+        if kept + free >= 2 * PIECE && kept >= PIECE && (kept >= free || !keeps_newest) {
+            // What isn't taken now is the next time.
+            let _ = self.hand_on();
+        }
     }
 
     /// Whenever the journal is full, its notes go to whoever takes them, behind those that who took them before didn't take.
@@ -146,14 +156,32 @@ impl Seat {
         self.keeper = Some(Keeper { takes, text });
     }
 
-    /// Hands the notes to whoever takes them, if there is one. A panic leaves their text where it is: it goes first the next time.
+    /// Hands the notes to whoever takes them, or forgets them, if they don't stay. A panic leaves their text where it is: it goes first the next time.
     #[cold]
     fn hand_on(&mut self) -> Result<(), Error> {
-        let Some(Keeper { takes, text }) = &mut self.keeper else { return Err(Error::JournalFull) };
-        pass_on(&mut self.handle, text)?;
-        takes(text);
-        text.clear();
-        Ok(())
+        if let Some(Keeper { takes, text }) = &mut self.keeper {
+            pass_on(&mut self.handle, text)?;
+            takes(text);
+            text.clear();
+            return Ok(());
+        }
+        match self.journal {
+            Journal::Keep => Err(Error::JournalFull),
+            Journal::Forget => self.forget().map(|_| ()),
+            Journal::Last(most) => self.newest.roll(&mut self.handle, u64::from(most)),
+        }
+    }
+
+    pub(super) fn counts(&mut self) -> Result<NoteCounts, Error> {
+        counts(&mut self.handle)
+    }
+
+    pub(super) fn forget(&mut self) -> Result<u64, Error> {
+        forget(&mut self.handle)
+    }
+
+    pub(super) fn newest(&mut self, most: u64, text: &mut Vec<u8>) -> Result<u64, Error> {
+        self.newest.tell(&mut self.handle, most, text)
     }
 
     /// Puts the text of the notes that the journal keeps behind this text, and before it what wasn't taken.
@@ -192,7 +220,7 @@ impl Seat {
             Step::Done(answer) => (raw::FX_STEP_DONE, answer),
         };
         // SAFETY: as above.
-        match self.call(|it| unsafe { raw::fx_seat_settle(it, step, answer, spent) }) {
+        match unsafe { raw::fx_seat_settle(&mut self.handle, step, answer, spent) } {
             raw::FX_OK => Ok(Settled::Queued),
             raw::FX_PARKED => Ok(Settled::Parked),
             raw::FX_DONE => Ok(Settled::Done),
@@ -284,18 +312,18 @@ impl Seat {
 
     pub(super) fn is_drained(&mut self) -> bool {
         // SAFETY: as above.
-        self.call(|it| unsafe { raw::fx_seat_drained(it) }) == raw::FX_OK
+        unsafe { raw::fx_seat_drained(&mut self.handle) == raw::FX_OK }
     }
 
     pub(super) fn shows(&mut self) -> bool {
         // SAFETY: as above.
-        self.call(|it| unsafe { raw::fx_seat_shows(it) }) == raw::FX_OK
+        unsafe { raw::fx_seat_shows(&mut self.handle) == raw::FX_OK }
     }
 
     pub(super) fn stats(&mut self) -> CoreStats {
         let mut stats = CoreStats::asked();
         // SAFETY: as above.
-        let code = self.call(|it| unsafe { raw::fx_seat_stats(it, &mut stats) });
+        let code = unsafe { raw::fx_seat_stats(&mut self.handle, &mut stats) };
         assert_eq!(code, raw::FX_OK);
         CoreStats::of(&stats)
     }
@@ -303,7 +331,7 @@ impl Seat {
     pub(super) fn stats_of(&mut self, queue: u32) -> Result<QueueStats, Error> {
         let mut stats = QueueStats::asked();
         // SAFETY: as above.
-        refused(self.call(|it| unsafe { raw::fx_seat_stats_of_queue(it, queue, &mut stats) }))?;
+        refused(unsafe { raw::fx_seat_stats_of_queue(&mut self.handle, queue, &mut stats) })?;
         Ok(QueueStats::of(&stats))
     }
 }
@@ -312,6 +340,6 @@ impl Drop for Seat {
     fn drop(&mut self) {
         self.enter();
         // SAFETY: as above, and nobody uses the handle any more. A seat that ended is empty, which the call tells.
-        self.call(|it| unsafe { raw::fx_seat_free(it) });
+        unsafe { raw::fx_seat_free(&mut self.handle) };
     }
 }

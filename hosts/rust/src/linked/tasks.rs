@@ -19,6 +19,23 @@ use std::task::{Context, Poll, Wake, Waker};
 type BoxedFuture = Pin<Box<dyn Future<Output = ()> + Send>>;
 
 /// A job that is a future. A poll is a run. A task that waits is parked, and its waker, which may be called on any thread, sends a wake.
+///
+/// ```
+/// use fairexec::linked::{yield_now, Config, House, Outcome, Task};
+/// use fairexec::Mode;
+///
+/// let (_house, mut cores, mut outside) = House::open(&Config::default())?;
+/// let (task, join) = Task::new(async {
+///     yield_now().await;
+///     "forty-two"
+/// });
+/// let ticket = outside.submit(0, 0, task).map_err(|(error, _)| error)?;
+/// outside.close_all(Mode::Finish)?;
+/// cores[0].run_tasks()?;
+/// assert!(matches!(outside.wait_for(&ticket)?, Outcome::Done(_)));
+/// assert_eq!(join.take(), Some(Ok("forty-two")));
+/// # Ok::<(), fairexec::Error>(())
+/// ```
 pub struct Task {
     future: BoxedFuture,
     waking: Option<Arc<Waking>>,
@@ -57,6 +74,14 @@ thread_local! {
 }
 
 /// The task was dropped before its end: its core or its queue handed it back or was closed, or it panicked.
+///
+/// ```
+/// use fairexec::linked::{Cancelled, Task};
+///
+/// let (task, join) = Task::new(async { 42 });
+/// drop(task);
+/// assert_eq!(join.take(), Some(Err(Cancelled)));
+/// ```
 #[derive(Clone, Copy, PartialEq, Eq, Debug)]
 pub struct Cancelled;
 
@@ -74,6 +99,22 @@ struct Joined<T> {
 }
 
 /// What a task comes to. It is a future, and may be dropped: the task runs on.
+///
+/// ```
+/// use fairexec::linked::{spawn, Config, House, Join};
+/// use fairexec::Mode;
+///
+/// let (_house, mut cores, mut outside) = House::open(&Config::default())?;
+/// let (ticket, join): (_, Join<u64>) = outside.spawn(0, 0, async {
+///     let half = spawn(0, 0, async { 21 });
+///     2 * half.await.expect("it ends")
+/// })?;
+/// outside.detach(ticket)?;
+/// outside.close_all(Mode::Finish)?;
+/// while cores[0].step_tasks()?.is_some() {}
+/// assert_eq!(join.take(), Some(Ok(42)));
+/// # Ok::<(), fairexec::Error>(())
+/// ```
 pub struct Join<T>(Arc<Mutex<Joined<T>>>);
 
 impl<T> Join<T> {
@@ -147,6 +188,25 @@ impl Task {
 /// # Panics
 ///
 /// Outside a task. There [`Outside::spawn`] starts one.
+///
+/// ```
+/// use fairexec::linked::{spawn, Config, House};
+/// use fairexec::Mode;
+///
+/// let (_house, mut cores, mut outside) = House::open(&Config::default())?;
+/// let (_ticket, join) = outside.spawn(0, 0, async {
+///     let all = [1, 2, 3].map(|it| spawn(0, 0, async move { it * it }));
+///     let mut sum = 0;
+///     for it in all {
+///         sum += it.await.unwrap_or_default();
+///     }
+///     sum
+/// })?;
+/// outside.close_all(Mode::Finish)?;
+/// cores[0].run_tasks()?;
+/// assert_eq!(join.take(), Some(Ok(14)));
+/// # Ok::<(), fairexec::Error>(())
+/// ```
 pub fn spawn<T: Send + 'static>(core: u32, queue: u32, future: impl Future<Output = T> + Send + 'static) -> Join<T> {
     let (task, join) = Task::new(future);
     SPAWNED.with_borrow_mut(|spawned| spawned.as_mut().expect("a task spawns").push_back((core, queue, task)));
@@ -154,6 +214,18 @@ pub fn spawn<T: Send + 'static>(core: u32, queue: u32, future: impl Future<Outpu
 }
 
 /// Lets other jobs run: the task goes to the tail of its queue.
+///
+/// ```
+/// use fairexec::linked::{yield_now, Config, House};
+/// use fairexec::Mode;
+///
+/// let (_house, mut cores, mut outside) = House::open(&Config::default())?;
+/// outside.spawn(0, 0, yield_now()).map(drop)?;
+/// outside.close_all(Mode::Finish)?;
+/// cores[0].run_tasks()?;
+/// assert_eq!(cores[0].stats_of(0)?.picks, 2);
+/// # Ok::<(), fairexec::Error>(())
+/// ```
 pub async fn yield_now() {
     let mut was_polled = false;
     std::future::poll_fn(move |cx| {
@@ -242,8 +314,7 @@ impl Core<Task> {
     fn submit_spawned(&mut self) -> Result<bool, Error> {
         let mut did = false;
         for to in 0..self.actor.lanes.cores() {
-            while self.actor.may_submit_task(to) {
-                let Some((queue, task)) = self.spawned[to as usize].pop_front() else { break };
+            while let Some((queue, task)) = self.spawned[to as usize].pop_front() {
                 match self.submit(to, queue, task) {
                     Ok(ticket) => self.detach(ticket)?,
                     Err((error @ (Error::Full | Error::JournalFull), task)) => {

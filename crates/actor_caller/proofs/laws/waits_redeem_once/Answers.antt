@@ -1,4 +1,4 @@
-use Rattle.rt_link.specs.Fits.{Fits}
+use Rattle.link_ends.specs.Fits.{Fits}
 use Rattle.actor_caller.proofs.WaitedOnce.{redeems_once}
 use Rattle.actor_caller.proofs.laws.waits_redeem_once.Goals as goal
 

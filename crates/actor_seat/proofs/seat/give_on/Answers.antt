@@ -1,5 +1,5 @@
 use Rattle.std.specs.Prelude.{Some}
-use Rattle.rt_ids.specs.declared.order.Outcome.TheVariants.{Returned}
+use Rattle.base_words.specs.declared.order.Outcome.TheVariants.{Returned}
 use Rattle.actor_seat.proofs.Seen.{gives_seen}
 use Rattle.actor_seat.proofs.Stepping.{owing_end, given_beside, given_ends, given_sees}
 use Rattle.actor_seat.proofs.seat.give_on.Goals as goal

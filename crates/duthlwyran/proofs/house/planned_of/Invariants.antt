@@ -1,5 +1,5 @@
 use Rattle.std.proofs.Common.{◌≡◌, ◌+◌, ◌≤◌, drop}
-use Rattle.rt_runtime_config.specs.Configs.{queues_of}
+use Rattle.run_config.specs.Configs.{queues_of}
 use Rattle.duthlwyran.proofs.house.planned_of.Given as goal
 
 abbrev pub invariant-loop-index : goal.invariant-loop-index

@@ -20,7 +20,7 @@ use Rattle.core.proofs.alloc.Calls.{Goes-blank}
 use Rattle.std.proofs.raw_atomic.Walks.{proved_at, leaves}
 use Rattle.std_heap.specs.contracts.GlobalAllocator.TheImpl as heap
 use Rattle.std_heap.proofs.Global.TheLaws as laws
-use Rattle.rt_loose.proofs.Values.{pair, pair_good, loose_out, Loose}
+use Rattle.base_sealed.proofs.Values.{pair, pair_good, loose_out, Loose}
 use Rattle.fairexec_c.proofs.Values.{R, Z, handle_in}
 use Rattle.fairexec_c.specs.contracts.handle.seal.{ended, clauses}
 use Rattle.fairexec_c.specs.contracts.handle.seal.Key.{name as #self}

@@ -26,7 +26,7 @@ use Rattle.std.proofs.raw_atomic.Walks.{proved_at, leaves}
 use Rattle.std_alloc.proofs.ResultValues.{and_tt}
 use Rattle.std_heap.specs.contracts.GlobalAllocator.TheImpl as heap
 use Rattle.std_heap.proofs.Global.TheLaws as laws
-use Rattle.rt_loose.proofs.Values.{pair, pair_good, loose_in, Loose}
+use Rattle.base_sealed.proofs.Values.{pair, pair_good, loose_in, Loose}
 use Rattle.fairexec_c.proofs.SeatValues.{R, Z, handle_out, null_good}
 use Rattle.fairexec_c.specs.contracts.seat.Seat as handle
 use Rattle.fairexec_c.specs.contracts.seat.unseal.{ended, clauses}

@@ -21,7 +21,7 @@ use Rattle.core.specs.declared.option.Option.TheVariants.{None}
 use Rattle.core.proofs.cell.Inside.{one}
 use Rattle.std.proofs.raw_atomic.Walks.{proved_at, leaves}
 use Rattle.std_heap.proofs.Global.TheLaws as laws
-use Rattle.rt_loose.proofs.Values.{pair}
+use Rattle.base_sealed.proofs.Values.{pair}
 use Rattle.fairexec_c.proofs.SeatValues.{Z, handle_in, null_good}
 use Rattle.fairexec_c.specs.contracts.seat.vacant.{ended, clauses}
 use Rattle.fairexec_c.specs.contracts.seat.vacant.Key.{name as #self}

@@ -1,6 +1,6 @@
 use Rattle.std.proofs.Common.{◌≡◌, true, ◌∙◌, subst, sym}
 use Rattle.std.specs.Io.KnownBytes.{Appends}
-use Rattle.rt_journal_write.specs.Pages.{AppendsFront}
+use Rattle.text_journal.specs.Pages.{AppendsFront}
 use Rattle.fairexec_report.specs.VerdictTexts.{verdict_text}
 use Rattle.fairexec_report.proofs.AuditLemmas.{judged, line_of, tells_sound}
 use Rattle.fairexec_report.proofs.audit.audit_text.Goals as goal

@@ -1,7 +1,7 @@
 use Rattle.fairexec_report.proofs.AuditLemmas.{OnOk-any, front_of_count, front_of_all}
-use Rattle.rt_journal_write.proofs.PageLemmas.{OnErr-any}
-use Rattle.rt_sink.proofs.KnownLemmas.{Appends-more_kept}
-use Rattle.rt_sink.proofs.TryLemmas.{failed_last}
+use Rattle.text_journal.proofs.PageLemmas.{OnErr-any}
+use Rattle.text_bytes.proofs.KnownLemmas.{Appends-more_kept}
+use Rattle.text_bytes.proofs.TryLemmas.{failed_last}
 use Rattle.fairexec_report.proofs.audit.write_line.Goals as goal
 
 pub returns-in_err-write_all-clause-err : goal.returns-in_err-write_all-clause-err

@@ -1,6 +1,6 @@
 use Rattle.std.proofs.Common.{◌≡◌, ◌++◌, ℕ, sym, subst, string_bytes, arith}
-use Rattle.rt_ids.specs.Journal.{Journal, at_place}
-use Rattle.rt_journal_facts.proofs.Walks.{at_start, whole_walk}
+use Rattle.base_words.specs.Journal.{Journal, at_place}
+use Rattle.note_facts.proofs.Walks.{at_start, whole_walk}
 use Rattle.fairexec_report.specs.Outcomes.{lines_told, line_told}
 use Rattle.fairexec_report.proofs.TextLemmas.{before_notes, after_note}
 use Rattle.fairexec_report.proofs.outcome_text.put_core.Goals as goal

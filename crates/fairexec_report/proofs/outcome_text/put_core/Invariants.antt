@@ -1,8 +1,8 @@
 -- The lines of the notes so far stand behind what the page had.
 use Rattle.std.proofs.Common.{◌≡◌, ◌++◌, ℕ, string_bytes}
-use Rattle.rt_ids.specs.Assembly.{Assembly}
-use Rattle.rt_ids.specs.Journal.{at_place}
-use Rattle.rt_audit_rules.specs.Links.{KnowsOutcomes}
+use Rattle.base_words.specs.Assembly.{Assembly}
+use Rattle.base_words.specs.Journal.{at_place}
+use Rattle.judge_audit.specs.Links.{KnowsOutcomes}
 use Rattle.fairexec_report.specs.Outcomes.{lines_told}
 use Rattle.fairexec_report.proofs.outcome_text.put_core.Given as goal
 

@@ -1,6 +1,6 @@
 use Rattle.std.proofs.Common.{◌≡◌, ◌++◌, ◌∙◌, ℕ, ap, subst, string_bytes}
-use Rattle.rt_ids.specs.Assembly.{journal_of}
-use Rattle.rt_ids.specs.Journal.{Journal}
+use Rattle.base_words.specs.Assembly.{journal_of}
+use Rattle.base_words.specs.Journal.{Journal}
 use Rattle.fairexec_report.specs.Outcomes.{lines_told}
 use Rattle.fairexec_report.proofs.TextLemmas.{before_cores, after_core}
 use Rattle.fairexec_report.proofs.outcome_text.put_outcomes.Goals as goal

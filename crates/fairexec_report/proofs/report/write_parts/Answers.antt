@@ -1,7 +1,7 @@
 use Rattle.std.proofs.Common.{◌++◌}
-use Rattle.rt_journal_write.proofs.PageLemmas.{OnErr-any}
-use Rattle.rt_sink.proofs.KnownLemmas.{Appends-more_kept}
-use Rattle.rt_sink.proofs.TryLemmas.{no_fewer, failed_since, failed_last}
+use Rattle.text_journal.proofs.PageLemmas.{OnErr-any}
+use Rattle.text_bytes.proofs.KnownLemmas.{Appends-more_kept}
+use Rattle.text_bytes.proofs.TryLemmas.{no_fewer, failed_since, failed_last}
 use Rattle.fairexec_report.proofs.AuditLemmas.{OnOk-any, front_of_count, front_of_all}
 use Rattle.fairexec_report.proofs.ReportLemmas.{front_before, front_behind, three_out}
 use Rattle.fairexec_report.proofs.report.write_parts.Goals as goal

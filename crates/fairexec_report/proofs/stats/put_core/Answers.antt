@@ -1,5 +1,5 @@
 use Rattle.std.proofs.Common.{ap, ◌++◌, ◌∙◌, string_bytes}
-use Rattle.rt_ids.specs.declared.stats.CoreStats.{CoreStats}
+use Rattle.base_words.specs.declared.stats.CoreStats.{CoreStats}
 use Rattle.fairexec_report.specs.StatTexts.{core_text}
 use Rattle.fairexec_report.proofs.stats.put_core.Goals as goal
 

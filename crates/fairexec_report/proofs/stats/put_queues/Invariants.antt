@@ -1,7 +1,7 @@
 -- The lines of the queues so far stand behind what the page had.
 use Rattle.std.proofs.Common.{◌≡◌, ◌++◌, ℕ, string_bytes}
-use Rattle.rt_ids.specs.Journal.{Journal as Notes}
-use Rattle.rt_stats.specs.Walks.{KnowsSums}
+use Rattle.base_words.specs.Journal.{Journal as Notes}
+use Rattle.note_stats.specs.Walks.{KnowsSums}
 use Rattle.fairexec_report.specs.StatTexts.{queues_below}
 use Rattle.fairexec_report.proofs.stats.put_queues.Given as goal
 

@@ -3,11 +3,11 @@ use Rattle.std.proofs.KnownBytes.{Keeps-refl}
 use Rattle.std.proofs.lemmas.Result.{on_ok_weaker, on_err_weaker}
 use Rattle.fairexec_script.specs.Limits.{HasFewQueues}
 use Rattle.fairexec_script.specs.Whole.{drafted}
-use Rattle.rt_journal_write.proofs.PageLemmas.{OnErr-any}
+use Rattle.text_journal.proofs.PageLemmas.{OnErr-any}
 use Rattle.fairexec_run.specs.Rooms.{IsOpened}
 use Rattle.fairexec_run.proofs.OpeningLemmas.{opened_roomy, opened_events}
 use Rattle.fairexec_run.proofs.PlayLemmas.{first_begun, events_printed, events_begun}
-use Rattle.rt_journal_write.proofs.TryLemmas.{call_unwritten_since}
+use Rattle.text_journal.proofs.TryLemmas.{call_unwritten_since}
 use Rattle.fairexec_run.proofs.engine.play_events.Goals as goal
 
 pub open_model-requires-clause-few : goal.open_model-requires-clause-few

@@ -1,9 +1,9 @@
 use Rattle.std.specs.Prelude.{Result, Ok, Err, IfErr}
 use Rattle.std.proofs.Common.{inl, inr, ⊎_elim}
-use Rattle.rt_text.specs.declared.fault.Cause.{Cause}
-use Rattle.rt_text.specs.declared.fault.Fault.{Fault}
-use Rattle.rt_text.specs.declared.fault.Fault.TheVariants.{Text, Read, Write, Memory}
-use Rattle.rt_text.specs.Faults.{IfUnwritten, IfEnded}
+use Rattle.text_words.specs.declared.fault.Cause.{Cause}
+use Rattle.text_words.specs.declared.fault.Fault.{Fault}
+use Rattle.text_words.specs.declared.fault.Fault.TheVariants.{Text, Read, Write, Memory}
+use Rattle.text_words.specs.Faults.{IfUnwritten, IfEnded}
 use Rattle.fairexec_run.specs.Begun.{IsCutShort}
 use Rattle.fairexec_run.specs.Outputs.{TellsScript}
 use Rattle.fairexec_script.specs.Whole.{drafted}

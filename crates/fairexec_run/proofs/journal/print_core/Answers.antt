@@ -1,7 +1,7 @@
 use Rattle.std.proofs.Common.{[], inl, inr, refl, subst}
 use Rattle.std.proofs.lemmas.Result.{on_err_weaker}
-use Rattle.rt_journal_write.specs.Pages.{AppendsFront}
-use Rattle.rt_journal_write.proofs.PageLemmas.{OnErr-any}
+use Rattle.text_journal.specs.Pages.{AppendsFront}
+use Rattle.text_journal.proofs.PageLemmas.{OnErr-any}
 use Rattle.fairexec_run.proofs.RearLemmas.{core_puts, core_out, nothing_out, on_ok_both}
 use Rattle.fairexec_run.proofs.journal.print_core.Goals as goal
 

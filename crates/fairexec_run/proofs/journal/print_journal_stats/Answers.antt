@@ -1,9 +1,9 @@
 use Rattle.std.proofs.Common.{arith, string_bytes}
 use Rattle.std.proofs.lemmas.Result.{err_from_is_err_and}
-use Rattle.rt_sink.proofs.TryLemmas.{no_fewer}
-use Rattle.rt_journal_write.proofs.PageLemmas.{OnErr-any}
+use Rattle.text_bytes.proofs.TryLemmas.{no_fewer}
+use Rattle.text_journal.proofs.PageLemmas.{OnErr-any}
 use Rattle.fairexec_run.proofs.RearLemmas.{no_stats, stats_more, stats_stop, stats_whole}
-use Rattle.rt_journal_write.proofs.TryLemmas.{unwritten_since}
+use Rattle.text_journal.proofs.TryLemmas.{unwritten_since}
 use Rattle.fairexec_run.proofs.journal.print_journal_stats.Goals as goal
 
 pub loop-core-init : goal.loop-core-init

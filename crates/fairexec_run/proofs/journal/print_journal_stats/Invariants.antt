@@ -1,6 +1,6 @@
 -- The statistics of the cores so far stand behind what the page had.
 use Rattle.std.proofs.Common.{string_bytes}
-use Rattle.rt_sink.specs.Tries.{IsNoFewer}
+use Rattle.text_bytes.specs.Tries.{IsNoFewer}
 use Rattle.fairexec_run.proofs.RearLemmas.{HasStats}
 use Rattle.fairexec_run.proofs.journal.print_journal_stats.Given as goal
 

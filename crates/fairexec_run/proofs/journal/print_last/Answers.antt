@@ -1,4 +1,4 @@
-use Rattle.rt_sink.proofs.KnownLemmas.{Appends-more_kept}
+use Rattle.text_bytes.proofs.KnownLemmas.{Appends-more_kept}
 use Rattle.fairexec_report.proofs.AuditLemmas.{front_of_all}
 use Rattle.fairexec_run.proofs.journal.print_last.Goals as goal
 

@@ -1,8 +1,8 @@
 use Rattle.std.proofs.lemmas.Result.{on_ok_weaker, on_err_weaker}
-use Rattle.rt_journal_write.proofs.PageLemmas.{OnErr-any}
-use Rattle.rt_world.specs.State.{assembly_of}
+use Rattle.text_journal.proofs.PageLemmas.{OnErr-any}
+use Rattle.model_world.specs.State.{assembly_of}
 use Rattle.fairexec_run.proofs.RearLemmas.{bare_out, bare_front, rear_out, rear_front, rear_stop}
-use Rattle.rt_journal_write.proofs.TryLemmas.{written_since}
+use Rattle.text_journal.proofs.TryLemmas.{written_since}
 use Rattle.fairexec_run.proofs.journal.print_rear.Goals as goal
 
 pub returns-then-not-stats-clause-ok : goal.returns-then-not-stats-clause-ok

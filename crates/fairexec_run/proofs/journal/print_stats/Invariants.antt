@@ -1,7 +1,7 @@
 -- The statistics of the cores so far stand behind what the page had.
 use Rattle.std.proofs.Common.{string_bytes}
-use Rattle.rt_world.specs.State.{assembly_of}
-use Rattle.rt_sink.specs.Tries.{IsNoFewer}
+use Rattle.model_world.specs.State.{assembly_of}
+use Rattle.text_bytes.specs.Tries.{IsNoFewer}
 use Rattle.fairexec_run.proofs.RearLemmas.{HasStats}
 use Rattle.fairexec_run.proofs.journal.print_stats.Given as goal
 

@@ -2,12 +2,12 @@ use Rattle.std.proofs.Common.{◌≡◌, ◌+◌, ◌++◌, ◌∷◌, [], lengt
 use Rattle.std.proofs.lemmas.Iterator.Adapters.{YieldsList-from_vec}
 use Rattle.std.proofs.lemmas.Iterator.Consumers.{YieldsList-so_far, YieldsList-turn, YieldsList-end}
 use Rattle.std.proofs.lemmas.List.{map-id}
-use Rattle.rt_journal_write.proofs.PageLemmas.{OnErr-any}
-use Rattle.rt_sink.proofs.TryLemmas.{no_fewer, failed_since}
+use Rattle.text_journal.proofs.PageLemmas.{OnErr-any}
+use Rattle.text_bytes.proofs.TryLemmas.{no_fewer, failed_since}
 use Rattle.fairexec_script.specs.Limits.{IsEventOf}
 use Rattle.fairexec_run.specs.Outputs.{WritesAll}
 use Rattle.fairexec_run.proofs.EventTexts.{writes_more, writes_out, writes_first, page_first, left_over, left_after, roomy_more, roomy_here}
-use Rattle.rt_journal_write.proofs.TryLemmas.{known_unwritten}
+use Rattle.text_journal.proofs.TryLemmas.{known_unwritten}
 use Rattle.fairexec_run.proofs.print.print_events.Goals as goal
 
 pub print_event-requires : goal.print_event-requires

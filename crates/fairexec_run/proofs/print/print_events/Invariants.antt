@@ -1,6 +1,6 @@
 -- The events so far have printed their text, and left room for the others.
 use Rattle.std.proofs.Common.{length, string_bytes}
-use Rattle.rt_sink.specs.Tries.{IsNoFewer}
+use Rattle.text_bytes.specs.Tries.{IsNoFewer}
 use Rattle.fairexec_run.specs.Outputs.{WritesAll}
 use Rattle.fairexec_run.specs.Rooms.{IsRoomy}
 use Rattle.fairexec_run.proofs.print.print_events.Given as goal

@@ -1,6 +1,6 @@
 use Rattle.std.proofs.Common.{subst}
-use Rattle.rt_journal_write.specs.Pages.{AppendsFront}
-use Rattle.rt_journal_write.proofs.PageLemmas.{front_of_count}
+use Rattle.text_journal.specs.Pages.{AppendsFront}
+use Rattle.text_journal.proofs.PageLemmas.{front_of_count}
 use Rattle.fairexec_run.proofs.print.print_page.Goals as goal
 
 pub returns-in-Err-clause-err : goal.returns-in-Err-clause-err

@@ -1,7 +1,7 @@
 use Rattle.std.proofs.Common.{sym, ap, ◌∙◌}
-use Rattle.rt_ids.specs.declared.order.Order.TheVariants as order
-use Rattle.rt_words.specs.Fields.{made, queue_field}
-use Rattle.rt_words.specs.Words.{first, others}
+use Rattle.base_words.specs.declared.order.Order.TheVariants as order
+use Rattle.text_words.specs.Fields.{made, queue_field}
+use Rattle.text_words.specs.Words.{first, others}
 use Rattle.fairexec_script.specs.declared.event.ScriptEvent.TheVariants.{Send}
 use Rattle.fairexec_script.specs.declared.line.Line.TheVariants.{Step}
 use Rattle.fairexec_script.proofs.SubmitLemmas.{submit_read}

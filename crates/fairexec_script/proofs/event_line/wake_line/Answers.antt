@@ -1,8 +1,8 @@
 use Rattle.std.proofs.Common.{◌≡◌, Err, sym}
-use Rattle.rt_words.specs.Words.{third, fourth}
-use Rattle.rt_words.specs.Fields.{both, actor_field, submission_field}
+use Rattle.text_words.specs.Words.{third, fourth}
+use Rattle.text_words.specs.Fields.{both, actor_field, submission_field}
 use Rattle.fairexec_script.specs.EventLines.{link_fields}
-use Rattle.rt_words.proofs.FieldLemmas.{made_err}
+use Rattle.text_words.proofs.FieldLemmas.{made_err}
 use Rattle.fairexec_script.proofs.event_line.wake_line.Goals as goal
 
 pub returns-in-Err : goal.returns-in-Err

@@ -1,9 +1,9 @@
 use Rattle.std.proofs.Common.{◌≡◌, Err, sym}
 use Rattle.std.specs.Prelude.{codes}
-use Rattle.rt_words.specs.Words.{first, second, third}
-use Rattle.rt_words.specs.Numbers.{number_of, within}
-use Rattle.rt_words.specs.Fields.{both, fixed_field}
-use Rattle.rt_words.proofs.FieldLemmas.{made_err}
+use Rattle.text_words.specs.Words.{first, second, third}
+use Rattle.text_words.specs.Numbers.{number_of, within}
+use Rattle.text_words.specs.Fields.{both, fixed_field}
+use Rattle.text_words.proofs.FieldLemmas.{made_err}
 use Rattle.fairexec_script.proofs.line.size_fields.Goals as goal
 
 pub returns-in-Err-clause-size : goal.returns-in-Err-clause-size

@@ -1,5 +1,5 @@
-use Rattle.rt_ids.specs.declared.order.Mode.TheVariants.{Finish}
-use Rattle.rt_ids.specs.declared.order.Order.TheVariants.{CloseCore}
+use Rattle.base_words.specs.declared.order.Mode.TheVariants.{Finish}
+use Rattle.base_words.specs.declared.order.Order.TheVariants.{CloseCore}
 use Rattle.fairexec_threads.proofs.Sending.{offered}
 use Rattle.fairexec_threads.proofs.calls.close.Goals as goal
 use Rattle.std.proofs.Common.{arith}

@@ -2,7 +2,7 @@ use Rattle.std.proofs.Common.{◌∙◌, refl, sym, subst}
 use Rattle.std.proofs.lemmas.Iterator.Adapters.{YieldsList-from_vec}
 use Rattle.std.proofs.lemmas.Iterator.Consumers.{YieldsList-so_far, YieldsList-turn, YieldsList-end}
 use Rattle.std.proofs.lemmas.List.{map-id}
-use Rattle.fairexec_threads_script.specs.Limits.{IsToldOf}
+use Rattle.fairexec_script.specs.ThreadsLimits.{IsToldOf}
 use Rattle.fairexec_threads.specs.Offers.{OffersAll}
 use Rattle.fairexec_threads.proofs.Sending.{nothing_sent, place_of_order, offers_more, grows}
 use Rattle.fairexec_threads.proofs.Closings.{can_close}

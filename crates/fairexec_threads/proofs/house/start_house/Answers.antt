@@ -1,5 +1,5 @@
 use Rattle.std.proofs.Common.{length, sym, subst}
-use Rattle.rt_runtime_config.specs.Configs.{IsGood}
+use Rattle.run_config.specs.Configs.{IsGood}
 use Rattle.fairexec_threads.proofs.Good.{config_good, never_bad}
 use Rattle.fairexec_threads.proofs.house.start_house.Goals as goal
 

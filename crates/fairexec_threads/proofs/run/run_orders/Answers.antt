@@ -1,5 +1,5 @@
 use Rattle.std.proofs.Common.{◌∙◌, ap, Some}
-use Rattle.fairexec_threads_script.specs.Limits.{AreTold, HasSpare}
+use Rattle.fairexec_script.specs.ThreadsLimits.{AreTold, HasSpare}
 use Rattle.fairexec_threads.proofs.Answered.{answered}
 use Rattle.fairexec_threads.proofs.Opened.{opened}
 use Rattle.fairexec_threads.proofs.Polled.{polled}

@@ -1,8 +1,8 @@
 use Rattle.std.proofs.Common.{ℕ, ◌<◌, length, sym, subst, arith}
-use Rattle.rt_ids.specs.Journal.{Journal, at_place}
-use Rattle.rt_journal_facts.specs.Accounts.{greatest_count}
-use Rattle.rt_journal_facts.proofs.Walks.{at_start, whole_walk}
-use Rattle.rt_view.proofs.ClockSteps.{length-at_place}
+use Rattle.base_words.specs.Journal.{Journal, at_place}
+use Rattle.note_facts.specs.Accounts.{greatest_count}
+use Rattle.note_facts.proofs.Walks.{at_start, whole_walk}
+use Rattle.judge_view.proofs.ClockSteps.{length-at_place}
 use Rattle.fairview_lag.specs.Columns.{AreColumns}
 use Rattle.fairview_lag.specs.Stretches.{KnowsStretch}
 use Rattle.fairview_lag.proofs.ColumnSteps.{columns_next}

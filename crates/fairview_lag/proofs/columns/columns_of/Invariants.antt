@@ -1,6 +1,6 @@
 -- The columns are those of the notes so far.
 use Rattle.std.proofs.Common.{◌≡◌, length}
-use Rattle.rt_ids.specs.Journal.{at_place}
+use Rattle.base_words.specs.Journal.{at_place}
 use Rattle.fairview_lag.specs.Columns.{AreColumns}
 use Rattle.fairview_lag.specs.Stretches.{KnowsStretch}
 use Rattle.fairview_lag.proofs.columns.columns_of.Given as goal

@@ -1,6 +1,6 @@
 use Rattle.std.proofs.Common.{◌≡◌, ◌<◌, ◌∷◌, length, get_or, ◌∙◌, arith}
-use Rattle.rt_view.proofs.Tables.{none_changed, one_changed}
-use Rattle.rt_view.proofs.WatchSteps.{any_default}
+use Rattle.judge_view.proofs.Tables.{none_changed, one_changed}
+use Rattle.judge_view.proofs.WatchSteps.{any_default}
 use Rattle.fairview_lag.specs.PairWalks.{idle, names_below, pair_known}
 use Rattle.fairview_lag.proofs.PairSteps.{all_known, known_at}
 use Rattle.fairview_lag.proofs.core_lags.add_to_all.Goals as goal

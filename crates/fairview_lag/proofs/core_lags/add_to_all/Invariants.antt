@@ -1,8 +1,8 @@
 -- The pairs so far have read the note.
 use Rattle.std.proofs.Common.{◌≡◌, ℕ, ◌∷◌, get_or}
-use Rattle.rt_ids.specs.Journal.{Journal}
-use Rattle.rt_view.proofs.Tables.{AreChanged}
-use Rattle.fairview_bars.specs.Leads.{KnowsStanding}
+use Rattle.base_words.specs.Journal.{Journal}
+use Rattle.judge_view.proofs.Tables.{AreChanged}
+use Rattle.fairview_marks.specs.Leads.{KnowsStanding}
 use Rattle.fairview_lag.specs.PairWalks.{idle, names_below, pair_known, pairs_known}
 use Rattle.fairview_lag.proofs.core_lags.add_to_all.Given as goal
 

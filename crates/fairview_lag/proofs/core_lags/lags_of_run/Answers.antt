@@ -1,7 +1,7 @@
 use Rattle.std.proofs.Common.{[], ◌++◌, ◌∙◌}
-use Rattle.rt_ids.specs.Assembly.{journal_of}
+use Rattle.base_words.specs.Assembly.{journal_of}
 use Rattle.fairview_lag.specs.Pairs.{core_pairs}
-use Rattle.fairview_text.proofs.Lists.{before_all, after_one}
+use Rattle.fairview_marks.proofs.Lists.{before_all, after_one}
 use Rattle.fairview_lag.specs.declared.pairs.PairLag.{PairLag}
 use Rattle.fairview_lag.proofs.core_lags.lags_of_run.Goals as goal
 

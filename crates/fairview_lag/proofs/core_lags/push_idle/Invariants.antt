@@ -1,6 +1,6 @@
 -- The pairs are those of the queues so far, if they were those of the queues before.
 use Rattle.std.proofs.Common.{◌≡◌, ℕ, ◌≤◌, max}
-use Rattle.rt_ids.specs.Journal.{Journal}
+use Rattle.base_words.specs.Journal.{Journal}
 use Rattle.fairview_lag.specs.Pairs.{queue_count}
 use Rattle.fairview_lag.specs.PairWalks.{pairs_known}
 use Rattle.fairview_lag.proofs.core_lags.push_idle.Given as goal

@@ -1,5 +1,5 @@
 use Rattle.std.proofs.Common.{◌∷◌, ◌++◌, [], ap, ◌∙◌}
-use Rattle.fairview_text.proofs.Lists.{before_all, after_one}
+use Rattle.fairview_marks.proofs.Lists.{before_all, after_one}
 use Rattle.fairview_lag.specs.PairWalks.{idle}
 use Rattle.fairview_lag.specs.declared.pair_walk.PairWalk.{PairWalk}
 use Rattle.fairview_lag.proofs.core_lags.push_idle_with.Goals as goal

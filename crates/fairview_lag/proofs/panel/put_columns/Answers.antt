@@ -1,9 +1,9 @@
 use Rattle.std.proofs.Common.{◌<◌, ◌++◌, length, ap, ◌∙◌, arith, string_bytes}
 use Rattle.std.specs.Prelude.{None}
-use Rattle.rt_view.proofs.WatchSteps.{any_default}
+use Rattle.judge_view.proofs.WatchSteps.{any_default}
 use Rattle.fairview_lag.specs.Columns.{column}
 use Rattle.fairview_lag.specs.ColumnTexts.{column_if}
-use Rattle.fairview_text.proofs.Lists.{before_all, after_one}
+use Rattle.fairview_marks.proofs.Lists.{before_all, after_one}
 use Rattle.fairview_lag.proofs.panel.put_columns.Goals as goal
 
 pub loop-number-init : goal.loop-number-init

@@ -2,7 +2,7 @@
 use Rattle.std.proofs.Common.{◌≡◌, ◌++◌, string_bytes}
 use Rattle.fairview_lag.specs.Columns.{column}
 use Rattle.fairview_lag.specs.ColumnTexts.{column_if}
-use Rattle.fairview_text.specs.Lists.{lists_below}
+use Rattle.fairview_marks.specs.Lists.{lists_below}
 use Rattle.fairview_lag.proofs.panel.put_columns.Given as goal
 
 abbrev pub invariant-loop-number : goal.invariant-loop-number

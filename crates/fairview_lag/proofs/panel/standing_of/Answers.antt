@@ -1,9 +1,9 @@
 use Rattle.std.proofs.Common.{ℕ, ◌<◌, length, sym, subst, arith}
-use Rattle.rt_ids.specs.Journal.{Journal, at_place}
-use Rattle.rt_journal_facts.specs.Accounts.{greatest_count}
-use Rattle.rt_journal_facts.proofs.Walks.{at_start, whole_walk}
-use Rattle.rt_view.proofs.ClockSteps.{length-at_place}
-use Rattle.fairview_bars.specs.Leads.{KnowsStanding}
+use Rattle.base_words.specs.Journal.{Journal, at_place}
+use Rattle.note_facts.specs.Accounts.{greatest_count}
+use Rattle.note_facts.proofs.Walks.{at_start, whole_walk}
+use Rattle.judge_view.proofs.ClockSteps.{length-at_place}
+use Rattle.fairview_marks.specs.Leads.{KnowsStanding}
 use Rattle.fairview_lag.proofs.panel.standing_of.Goals as goal
 
 pub loop-place-init : goal.loop-place-init

@@ -1,6 +1,6 @@
 use Rattle.std.proofs.Common.{◌≡◌, List, ℕ, ◌<◌, ◌≤◌, ◌++◌, append-nil, sym, ap, ◌∙◌, arith, string_bytes}
 use Rattle.std.proofs.lemmas.Result.{on_ok_weaker}
-use Rattle.rt_ids.specs.Assembly.{journal_of}
+use Rattle.base_words.specs.Assembly.{journal_of}
 use Rattle.fairview_lag.specs.declared.pairs.PairLag.{PairLag}
 use Rattle.fairview_lag.proofs.PanelSteps.{panel_there, panel_nowhere}
 use Rattle.fairview_lag.proofs.picture.put_if_there.Goals as goal

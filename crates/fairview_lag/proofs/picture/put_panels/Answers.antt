@@ -2,7 +2,7 @@ use Rattle.std.proofs.Common.{◌++◌, ap, ◌∙◌, string_bytes}
 use Rattle.std.specs.Prelude.{Option, slice_get}
 use Rattle.fairview_lag.specs.Pictures.{panel_told}
 use Rattle.fairview_lag.specs.declared.pairs.PairLag.{PairLag}
-use Rattle.fairview_text.proofs.Lists.{before_all, after_one}
+use Rattle.fairview_marks.proofs.Lists.{before_all, after_one}
 use Rattle.fairview_lag.proofs.picture.put_panels.Goals as goal
 
 pub loop-index-init : goal.loop-index-init

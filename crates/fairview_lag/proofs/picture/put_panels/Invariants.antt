@@ -1,7 +1,7 @@
 -- The panels so far stand behind what the page had.
 use Rattle.std.proofs.Common.{◌≡◌, ◌++◌, string_bytes}
 use Rattle.std.specs.Prelude.{slice_get}
-use Rattle.fairview_text.specs.Lists.{lists_below}
+use Rattle.fairview_marks.specs.Lists.{lists_below}
 use Rattle.fairview_lag.specs.Pictures.{panel_told}
 use Rattle.fairview_lag.proofs.picture.put_panels.Given as goal
 

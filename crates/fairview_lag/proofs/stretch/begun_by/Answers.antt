@@ -1,5 +1,5 @@
 use Rattle.std.proofs.Common.{◌∷◌, sym, ◌∙◌, ap}
-use Rattle.rt_stats.specs.declared.tally.Tally.{Tally}
+use Rattle.note_stats.specs.declared.tally.Tally.{Tally}
 use Rattle.fairview_lag.proofs.StretchSteps.{begun_kept, begun_here}
 use Rattle.fairview_lag.proofs.stretch.begun_by.Goals as goal
 

@@ -1,5 +1,5 @@
 use Rattle.std.proofs.Common.{sym, ◌∙◌}
-use Rattle.fairview_bars.specs.Leads.{are_together}
+use Rattle.fairview_marks.specs.Leads.{are_together}
 use Rattle.fairview_lag.specs.Lags.{lag}
 use Rattle.fairview_lag.specs.Stretches.{begun_of}
 use Rattle.fairview_lag.proofs.StretchSteps.{some_told, none_told}

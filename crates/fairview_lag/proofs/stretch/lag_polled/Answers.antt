@@ -1,5 +1,5 @@
 use Rattle.std.proofs.Common.{sym, ◌∙◌}
-use Rattle.rt_ids.specs.Bursts.{has_bursts}
+use Rattle.base_words.specs.Bursts.{has_bursts}
 use Rattle.fairview_lag.specs.Lags.{lag_of}
 use Rattle.fairview_lag.proofs.StretchSteps.{none_while, told_unless}
 use Rattle.fairview_lag.proofs.stretch.lag_polled.Goals as goal

@@ -1,5 +1,5 @@
 use Rattle.std.proofs.Common.{sym, ◌∙◌}
-use Rattle.rt_ids.specs.Bursts.{has_bursts}
+use Rattle.base_words.specs.Bursts.{has_bursts}
 use Rattle.fairview_lag.specs.Lags.{lag_of}
 use Rattle.fairview_lag.proofs.StretchSteps.{told_while, none_unless}
 use Rattle.fairview_lag.proofs.stretch.lag_turned.Goals as goal

@@ -1,10 +1,10 @@
 use Rattle.std.proofs.Common.{ℕ, [], ap, ◌∙◌, arith}
-use Rattle.rt_ids.specs.Assembly.{journal_of}
+use Rattle.base_words.specs.Assembly.{journal_of}
 use Rattle.fairview_lag.specs.Pairs.{core_pairs}
 use Rattle.fairview_lag.specs.PairWalks.{KnowsLags}
 use Rattle.fairview_lag.specs.declared.pairs.PairLag.{PairLag}
-use Rattle.fairview_text.specs.Lists.{lists_below}
-use Rattle.fairview_text.proofs.Lists.{before_all, after_one}
+use Rattle.fairview_marks.specs.Lists.{lists_below}
+use Rattle.fairview_marks.proofs.Lists.{before_all, after_one}
 use Rattle.fairview_report.proofs.WalkLemmas.{tells_at}
 use Rattle.fairview_report.proofs.lag.pairs_of.Goals as goal
 

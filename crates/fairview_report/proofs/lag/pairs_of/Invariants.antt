@@ -1,7 +1,7 @@
 -- The pairs are those of the cores so far.
 use Rattle.std.proofs.Common.{◌≡◌, ℕ}
-use Rattle.rt_ids.specs.Assembly.{Assembly, journal_of}
-use Rattle.fairview_text.specs.Lists.{lists_below}
+use Rattle.base_words.specs.Assembly.{Assembly, journal_of}
+use Rattle.fairview_marks.specs.Lists.{lists_below}
 use Rattle.fairview_lag.specs.Pairs.{core_pairs}
 use Rattle.fairview_report.specs.Told.{AreLags}
 use Rattle.fairview_report.proofs.lag.pairs_of.Given as goal

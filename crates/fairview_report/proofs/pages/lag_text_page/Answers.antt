@@ -1,6 +1,6 @@
 use Rattle.std.proofs.Common.{refl, string_bytes}
 use Rattle.std.specs.Prelude.{true}
-use Rattle.rt_journal_read.specs.Handed.{assembly_handed}
+use Rattle.text_journal.specs.Handed.{assembly_handed}
 use Rattle.fairview_lag.specs.Lines.{lag_text}
 use Rattle.fairview_report.specs.Told.{AreLags}
 use Rattle.fairview_report.specs.declared.view.View.TheVariants.{Lag}

@@ -1,5 +1,5 @@
 use Rattle.std.proofs.Common.{refl, string_bytes}
-use Rattle.rt_journal_read.specs.Handed.{assembly_handed}
+use Rattle.text_journal.specs.Handed.{assembly_handed}
 use Rattle.fairview_report.specs.WaitTexts.{IsWaitText}
 use Rattle.fairview_report.specs.Told.{AreWaits}
 use Rattle.fairview_report.specs.declared.view.View.TheVariants.{Waits}

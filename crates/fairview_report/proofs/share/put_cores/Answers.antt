@@ -1,9 +1,9 @@
 use Rattle.std.proofs.Common.{◌++◌, ℕ, ap, ◌∙◌, arith, string_bytes}
-use Rattle.rt_ids.specs.Assembly.{journal_of}
-use Rattle.rt_view.specs.Watches.{KnowsShares}
-use Rattle.fairview_text.specs.Lists.{lists_below}
+use Rattle.base_words.specs.Assembly.{journal_of}
+use Rattle.judge_view.specs.Watches.{KnowsShares}
+use Rattle.fairview_marks.specs.Lists.{lists_below}
 use Rattle.fairview_report.specs.ShareTexts.{core_text}
-use Rattle.fairview_text.proofs.Lists.{before_all, after_one}
+use Rattle.fairview_marks.proofs.Lists.{before_all, after_one}
 use Rattle.fairview_report.proofs.WalkLemmas.{tells_at}
 use Rattle.fairview_report.proofs.share.put_cores.Goals as goal
 

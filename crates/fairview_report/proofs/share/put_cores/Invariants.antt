@@ -1,7 +1,7 @@
 -- The rows of the cores so far stand behind what the page had.
 use Rattle.std.proofs.Common.{◌≡◌, ◌++◌, ℕ, string_bytes}
-use Rattle.rt_ids.specs.Assembly.{Assembly, journal_of}
-use Rattle.fairview_text.specs.Lists.{lists_below}
+use Rattle.base_words.specs.Assembly.{Assembly, journal_of}
+use Rattle.fairview_marks.specs.Lists.{lists_below}
 use Rattle.fairview_report.specs.ShareTexts.{core_text}
 use Rattle.fairview_report.specs.Told.{AreShares}
 use Rattle.fairview_report.proofs.share.put_cores.Given as goal

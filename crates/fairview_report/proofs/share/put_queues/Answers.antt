@@ -1,8 +1,8 @@
 use Rattle.std.proofs.Common.{◌++◌, ap, ◌∙◌, arith, string_bytes}
-use Rattle.rt_view.specs.Shares.{queue_share}
-use Rattle.fairview_text.specs.Lists.{lists_below}
+use Rattle.judge_view.specs.Shares.{queue_share}
+use Rattle.fairview_marks.specs.Lists.{lists_below}
 use Rattle.fairview_report.specs.ShareTexts.{row_text}
-use Rattle.fairview_text.proofs.Lists.{before_all, after_one}
+use Rattle.fairview_marks.proofs.Lists.{before_all, after_one}
 use Rattle.fairview_report.proofs.share.put_queues.Goals as goal
 
 pub loop-queue-init : goal.loop-queue-init

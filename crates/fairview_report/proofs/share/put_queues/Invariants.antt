@@ -1,10 +1,10 @@
 -- The rows of the queues so far stand behind what the page had.
 use Rattle.std.proofs.Common.{◌≡◌, ◌++◌, ℕ, string_bytes}
-use Rattle.rt_ids.specs.Journal.{Journal as Notes}
-use Rattle.rt_view.specs.Shares.{queue_share}
-use Rattle.rt_view.specs.Watches.{KnowsShares}
+use Rattle.base_words.specs.Journal.{Journal as Notes}
+use Rattle.judge_view.specs.Shares.{queue_share}
+use Rattle.judge_view.specs.Watches.{KnowsShares}
 use Rattle.fairview_report.specs.ShareTexts.{row_text}
-use Rattle.fairview_text.specs.Lists.{lists_below}
+use Rattle.fairview_marks.specs.Lists.{lists_below}
 use Rattle.fairview_report.proofs.share.put_queues.Given as goal
 
 abbrev pub invariant-loop-queue : goal.invariant-loop-queue

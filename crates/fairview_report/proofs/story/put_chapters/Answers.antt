@@ -1,9 +1,9 @@
 use Rattle.std.proofs.Common.{◌≡◌, ℕ, ◌<◌, length, sym, subst, ap, ◌++◌, ◌∙◌, arith, append-nil, string_bytes}
-use Rattle.rt_ids.specs.Journal.{Journal, at_place}
-use Rattle.rt_journal_facts.specs.Accounts.{greatest_count}
-use Rattle.rt_journal_facts.proofs.Walks.{at_start, whole_walk}
-use Rattle.rt_view.specs.Stories.{KnowsStory, chapters}
-use Rattle.rt_view.proofs.ClockSteps.{length-at_place}
+use Rattle.base_words.specs.Journal.{Journal, at_place}
+use Rattle.note_facts.specs.Accounts.{greatest_count}
+use Rattle.note_facts.proofs.Walks.{at_start, whole_walk}
+use Rattle.judge_view.specs.Stories.{KnowsStory, chapters}
+use Rattle.judge_view.proofs.ClockSteps.{length-at_place}
 use Rattle.fairview_report.specs.StoryTexts.{chapter_if, chapters_text}
 use Rattle.fairview_report.proofs.StoryLemmas.{chapter_put}
 use Rattle.fairview_report.proofs.story.put_chapters.Goals as goal

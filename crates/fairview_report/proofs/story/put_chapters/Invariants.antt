@@ -1,7 +1,7 @@
 -- The lines of the notes so far stand behind what the page had.
 use Rattle.std.proofs.Common.{◌≡◌, ◌++◌, string_bytes}
-use Rattle.rt_ids.specs.Journal.{at_place}
-use Rattle.rt_view.specs.Stories.{KnowsStory, chapters}
+use Rattle.base_words.specs.Journal.{at_place}
+use Rattle.judge_view.specs.Stories.{KnowsStory, chapters}
 use Rattle.fairview_report.specs.StoryTexts.{chapters_text}
 use Rattle.fairview_report.proofs.story.put_chapters.Given as goal
 

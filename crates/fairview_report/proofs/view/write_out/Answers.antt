@@ -1,6 +1,6 @@
-use Rattle.rt_journal_write.proofs.PageLemmas.{OnErr-any, front_of_count}
-use Rattle.rt_sink.proofs.KnownLemmas.{Appends-more_kept}
-use Rattle.rt_sink.proofs.TryLemmas.{failed_last}
+use Rattle.text_journal.proofs.PageLemmas.{OnErr-any, front_of_count}
+use Rattle.text_bytes.proofs.KnownLemmas.{Appends-more_kept}
+use Rattle.text_bytes.proofs.TryLemmas.{failed_last}
 use Rattle.fairview_report.proofs.ViewLemmas.{OnOk-any, front_of_all}
 use Rattle.fairview_report.proofs.view.write_out.Goals as goal
 

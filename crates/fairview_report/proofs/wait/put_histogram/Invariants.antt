@@ -1,6 +1,6 @@
 -- The lines of the ranges so far stand behind what the page had.
 use Rattle.std.proofs.Common.{◌≡◌, ◌++◌, string_bytes}
-use Rattle.fairview_text.specs.Lists.{lists_below}
+use Rattle.fairview_marks.specs.Lists.{lists_below}
 use Rattle.fairview_report.specs.WaitTexts.{digits_text}
 use Rattle.fairview_report.proofs.wait.put_histogram.Given as goal
 

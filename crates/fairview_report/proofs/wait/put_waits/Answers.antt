@@ -1,6 +1,6 @@
 use Rattle.std.proofs.Common.{ℕ, arith, string_bytes}
-use Rattle.rt_ids.specs.Assembly.{journal_of}
-use Rattle.rt_view.specs.Waits.{AreSpans}
+use Rattle.base_words.specs.Assembly.{journal_of}
+use Rattle.judge_view.specs.Waits.{AreSpans}
 use Rattle.fairview_report.specs.WaitTexts.{IsCoreText}
 use Rattle.fairview_report.proofs.TextLemmas.{puts_none, puts_one, puts_all}
 use Rattle.fairview_report.proofs.WalkLemmas.{tells_at}

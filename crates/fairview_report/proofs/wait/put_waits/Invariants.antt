@@ -1,6 +1,6 @@
 -- The texts of the cores so far stand behind what the page had.
 use Rattle.std.proofs.Common.{ℕ, string_bytes}
-use Rattle.rt_ids.specs.Assembly.{Assembly, journal_of}
+use Rattle.base_words.specs.Assembly.{Assembly, journal_of}
 use Rattle.fairview_report.specs.Texts.{AreTextsBelow, Puts}
 use Rattle.fairview_report.specs.Told.{AreWaits}
 use Rattle.fairview_report.specs.WaitTexts.{IsCoreText}

@@ -1,5 +1,5 @@
 use Rattle.std.proofs.Common.{◌<◌, ◌≤◌, ap, arith}
-use Rattle.rt_journal_desk.specs.Spending.{booked}
+use Rattle.actor_desk.specs.Spending.{booked}
 use Rattle.actor_caller.proofs.Booked.{room_to_collect}
 use Rattle.actor_caller.proofs.Collected.{collects_here}
 use Rattle.actor_caller.proofs.Sent.{held_on}

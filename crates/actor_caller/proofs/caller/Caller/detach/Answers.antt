@@ -1,5 +1,5 @@
 use Rattle.std.proofs.Common.{◌<◌, ◌≤◌, arith}
-use Rattle.rt_journal_desk.specs.Spending.{booked}
+use Rattle.actor_desk.specs.Spending.{booked}
 use Rattle.actor_caller.proofs.Booked.{books_detached, room_held}
 use Rattle.actor_caller.proofs.Redeemed.{detached_here}
 use Rattle.actor_caller.proofs.Sent.{held_on}
@@ -21,4 +21,4 @@ pub returns : goal.returns
 returns g c =
     let did = c.detach.ensures in
     let low : c.args.ticket.to < c.self.inside.outside.desk.cores = (c.knows.ensures.knows.0 c.if-not-knows.false).1 in
-    detached_here _ c.args.self.now c.self.view_is c.self.invariant.1.runtime c.args.ticket low c.detach.new.self did.uses did.out c.detach.result did.detaches
+    detached_here _ c.args.self.now c.self.view_is c.self.invariant.1.runtime c.args.ticket low c.detach.new.self did.uses did.out c.detach.result did.detaches did.refused

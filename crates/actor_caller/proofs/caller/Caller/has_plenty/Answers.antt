@@ -1,7 +1,7 @@
 use Rattle.std.proofs.Common.{◌+◌, ◌*◌, ◌≤◌, ◌∙◌, ap, subst}
 use Rattle.std.proofs.lemmas.Bool.{leb-true}
-use Rattle.rt_journal_notes.specs.Journals.{free_notes}
-use Rattle.rt_journal_desk.specs.Spending.{booked}
+use Rattle.note_journal.specs.Journals.{free_notes}
+use Rattle.actor_desk.specs.Spending.{booked}
 use Rattle.actor_caller.specs.Sends.{room_left}
 use Rattle.actor_caller.specs.Passing.{passed_on}
 use Rattle.actor_caller.proofs.Booked.{room_to_send}

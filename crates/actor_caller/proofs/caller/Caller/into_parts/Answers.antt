@@ -1,5 +1,5 @@
 use Rattle.std.proofs.Common.{◌≡◌, refl, subst}
-use Rattle.rt_link.specs.Fits.{Fits}
+use Rattle.link_ends.specs.Fits.{Fits}
 use Rattle.actor_caller.specs.State.{RuntimeView}
 use Rattle.actor_caller.specs.Stored.{IsRuntime, view_of}
 use Rattle.actor_caller.proofs.caller.Caller.into_parts.Goals as goal

@@ -1,5 +1,5 @@
 use Rattle.std.proofs.Common.{ap, ◌∙◌, arith}
-use Rattle.rt_ids.specs.Outstanding.{outstanding_count}
+use Rattle.base_words.specs.Outstanding.{outstanding_count}
 use Rattle.actor_caller.proofs.Sent.{one_more_core}
 use Rattle.actor_caller.proofs.caller.Caller.outstanding.Goals as goal
 

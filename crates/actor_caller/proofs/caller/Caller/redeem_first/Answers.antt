@@ -1,5 +1,5 @@
 use Rattle.std.proofs.Common.{◌∙◌, Err, sym, ap, subst, arith}
-use Rattle.rt_link.specs.Fits.{Fits}
+use Rattle.link_ends.specs.Fits.{Fits}
 use Rattle.actor_caller.specs.Tickets.{RedeemsHere}
 use Rattle.actor_caller.proofs.Idle.{none_pending, one_pending}
 use Rattle.actor_caller.proofs.caller.Caller.redeem_first.Goals as goal

@@ -1,5 +1,5 @@
 use Rattle.std.proofs.Common.{◌≡◌, ◌+◌, ◌<◌, ◌≤◌, ap, arith, length, length-set, rules, subst, sym, ◌∙◌}
-use Rattle.rt_journal_desk.specs.Spending.{booked}
+use Rattle.actor_desk.specs.Spending.{booked}
 use Rattle.actor_caller.proofs.Booked.{books_sent}
 use Rattle.actor_caller.proofs.Sent.{held_on, sends_to}
 use Rattle.actor_caller.proofs.caller.Caller.send.Goals as goal
@@ -27,7 +27,7 @@ returns g c =
     let sent = c.submit-answer.ensures in
     let low : c.args.to < c.self.inside.outside.desk.cores = omega (arith, c.if-to-self.false, c.to.view_is, c.self.invariant.1.cores_are) in
     record {
-      there = λ there. sends_to _ c.args.to c.submit-answer.new.self sent.uses c.self.invariant.1.runtime low c.args.order c.submit-answer.result sent.submits sent.sends c.mark.new.closing.items (search rules) c.ring.new.self (search rules)
+      there = λ there. sends_to _ c.args.to c.submit-answer.new.self sent.uses c.self.invariant.1.runtime low c.args.order c.submit-answer.result sent.submits sent.sends sent.credited c.mark.new.closing.items (search rules) c.ring.new.self (search rules)
           c.args.self.now c.self.view_is;
       missing = λ past. absurd (omega (arith, past, low, ap (λ view. view.desk.cores) c.self.view_is));
     }

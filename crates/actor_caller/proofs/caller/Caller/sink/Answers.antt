@@ -1,6 +1,6 @@
 use Rattle.std.proofs.Common.{◌≡◌, [], ◌∷◌, ◌++◌, length, subst}
 use Rattle.std.specs.Prelude.{Some, slice_get}
-use Rattle.rt_ring.proofs.Windows.{slice_get-last}
+use Rattle.link_ring.proofs.Windows.{slice_get-last}
 use Rattle.actor_caller.proofs.caller.Caller.sink.Goals as goal
 
 pub returns-clause-mark : goal.returns-clause-mark

@@ -1,5 +1,5 @@
 use Rattle.std.proofs.Common.{◌≡◌, Err}
-use Rattle.rt_ids.specs.declared.order.SendError.TheVariants.{Full}
+use Rattle.base_words.specs.declared.order.SendError.TheVariants.{Full}
 use Rattle.actor_caller.specs.declared.error.SubmitError.TheVariants.{Send}
 use Rattle.actor_caller.proofs.InARow.{one_try}
 use Rattle.actor_caller.proofs.Vain.{full_again}

@@ -1,5 +1,5 @@
 use Rattle.std.proofs.Common.{◌∙◌, Err, ap, subst}
-use Rattle.rt_link.specs.Fits.{Fits}
+use Rattle.link_ends.specs.Fits.{Fits}
 use Rattle.actor_caller.specs.Tickets.{RedeemsHere}
 use Rattle.actor_caller.proofs.InARow.{no_try, one_try}
 use Rattle.actor_caller.proofs.caller.Caller.wait.Goals as goal

@@ -1,6 +1,6 @@
 use Rattle.std.proofs.Common.{Err}
-use Rattle.rt_ids.specs.declared.names.TicketError.TheVariants.{Pending}
-use Rattle.rt_link.specs.Fits.{Fits}
+use Rattle.base_words.specs.declared.names.TicketError.TheVariants.{Pending}
+use Rattle.link_ends.specs.Fits.{Fits}
 use Rattle.actor_caller.specs.Tickets.{RedeemsHere}
 use Rattle.actor_caller.specs.Waiting.{Waits}
 use Rattle.actor_caller.proofs.caller.Caller.wait.Given as goal

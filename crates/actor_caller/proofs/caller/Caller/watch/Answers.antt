@@ -1,6 +1,6 @@
 use Rattle.std.proofs.Common.{◌<◌, ◌∙◌, length, ap, arith}
 use Rattle.std.proofs.Math.Seq.{map-set_same}
-use Rattle.rt_watch.specs.declared.watcher.Watching.{Watching}
+use Rattle.run_watch.specs.declared.watcher.Watching.{Watching}
 use Rattle.actor_caller.proofs.Watched.{held_watched, watch_count, watches, watches_as}
 use Rattle.actor_caller.proofs.caller.Caller.watch.Goals as goal
 

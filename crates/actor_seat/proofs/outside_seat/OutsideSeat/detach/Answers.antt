@@ -1,13 +1,14 @@
 use Rattle.std.proofs.Common.{◌≡◌, ◌<◌, ap, length, subst, sym, arith}
-use Rattle.std.specs.Prelude.{IfOk}
-use Rattle.rt_link.specs.Fits.{Fits}
-use Rattle.rt_journal_desk.specs.Spending.{HoldsSome, Spends}
-use Rattle.rt_journal_desk.specs.Tickets.{DetachesTicket}
-use Rattle.rt_ring_mesh.specs.Ends.{out_at}
-use Rattle.rt_ring_mesh.specs.Lending.{with_out}
+use Rattle.std.specs.Prelude.{IfOk, OnErr}
+use Rattle.link_ends.specs.Fits.{Fits}
+use Rattle.actor_desk.specs.Spending.{HoldsSome, Spends}
+use Rattle.actor_desk.specs.Tickets.{DetachesTicket}
+use Rattle.link_ring.specs.Ends.{out_at}
+use Rattle.link_ring.specs.Lending.{with_out}
 use Rattle.actor_seat.specs.OutsideSeats.{UsesOutside}
 use Rattle.actor_seat.proofs.Adding.{detaches_add}
 use Rattle.actor_seat.proofs.OutsideSeats.{LendsAt, lent_beside, lent_lane, seated_now, there_too, uses_now}
+use Rattle.actor_seat.proofs.Untouched.{detach_leaves, outside_stays}
 use Rattle.actor_seat.proofs.outside_seat.OutsideSeat.detach.Given.{Over}
 use Rattle.actor_seat.proofs.outside_seat.OutsideSeat.detach.Goals as goal
 use Rattle.actor_seat.proofs.outside_seat.OutsideSeat.detach.Goals.{After-out_mut}
@@ -46,6 +47,11 @@ pub returns-clause-out : goal.returns-clause-out
 returns-clause-out g c =
     subst (λ view. (out_at c.args.ticket.to (with_out c.name-to.result.to c.detach.new.end c.self.inside.ends)).out ≡ (out_at c.args.ticket.to view.ends).out) c.self.view_is
     (there_too (lends g (goal.at.returns-clause-out g c).After-out_mut) c.detach.new.end (λ was now. now.out ≡ was.out) c.detach.ensures.out)
+
+pub returns-clause-refused : goal.returns-clause-refused
+returns-clause-refused g c =
+    subst (λ view. OnErr c.detach.result (record { desk = c.detach.new.self; ends = with_out c.name-to.result.to c.detach.new.end c.self.inside.ends } ≡ view)) c.self.view_is
+    (outside_stays c.detach.result c.detach.ensures.untouched c.detach.ensures.out c.self.inside.desk c.detach.new.self (lends g (goal.at.returns-clause-refused g c).After-out_mut) c.detach.ensures.stays (detach_leaves _ _ _ _ c.detach.ensures.detaches))
 
 pub returns-clause-uses : goal.returns-clause-uses
 returns-clause-uses g c =

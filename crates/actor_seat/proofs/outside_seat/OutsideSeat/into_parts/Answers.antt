@@ -1,5 +1,5 @@
 use Rattle.std.proofs.Common.{subst}
-use Rattle.rt_link.specs.Fits.{Fits}
+use Rattle.link_ends.specs.Fits.{Fits}
 use Rattle.actor_seat.specs.OutsideSeats.{IsSeatedOutside}
 use Rattle.actor_seat.proofs.outside_seat.OutsideSeat.into_parts.Goals as goal
 

@@ -1,14 +1,15 @@
 use Rattle.std.proofs.Common.{◌≡◌, ◌<◌, ap, length, subst, sym, arith}
-use Rattle.std.specs.Prelude.{IfOk}
-use Rattle.rt_desk.specs.Lanes.{FitsSent, IsGot}
-use Rattle.rt_link.specs.Fits.{Fits}
-use Rattle.rt_journal_desk.specs.Spending.{HoldsSome, Spends}
-use Rattle.rt_journal_desk.specs.Tickets.{RedeemsTicket}
-use Rattle.rt_ring_mesh.specs.Ends.{out_at}
-use Rattle.rt_ring_mesh.specs.Lending.{with_out}
+use Rattle.std.specs.Prelude.{IfOk, OnErr}
+use Rattle.actor_desk.specs.Lanes.{FitsSent, IsGot}
+use Rattle.link_ends.specs.Fits.{Fits}
+use Rattle.actor_desk.specs.Spending.{HoldsSome, Spends}
+use Rattle.actor_desk.specs.Tickets.{RedeemsTicket}
+use Rattle.link_ring.specs.Ends.{out_at}
+use Rattle.link_ring.specs.Lending.{with_out}
 use Rattle.actor_seat.specs.OutsideSeats.{UsesOutside}
 use Rattle.actor_seat.proofs.Adding.{redeems_add}
 use Rattle.actor_seat.proofs.OutsideSeats.{LendsAt, lent_beside, lent_lane, seated_now, there_too, uses_now}
+use Rattle.actor_seat.proofs.Untouched.{redeem_leaves, outside_stays}
 use Rattle.actor_seat.proofs.outside_seat.OutsideSeat.redeem.Given.{Over}
 use Rattle.actor_seat.proofs.outside_seat.OutsideSeat.redeem.Goals as goal
 use Rattle.actor_seat.proofs.outside_seat.OutsideSeat.redeem.Goals.{After-out_mut}
@@ -57,6 +58,11 @@ pub returns-clause-out : goal.returns-clause-out
 returns-clause-out g c =
     subst (λ view. (out_at c.args.ticket.to (with_out c.name-to.result.to c.redeem.new.end c.self.inside.ends)).out ≡ (out_at c.args.ticket.to view.ends).out) c.self.view_is
     (there_too (lends g (goal.at.returns-clause-out g c).After-out_mut) c.redeem.new.end (λ was now. now.out ≡ was.out) c.redeem.ensures.out)
+
+pub returns-clause-refused : goal.returns-clause-refused
+returns-clause-refused g c =
+    subst (λ view. OnErr c.redeem.result (record { desk = c.redeem.new.self; ends = with_out c.name-to.result.to c.redeem.new.end c.self.inside.ends } ≡ view)) c.self.view_is
+    (outside_stays c.redeem.result c.redeem.ensures.untouched c.redeem.ensures.out c.self.inside.desk c.redeem.new.self (lends g (goal.at.returns-clause-refused g c).After-out_mut) c.redeem.ensures.stays (redeem_leaves _ _ _ _ c.redeem.ensures.redeems))
 
 pub returns-clause-uses : goal.returns-clause-uses
 returns-clause-uses g c =

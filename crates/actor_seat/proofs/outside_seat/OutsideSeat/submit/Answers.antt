@@ -1,12 +1,12 @@
-use Rattle.std.proofs.Common.{◌<◌, ap, length, refl, subst, sym, arith}
+use Rattle.std.proofs.Common.{◌≡◌, ◌<◌, ap, length, refl, subst, sym, arith}
 use Rattle.std.specs.Prelude.{IfOk}
 use Rattle.actor_seat.specs.OutsideSeats.{UsesOutside}
-use Rattle.rt_ring_mesh.specs.Lending.{with_out}
-use Rattle.rt_ring_mesh.specs.Ends.{out_at}
-use Rattle.rt_journal_desk.specs.Spending.{Spends}
-use Rattle.rt_link.specs.Fits.{Fits}
-use Rattle.rt_journal_desk.specs.Submissions.{Submits, numbered}
-use Rattle.rt_link.specs.Calls.{Sends}
+use Rattle.link_ring.specs.Lending.{with_out}
+use Rattle.link_ring.specs.Ends.{out_at}
+use Rattle.actor_desk.specs.Spending.{Spends}
+use Rattle.link_ends.specs.Fits.{Fits}
+use Rattle.actor_desk.specs.Submissions.{Submits, numbered}
+use Rattle.link_ends.specs.Calls.{Sends}
 use Rattle.actor_seat.proofs.Adding.{submits_add}
 use Rattle.actor_seat.proofs.OutsideSeats.{LendsAt, lent_beside, lent_lane, seated_now, there_too, uses_now}
 use Rattle.actor_seat.proofs.outside_seat.OutsideSeat.submit.Given.{Over}
@@ -48,6 +48,11 @@ pub returns-clause-sends : goal.returns-clause-sends
 returns-clause-sends g c =
     subst (λ view. Sends (out_at c.args.to view.ends).out (out_at c.args.to view.ends).credited c.args.order (out_at c.args.to (with_out c.args.to c.submit.new.end c.self.inside.ends)).out (numbered c.submit.result)) c.self.view_is
     (there_too (lends g (goal.at.returns-clause-sends g c).After-out_mut) c.submit.new.end (λ was now. Sends was.out was.credited c.args.order now.out (numbered c.submit.result)) c.submit.ensures.sends)
+
+pub returns-clause-credited : goal.returns-clause-credited
+returns-clause-credited g c =
+    subst (λ view. (out_at c.args.to (with_out c.args.to c.submit.new.end c.self.inside.ends)).credited ≡ (out_at c.args.to view.ends).credited) c.self.view_is
+    (there_too (lends g (goal.at.returns-clause-credited g c).After-out_mut) c.submit.new.end (λ was now. now.credited ≡ was.credited) c.submit.ensures.credited)
 
 pub returns-clause-uses : goal.returns-clause-uses
 returns-clause-uses g c =

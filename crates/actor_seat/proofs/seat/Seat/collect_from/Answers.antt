@@ -1,9 +1,9 @@
 use Rattle.std.proofs.Common.{◌+◌, ◌≤◌, length, ap, subst, sym, arith}
-use Rattle.rt_journal.specs.Recorded.{desk_of}
+use Rattle.actor_core.specs.Recorded.{desk_of}
 use Rattle.actor_seat.specs.Linked.{IsLinked, LinkedView}
 use Rattle.actor_seat.specs.Seats.{IsSeated}
 use Rattle.actor_seat.specs.Steps.{CollectsOf}
-use Rattle.rt_ring_mesh.specs.Lending.{with_out}
+use Rattle.link_ring.specs.Lending.{with_out}
 use Rattle.actor_seat.proofs.LentOut.{LendsOut, collected_does, collected_linked, out_beside, out_lane, out_room, out_seated}
 use Rattle.actor_seat.proofs.seat.Seat.collect_from.Given.{Over}
 use Rattle.actor_seat.proofs.seat.Seat.collect_from.Goals as goal

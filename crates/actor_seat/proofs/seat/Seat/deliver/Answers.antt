@@ -1,5 +1,5 @@
 use Rattle.std.proofs.Common.{◌+◌, ◌≤◌, length, ap, subst, sym, arith}
-use Rattle.rt_ring_mesh.specs.Lending.{with_in}
+use Rattle.link_ring.specs.Lending.{with_in}
 use Rattle.actor_seat.specs.Linked.{IsLinked}
 use Rattle.actor_seat.specs.Steps.{DeliversFrom}
 use Rattle.actor_seat.proofs.LentIn.{LeavesIn, LendsIn, delivers_does, delivers_linked, delivers_seated, from_in}

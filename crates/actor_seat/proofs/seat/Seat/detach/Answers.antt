@@ -1,13 +1,14 @@
 use Rattle.std.proofs.Common.{◌<◌, ap, length, refl, subst, sym, ◌∙◌, arith}
 use Rattle.std.specs.Prelude.{Err}
-use Rattle.rt_ids.specs.declared.names.TicketError.TheVariants.{Unknown}
-use Rattle.rt_journal.specs.Recorded.{desk_of}
-use Rattle.rt_ring_mesh.specs.Ends.{out_at}
-use Rattle.rt_ring_mesh.specs.Lending.{with_out}
+use Rattle.base_words.specs.declared.names.TicketError.TheVariants.{Unknown}
+use Rattle.actor_core.specs.Recorded.{desk_of}
+use Rattle.link_ring.specs.Ends.{out_at}
+use Rattle.link_ring.specs.Lending.{with_out}
 use Rattle.actor_seat.specs.Seats.{DetachesOn, IsSeated}
 use Rattle.actor_seat.proofs.Adding.{detaches_add}
 use Rattle.actor_seat.proofs.Along.{stays_same}
 use Rattle.actor_seat.proofs.LentOut.{LendsOut, out_beside, out_lane, out_seated, out_stays, out_uses}
+use Rattle.actor_seat.proofs.Untouched.{linked_stays, detach_leaves}
 use Rattle.actor_seat.proofs.seat.Seat.detach.Given.{Over}
 use Rattle.actor_seat.proofs.seat.Seat.detach.Goals as goal
 use Rattle.actor_seat.proofs.seat.Seat.detach.Goals.{After-detach, After-out_mut}
@@ -30,7 +31,7 @@ seated g c lent =
 pub returns-then-not-knows-clause-does : goal.returns-then-not-knows-clause-does
 returns-then-not-knows-clause-does g c =
     subst (λ old. DetachesOn c.args.ticket old (Err Unknown) old) c.self.view_is
-    (record { detaches = (c.knows.ensures.unknown c.if-not-knows.true, refl); uses = record { others = λ other away. refl; rest = refl }; rest = refl; stays = stays_same _ })
+    (record { detaches = (c.knows.ensures.unknown c.if-not-knows.true, refl); refused = refl; uses = record { others = λ other away. refl; rest = refl }; rest = refl; stays = stays_same _ })
 
 pub out_mut-requires : goal.out_mut-requires
 out_mut-requires g c = omega (arith, c.self.invariant.beside.outs.count, (c.knows.ensures.knows.0 c.if-not-knows.false).1, ap (λ name. name.to) c.name-to.ensures)
@@ -54,10 +55,12 @@ pub returns-clause-does : goal.returns-clause-does
 returns-clause-does g c =
     let lent = lends g (goal.at.returns-clause-does g c).After-out_mut in
     let same = ap (λ out. length out.seen) c.detach.ensures.out in
+    let refused = linked_stays c.detach.result c.detach.ensures.untouched c.detach.ensures.out c.self.inside.recorded c.detach.new.self lent c.detach.ensures.rest c.detach.ensures.stays (detach_leaves _ _ _ _ c.detach.ensures.detaches) in
     subst (λ old. DetachesOn c.args.ticket old c.detach.result (record { recorded = c.detach.new.self; ends = with_out c.name-to.result.to c.detach.new.end c.self.inside.ends })) c.self.view_is
     (subst (λ name. DetachesOn c.args.ticket (record { recorded = c.self.inside.recorded; ends = c.self.inside.ends }) c.detach.result (record { recorded = c.detach.new.self; ends = with_out name.to c.detach.new.end c.self.inside.ends })) (sym c.name-to.ensures)
     (record {
       detaches = c.detach.ensures.detaches;
+      refused = refused;
       uses = out_uses lent c.detach.new.end;
       rest = c.detach.ensures.rest;
       stays = out_stays c.self.invariant.beside lent c.detach.new.self c.detach.new.end c.detach.ensures.seat c.detach.ensures.untouched (omega (arith, same)) (detaches_add _ _ _ _ c.detach.ensures.detaches);

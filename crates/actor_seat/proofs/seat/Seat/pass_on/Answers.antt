@@ -1,5 +1,5 @@
 use Rattle.std.proofs.Common.{◌≡◌, ap, subst, sym}
-use Rattle.rt_journal.specs.Recorded.{RecordedView}
+use Rattle.actor_core.specs.Recorded.{RecordedView}
 use Rattle.actor_seat.specs.Linked.{IsLinked, LinkedView}
 use Rattle.actor_seat.proofs.Passed.{passed_linked, passed_seated, same_notes}
 use Rattle.actor_seat.proofs.seat.Seat.pass_on.Given.{Over}

@@ -1,17 +1,17 @@
 use Rattle.std.proofs.Common.{◌≡◌, ap, subst, sym, ◌∙◌, arith}
 use Rattle.std.specs.Prelude.{Ok}
-use Rattle.rt_core.specs.declared.turn.Turn.TheVariants.{Back}
-use Rattle.rt_journal.specs.Owed.{owed_back}
-use Rattle.rt_journal.specs.OwedPolls.{HasOwedPolls, seen_by}
-use Rattle.rt_journal.proofs.OwedSteps.{picks_keep}
-use Rattle.rt_ring.specs.declared.ring_out.Sending.{Sending}
-use Rattle.rt_ring_mesh.proofs.Using.{ends_same}
+use Rattle.core_core.specs.declared.turn.Turn.TheVariants.{Back}
+use Rattle.actor_core.specs.Owed.{owed_back}
+use Rattle.actor_core.specs.OwedPolls.{HasOwedPolls, seen_by}
+use Rattle.actor_core.proofs.OwedSteps.{picks_keep}
+use Rattle.link_ring.specs.declared.ring_out.Sending.{Sending}
+use Rattle.link_ring.proofs.Using.{ends_same}
 use Rattle.actor_seat.specs.Linked.{IsLinked, StaysLinked}
 use Rattle.actor_seat.specs.Seats.{taken_of}
 use Rattle.actor_seat.proofs.Along.{sees_same}
 use Rattle.actor_seat.proofs.HandedBack.{stay_owing}
 use Rattle.actor_seat.proofs.Kept.{kept_seated}
-use Rattle.actor_seat.proofs.Picked.{LeavesPick, back_known, owes_none, picked_linked, picked_stays, picked_told}
+use Rattle.actor_seat.proofs.Picked.{LeavesPick, back_known, owes_none, pick_leaves, picked_linked, picked_stays, picked_told}
 use Rattle.actor_seat.proofs.seat.Seat.pick.Given.{Over}
 use Rattle.actor_seat.proofs.seat.Seat.pick.Goals as goal
 use Rattle.actor_seat.proofs.seat.Seat.pick.Goals.{After-pick, In-Ok-Back}
@@ -57,6 +57,11 @@ pub returns-in-Err-clause-stays : goal.returns-in-Err-clause-stays
 returns-in-Err-clause-stays g c =
     subst (λ old. StaysLinked old (record { recorded = c.pick.new.self; ends = c.self.inside.ends })) c.self.view_is
     (picked_stays (left g (goal.at.returns-in-Err-clause-stays g c).After-pick) c.self.inside.ends c.self.inside.ends (ends_same c.self.inside.ends) (sees_same c.self.inside.ends))
+
+pub returns-in-Err-clause-refused : goal.returns-in-Err-clause-refused
+returns-in-Err-clause-refused g c =
+    subst (λ view. record { recorded = c.pick.new.self; ends = c.self.inside.ends } ≡ view) c.self.view_is
+    (ap (λ recorded. record { recorded = recorded; ends = c.self.inside.ends }) (pick_leaves (left g (goal.at.returns-in-Err-clause-refused g c).After-pick) c.in-Err.error c.in-Err.is))
 
 pub give_on-requires-clause-known : goal.give_on-requires-clause-known
 give_on-requires-clause-known g c =

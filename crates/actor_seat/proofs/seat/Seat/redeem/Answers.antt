@@ -1,15 +1,16 @@
 use Rattle.std.proofs.Common.{◌<◌, ap, length, refl, subst, sym, ◌∙◌, arith}
 use Rattle.std.specs.Prelude.{Err}
-use Rattle.rt_ids.specs.declared.names.TicketError.TheVariants.{Unknown}
-use Rattle.rt_desk.specs.Lanes.{FitsSent}
-use Rattle.rt_journal.specs.Recorded.{desk_of}
-use Rattle.rt_link.specs.Fits.{Fits}
-use Rattle.rt_ring_mesh.specs.Ends.{out_at}
-use Rattle.rt_ring_mesh.specs.Lending.{with_out}
+use Rattle.base_words.specs.declared.names.TicketError.TheVariants.{Unknown}
+use Rattle.actor_desk.specs.Lanes.{FitsSent}
+use Rattle.actor_core.specs.Recorded.{desk_of}
+use Rattle.link_ends.specs.Fits.{Fits}
+use Rattle.link_ring.specs.Ends.{out_at}
+use Rattle.link_ring.specs.Lending.{with_out}
 use Rattle.actor_seat.specs.Seats.{IsSeated, RedeemsOn}
 use Rattle.actor_seat.proofs.Adding.{redeems_add}
 use Rattle.actor_seat.proofs.Along.{stays_same}
 use Rattle.actor_seat.proofs.LentOut.{LendsOut, out_beside, out_fits, out_lane, out_seated, out_stays, out_uses}
+use Rattle.actor_seat.proofs.Untouched.{linked_stays, redeem_leaves}
 use Rattle.actor_seat.proofs.seat.Seat.redeem.Given.{Over}
 use Rattle.actor_seat.proofs.seat.Seat.redeem.Goals as goal
 use Rattle.actor_seat.proofs.seat.Seat.redeem.Goals.{After-out_mut, After-redeem}
@@ -32,7 +33,7 @@ seated g c lent =
 pub returns-then-not-knows-clause-does : goal.returns-then-not-knows-clause-does
 returns-then-not-knows-clause-does g c =
     subst (λ old. RedeemsOn g.J.Task.meaning c.args.ticket old (Err Unknown) old) c.self.view_is
-    (record { redeems = (c.knows.ensures.unknown c.if-not-knows.true, refl); fits = tt; uses = record { others = λ other away. refl; rest = refl }; rest = refl; stays = stays_same _ })
+    (record { redeems = (c.knows.ensures.unknown c.if-not-knows.true, refl); fits = tt; refused = refl; uses = record { others = λ other away. refl; rest = refl }; rest = refl; stays = stays_same _ })
 
 pub out_mut-requires : goal.out_mut-requires
 out_mut-requires g c = omega (arith, c.self.invariant.beside.outs.count, (c.knows.ensures.knows.0 c.if-not-knows.false).1, ap (λ name. name.to) c.name-to.ensures)
@@ -56,11 +57,13 @@ pub returns-clause-does : goal.returns-clause-does
 returns-clause-does g c =
     let lent = lends g (goal.at.returns-clause-does g c).After-out_mut in
     let same = ap (λ out. length out.seen) c.redeem.ensures.out in
+    let refused = linked_stays c.redeem.result c.redeem.ensures.untouched c.redeem.ensures.out c.self.inside.recorded c.redeem.new.self lent c.redeem.ensures.rest c.redeem.ensures.stays (redeem_leaves _ _ _ _ c.redeem.ensures.redeems) in
     subst (λ old. RedeemsOn g.J.Task.meaning c.args.ticket old c.redeem.result (record { recorded = c.redeem.new.self; ends = with_out c.name-to.result.to c.redeem.new.end c.self.inside.ends })) c.self.view_is
     (subst (λ name. RedeemsOn g.J.Task.meaning c.args.ticket (record { recorded = c.self.inside.recorded; ends = c.self.inside.ends }) c.redeem.result (record { recorded = c.redeem.new.self; ends = with_out name.to c.redeem.new.end c.self.inside.ends })) (sym c.name-to.ensures)
     (record {
       redeems = c.redeem.ensures.redeems;
       fits = out_fits lent c.redeem.result (λ out. FitsSent (Fits g.J.Task.meaning) out c.args.ticket.number) c.redeem.ensures.fits;
+      refused = refused;
       uses = out_uses lent c.redeem.new.end;
       rest = c.redeem.ensures.rest;
       stays = out_stays c.self.invariant.beside lent c.redeem.new.self c.redeem.new.end c.redeem.ensures.seat c.redeem.ensures.untouched (omega (arith, same)) (redeems_add _ _ _ _ c.redeem.ensures.redeems);

@@ -1,7 +1,7 @@
 use Rattle.std.proofs.Common.{◌<◌, length, sym, ap, subst, arith}
-use Rattle.rt_journal.specs.Turns.{IsOut, IsOutUnder, Settles}
-use Rattle.rt_journal.specs.Owed.{outcome_settled}
-use Rattle.rt_ring_mesh.specs.Lending.{with_in}
+use Rattle.actor_core.specs.Turns.{IsOut, IsOutUnder, Settles}
+use Rattle.actor_core.specs.Owed.{outcome_settled}
+use Rattle.link_ring.specs.Lending.{with_in}
 use Rattle.actor_seat.specs.Linked.{StaysLinked}
 use Rattle.actor_seat.proofs.LentIn.{LeavesIn, LendsIn, its_in, settled_seated, settled_stays}
 use Rattle.actor_seat.proofs.Seen.{gives_seen}

@@ -1,7 +1,7 @@
 use Rattle.std.proofs.Common.{◌<◌, ◌∙◌, length, ap, subst, sym, arith}
 use Rattle.std.specs.Prelude.{IsSome}
-use Rattle.rt_ids.specs.Closing.{core_mode, final_count}
-use Rattle.rt_ring_mesh.specs.Lending.{with_in}
+use Rattle.base_words.specs.Closing.{core_mode, final_count}
+use Rattle.link_ring.specs.Lending.{with_in}
 use Rattle.actor_seat.specs.Linked.{IsLinked}
 use Rattle.actor_seat.specs.Steps.{ShutsGate}
 use Rattle.actor_seat.proofs.LentIn.{LeavesIn, LendsIn, its_in, shuts_does, shuts_linked, shuts_seated}

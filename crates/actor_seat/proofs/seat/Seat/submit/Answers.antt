@@ -1,7 +1,7 @@
 use Rattle.std.proofs.Common.{◌<◌, length, sym, ap, subst, arith}
-use Rattle.rt_journal.specs.Recorded.{desk_of}
-use Rattle.rt_journal_desk.specs.Submissions.{numbered}
-use Rattle.rt_ring_mesh.specs.Lending.{with_out}
+use Rattle.actor_core.specs.Recorded.{desk_of}
+use Rattle.actor_desk.specs.Submissions.{numbered}
+use Rattle.link_ring.specs.Lending.{with_out}
 use Rattle.actor_seat.specs.Seats.{IsSeated, SubmitsOn}
 use Rattle.actor_seat.proofs.Adding.{submits_add}
 use Rattle.actor_seat.proofs.LentOut.{LendsOut, out_beside, out_lane, out_seated, out_sends, out_stays, out_uses, sends_seen}

@@ -1,7 +1,7 @@
 use Rattle.std.proofs.Common.{arith, ◌≡◌, ◌∙◌, ◌<◌, ◌+◌, ℕ, List, ◌++◌, ◌∷◌, [], ap, subst, refl}
 use Rattle.std.proofs.lemmas.Grind.{common_steps}
-use Rattle.rt_runtime_config.specs.Configs.{Entry, queues_of}
-use Rattle.rt_runtime_worker.specs.Queues.{creations}
+use Rattle.run_config.specs.Configs.{Entry, queues_of}
+use Rattle.run_worker.specs.Queues.{creations}
 use Rattle.duthlwyran.specs.Plans.{Name, Plan}
 use Rattle.duthlwyran.proofs.Plans.{plans_next, planned}
 use Rattle.duthlwyran.proofs.house.House.next_queue.Goals as goal

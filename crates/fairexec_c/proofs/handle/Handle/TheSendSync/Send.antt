@@ -9,7 +9,7 @@ use denote.Struct.Struct.{exits_of}
 use denote.Struct.Owning.{shape, fields, to}
 use Rattle.std_alloc.proofs.SendSync.{quiet, lies}
 use Rattle.std.proofs.Crossing.{frees, crosses}
-use Rattle.rt_timeline.proofs.tree.Tree.TheLaws.TheKnot as tree
+use Rattle.core_timeline.proofs.tree.Tree.TheLaws.TheKnot as tree
 use Rattle.std.specs.declared.alloc.Global.{Global}
 use Rattle.std.specs.declared.option.Option.{Option}
 use Rattle.std.specs.declared.option.Option.TheVariants.{None, Some}

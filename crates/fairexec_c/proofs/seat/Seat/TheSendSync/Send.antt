@@ -13,8 +13,8 @@ use Rattle.std.specs.declared.alloc.Global.{Global}
 use Rattle.std.specs.declared.option.Option.{Option}
 use Rattle.std.specs.declared.option.Option.TheVariants.{None, Some}
 use Rattle.std.proofs.alloc.Global.TheSendSync as heap
-use Rattle.rt_hosted_calls.proofs.Crosses.{member_send}
-use Rattle.rt_hosted_calls.specs.contracts.member.Member as member
+use Rattle.host_calls.proofs.Crosses.{member_send}
+use Rattle.host_calls.specs.contracts.member.Member as member
 use Rattle.fairexec_c.specs.Handles.{held}
 use Rattle.fairexec_c.specs.contracts.seat.Seat.{the_row, the_type}
 

@@ -1,5 +1,5 @@
 use Rattle.std.proofs.Common.{sym, ◌∙◌, Some, None, not}
-use Rattle.rt_words.specs.Words.{words}
+use Rattle.text_words.specs.Words.{words}
 use Rattle.fairexec_script.specs.Limits.{MayFollow, IsSized}
 use Rattle.fairexec_script.proofs.LimitLemmas.{first_line_ok, later_line_ok, IfOk-from_each}
 use Rattle.fairexec_script.proofs.draft.Draft.line_at.Goals as goal

@@ -1,5 +1,5 @@
 -- What is known is what the notes so far tell.
-use Rattle.rt_ids.specs.Journal.{at_place}
+use Rattle.base_words.specs.Journal.{at_place}
 use Rattle.fairview_lag.specs.PairWalks.{KnowsLags}
 use Rattle.fairview_lag.proofs.core_lags.CoreLags.of.Given as goal
 

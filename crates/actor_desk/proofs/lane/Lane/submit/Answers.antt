@@ -1,0 +1,26 @@
+use Rattle.std.proofs.Common.{◌+◌, refl, sym, ap, subst, ◌∙◌}
+use Rattle.link_ends.specs.Fits.{Fits}
+use Rattle.actor_desk.specs.Held.{at, Adds}
+use Rattle.actor_desk.specs.Lanes.{IsLaneOf}
+use Rattle.actor_desk.specs.declared.entry.Entry.TheVariants.{Pending}
+use Rattle.actor_desk.proofs.Lanes.{next_absent, IsLaneOf-accepted, IsLaneOf-refused}
+use Rattle.actor_desk.proofs.lane.Lane.submit.Goals as goal
+
+pub returns-in_err-number-clause-lane : goal.returns-in_err-number-clause-lane
+returns-in_err-number-clause-lane g c =
+    let fits = Fits g.J.Task.meaning in
+    subst (λ k. IsLaneOf fits c.args.self.now (g.O.OutEnd.out c.send.new.self) k) (sym c.send.ensures.credited)
+    (IsLaneOf-refused fits c.args.self.now (g.O.OutEnd.out c.args.end.now) (g.O.OutEnd.out c.send.new.self) (g.O.OutEnd.credited c.args.end.now) c.args.order _ c.requires.lane c.in_err-number.ensures.sends)
+
+pub put-requires-clause-absent : goal.put-requires-clause-absent
+put-requires-clause-absent g c =
+    ap (λ l. at l.entries c.in_ok-number.number) c.self.view_is
+    ∙ next_absent (Fits g.J.Task.meaning) c.args.self.now (g.O.OutEnd.out c.args.end.now) (g.O.OutEnd.credited c.args.end.now) c.in_ok-number.number c.requires.lane c.in_ok-number.ensures.sends.2
+
+pub returns-clause-lane : goal.returns-clause-lane
+returns-clause-lane g c =
+    let number = c.in_ok-number.number in
+    IsLaneOf-accepted (Fits g.J.Task.meaning) c.args.self.now _ (g.O.OutEnd.out c.args.end.now) (g.O.OutEnd.out c.send.new.self)
+    (g.O.OutEnd.credited c.args.end.now) (g.O.OutEnd.credited c.send.new.self) c.args.order number c.requires.lane c.send.ensures.credited
+    c.in_ok-number.ensures.sends (subst (λ l. Adds l.entries c.put.new.self.entries number Pending) c.self.view_is c.put.ensures.adds)
+    (c.put.ensures.room ∙ ap (λ l. l.room) c.self.view_is) (ap (λ l. l.count + 1) c.self.view_is) refl

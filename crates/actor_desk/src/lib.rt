@@ -1,0 +1,17 @@
+//! One actor's view of its submissions.
+//!
+//! One actor's journal beside what the actor knows of its submissions, and both lent to a job as its post.
+#![tactic(auto)]
+
+pub mod desk;
+pub mod entry;
+pub mod lane;
+pub mod post;
+pub mod recorded_desk;
+mod row;
+mod rows;
+mod shelf;
+mod trie;
+
+pub use post::{LentDesk, RecordedPost};
+pub use recorded_desk::RecordedDesk;

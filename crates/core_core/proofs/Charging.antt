@@ -1,0 +1,48 @@
+-- The tally that a charge leaves, in the words of the contract.
+use Rattle.std.proofs.Common.{◌≡◌, ℕ, ◌+◌, ◌-◌, ◌<◌, ◌^◌, min, List, length, Option, None, sym, ap, ◌∙◌, arith}
+use Rattle.std.specs.Prelude.{slice_index_or, slice_set}
+use Rattle.std.proofs.lemmas.List.{get_or_read}
+use Rattle.base_words.specs.Charge.{charge, clamped}
+use Rattle.core_core.specs.declared.bursts.Bursts.{Bursts}
+use Rattle.core_core.specs.declared.bursts.OpenTurn.{OpenTurn}
+use Rattle.core_core.specs.declared.tally.Tally.{Tally}
+use Rattle.core_core.specs.Bursts.{lasted, settled_tally}
+use Rattle.core_core.specs.State.{no_tally}
+use Rattle.core_core.specs.Inside.{FitsTurns}
+use Rattle.core_core.proofs.Fits.{charged_fits}
+
+-- a tally after a poll
+abbrev pub after_poll : Tally → ℕ → ℕ → ℕ → Tally
+after_poll tally time weight done = record tally {
+  runtime = tally.runtime + charge time weight;
+  time = tally.time + clamped time;
+  finished = min (tally.finished + done) (2 ^ 64 - 1);
+}
+
+-- what was read of the tallies
+pub tally_read : (tallies : List Tally) (place queue : ℕ) (was : Tally) → place ≡ queue → place < length tallies → was ≡ slice_index_or tallies place was →
+    was ≡ slice_index_or tallies queue no_tally
+tally_read tallies place queue was same within read =
+    get_or_read tallies place was within read no_tally ∙ ap (λ at. slice_index_or tallies at no_tally) same
+
+pub charge_written : (tallies : List Tally) (read written queue : ℕ) (was charged : Tally) (time shares weight done : ℕ) → read ≡ queue → written ≡ queue → read < length tallies →
+    was ≡ slice_index_or tallies read was → charged ≡ after_poll was time shares done → shares ≡ weight →
+    slice_set tallies written charged ≡ slice_set tallies queue (after_poll (slice_index_or tallies queue no_tally) time weight done)
+charge_written tallies read written queue was charged time shares weight done at at_too within is value same =
+    ap (λ place. slice_set tallies place charged) at_too
+    ∙ ap (slice_set tallies queue) (value ∙ ap (λ tally. after_poll tally time shares done) (tally_read tallies read queue was at within is)
+    ∙ ap (λ number. after_poll (slice_index_or tallies queue no_tally) time number done) same)
+
+pub charge_fits : (turns : ℕ) (was charged : Tally) (time shares done : ℕ) → FitsTurns turns 1 was → charged ≡ after_poll was time shares done →
+    charged.runtime < was.runtime + 2 ^ 50 → charged.time < was.time + 2 ^ 40 → FitsTurns turns 0 charged
+charge_fits turns was charged time shares done fits value charge_below time_below =
+    let finished : charged.finished ≡ min (was.finished + done) (2 ^ 64 - 1) = ap (λ (tally : Tally). tally.finished) value in
+    charged_fits turns was charged fits (omega arith) (ap (λ (tally : Tally). tally.selected) value) (omega arith) (omega arith) (ap (λ (tally : Tally). tally.returned) value)
+
+-- where each settled poll ends its turn, that is what is counted
+pub charged_single : (turn : Option OpenTurn) (time weight done : ℕ) (tally : Tally) → turn ≡ None → after_poll tally time weight done ≡ settled_tally turn time weight done tally
+charged_single turn time weight done tally none = ap (λ (found : Option OpenTurn). settled_tally found time weight done tally) (sym none)
+
+-- and no turn is open then
+pub lasted_single : (bursts : Bursts) (time : ℕ) → bursts.open ≡ None → bursts ≡ record bursts { «open» = lasted time bursts.open }
+lasted_single bursts time none = λ i. record bursts { «open» = (none ∙ sym (ap (lasted time) none)) i }

@@ -1,0 +1,11 @@
+use Rattle.std.proofs.Common.{◌≡◌, ℕ, ◌<◌, ◌≤◌, Some, slice_get}
+use Rattle.arrayvec.specs.ArrayVec.{array_vec_len}
+use Rattle.core_queues.specs.Queues.{queue_count}
+use Rattle.core_core.specs.Figures.{queue_stats}
+use Rattle.core_core.proofs.one_core.Core.all_queue_stats.Given as goal
+
+abbrev pub invariant-loop-number : goal.invariant-loop-number
+invariant-loop-number g l =
+    (array_vec_len l.all ≡ l.number)
+    × ((queue : ℕ) → queue < l.number → slice_get l.all.items queue ≡ Some (queue_stats queue l.self))
+    × (queue_count l.self.queues ≡ l.number-end) × (l.number-end ≤ g.row.N)

@@ -1,0 +1,11 @@
+use Rattle.std.proofs.Common.{refl}
+use Rattle.core_core.proofs.one_core.Core.end_parks_for.Goals as goal
+
+pub returns-in-Finish-clause-ends : goal.returns-in-Finish-clause-ends
+returns-in-Finish-clause-ends g c = rw c.in-Finish.is refl
+
+pub returns-in-Return-clause-ends : goal.returns-in-Return-clause-ends
+returns-in-Return-clause-ends g c = rw c.in-Return.is c.end_all_parks.ensures.ends
+
+pub returns-in-Return-clause-bounded : goal.returns-in-Return-clause-bounded
+returns-in-Return-clause-bounded g c = c.end_all_parks.ensures.bounded

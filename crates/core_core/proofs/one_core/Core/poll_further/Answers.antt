@@ -1,0 +1,96 @@
+use Rattle.std.proofs.Common.{◌≡◌, ℕ, ◌+◌, ◌-◌, ◌^◌, ◌<◌, min, Option, Some, sym, ◌∙◌, ap, subst, arith, length}
+use Rattle.std.specs.Prelude.{IfSome, slice_index_or, slice_set}
+use Rattle.base_words.specs.Work.{number_if}
+use Rattle.base_jobs.specs.Steps.{is_done_step}
+use Rattle.core_queues.specs.Queues.{queue_count, waiting_of, shares_of}
+use Rattle.core_queues.specs.Slips.{queues_alone}
+use Rattle.core_core.specs.declared.bursts.OpenTurn.{OpenTurn}
+use Rattle.core_core.specs.declared.tally.Tally.{Tally}
+use Rattle.core_core.specs.State.{CoreView, tally_of}
+use Rattle.core_core.specs.Bursts.{polled_again, longer, GoesOn}
+use Rattle.core_core.specs.Inside.{core_view, job_out}
+use Rattle.core_core.proofs.Charging.{tally_read}
+use Rattle.core_core.proofs.FurtherTurn.{goes_on_has, turn_exists, HasFollowed, IsCore-further_as, IsBounded-further, TurnsFurther-polled}
+use Rattle.core_core.proofs.InTurn.{counted_in_turn}
+use Rattle.core_core.proofs.Whole.{front_ready}
+use Rattle.core_core.proofs.one_core.Core.poll_further.Given.{Over}
+use Rattle.core_core.proofs.one_core.Core.poll_further.Goals as goal
+use Rattle.core_core.proofs.one_core.Core.poll_further.Goals.{In-Some}
+
+-- the core before
+abbrev old_of : (g : Over) (c : In-Some g) → CoreView g.row.J.Denot
+old_of g c =
+    let inside = c.self.inside in
+    core_view inside.core inside.cores (queues_alone inside.queues) inside.tallies.items inside.floor inside.turns (job_out inside.out) inside.senders inside.mode inside.bursts
+
+-- its turn goes on
+goes : (g : Over) (c : In-Some g) → GoesOn (old_of g c) c.in-Some.turn
+goes g c =
+    let goes = subst (λ (view : CoreView g.row.J.Denot). IfSome view.bursts.open (λ (turn : OpenTurn). GoesOn view turn)) (sym c.self.view_is) c.requires.goes in
+    subst (λ (found : Option OpenTurn). IfSome found (λ (turn : OpenTurn). GoesOn (old_of g c) turn)) c.in-Some.is goes
+
+-- its queue exists
+exists : (g : Over) (c : In-Some g) → c.in-Some.turn.queue < queue_count (queues_alone c.self.inside.queues)
+exists g c = turn_exists g.J.Task.meaning (old_of g c) c.self.inside.queues.slips c.self.inside.ready.keys c.self.inside.inside c.self.inside.room c.self.inside.tallies.cap c.in-Some.turn c.self.invariant c.in-Some.is
+
+-- what is read of its tally
+read : (g : Over) (c : In-Some g) (place : ℕ) → place ≡ c.in-Some.turn.queue → (was : Tally) → was ≡ slice_index_or c.self.inside.tallies.items place was → was ≡ tally_of c.in-Some.turn.queue (old_of g c)
+read g c place at was found =
+    let within : place < length c.self.inside.tallies.items = omega (arith, at, c.self.invariant.counted.tallies, exists g c) in
+    tally_read c.self.inside.tallies.items place c.in-Some.turn.queue was at within found
+
+pub turn_front-step-requires-clause-ready : goal.turn_front-step-requires-clause-ready
+turn_front-step-requires-clause-ready g c =
+    let at = (goal.at.turn_front-step-requires-clause-ready g c).In-Some in
+    let queue = c.in-Some.turn.queue in
+    front_ready g.J.Task.meaning (waiting_of queue (queues_alone c.self.inside.queues)) (goes_on_has (old_of g at) c.in-Some.turn (goes g at)).1 (c.self.invariant.pollable.at queue)
+
+pub invariant_of-self : goal.invariant_of-self
+invariant_of-self g c =
+    let at = (goal.at.invariant_of-self g c).In-Some in
+    let inside = c.self.inside in
+    let turn = c.in-Some.turn in
+    let step = c.turn_front-step.result.0 in
+    let queues = queues_alone c.turn_front-step.new.self in
+    let known = read g at c.place.result c.place.ensures c.index.result.now c.index.ensures in
+    let poll : HasFollowed g.J.Task.meaning (old_of g at) inside.queues.slips inside.ready.keys inside.inside inside.room inside.tallies.cap turn c.turn_front-step.ensures.turns.0 step c.turn_front-step.result.1
+    c.unwrap_or-time.result c.finishing-tally.result queues = record {
+      core = c.self.invariant;
+      goes = goes g at;
+      turned = c.turn_front-step.ensures.turns.2;
+      limits = c.turn_front-step.ensures.limits;
+      counted = c.finishing-tally.ensures ∙ (λ i. record (known i) { finished = min ((known i).finished + c.ended-done.ensures i) (2 ^ 64 - 1) })
+          ∙ counted_in_turn (polled_again turn) c.unwrap_or-time.result (shares_of turn.queue queues) (number_if (is_done_step step)) (tally_of turn.queue (old_of g at));
+    } in
+    let after = ap Some (c.longer-after.ensures ∙ ap (longer c.unwrap_or-time.result) c.polled_again-again.ensures) in
+    IsCore-further_as g.J.Task.meaning (old_of g at) inside.queues.slips inside.ready.keys inside.inside inside.room inside.tallies.cap turn c.turn_front-step.ensures.turns.0 step c.turn_front-step.result.1
+    c.unwrap_or-time.result c.finishing-tally.result queues poll _ _ _
+    (λ i. core_view inside.core inside.cores queues (slice_set inside.tallies.items (c.place-2.ensures i) c.finishing-tally.result) inside.floor inside.turns (job_out inside.out) inside.senders inside.mode (record (inside.bursts) { «open» = after i }))
+    c.turn_front-step.ensures.slips (ap (λ count. inside.inside - count) c.ended-done.ensures)
+
+pub returns : goal.returns
+returns g c =
+    let at = (goal.at.returns g c).In-Some in
+    let inside = c.self.inside in
+    let turn = c.in-Some.turn in
+    let step = c.turn_front-step.result.0 in
+    let turns = c.turn_front-step.ensures.turns in
+    let queues = queues_alone c.turn_front-step.new.self in
+    let known = read g at c.place.result c.place.ensures c.index.result.now c.index.ensures in
+    let poll : HasFollowed g.J.Task.meaning (old_of g at) inside.queues.slips inside.ready.keys inside.inside inside.room inside.tallies.cap turn turns.0 step c.turn_front-step.result.1
+    c.unwrap_or-time.result c.finishing-tally.result queues = record {
+      core = c.self.invariant;
+      goes = goes g at;
+      turned = turns.2;
+      limits = c.turn_front-step.ensures.limits;
+      counted = c.finishing-tally.ensures ∙ (λ i. record (known i) { finished = min ((known i).finished + c.ended-done.ensures i) (2 ^ 64 - 1) })
+          ∙ counted_in_turn (polled_again turn) c.unwrap_or-time.result (shares_of turn.queue queues) (number_if (is_done_step step)) (tally_of turn.queue (old_of g at));
+    } in
+    let polled = TurnsFurther-polled g.J.Task.meaning (old_of g at) inside.queues.slips inside.ready.keys inside.inside inside.room inside.tallies.cap turn turns.0 step c.turn_front-step.result.1
+    c.unwrap_or-time.result c.finishing-tally.result queues poll c.turn_front-step.result.2 c.unwrap_or-time.ensures in
+    let bounded = IsBounded-further g.J.Task.meaning (old_of g at) inside.queues.slips inside.ready.keys inside.inside inside.room inside.tallies.cap turn turns.0 step c.turn_front-step.result.1
+    c.unwrap_or-time.result c.finishing-tally.result queues poll in
+    rw (← c.self.view_is, c.place-2.ensures, c.longer-after.ensures, c.polled_again-again.ensures) (record {
+      turns = (turns.0, turns.1, (c.turn_front-step.result.2, c.turn_front-step.ensures.tells, polled));
+      bounded = bounded;
+    })

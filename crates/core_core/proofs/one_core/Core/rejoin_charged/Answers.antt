@@ -1,0 +1,131 @@
+use Rattle.std.proofs.Common.{◌≡◌, ℕ, ◌<◌, Bool, true, false, length, List, Option, Some, None, refl, sym, ◌∙◌, ap, subst, arith}
+use Rattle.std.specs.Prelude.{is_some, slice_index_or, slice_set}
+use Rattle.base_words.specs.Work.{number_if}
+use Rattle.core_timeline.specs.Rising.{inserted}
+use Rattle.core_queues.specs.Queues.{queue_count, shares_of}
+use Rattle.core_queues.specs.Slips.{queues_alone}
+use Rattle.core_core.specs.declared.tally.Tally.{Tally}
+use Rattle.core_core.specs.State.{CoreView, JobOut, no_tally, out_count}
+use Rattle.core_core.specs.Inside.{core_view, job_out, IsCore, unsettled_count, FitsTurns}
+use Rattle.core_core.proofs.Fits.{IsBounded-from_turns}
+use Rattle.core_core.proofs.Charging.{charge_written, charge_fits, charged_single, lasted_single}
+use Rattle.core_core.proofs.Counting.{some_inside}
+use Rattle.core_core.proofs.Held.{held_out}
+use Rattle.core_core.proofs.Listed.{LacksQueue-from_none}
+use Rattle.core_core.proofs.Settling.{out_entry}
+use Rattle.core_core.proofs.SlipsKept.{slip_there}
+use Rattle.core_core.proofs.Whole.{IsCore-rejoined}
+use Rattle.core_core.proofs.one_core.Core.rejoin_charged.Given.{Over}
+use Rattle.core_core.proofs.one_core.Core.rejoin_charged.Goals as goal
+use Rattle.core_core.proofs.one_core.Core.rejoin_charged.Goals.{In-Some, After-drop-out}
+
+-- the core before, and its job that is out
+abbrev old_of : (g : Over) (c : In-Some g) → CoreView g.row.J.Denot
+old_of g c =
+    let inside = c.self.inside in
+    core_view inside.core inside.cores (queues_alone inside.queues) inside.tallies.items inside.floor inside.turns (job_out inside.out) inside.senders inside.mode inside.bursts
+
+abbrev out_of : (g : Over) (c : In-Some g) → JobOut g.row.J.Denot
+out_of g c = record { name = c.in-Some.out.name; queue = c.in-Some.out.queue; woken = c.in-Some.out.woken; job = c.in-Some.out.job.value }
+
+was_out : (g : Over) (c : In-Some g) → job_out c.self.inside.out ≡ Some (out_of g c)
+was_out g c = ap job_out (sym c.take.ensures.value ∙ c.in-Some.is)
+
+exists : (g : Over) (c : In-Some g) → c.in-Some.out.queue < queue_count (queues_alone c.self.inside.queues)
+exists g c = (some_inside (old_of g c) c.self.inside.inside c.self.inside.room c.self.inside.tallies.cap (out_of g c) (was_out g c) c.self.invariant.counted).1
+
+job_outside : (g : Over) (c : In-Some g) → out_count (old_of g c) ≡ 1
+job_outside g c = ap (λ (held : Option (JobOut g.row.J.Denot)). number_if (is_some held)) (was_out g c)
+
+one_out : (g : Over) (c : In-Some g) → unsettled_count (old_of g c) ≡ 1
+one_out g c = ap (λ (held : Option ℕ). number_if (is_some held)) (held_out (old_of g c) (out_of g c) (was_out g c))
+
+-- what is read of its queue's tally
+before : (g : Over) (c : In-Some g) → (place : ℕ) → place ≡ c.in-Some.out.queue → (was : Tally) → was ≡ slice_index_or c.self.inside.tallies.items place was → FitsTurns c.self.inside.turns 1 was
+before g c place at was read =
+    let core = c.self.invariant in
+    let within : place < length c.self.inside.tallies.items = omega (arith, at, core.counted.tallies, exists g c) in
+    subst (FitsTurns c.self.inside.turns 1) (sym read) (subst (λ polls. FitsTurns c.self.inside.turns polls (slice_index_or c.self.inside.tallies.items place was)) (one_out g c) (core.turns.tallies place was within))
+
+pub shares-shares-requires : goal.shares-shares-requires
+shares-shares-requires g c = record { exists = exists g (goal.at.shares-shares-requires g c).In-Some }
+
+pub index-requires : goal.index-requires
+index-requires g c = omega (arith, c.self.invariant.counted.tallies, exists g (goal.at.index-requires g c).In-Some, c.place.ensures)
+
+pub index_mut-requires : goal.index_mut-requires
+index_mut-requires g c = omega (arith, c.self.invariant.counted.tallies, exists g (goal.at.index_mut-requires g c).In-Some, c.place-2.ensures)
+
+pub charged-tally-requires : goal.charged-tally-requires
+charged-tally-requires g c =
+    let fits = before g (goal.at.charged-tally-requires g c).In-Some c.place.result c.place.ensures c.index.result.now c.index.ensures in
+    record {
+      runtime = omega (arith, fits.runtime, c.self.ranges);
+      time = omega (arith, fits.time, c.self.ranges);
+    }
+
+pub push_back-requires : goal.push_back-requires
+push_back-requires g c =
+    let core = c.self.invariant in
+    let at = (goal.at.push_back-requires g c).In-Some in
+    record { exists = exists g at; room = omega (arith, job_outside g at, core.counted.all_inside, core.counted.within_room, core.counted.same_room) }
+
+pub enter-requires : goal.enter-requires
+enter-requires g c =
+    let core = c.self.invariant in
+    let at = (goal.at.enter-requires g c).In-Some in
+    let keys = c.self.inside.ready.keys in
+    let queue = c.in-Some.out.queue in
+    let none = core.listed.at queue ∙ out_entry (old_of g at) (out_of g at) (was_out g at) in
+    let joins = c.push_back.ensures.joins in
+    record {
+      exists = omega (arith, exists g at, joins.queues.same_count);
+      slip = ap (λ (slips : List Bool). slice_index_or slips queue false) joins.slips ∙ slip_there _ _ keys queue (exists g at) none core.slipped;
+      absent = LacksQueue-from_none queue keys none;
+    }
+
+-- the core from then on
+abbrev new_of : (g : Over) (c : After-drop-out g) → CoreView g.row.J.Denot
+new_of g c =
+    let inside = c.self.inside in
+    core_view inside.core inside.cores (queues_alone c.push_back.new.self) (slice_set inside.tallies.items c.place-2.result c.charged-tally.result) inside.floor inside.turns (job_out c.take.new.self) inside.senders inside.mode inside.bursts
+
+core_of : (g : Over) (c : After-drop-out g) → IsCore g.J.Task.meaning (new_of g c) (slice_set c.self.inside.queues.slips c.in-Some.out.queue false)
+    (inserted (record { vr = c.charged-tally.result.runtime; queue = c.in-Some.out.queue }) c.self.inside.ready.keys) c.self.inside.inside c.self.inside.room c.self.inside.tallies.cap
+core_of g c =
+    let at = (goal.at.returns g c).In-Some in
+    let inside = c.self.inside in
+    let charged = c.charged-tally.ensures in
+    let free : job_out c.take.new.self ≡ None = ap job_out c.take.ensures.after in
+    let no_turn : inside.bursts.open ≡ None = subst (λ (view : CoreView g.row.J.Denot). view.bursts.open ≡ None) (sym c.self.view_is) c.requires.no_turn in
+    let fits = charge_fits inside.turns c.index.result.now c.charged-tally.result c.args.time c.shares-shares.result 0 (before g at c.place.result c.place.ensures c.index.result.now c.index.ensures)
+    charged.value charged.charge charged.clamped in
+    let tallies = ap (λ place. slice_set inside.tallies.items place c.charged-tally.result) c.place-2.ensures in
+    IsCore-rejoined g.J.Task.meaning (old_of g at) (new_of g c) inside.queues.slips inside.ready.keys inside.inside inside.room inside.tallies.cap (out_of g at) (record { started = true; woken = c.args.woken }) c.args.job c.charged-tally.result
+    c.self.invariant (was_out g at) free no_turn c.push_back.ensures.joins.queues c.push_back.ensures.limits tallies fits refl refl refl refl c.requires.ready
+
+pub invariant_of-self : goal.invariant_of-self
+invariant_of-self g c = rw (c.enter.ensures.keys, c.enter.ensures.given, c.push_back.ensures.joins.slips) (core_of g c)
+
+pub returns : goal.returns
+returns g c =
+    let at = (goal.at.returns g c).In-Some in
+    let inside = c.self.inside in
+    let queue = c.in-Some.out.queue in
+    let free : job_out c.take.new.self ≡ None = ap job_out c.take.ensures.after in
+    let no_turn : inside.bursts.open ≡ None = subst (λ (view : CoreView g.row.J.Denot). view.bursts.open ≡ None) (sym c.self.view_is) c.requires.no_turn in
+    let there : c.place.result < length inside.tallies.items = omega (arith, c.self.invariant.counted.tallies, exists g at, c.place.ensures) in
+    let written = charge_written inside.tallies.items c.place.result c.place-2.result queue c.index.result.now c.charged-tally.result c.args.time c.shares-shares.result (shares_of queue (queues_alone inside.queues)) 0
+    c.place.ensures c.place-2.ensures there c.index.ensures c.charged-tally.ensures.value c.shares-shares.ensures
+    ∙ ap (slice_set inside.tallies.items queue) (charged_single inside.bursts.open c.args.time (shares_of queue (queues_alone inside.queues)) 0 (slice_index_or inside.tallies.items queue no_tally) no_turn) in
+    let bursts = lasted_single inside.bursts c.args.time no_turn in
+    rw (← c.self.view_is, c.enter.ensures.given) (record {
+      rejoins = record {
+        out = out_of g at;
+        was_out = was_out g at;
+        named = refl;
+        line = c.push_back.ensures.joins.queues;
+        rest = λ i. core_view inside.core inside.cores (queues_alone c.push_back.new.self) (written i) inside.floor inside.turns (free i) inside.senders inside.mode (bursts i);
+      };
+      bounded = IsBounded-from_turns (new_of g c) (core_of g c).turns;
+    })

@@ -1,0 +1,19 @@
+use Rattle.std.proofs.Common.{◌∙◌, ap, sym, arith}
+use Rattle.core_queues.specs.declared.line.Queue.{Queue}
+use Rattle.core_queues.specs.Slips.{queues_alone}
+use Rattle.core_queues.proofs.Spots.{queue_read}
+use Rattle.core_queues.proofs.Views.{exists-view, shares_of-view}
+use Rattle.core_queues.proofs.queues.Queues.shares.Goals as goal
+
+pub index-requires : goal.index-requires
+index-requires g c =
+    let exists = exists-view c.self.inside.room c.self.inside.jobs c.self.inside.lines.items (ap queues_alone c.self.view_is) c.requires.exists in
+    omega (arith, exists, c.queue.view_is)
+
+pub returns : goal.returns
+returns g c =
+    let inside = c.self.inside in
+    let lines = inside.lines.items in
+    let exists = exists-view inside.room inside.jobs lines (ap queues_alone c.self.view_is) c.requires.exists in
+    let here = queue_read lines c.queue.inside.0 c.args.queue c.index.result.now (omega (arith, exists, c.queue.view_is)) c.index.ensures c.queue.view_is in
+    rw (← c.self.view_is) (ap (λ (q : Queue). q.shares) (sym here) ∙ sym (shares_of-view inside.room inside.jobs lines c.args.queue))

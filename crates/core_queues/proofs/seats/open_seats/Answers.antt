@@ -1,0 +1,7 @@
+use Rattle.std.proofs.Common.{◌∙◌}
+use Rattle.core_queues.specs.Seats.{no_seat}
+use Rattle.core_index.proofs.Filed.{resized}
+use Rattle.core_queues.proofs.seats.open_seats.Goals as goal
+
+pub returns : goal.returns
+returns g c = c.sealed.ensures.items ∙ resized c.args.places _ _ _ no_seat c.in_ok-seats.ensures.items c.in_ok-seats.ensures.len c.in_ok-resize.ensures.items

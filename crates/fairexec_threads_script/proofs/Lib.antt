@@ -1,3 +1,0 @@
-pub mod LimitLemmas
-pub mod NoParks
-pub mod OrdersRefused

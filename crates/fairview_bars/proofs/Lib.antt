@@ -1,3 +1,0 @@
-pub mod PollSteps
-pub mod LeadSteps
-pub mod LeadLaws

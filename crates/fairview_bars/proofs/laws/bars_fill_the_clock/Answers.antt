@@ -1,5 +1,0 @@
-use Rattle.fairview_bars.proofs.LeadLaws.{bars_fill}
-use Rattle.fairview_bars.proofs.laws.bars_fill_the_clock.Goals as goal
-
-pub returns : goal.returns
-returns c = bars_fill

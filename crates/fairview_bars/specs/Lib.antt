@@ -1,3 +1,0 @@
-pub mod Bars
-pub mod Leads
-pub mod Laws

@@ -1,0 +1,12 @@
+use Rattle.std.proofs.Common.{ap, arith}
+use Rattle.fairview_marks.proofs.Escaped.{json_pieces}
+use Rattle.fairview_marks.specs.declared.names.JsonName.{JsonName}
+use Rattle.fairview_marks.proofs.names.JsonNameDisplay.fmt.Goals as goal
+
+pub returns-clause-writes : goal.returns-clause-writes
+returns-clause-writes g c =
+    λ plain ok.
+    let from = ap (λ (text : JsonName). text.0.from) c.self.view_is in
+    let to = ap (λ (text : JsonName). text.0.to) c.self.view_is in
+    let number = ap (λ (text : JsonName). text.0.number) c.self.view_is in
+    rw (json_pieces c.args.self.now.0 _ _ _ from to number (omega arith) (omega arith) (omega arith)) (c.write.ensures.writes plain ok)

@@ -1,0 +1,7 @@
+-- The greatest of the cores so far.
+use Rattle.std.proofs.Common.{◌≡◌}
+use Rattle.fairview_pictures.specs.Times.{longest_below}
+use Rattle.fairview_pictures.proofs.times.longest.Given as goal
+
+abbrev pub invariant-loop-core : goal.invariant-loop-core
+invariant-loop-core l = l.most ≡ longest_below l.core l.assembly

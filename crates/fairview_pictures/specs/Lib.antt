@@ -1,0 +1,11 @@
+pub mod Events
+pub mod Times
+pub mod Traces
+pub mod Cuts
+pub mod Frames
+pub mod Gantts
+pub mod Heads
+pub mod LeadLines
+pub mod Marks
+pub mod Shapes
+pub mod Styles

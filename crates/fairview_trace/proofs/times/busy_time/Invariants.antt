@@ -1,8 +1,0 @@
--- The clock is that of the notes so far.
-use Rattle.std.proofs.Common.{◌≡◌}
-use Rattle.rt_ids.specs.Journal.{at_place}
-use Rattle.rt_view.specs.Clocks.{clock_of}
-use Rattle.fairview_trace.proofs.times.busy_time.Given as goal
-
-abbrev pub invariant-loop-place : goal.invariant-loop-place
-invariant-loop-place l = l.clock ≡ clock_of (at_place l.place l.journal.notes)

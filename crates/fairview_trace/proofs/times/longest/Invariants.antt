@@ -1,7 +1,0 @@
--- The greatest of the cores so far.
-use Rattle.std.proofs.Common.{◌≡◌}
-use Rattle.fairview_trace.specs.Times.{longest_below}
-use Rattle.fairview_trace.proofs.times.longest.Given as goal
-
-abbrev pub invariant-loop-core : goal.invariant-loop-core
-invariant-loop-core l = l.most ≡ longest_below l.core l.assembly

@@ -1,3 +1,0 @@
-pub mod Events
-pub mod Times
-pub mod Traces

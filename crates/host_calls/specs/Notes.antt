@@ -1,0 +1,60 @@
+-- What the host is told of the notes that the journal of an actor keeps, and how it forgets them.
+use Rattle.std.specs.Prelude.{◌≡◌, ℕ, List, Result, Ok, Err}
+use Rattle.host_core.specs.Passing as core
+use Rattle.host_house.specs.Passing as outside
+use Rattle.host_text.specs.declared.part.PassError.{PassError}
+use Rattle.host_text.specs.declared.part.PassError.TheVariants.{Short, Memory}
+use Rattle.host_text.specs.declared.part.Piece.{Piece}
+use Rattle.host_text.specs.Pieces.{AreCounts, CopiesPiece}
+use Rattle.host_calls.specs.declared.code.Code.{Code}
+use Rattle.host_calls.specs.declared.code.Code.TheVariants as code
+use Rattle.host_calls.specs.declared.member.Member.{Member}
+use Rattle.host_calls.specs.declared.member.Member.TheVariants as member
+use Rattle.host_calls.specs.Members.{IsActor}
+use Rattle.host_calls.specs.Passing.{code_of_passed}
+use Rattle.host_calls.specs.Submissions.{OnActor}
+
+-- the journal of an actor keeps so many notes, and may keep so many more
+abbrev pub HasCounts : Member → ℕ → ℕ → Type 0
+HasCounts (member.House view) kept free = ⊥
+HasCounts (member.Core view) kept free = AreCounts view.recorded.journal kept free
+HasCounts (member.Outside view) kept free = AreCounts view.desk.journal kept free
+HasCounts (member.Ended view) kept free = ⊥
+
+-- both are told, and nothing changes
+abbrev pub NotesTold : Member → ℕ → ℕ → Code → ℕ → ℕ → Type 0
+NotesTold actor kept free told kept_after free_after =
+    OnActor actor ((kept_after ≡ kept) × (free_after ≡ free)) told actor ((told ≡ code.Ok) × HasCounts actor kept_after free_after)
+
+-- a piece of the text of the notes that the journal of an actor keeps is copied, or nothing is
+abbrev pub CopiesOn : Member → ℕ → ℕ → List ℕ → Result Piece PassError → List ℕ → Type 0
+CopiesOn (member.Core view) from most before answer after = CopiesPiece view.recorded.core.core from most view.recorded.journal before answer after
+CopiesOn (member.Outside view) from most before answer after = CopiesPiece view.desk.cores from most view.desk.journal before answer after
+CopiesOn other from most before answer after = (IsActor other → ⊥) × (after ≡ before)
+
+-- how many bytes the piece has, also if there is room for fewer; else what stood there stays
+abbrev pub count_copied : Result Piece PassError → ℕ → ℕ
+count_copied (Ok piece) before = piece.bytes
+count_copied (Err (Short count)) before = count
+count_copied (Err Memory) before = before
+
+-- of how many notes it is; else what stood there stays
+abbrev pub notes_copied : Result Piece PassError → ℕ → ℕ
+notes_copied (Ok piece) before = piece.notes
+notes_copied (Err error) before = before
+
+-- the piece is copied and told, and nothing else changes
+abbrev pub CopiesTold : Member → ℕ → ℕ → List ℕ → ℕ → ℕ → Code → List ℕ → ℕ → ℕ → Type 0
+CopiesTold actor from most before count notes told after counted noted =
+    OnActor actor ((after ≡ before) × (counted ≡ count) × (noted ≡ notes)) told actor
+    ((answer : Result Piece PassError) × CopiesOn actor from most before answer after × (told ≡ code_of_passed answer) × (counted ≡ count_copied answer count) × (noted ≡ notes_copied answer notes))
+
+-- an actor forgets the notes that its journal keeps, which are so many
+abbrev pub ForgetsOn : Member → ℕ → Member → Type 0
+ForgetsOn (member.Core old) count (member.Core new) = core.Forgets old count new
+ForgetsOn (member.Outside old) count (member.Outside new) = outside.Forgets old count new
+ForgetsOn old count new = ⊥
+
+-- how many they were is told
+abbrev pub ForgetsTold : Member → ℕ → Code → ℕ → Member → Type 0
+ForgetsTold old before told after new = OnActor old (after ≡ before) told new ((told ≡ code.Ok) × ForgetsOn old after new)

@@ -1,0 +1,116 @@
+//! What an actor tells of the notes that its journal keeps, and how it copies and forgets them.
+
+ghost use Rattle.std.specs.Prelude.{◌≡◌};
+ghost use Rattle.host_text.specs.Pieces.{AreCounts};
+ghost use Rattle.host_calls.specs.declared.code.Code.TheVariants as code;
+ghost use Rattle.host_calls.specs.Notes.{CopiesOn, CopiesTold, ForgetsTold, NotesTold, count_copied, notes_copied};
+ghost use Rattle.host_calls.specs.Passing.{code_of_passed};
+
+use crate::code::Code;
+use crate::member::Member;
+use base_words::ActorNo;
+use host_text::{PassError, Piece, copy_piece};
+use note_journal::RunningJournal;
+use std::alloc::Global;
+
+impl Member {
+    /// Tells how many notes the journal of an actor keeps, and how many more it may.
+    pub fn notes(&self, kept: &mut u64, free: &mut u64) -> Code
+        ensures { NotesTold self.now kept.old free.old result kept.new free.new }
+    {
+        match self {
+            Member::Core(core) => tell_counts(core.journal(), kept, free),
+            Member::Outside(outside) => tell_counts(outside.journal(), kept, free),
+            _ => Code::Empty,
+        }
+    }
+
+    /// Copies the text of so many notes at most of those that the journal of an actor keeps, from this place on, and tells how many bytes it has
+    /// and of how many notes it is. If there is room for fewer bytes, it tells how many are wanted. Nothing else changes.
+    pub fn copy(
+        &self,
+        alloc: Global,
+        from: u64,
+        most: u64,
+        bytes: &mut [u8],
+        count: &mut u64,
+        notes: &mut u64,
+    ) -> Code
+        ensures { CopiesTold self.now from most bytes.old count.old notes.old result bytes.new count.new notes.new }
+    {
+        if !self.is_actor() {
+            return Code::Empty;
+        }
+        tell_copied(self.piece(alloc, from, most, bytes), count, notes)
+    }
+
+    /// Copies that text. Nobody but an actor has any.
+    fn piece(
+        &self,
+        alloc: Global,
+        from: u64,
+        most: u64,
+        bytes: &mut [u8],
+    ) -> Result<Piece, PassError>
+        ensures { CopiesOn self.now from most bytes.old result bytes.new }
+    {
+        match self {
+            Member::Core(core) => {
+                let number = ActorNo(core.number().0);
+                copy_piece(alloc, number, core.journal(), from, most, bytes)
+            }
+            Member::Outside(outside) => copy_piece(
+                alloc,
+                outside.number(),
+                outside.journal(),
+                from,
+                most,
+                bytes,
+            ),
+            _ => Err(PassError::Memory),
+        }
+    }
+
+    /// Forgets the notes that the journal of an actor keeps, and tells how many they were.
+    pub fn forget(&mut self, count: &mut u64) -> Code
+        ensures { ForgetsTold self.old count.old result count.new self.new }
+    {
+        let forgotten = match self {
+            Member::Core(core) => core.forget(),
+            Member::Outside(outside) => outside.forget(),
+            _ => return Code::Empty,
+        };
+        *count = forgotten;
+        Code::Ok
+    }
+}
+
+/// Tells how many notes a journal keeps, and how many more it may.
+fn tell_counts(journal: &RunningJournal<u64>, kept: &mut u64, free: &mut u64) -> Code
+    ensures code { result ≡ code.Ok }
+    ensures counts { AreCounts journal.now kept.new free.new }
+{
+    *kept = journal.kept_count() as u64;
+    *free = u64::from(journal.free());
+    Code::Ok
+}
+
+/// Tells how many bytes of how many notes were copied, or how many bytes are wanted, or why none were copied.
+fn tell_copied(copied: Result<Piece, PassError>, count: &mut u64, notes: &mut u64) -> Code
+    ensures code { result ≡ code_of_passed copied }
+    ensures count { count.new ≡ count_copied copied count.old }
+    ensures notes { notes.new ≡ notes_copied copied notes.old }
+{
+    match copied {
+        Ok(piece) => {
+            *count = piece.bytes;
+            *notes = piece.notes;
+            Code::Ok
+        }
+        Err(PassError::Short(wanted)) => {
+            *count = wanted;
+            Code::Short
+        }
+        Err(PassError::Memory) => Code::NoMemory,
+    }
+}

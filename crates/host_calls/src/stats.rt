@@ -1,0 +1,92 @@
+//! What a core of a house tells of itself in numbers, while it runs.
+
+ghost use Rattle.std.specs.Prelude.{◌≡◌};
+ghost use Rattle.host_calls.specs.Members.{OnCore};
+ghost use Rattle.host_calls.specs.Stats.{IsSeatStatsOf, SeatTells, SeatTellsQueue, running_number};
+
+use crate::code::Code;
+use crate::figures::{
+    CORE_SIZE, CoreFigures, QUEUE_SIZE, QueueFigures, low_and_high, number_of_mode, queue_figures,
+};
+use crate::member::Member;
+use base_words::QueueStats;
+use host_core::Hosted;
+
+impl Member {
+    /// Tells the counts of the core.
+    pub fn stats(&mut self, figures: &mut CoreFigures) -> Code
+        ensures { OnCore self.old (figures.new ≡ figures.old) result self.new (λ old told new. (new ≡ old) × SeatTells old figures.old told figures.new) }
+    {
+        match self {
+            Member::Core(core) => tell_core(core, figures),
+            _ => Code::Empty,
+        }
+    }
+
+    /// Tells the counts of a queue.
+    pub fn stats_of_queue(&mut self, queue: u32, figures: &mut QueueFigures) -> Code
+        ensures { OnCore self.old (figures.new ≡ figures.old) result self.new (λ old told new. (new ≡ old) × SeatTellsQueue old queue figures.old told figures.new) }
+    {
+        match self {
+            Member::Core(core) => tell_queue(core, queue, figures),
+            _ => Code::Empty,
+        }
+    }
+}
+
+/// Tells the counts of a core.
+fn tell_core(core: &Hosted, figures: &mut CoreFigures) -> Code
+    ensures { SeatTells core.now figures.old result figures.new }
+{
+    if figures.size != CORE_SIZE {
+        return Code::BadNumber;
+    }
+    let (told, queues) = core.stats();
+    let (floor_low, floor_high) = low_and_high(told.floor);
+    *figures = CoreFigures {
+        size: CORE_SIZE,
+        queues: queues.len() as u32,
+        room: core.room(),
+        held: told.held,
+        turns: told.turns,
+        floor_low,
+        floor_high,
+        running: running(core),
+        closed: number_of_mode(core.mode()),
+    };
+    Code::Ok
+}
+
+/// 1 while the host runs a job of this core, else 0.
+fn running(core: &Hosted) -> u32
+    ensures { result ≡ running_number core.now }
+{
+    if core.is_running() { 1 } else { 0 }
+}
+
+/// Tells the counts of a queue.
+fn tell_queue(core: &Hosted, queue: u32, figures: &mut QueueFigures) -> Code
+    ensures { SeatTellsQueue core.now queue figures.old result figures.new }
+{
+    if figures.size != QUEUE_SIZE {
+        return Code::BadNumber;
+    }
+    let Some(of_queue) = stats_of(core, queue) else {
+        return Code::NoQueue;
+    };
+    *figures = queue_figures(&of_queue);
+    Code::Ok
+}
+
+/// The counts of a queue, if there is one of this number.
+fn stats_of(core: &Hosted, queue: u32) -> Option<QueueStats>
+    ensures { IsSeatStatsOf core.now queue result }
+{
+    let (_core, queues) = core.stats();
+    let place = queue as usize;
+    if place < queues.len() {
+        Some(queues[place])
+    } else {
+        None
+    }
+}

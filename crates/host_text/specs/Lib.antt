@@ -1,0 +1,9 @@
+pub mod Bad
+pub mod BadPieces
+pub mod Laws
+pub mod Parts
+pub mod Pieces
+pub mod BadEnds
+pub mod Ended
+pub mod Texts
+pub mod Verdicts

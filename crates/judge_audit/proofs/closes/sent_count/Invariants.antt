@@ -1,0 +1,7 @@
+use Rattle.std.proofs.Common.{◌≡◌, ◌≤◌, length}
+use Rattle.base_words.specs.Filters.{accepted_orders}
+use Rattle.base_words.specs.Journal.{at_place}
+use Rattle.judge_audit.proofs.closes.sent_count.Given as goal
+
+abbrev pub invariant-loop-place : goal.invariant-loop-place
+invariant-loop-place l = (l.count ≡ length (accepted_orders l.core (at_place l.place l.journal.notes))) × (l.count ≤ l.place)

@@ -1,0 +1,5 @@
+use Rattle.judge_audit.specs.Links.{order_in, AreTablesOf}
+use Rattle.judge_audit.proofs.links.orders_sent.Given as goal
+
+abbrev pub invariant-loop-actor : goal.invariant-loop-actor
+invariant-loop-actor l = AreTablesOf order_in l.orders.items l.assembly l.actor

@@ -1,0 +1,9 @@
+use Rattle.std.proofs.Common.{ℕ, ◌<◌}
+use Rattle.base_words.specs.Assembly.{journal_of}
+use Rattle.base_words.specs.Journal.{EachNote}
+use Rattle.judge_audit.specs.Ends.{EndedIfSent}
+use Rattle.judge_audit.proofs.lost.ended_of_all.Given as goal
+
+abbrev pub invariant-loop-sender : goal.invariant-loop-sender
+invariant-loop-sender l =
+    (sender : ℕ) → sender < l.sender → EachNote (EndedIfSent (journal_of l.core l.assembly) l.assembly l.core) (journal_of sender l.assembly)

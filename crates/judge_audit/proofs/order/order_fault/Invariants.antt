@@ -1,0 +1,15 @@
+use Rattle.std.proofs.Common.{◌≡◌, ℕ, length}
+use Rattle.base_words.specs.Assembly.{Assembly}
+use Rattle.base_words.specs.Clauses.{StartsRight}
+use Rattle.base_words.specs.Journal.{EachNote, at_place}
+use Rattle.judge_audit.specs.Links.{KnowsOrders}
+use Rattle.judge_audit.specs.Numbers.{OrderSoFar, AreReached, all_rows}
+use Rattle.judge_audit.proofs.order.order_fault.Given as goal
+
+abbrev pub invariant-loop-place : goal.invariant-loop-place
+invariant-loop-place l = record {
+  so_far : (assembly : Assembly ℕ) → KnowsOrders l.orders assembly → EachNote (StartsRight assembly) l.journal.notes →
+      OrderSoFar assembly l.numbers (at_place l.place l.journal.notes);
+  reached : (assembly : Assembly ℕ) → KnowsOrders l.orders assembly → AreReached assembly l.numbers (at_place l.place l.journal.notes);
+  rows : length l.numbers.started ≡ all_rows;
+}

@@ -1,0 +1,11 @@
+use Rattle.std.proofs.Common.{ℕ}
+use Rattle.base_words.specs.Assembly.{Assembly}
+use Rattle.base_words.specs.Clauses.{OutcomesRight}
+use Rattle.base_words.specs.Journal.{EachNote, at_place}
+use Rattle.judge_audit.specs.Links.{KnowsOrders, KnowsOutcomes}
+use Rattle.judge_audit.proofs.outcomes.outcomes_fault.Given as goal
+
+abbrev pub invariant-loop-place : goal.invariant-loop-place
+invariant-loop-place l =
+    (assembly : Assembly ℕ) → KnowsOrders l.orders assembly → KnowsOutcomes l.outcomes assembly →
+    EachNote (OutcomesRight assembly) (at_place l.place l.journal.notes)

@@ -1,0 +1,10 @@
+pub mod Ends
+pub mod Places
+pub mod OrderFaults
+pub mod Faults
+pub mod Histories
+pub mod Verdicts
+pub mod Closes
+pub mod Links
+pub mod Numbers
+pub mod Sides

@@ -1,0 +1,28 @@
+use Rattle.std.proofs.Common.{ℕ, ◌<◌, length, sym, subst, arith}
+use Rattle.base_words.specs.Journal.{Journal, at_place}
+use Rattle.note_facts.specs.Accounts.{greatest_count}
+use Rattle.note_facts.proofs.Walks.{at_start, whole_walk}
+use Rattle.judge_view.specs.Waits.{KnowsWalk}
+use Rattle.judge_view.proofs.ClockSteps.{length-at_place}
+use Rattle.judge_view.proofs.waits.job_spans.Goals as goal
+
+pub loop-place-init : goal.loop-place-init
+loop-place-init c =
+    subst (λ (journal : Journal ℕ). KnowsWalk c.new-walk.result journal) (sym (at_start c.args.journal.now.notes)) c.new-walk.ensures
+
+pub loop-place-preserved : goal.loop-place-preserved
+loop-place-preserved c =
+    let notes = c.args.journal.now.notes in
+    let before = at_place c.loop-place.place notes in
+    let short : length before < greatest_count = omega (arith, length-at_place c.loop-place.place notes, c.len-place-end.ensures.value, c.len-place-end.ensures.limits) in
+    subst (λ (journal : Journal ℕ). KnowsWalk c.add.new.self journal) (sym c.note_at-note.ensures) (c.in_ok-add.ensures before short c.loop-place.invariant)
+
+pub returns-clause-waits : goal.returns-clause-waits
+returns-clause-waits c =
+    let known = whole_walk (λ journal. KnowsWalk c.loop-place.walk journal) c.args.journal.now.notes c.loop-place.place (omega arith) c.loop-place.invariant in
+    (c.into_spans.ensures c.args.journal.now.notes known).waits
+
+pub returns-clause-runs : goal.returns-clause-runs
+returns-clause-runs c =
+    let known = whole_walk (λ journal. KnowsWalk c.loop-place.walk journal) c.args.journal.now.notes c.loop-place.place (omega arith) c.loop-place.invariant in
+    (c.into_spans.ensures c.args.journal.now.notes known).runs

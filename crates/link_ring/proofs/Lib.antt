@@ -1,0 +1,12 @@
+pub mod Windows
+pub mod Fronts
+pub mod SeatViews
+pub mod Outcomes
+pub mod InLaws
+pub mod Parts
+pub mod Places
+pub mod Connecting
+pub mod Closing
+pub mod Rows
+pub mod Keeping
+pub mod Using

@@ -1,0 +1,14 @@
+pub mod Alike
+pub mod BurstRow
+pub mod ClosedRow
+pub mod Creations
+pub mod Determined
+pub mod Hollow
+pub mod OwedRuns
+pub mod Rows
+pub mod ScriptRuns
+pub mod WorkedRows
+pub mod BadWorlds
+pub mod BadDesks
+pub mod BadCalls
+pub mod BadParts

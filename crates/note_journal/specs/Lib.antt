@@ -1,0 +1,4 @@
+pub mod Journals
+pub mod Passing
+pub mod Writers
+pub mod Keeping

@@ -1,0 +1,6 @@
+pub mod Outlets
+pub mod Lines
+pub mod Laws
+pub mod Naps
+pub mod Ledgers
+pub mod Sums

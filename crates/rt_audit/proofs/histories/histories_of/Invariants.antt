@@ -1,5 +1,0 @@
-use Rattle.rt_audit.specs.Histories.{AreHistories}
-use Rattle.rt_audit.proofs.histories.histories_of.Given as goal
-
-abbrev pub invariant-loop-actor : goal.invariant-loop-actor
-invariant-loop-actor l = AreHistories l.histories.items l.assembly l.actor

@@ -1,5 +1,0 @@
-use Rattle.rt_audit.proofs.FirstRules.{one_first}
-use Rattle.rt_audit.proofs.laws.one_rule_is_first.Goals as goal
-
-pub returns : goal.returns
-returns c = one_first

@@ -1,5 +1,0 @@
-use Rattle.rt_audit.proofs.OneVerdict.{one_verdict}
-use Rattle.rt_audit.proofs.laws.one_verdict_holds.Goals as goal
-
-pub returns : goal.returns
-returns c = one_verdict

@@ -1,6 +1,0 @@
-use Rattle.std.proofs.Common.{ℕ, ◌<◌}
-use Rattle.rt_audit.specs.Places.{IsInOrder}
-use Rattle.rt_audit.proofs.places.order_place.Given as goal
-
-abbrev pub invariant-loop-actor : goal.invariant-loop-actor
-invariant-loop-actor l = (actor : ℕ) → actor < l.actor → IsInOrder l.assembly actor

@@ -1,6 +1,0 @@
-use Rattle.std.proofs.Common.{ℕ, ◌<◌}
-use Rattle.rt_audit.specs.Places.{PicksOf}
-use Rattle.rt_audit.proofs.places.picks_place.Given as goal
-
-abbrev pub invariant-loop-core : goal.invariant-loop-core
-invariant-loop-core l = (core : ℕ) → core < l.core → PicksOf l.assembly core

@@ -1,5 +1,0 @@
-use Rattle.rt_audit_picks.proofs.Placings.{PlacedSoFar}
-use Rattle.rt_audit_picks.proofs.placing.place_told.Given as goal
-
-abbrev pub invariant-loop-index : goal.invariant-loop-index
-invariant-loop-index l = PlacedSoFar l.accounts l.recent l.fn.least l.least l.index

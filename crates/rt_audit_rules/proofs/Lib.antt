@@ -1,5 +1,0 @@
-pub mod CloseSteps
-pub mod LinkTables
-pub mod NumberSteps
-pub mod Reached
-pub mod ToldNames

@@ -1,5 +1,0 @@
-use Rattle.rt_audit_rules.specs.Links.{outcome_in, AreTablesOf}
-use Rattle.rt_audit_rules.proofs.links.outcomes_given.Given as goal
-
-abbrev pub invariant-loop-actor : goal.invariant-loop-actor
-invariant-loop-actor l = AreTablesOf outcome_in l.outcomes.items l.assembly l.actor

@@ -1,4 +1,0 @@
-pub mod Closes
-pub mod Links
-pub mod Numbers
-pub mod Sides

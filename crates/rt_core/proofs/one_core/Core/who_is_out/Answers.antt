@@ -1,8 +1,0 @@
-use Rattle.std.proofs.Common.{refl, ap}
-use Rattle.rt_core.specs.Inside.{job_out}
-use Rattle.rt_core.proofs.one_core.Core.who_is_out.Goals as goal
-
-pub returns : goal.returns
-returns g c =
-    let out = c.in-Some.out in
-    rw (← c.self.view_is) (record { name = out.name; queue = out.queue; woken = out.woken; job = out.job.value }, ap job_out c.in-Some.is, refl, refl)

@@ -1,9 +1,0 @@
-use Rattle.std.proofs.Common.{◌+◌, ap, arith}
-use Rattle.rt_core.specs.declared.tally.Tally.{Tally}
-use Rattle.rt_core.proofs.tally.Tally.picked.Goals as goal
-
-pub overflow_add-tally : goal.overflow_add-tally
-overflow_add-tally c = omega (arith, c.requires, ap (λ (tally : Tally). tally.selected) c.finishing-tally.ensures)
-
-pub returns : goal.returns
-returns c = ap (λ (tally : Tally). record tally { selected = tally.selected + 1 }) c.finishing-tally.ensures

@@ -1,9 +1,0 @@
-pub mod Held
-pub mod Nodes
-pub mod Rows
-pub mod Shelves
-pub mod Kept
-pub mod Lanes
-pub mod Told
-pub mod Steps
-pub mod Desks

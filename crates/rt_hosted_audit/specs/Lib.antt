@@ -1,4 +1,0 @@
-pub mod Bad
-pub mod Ended
-pub mod Texts
-pub mod Verdicts

@@ -1,3 +1,0 @@
-pub mod Bad
-pub mod Laws
-pub mod Parts

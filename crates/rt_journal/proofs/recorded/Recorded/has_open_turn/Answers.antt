@@ -1,7 +1,0 @@
-use Rattle.rt_journal.proofs.Names.{◌∙◌}
-use Rattle.rt_journal.proofs.Followed.{turn_told}
-use Rattle.rt_journal.proofs.QuietSteps.{view_of}
-use Rattle.rt_journal.proofs.recorded.Recorded.has_open_turn.Goals as goal
-
-pub returns : goal.returns
-returns g c = rw (← c.self.view_is) (c.has_open_turn.ensures ∙ turn_told (view_of c.self.inside.core c.self.inside.took.items c.self.inside.said) c.self.invariant.0)

@@ -1,9 +1,0 @@
-use Rattle.rt_journal.proofs.Beginnings.{pick_begins}
-use Rattle.rt_journal.proofs.OwedTurns.{turn_keeps}
-use Rattle.rt_journal.proofs.recorded.Recorded.turn_posting.Goals as goal
-
-pub returns-clause-owed : goal.returns-clause-owed
-returns-clause-owed g c =
-    let turn = c.turn_noted.ensures.turns in
-    turn_keeps c.args.self.now c.args.ends.now.items c.args.next.now.name c.args.next.now.queue c.args.next.now.started c.turn_noted.result c.turn_noted.new.self c.turn_noted.new.ends.items turn
-    (pick_begins c.args.self.now c.args.next.now.name c.args.next.now.queue c.args.next.now.started turn.ran.before turn.picked turn.picks)

@@ -1,6 +1,0 @@
-use Rattle.rt_journal_desk.proofs.Names.{subst, Fits, IsLent}
-use Rattle.rt_journal_desk.specs.Lent.{LentView}
-use Rattle.rt_journal_desk.proofs.post.RecordedPost.into_parts.Goals as goal
-
-pub returns-clause-lent : goal.returns-clause-lent
-returns-clause-lent g c = subst (λ (post : LentView _ _ _). IsLent (Fits g.J.Task.meaning) g.O.OutEnd.out g.O.OutEnd.credited post.lent) c.self.view_is c.self.invariant

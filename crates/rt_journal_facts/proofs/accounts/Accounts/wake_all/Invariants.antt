@@ -1,5 +1,0 @@
-use Rattle.rt_journal_facts.proofs.WokenAccounts.{WakesSoFar}
-use Rattle.rt_journal_facts.proofs.accounts.Accounts.wake_all.Given as goal
-
-abbrev pub invariant-loop-place : goal.invariant-loop-place
-invariant-loop-place l = WakesSoFar l.fn.self l.self l.place

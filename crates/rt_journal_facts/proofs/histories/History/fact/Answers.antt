@@ -1,4 +1,0 @@
-use Rattle.rt_journal_facts.proofs.histories.History.fact.Goals as goal
-
-pub returns : goal.returns
-returns c = λ journal note before history within at. rw c.fact_at.ensures (history.facts c.args.place note before within at)

@@ -1,9 +1,0 @@
--- The journals so far are spelled.
-use Rattle.std.proofs.Common.{ℕ, ◌<◌}
-use Rattle.rt_ids.specs.Assembly.{journal_of}
-use Rattle.rt_ids.specs.Terms.{terms_of}
-use Rattle.rt_ids.specs.Spelled as spec
-use Rattle.rt_journal_notes.proofs.assembly.Assembly.is_spelled.Given as goal
-
-abbrev pub invariant-loop-actor : goal.invariant-loop-actor
-invariant-loop-actor l = (actor : ℕ) → actor < l.actor → spec.AreSpelledNotes (terms_of actor l.self) (journal_of actor l.self)

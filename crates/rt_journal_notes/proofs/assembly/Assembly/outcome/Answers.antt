@@ -1,6 +1,0 @@
-use Rattle.std.proofs.Common.{◌∙◌}
-use Rattle.rt_journal_notes.proofs.Given.{only_cores_give}
-use Rattle.rt_journal_notes.proofs.assembly.Assembly.outcome.Goals as goal
-
-pub returns-clause-outside : goal.returns-clause-outside
-returns-clause-outside c = λ spelled no_core. c.first_outcome.ensures.value ∙ only_cores_give c.args.name c.args.self.now spelled no_core

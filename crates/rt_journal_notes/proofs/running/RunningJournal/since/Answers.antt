@@ -1,5 +1,0 @@
-use Rattle.rt_journal_notes.proofs.Passed.{rest_is}
-use Rattle.rt_journal_notes.proofs.running.RunningJournal.since.Goals as goal
-
-pub returns : goal.returns
-returns g c = rest_is c.args.self.now c.self.inside.passed.items c.self.inside.kept.room c.self.inside.kept.notes c.as_slice-notes.result.now c.args.count c.self.view_is c.as_slice-notes.ensures

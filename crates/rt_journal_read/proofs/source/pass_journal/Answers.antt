@@ -1,7 +1,0 @@
-use Rattle.std.proofs.lemmas.Result.{IfOk-weaker}
-use Rattle.rt_journal_read.proofs.OnlyTexts.{handed_text}
-use Rattle.rt_journal_read.proofs.source.pass_journal.Goals as goal
-
-pub returns-clause-same_text : goal.returns-clause-same_text
-returns-clause-same_text g c =
-    IfOk-weaker c.read_lines.result _ _ (λ whole. handed_text g.T.NoteTaker.makes whole (g.S.Source.remaining c.args.source.now)) (rw c.new.ensures at c.read_lines.ensures.ok)

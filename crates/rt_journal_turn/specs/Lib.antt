@@ -1,4 +1,0 @@
-pub mod Beside
-pub mod Polls
-pub mod Rooms
-pub mod Turns

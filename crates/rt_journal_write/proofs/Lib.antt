@@ -1,3 +1,0 @@
-pub mod PageLemmas
-pub mod LineLemmas
-pub mod TryLemmas

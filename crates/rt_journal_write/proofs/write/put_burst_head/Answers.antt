@@ -1,9 +1,0 @@
-use Rattle.std.proofs.Common.{◌++◌, ap, sym, ◌∙◌}
-use Rattle.std.specs.Prelude.{string_bytes}
-use Rattle.rt_journal_write.proofs.LineLemmas.{burst_head_joined}
-use Rattle.rt_journal_write.proofs.write.put_burst_head.Goals as goal
-
-pub returns-in-Ok : goal.returns-in-Ok
-returns-in-Ok c =
-    c.in-Ok.ensures.bytes
-    ∙ ap (λ text. string_bytes c.args.page.now ++ text) (sym (burst_head_joined c.args.cores c.args.cap c.args.burst c.requires))

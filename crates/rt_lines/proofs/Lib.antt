@@ -1,5 +1,0 @@
-pub mod FaultLemmas
-pub mod TextLemmas
-pub mod TakingLemmas
-pub mod RoomLemmas
-pub mod SourceLemmas

@@ -1,5 +1,0 @@
-pub mod Fits
-pub mod Ends
-pub mod Calls
-pub mod Whole
-pub mod Plain

@@ -1,8 +1,0 @@
-use Rattle.std.proofs.Common.{◌≡◌, ◌<◌, [], length, ℕ}
-use Rattle.rt_ring_mesh.specs.Grid.{ends_at}
-use Rattle.rt_ring_mesh.proofs.opening.bare.Given as goal
-
-abbrev pub invariant-loop-number : goal.invariant-loop-number
-invariant-loop-number g l =
-    (length l.all.items ≡ l.number)
-    × ((a : ℕ) → a < l.number → ends_at a l.all.items ≡ record { number = a; outs = []; ins = [] })

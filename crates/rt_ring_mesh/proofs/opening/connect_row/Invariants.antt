@@ -1,5 +1,0 @@
-use Rattle.rt_ring_mesh.specs.Grid.{IsOpening}
-use Rattle.rt_ring_mesh.proofs.opening.connect_row.Given as goal
-
-abbrev pub invariant-loop-core : goal.invariant-loop-core
-invariant-loop-core g l = IsOpening l.cores l.cap l.sender l.core l.all.items

@@ -1,5 +1,0 @@
-use Rattle.rt_ring_mesh.proofs.Keeping.{grid_opened}
-use Rattle.rt_ring_mesh.proofs.opening.open_all.Goals as goal
-
-pub returns-in-Ok-clause-grid : goal.returns-in-Ok-clause-grid
-returns-in-Ok-clause-grid g c = grid_opened c.args.cores c.args.cap c.in-Ok.all.items c.in-Ok.ensures

@@ -1,6 +1,0 @@
-use Rattle.rt_link.specs.Fits.{Fits}
-use Rattle.rt_ring_mesh.proofs.Rows.{IsRowPart}
-use Rattle.rt_ring_mesh.proofs.reunion.reunite_row.Given as goal
-
-abbrev pub invariant-loop-step : goal.invariant-loop-step
-invariant-loop-step g l = IsRowPart (Fits g.J.Task.meaning) l.cores l.sender l.step l.initial.all.items l.all.items

@@ -1,8 +1,0 @@
--- Laws over the definitions alone.
-use Rattle.std.specs.Prelude.{ℕ, List}
-use Rattle.rt_ring_mesh.specs.Ends.{EndsView}
-use Rattle.rt_ring_mesh.specs.Grid.{IsGrid, AreSameEnds}
-
--- whatever each actor does with its own ends, if it keeps them, they stay a grid
-abbrev pub GridIsKept : Type 0 → Type 0 → Type 0
-GridIsKept J T = (cores : ℕ) (old new : List (EndsView J T)) → AreSameEnds old new → IsGrid cores old → IsGrid cores new

@@ -1,6 +1,0 @@
-pub mod Ends
-pub mod Grid
-pub mod Laws
-pub mod Lending
-pub mod Reached
-pub mod Reaching

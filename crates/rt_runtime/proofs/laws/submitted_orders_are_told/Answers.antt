@@ -1,5 +1,0 @@
-use Rattle.rt_runtime.proofs.Outcomes.{submitted_told}
-use Rattle.rt_runtime.proofs.laws.submitted_orders_are_told.Goals as goal
-
-pub returns : goal.returns
-returns g c = submitted_told g.J.Task.meaning

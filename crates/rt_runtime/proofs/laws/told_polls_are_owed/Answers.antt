@@ -1,5 +1,0 @@
-use Rattle.rt_runtime.proofs.PollsOwed.{told_polls_owed}
-use Rattle.rt_runtime.proofs.laws.told_polls_are_owed.Goals as goal
-
-pub returns : goal.returns
-returns g c = told_polls_owed g.J.Task.meaning

@@ -1,6 +1,0 @@
-use Rattle.std.proofs.Common.{subst}
-use Rattle.rt_runtime_worker.specs.Ended.{HasEnded}
-use Rattle.rt_runtime_worker.proofs.ended.Ended.into_linked.Goals as goal
-
-pub returns-clause-ended : goal.returns-clause-ended
-returns-clause-ended g c = subst (λ view. HasEnded g.J.Task.meaning g.S.Sink.has g.S.Sink.refused view) c.self.view_is c.self.invariant

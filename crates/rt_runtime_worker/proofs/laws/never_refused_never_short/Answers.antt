@@ -1,5 +1,0 @@
-use Rattle.rt_runtime_worker.proofs.GivenBack.{never_short}
-use Rattle.rt_runtime_worker.proofs.laws.never_refused_never_short.Goals as goal
-
-pub returns : goal.returns
-returns g c view ended never = never_short g.S.Sink.refused view.sink view.linked.recorded ended.acts never

@@ -1,5 +1,0 @@
-use Rattle.rt_runtime_worker.proofs.Creating.{IsCreating}
-use Rattle.rt_runtime_worker.proofs.opening.create_all.Given as goal
-
-abbrev pub invariant-loop-index : goal.invariant-loop-index
-invariant-loop-index g l = IsCreating g.J.Task.meaning l.core l.queues l.index l.fn.recorded l.recorded

@@ -1,6 +1,0 @@
-use Rattle.std.proofs.Common.{subst}
-use Rattle.rt_runtime_worker.specs.Shown.{TellsAlone}
-use Rattle.rt_runtime_worker.proofs.served.Served.closed_alone.Goals as goal
-
-pub returns : goal.returns
-returns g c = subst (λ view. TellsAlone c.self.inside.alone view.linked.recorded.journal.notes) c.self.view_is c.self.invariant.1

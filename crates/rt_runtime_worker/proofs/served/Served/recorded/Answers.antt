@@ -1,6 +1,0 @@
-use Rattle.std.proofs.Common.{subst}
-use Rattle.rt_journal.specs.Recorded.{IsRecorded}
-use Rattle.rt_runtime_worker.proofs.served.Served.recorded.Goals as goal
-
-pub returns-clause-sound : goal.returns-clause-sound
-returns-clause-sound g c = subst (λ view. IsRecorded g.J.Task.meaning view.linked.recorded) c.self.view_is c.self.invariant.0.linked.recorded

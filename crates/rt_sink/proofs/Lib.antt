@@ -1,4 +1,0 @@
-pub mod KnownLemmas
-pub mod LawLemmas
-pub mod TryLemmas
-pub mod BadLemmas

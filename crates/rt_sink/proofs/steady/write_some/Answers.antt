@@ -1,8 +1,0 @@
-use Rattle.std.proofs.Common.{◌≡◌, inr, subst, arith}
-use Rattle.rt_sink.specs.Tries.{AreInterrupted}
-use Rattle.rt_sink.proofs.steady.write_some.Goals as goal
-
-pub returns-clause-failed : goal.returns-clause-failed
-returns-clause-failed g c =
-    let all : c.loop-i._i ≡ 1000 = omega arith in
-    inr (subst (λ count. AreInterrupted g.S.Sink.tries g.S.Sink.interrupts count c.args.sink.now c.loop-i.sink) all c.loop-i.invariant.interrupted)

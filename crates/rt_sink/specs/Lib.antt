@@ -1,3 +1,0 @@
-pub mod Tries
-pub mod Laws
-pub mod BadFaults

@@ -1,3 +1,0 @@
-pub mod WriteLemmas
-pub mod TextLemmas
-pub mod JoinLemmas

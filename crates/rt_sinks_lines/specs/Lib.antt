@@ -1,3 +1,0 @@
-pub mod Outlets
-pub mod Lines
-pub mod Laws

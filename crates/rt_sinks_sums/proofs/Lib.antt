@@ -1,4 +1,0 @@
-pub mod PlaceLemmas
-pub mod PickLemmas
-pub mod LedgerLemmas
-pub mod SumLemmas

@@ -1,6 +1,0 @@
--- Each job rests where it rested.
-use Rattle.rt_sinks_sums.specs.Naps.{RestsAlike}
-use Rattle.rt_sinks_sums.proofs.naps.Naps.forget_all.Given as goal
-
-abbrev pub invariant-loop-note : goal.invariant-loop-note
-invariant-loop-note l = RestsAlike l.endings l.initial.self l.self

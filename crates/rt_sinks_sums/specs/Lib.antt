@@ -1,3 +1,0 @@
-pub mod Naps
-pub mod Ledgers
-pub mod Sums

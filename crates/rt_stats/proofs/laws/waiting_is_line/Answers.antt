@@ -1,5 +1,0 @@
-use Rattle.rt_stats.proofs.WaitingLaw.{waiting_is_line}
-use Rattle.rt_stats.proofs.laws.waiting_is_line.Goals as goal
-
-pub returns : goal.returns
-returns c = waiting_is_line

@@ -1,4 +1,0 @@
-use Rattle.rt_stats.proofs.sums.Sums.new.Goals as goal
-
-pub returns : goal.returns
-returns c = record { parks = c.new.ensures; figures = c.new-2.ensures }

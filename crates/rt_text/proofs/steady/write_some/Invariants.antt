@@ -1,6 +1,0 @@
--- A write that is interrupted writes nothing.
-use Rattle.std.specs.Io.KnownBytes.{Keeps}
-use Rattle.rt_text.proofs.steady.write_some.Given as goal
-
-abbrev pub invariant-loop-i : goal.invariant-loop-i
-invariant-loop-i g l = Keeps (g.W.Write.contents l.initial.sink) (g.W.Write.contents l.sink)

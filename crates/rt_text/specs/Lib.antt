@@ -1,5 +1,0 @@
-pub mod Notes
-pub mod Replies
-pub mod Causes
-pub mod Faults
-pub mod Statuses

@@ -1,7 +1,0 @@
-use Rattle.rt_timeline.proofs.FrontEnds.{front-some}
-use Rattle.rt_timeline.proofs.front.Front.take_first.Goals as goal
-
-pub take_first-requires : goal.take_first-requires
-take_first-requires g c =
-    let places = c.self.inside.places in
-    record { front = c.self.invariant; some = front-some places.vrs.items places.nodes.items places.begin places.end _ c.self.invariant c.self.view_is c.requires }

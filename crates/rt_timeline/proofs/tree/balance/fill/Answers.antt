@@ -1,4 +1,0 @@
-use Rattle.rt_timeline.proofs.tree.balance.fill.Goals as goal
-
-pub returns : goal.returns
-returns g c = c.replace.ensures.after

@@ -1,8 +1,0 @@
-use Rattle.std.proofs.Common.{◌≤◌, arith}
-use Rattle.rt_timeline.proofs.Heights.{IsLow-from_filled}
-use Rattle.rt_timeline.proofs.tree.lead.refill.Goals as goal
-
-pub height-height-requires : goal.height-height-requires
-height-height-requires g c =
-    let low : c.args.later.now.height ≤ 18 = IsLow-from_filled c.args.later.now c.know_filled.ensures 9 (omega (arith, c.requires.few)) in
-    omega arith

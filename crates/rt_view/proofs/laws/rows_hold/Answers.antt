@@ -1,5 +1,0 @@
-use Rattle.rt_view.proofs.Rows.{rows}
-use Rattle.rt_view.proofs.laws.rows_hold.Goals as goal
-
-pub returns : goal.returns
-returns c = rows

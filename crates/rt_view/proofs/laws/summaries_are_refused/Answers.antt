@@ -1,5 +1,0 @@
-use Rattle.rt_view.proofs.SummariesRefused.{refused}
-use Rattle.rt_view.proofs.laws.summaries_are_refused.Goals as goal
-
-pub returns : goal.returns
-returns c = refused

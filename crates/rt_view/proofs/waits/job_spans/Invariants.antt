@@ -1,7 +1,0 @@
--- What is known is what the notes so far tell.
-use Rattle.rt_ids.specs.Journal.{at_place}
-use Rattle.rt_view.specs.Waits.{KnowsWalk}
-use Rattle.rt_view.proofs.waits.job_spans.Given as goal
-
-abbrev pub invariant-loop-place : goal.invariant-loop-place
-invariant-loop-place l = KnowsWalk l.walk (at_place l.place l.journal.notes)

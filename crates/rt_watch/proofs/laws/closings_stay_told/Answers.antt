@@ -1,5 +1,0 @@
-use Rattle.rt_watch.proofs.Closed.{stays-told}
-use Rattle.rt_watch.proofs.laws.closings_stay_told.Goals as goal
-
-pub returns : goal.returns
-returns c = stays-told

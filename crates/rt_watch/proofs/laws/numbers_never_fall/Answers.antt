@@ -1,5 +1,0 @@
-use Rattle.rt_watch.proofs.NeverFalling.{numbers_never_fall}
-use Rattle.rt_watch.proofs.laws.numbers_never_fall.Goals as goal
-
-pub returns : goal.returns
-returns c = numbers_never_fall

@@ -1,5 +1,0 @@
-use Rattle.rt_watch.proofs.RowsRefused.{rows_refused}
-use Rattle.rt_watch.proofs.laws.rows_are_refused.Goals as goal
-
-pub returns : goal.returns
-returns c = rows_refused

@@ -1,6 +1,0 @@
-use Rattle.rt_world.proofs.Words.{subst, HasAllLists}
-use Rattle.rt_world.proofs.Desks.{world_lists}
-use Rattle.rt_world.proofs.model.World.complete.Goals as goal
-
-pub returns : goal.returns
-returns g c = subst (λ world. HasAllLists world) c.self.view_is (world_lists _ c.self.invariant.1)

@@ -1,7 +1,0 @@
-use Rattle.rt_world.proofs.Words.{◌≡◌, ◌+◌, ◌≤◌, vec_capacity}
-use Rattle.rt_world.proofs.Gathered.{journals_of}
-use Rattle.rt_world.proofs.model.World.into_assembly.Given as goal
-
--- the journals of the cores so far are gathered
-abbrev pub invariant-loop-core : goal.invariant-loop-core
-invariant-loop-core g l = (l.gathered.items ≡ journals_of l.yielded) × (l.fn.self.cores + 1 ≤ vec_capacity l.gathered)

@@ -1,6 +1,0 @@
-use Rattle.rt_world.proofs.Words.{subst, AreJoined, assembly_of}
-use Rattle.rt_world.proofs.WorldSound.{world_joined}
-use Rattle.rt_world.proofs.model.World.joined.Goals as goal
-
-pub returns : goal.returns
-returns g c = subst (λ world. AreJoined (assembly_of world)) c.self.view_is (world_joined _ c.self.invariant.1 c.self.invariant.3)

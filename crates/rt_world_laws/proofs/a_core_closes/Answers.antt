@@ -1,5 +1,0 @@
-use Rattle.rt_world_laws.proofs.WorkedRows.{core_closes}
-use Rattle.rt_world_laws.proofs.a_core_closes.Goals as goal
-
-pub returns : goal.returns
-returns c = core_closes

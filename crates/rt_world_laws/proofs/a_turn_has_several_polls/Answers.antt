@@ -1,5 +1,0 @@
-use Rattle.rt_world_laws.proofs.BurstRow.{turn_of_polls}
-use Rattle.rt_world_laws.proofs.a_turn_has_several_polls.Goals as goal
-
-pub returns : goal.returns
-returns c = turn_of_polls

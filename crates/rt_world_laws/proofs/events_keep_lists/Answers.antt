@@ -1,5 +1,0 @@
-use Rattle.rt_world_laws.proofs.KeptLists.{happens_keep}
-use Rattle.rt_world_laws.proofs.events_keep_lists.Goals as goal
-
-pub returns : goal.returns
-returns g c = happens_keep g.J.Task.meaning

@@ -1,5 +1,0 @@
-use Rattle.rt_world_laws.proofs.NoRefusals.{jobs_once}
-use Rattle.rt_world_laws.proofs.run_of_jobs_is_determined.Goals as goal
-
-pub returns : goal.returns
-returns g c = jobs_once g.J.Task.meaning

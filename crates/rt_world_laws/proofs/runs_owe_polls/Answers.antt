@@ -1,5 +1,0 @@
-use Rattle.rt_world_laws.proofs.OwedRuns.{runs_owe}
-use Rattle.rt_world_laws.proofs.runs_owe_polls.Goals as goal
-
-pub returns : goal.returns
-returns g c = runs_owe g.J.Task.meaning

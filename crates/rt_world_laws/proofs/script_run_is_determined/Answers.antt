@@ -1,5 +1,0 @@
-use Rattle.rt_world_laws.proofs.DeterminedScripts.{script_run_once}
-use Rattle.rt_world_laws.proofs.script_run_is_determined.Goals as goal
-
-pub returns : goal.returns
-returns c = script_run_once

@@ -1,5 +1,0 @@
-use Rattle.rt_world_laws.proofs.WorkedRows.{two_queues}
-use Rattle.rt_world_laws.proofs.two_queues_share.Goals as goal
-
-pub returns : goal.returns
-returns c = two_queues

@@ -1,5 +1,0 @@
-use Rattle.rt_world_laws.proofs.WorkedRows.{two_senders}
-use Rattle.rt_world_laws.proofs.two_senders_in_their_order.Goals as goal
-
-pub returns : goal.returns
-returns c = two_senders

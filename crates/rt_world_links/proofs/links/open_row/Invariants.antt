@@ -1,5 +1,0 @@
-use Rattle.rt_world_links.proofs.Words.{◌≤◌, vec_capacity, IsFreshRow}
-use Rattle.rt_world_links.proofs.links.open_row.Given as goal
-
-abbrev pub invariant-loop-core : goal.invariant-loop-core
-invariant-loop-core g l = (l.cores ≤ vec_capacity l.row) × IsFreshRow l.from l.core l.cap l.row.items

@@ -1,0 +1,45 @@
+-- Small journals of a core that sends, redeems or lets go while none of its jobs is polled, or closes by itself where it may not.
+use Rattle.std.proofs.Common.{ℕ, ◌≤◌, [], ◌∷◌, refl, inl, inr, arith}
+use Rattle.base_words.specs.declared.names.JobId.{JobId}
+use Rattle.base_words.specs.declared.note.Note.TheVariants.{CoreClosed, Sent, Redeemed, Detached, Took, Pick, Start, Done}
+use Rattle.base_words.specs.declared.order.Mode.TheVariants.{Finish, Return}
+use Rattle.base_words.specs.declared.note.OutcomeNote.TheVariants.{Finished}
+use Rattle.base_words.specs.declared.order.Order.TheVariants.{CloseCore}
+use Rattle.base_words.specs.Journal.{Journal, EachNote}
+use Rattle.run_worker.specs.Rooms.{MayAct}
+
+-- a job from the outside actor to core 0, and a submission of core 0 to itself
+abbrev job : JobId
+job = record { from = 1; to = 0; number = 1 }
+
+abbrev own : JobId
+own = record { from = 0; to = 0; number = 1 }
+
+-- no core may write this journal, however much room it has
+abbrev IsRefused : Journal ℕ → Type 0
+IsRefused notes = (least room : ℕ) → EachNote (MayAct least room) notes → ⊥
+
+-- it sends itself an order before any job is there
+sends_by_itself : IsRefused (Sent own (CloseCore Return) ∷ [])
+sends_by_itself least room acts = acts.0 refl
+
+-- it lets go of a submission behind a poll that is settled
+lets_go_behind_a_poll : IsRefused (Detached own ∷ Done job 1 5 ∷ Sent own (CloseCore Return) ∷ Start job ∷ Pick 0 0 ∷ Took job 0 ∷ [])
+lets_go_behind_a_poll least room acts = acts.0 refl
+
+-- it redeems behind a poll that is settled
+redeems_behind_a_poll : IsRefused (Redeemed own (Finished 5) ∷ Done job 1 5 ∷ Sent own (CloseCore Return) ∷ Start job ∷ Pick 0 0 ∷ Took job 0 ∷ [])
+redeems_behind_a_poll least room acts = acts.0 refl
+
+-- it closes by itself in mode `Finish`
+closes_to_finish : IsRefused (CoreClosed Finish ∷ [])
+closes_to_finish least room acts = no_reason acts.0
+  where
+    no_reason : MayAct {T = ℕ} least room (CoreClosed Finish) [] → ⊥
+    no_reason (inl asked) = cc
+    no_reason (inr short) = let returning = short.0 in cc
+
+-- it closes by itself behind more notes than its journal had room for
+closes_behind_its_room : (least : ℕ) → MayAct {T = ℕ} least 2 (CoreClosed Return) (Start job ∷ Pick 0 0 ∷ Took job 0 ∷ []) → ⊥
+closes_behind_its_room least (inl asked) = cc
+closes_behind_its_room least (inr short) = let fits : 3 ≤ 2 = short.1 in absurd (omega (arith, fits))

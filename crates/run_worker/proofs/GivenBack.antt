@@ -1,0 +1,79 @@
+-- What a worker gives back has ended.
+use Rattle.std.proofs.Common.{◌≡◌, inl, inr, ℕ, ◌+◌, ◌≤◌, Option, [], length, refl, sym, ◌∙◌, ap, subst, arith}
+use Rattle.std.specs.Prelude.{Bool, true, false}
+use Rattle.base_words.specs.Closing.{IsDrained}
+use Rattle.base_words.specs.Journal.{Journal, EachNote}
+use Rattle.base_jobs.specs.Meanings.{Meaning}
+use Rattle.actor_core.specs.Recorded.{RecordedView}
+use Rattle.note_journal.specs.Journals.{places_of}
+use Rattle.run_config.specs.Configs.{least_room}
+use Rattle.link_ring.specs.Ends.{EndsView}
+use Rattle.run_worker.specs.Ended.{ActsUnlessRefused, HasEnded, IsServed, ServedView}
+use Rattle.actor_seat.specs.Linked.{IsBetweenTurns, IsLinked, LinkedView}
+use Rattle.actor_seat.specs.Opening.{IsOpenedOver}
+use Rattle.run_worker.specs.Passing.{HandsOn, PassesTo}
+use Rattle.run_worker.specs.Rooms.{ActsAsItMay, ActsByCommand, MayAct, least_free}
+use Rattle.run_worker.specs.Shown.{IsShownWhole, ShownView}
+use Rattle.run_worker.proofs.Acting.{command_acts}
+use Rattle.actor_seat.proofs.Passed.{all_passed, has_passed}
+use Rattle.run_worker.proofs.Published.{whole_runs}
+use Rattle.run_worker.proofs.Spare.{places_some}
+use Rattle.run_worker.proofs.Supplied.{hands_least, hands_notes, hands_places, hands_runs}
+
+module _ {J T S : Type 0} (has : S → Journal T) (refused : S → ℕ → Type 0) where
+  -- a worker that was just opened has passed on nothing
+  pub opened_passes : (cores cap burst room count : ℕ) (ends : EndsView J T) (served : ServedView J T) (sink : S) → IsOpenedOver cores cap burst room ends served.linked → least_room cores cap burst + count ≤ room →
+      has sink ≡ [] → served.ending ≡ false → PassesTo has refused served sink
+  opened_passes cores cap burst room count ends served sink over enough none going = record {
+    passed = none ∙ sym over.of.none_passed;
+    places =
+        let least : least_free served.linked.recorded.core.cores served.linked.recorded.cap served.linked.recorded.core.bursts.burst ≡ least_free cores cap burst = ap (λ terms. least_free terms.cores terms.cap terms.burst) over.of.terms in
+        let passed : length served.linked.recorded.journal.passed ≡ 0 = ap length over.of.none_passed in
+        omega (arith, least, passed, over.of.room_is, enough);
+    refuses = λ ends. cc;
+  }
+
+  module _ {asks : S → Option ℕ} (served : ServedView J T) (new : LinkedView J T) (sink after : S) (passes : PassesTo has refused served sink) (did : HandsOn has refused asks served.linked sink new after) where
+    -- at its end the core acts as it may by the room of the journal when its sink refused
+    acts_behind : (ending : Bool) → served.ending ≡ ending → ActsAsItMay ending served.linked.recorded → ActsUnlessRefused refused after new.recorded
+    acts_behind false is acts = inl (subst ActsByCommand (sym (hands_notes has refused served.linked new sink after did)) acts)
+    acts_behind true is acts =
+        let room : length served.linked.recorded.journal.passed + places_of new.recorded.journal ≡ served.linked.recorded.journal.room =
+        let places = passes.places in omega (arith, places, hands_places has refused served.linked new sink after did, places_some served.linked.recorded.core.cores served.linked.recorded.cap) in
+        inr (
+          length served.linked.recorded.journal.passed,
+          did.refusals _ (passes.refuses is),
+          subst (λ least. EachNote (MayAct least (length served.linked.recorded.journal.passed + places_of new.recorded.journal)) new.recorded.journal.notes) (sym (hands_least has refused served.linked new sink after did))
+              (subst (λ room. EachNote (MayAct (least_free served.linked.recorded.core.cores served.linked.recorded.cap served.linked.recorded.core.bursts.burst) room) new.recorded.journal.notes) (sym room)
+              (subst (EachNote (MayAct (least_free served.linked.recorded.core.cores served.linked.recorded.cap served.linked.recorded.core.bursts.burst) served.linked.recorded.journal.room)) (sym (hands_notes has refused served.linked new sink after did)) acts)),
+        )
+
+    -- its core is drained, and its sink has what was passed on
+    pub given_back : {meaning : Meaning J T} (shown : ShownView T) → IsServed meaning served → IsDrained served.linked.recorded.core.cores served.linked.recorded.journal.notes → IsLinked meaning new → IsBetweenTurns new.recorded →
+        IsShownWhole served.linked.recorded shown → HasEnded meaning has refused (record { linked = new; sink = after; shown = shown })
+    given_back shown sound drained linked between shows = record {
+      drained = record {
+        linked = linked;
+        between = between;
+        drained =
+            subst (λ cores. IsDrained cores new.recorded.journal.notes) (sym (ap (λ view. view.recorded.core.cores) did.rest))
+            (subst (IsDrained served.linked.recorded.core.cores) (sym (hands_notes has refused served.linked new sink after did)) drained);
+      };
+      passed = has_passed has refused served.linked.recorded.journal new.recorded.journal sink after did.answer did.passes passes.passed;
+      rest = all_passed has refused served.linked.recorded.journal new.recorded.journal sink after did.answer did.passes;
+      acts = acts_behind served.ending refl sound.acts;
+      shows = whole_runs served.linked new shown (hands_runs has refused served.linked new sink after did) (hands_notes has refused served.linked new sink after did) shows;
+    }
+
+module _ {J T S : Type 0} (refused : S → ℕ → Type 0) (sink : S) (view : RecordedView J T) where
+  -- a core whose sink never refused never closed by itself
+  pub never_short : ActsUnlessRefused refused sink view → ((count : ℕ) → refused sink count → ⊥) → ActsByCommand view.journal.notes
+  never_short (inl acts) never = acts
+  never_short (inr did) never = absurd (never did.0 did.1)
+
+  -- a sink that takes nothing refuses at the start alone, so a core that closed by itself did it where its own journal was short
+  pub whole_acts : ActsUnlessRefused refused sink view → view.journal.passed ≡ [] → ((count : ℕ) → refused sink count → count ≡ 0) → ActsAsItMay true view
+  whole_acts (inl acts) none start = command_acts _ _ view.journal.notes acts
+  whole_acts (inr did) none start =
+      let room : did.0 + places_of view.journal ≡ view.journal.room = let passed : length view.journal.passed ≡ 0 = ap length none in omega (arith, start did.0 did.1, passed) in
+      subst (λ room. EachNote (MayAct (least_free view.core.cores view.cap view.core.bursts.burst) room) view.journal.notes) room did.2

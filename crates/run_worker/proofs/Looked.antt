@@ -1,0 +1,50 @@
+-- Which watch and which gate serve a turn, and what a look at the room leaves.
+use Rattle.std.proofs.Common.{◌≡◌, ℕ, ◌++◌, [], ◌∷◌, ap, sym, subst, arith, refl}
+use Rattle.std.specs.Prelude.{Bool, Option, Some, None, IsSome}
+use Rattle.base_words.specs.declared.names.JobId.{JobId}
+use Rattle.base_words.specs.declared.note.Note.{Note}
+use Rattle.base_words.specs.Closing.{core_mode_told, count_told}
+use Rattle.base_words.specs.Journal.{Journal, latest_told, or_else}
+use Rattle.base_jobs.specs.Meanings.{Meaning}
+use Rattle.link_ring.specs.Ends.{in_at}
+use Rattle.run_worker.specs.Ended.{ServedView}
+use Rattle.run_worker.specs.Gates.{KeepsTaken}
+use Rattle.actor_seat.specs.Linked.{Grows, LinkedView, StaysLinked}
+use Rattle.run_worker.specs.Rounds.{HasShutGates, LooksAtRoom, ShutsClosed}
+use Rattle.run_worker.specs.Readings.{WatchView}
+use Rattle.run_worker.specs.Turns.{TurnsWith}
+
+module _ {J T C G : Type 0} (meaning : Meaning J T) (reads : C → ℕ → C → Type 0) (asked : G → ℕ → JobId → G → Type 0) where
+  -- the same watch and the same gates
+  pub turns_same : (watch own later : WatchView C) (before here after there : G) (old new : ServedView J T) (some : Bool) → own ≡ watch → here ≡ before → there ≡ after →
+      TurnsWith meaning reads asked own later here there old some new → TurnsWith meaning reads asked watch later before after old some new
+  turns_same watch own later before here after there old new some watch_is here_is there_is turns =
+      subst (λ watch. TurnsWith meaning reads asked watch later before after old some new) watch_is
+      (subst (λ gate. TurnsWith meaning reads asked own later gate after old some new) here_is
+      (subst (λ gate. TurnsWith meaning reads asked own later here gate old some new) there_is turns))
+
+module _ {J T : Type 0} where
+  -- a worker that only looked at its room, and isn't at its end behind that, has delivered nothing
+  pub looked_keeps : (old new : ServedView J T) → LooksAtRoom old new → new.ending ≡ old.ending → KeepsTaken old.linked new.linked
+  looked_keeps old new looks same sender =
+      ap (λ (view : ServedView J T). (in_at sender view.linked.ends).inward.taken) (looks.same same)
+
+some_else : {A : Type 0} (first second : Option A) → IsSome second → IsSome (or_else first second)
+some_else None second is = is
+some_else (Some value) second is = refl
+
+module _ {T A : Type 0} (says : Note T → Option A) where
+  told_behind : (newer old : Journal T) → IsSome (latest_told says old) → IsSome (latest_told says (newer ++ old))
+  told_behind [] old is = is
+  told_behind (note ∷ newer) old is = some_else (says note) (latest_told says (newer ++ old)) (told_behind newer old is)
+
+  -- what a note told stays told
+  still_told : (old new : Journal T) → Grows old new → IsSome (latest_told says old) → IsSome (latest_told says new)
+  still_told old new grows is = subst (λ notes. IsSome (latest_told says notes)) (sym grows.1) (told_behind grows.0 old is)
+
+module _ {J T : Type 0} where
+  -- the gates of a core that was closed are shut, if they were shut between
+  pub shut_behind : (old middle new : LinkedView J T) → StaysLinked old middle → StaysLinked middle new → HasShutGates middle → ShutsClosed old new
+  shut_behind old middle new one two has closed sender known =
+      still_told (count_told sender) middle.recorded.journal.notes new.recorded.journal.notes two.grows
+      (has (still_told core_mode_told old.recorded.journal.notes middle.recorded.journal.notes one.grows closed) sender (omega (arith, known, one.seat.cores)))

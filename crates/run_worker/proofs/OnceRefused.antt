@@ -1,0 +1,109 @@
+-- A small worker that lies down without having published is refused.
+use Rattle.std.proofs.Common.{◌≡◌, ◌||◌, nat_lt, Bool, true, false, inl, inr, true≢false, ℕ, ◌<◌, ◌≤◌, ◌++◌, [], length, length-append, refl, sym, ◌∙◌, ap, arith}
+use Rattle.base_words.specs.declared.names.JobId.{JobId}
+use Rattle.base_words.specs.Journal.{Journal}
+use Rattle.base_jobs.specs.Meanings.{Meaning}
+use Rattle.run_worker.specs.Ended.{ServedView}
+use Rattle.actor_seat.specs.Linked.{Grows}
+use Rattle.run_worker.specs.Looks.{LooksAtAll, LooksOrRests, MakesRound, RoundView, TurnsAlone}
+use Rattle.run_worker.specs.Rounds.{StepsServed}
+use Rattle.run_worker.specs.Serves.{CountsIdle, GoesOn, Rests, ServesOnce, ShowsNow, round_of}
+use Rattle.run_worker.specs.Shown.{ShownView, Shows}
+use Rattle.run_worker.proofs.ServesRefused.{has, never, silent}
+use Rattle.run_worker.proofs.ShownAgain.{where_shown}
+use Rattle.run_worker.proofs.SmallWorkers.{SmallWorker, board_of, linked_of, one_note, small_worker}
+use Rattle.run_worker.proofs.Supplied.{where_notes}
+
+-- how many notes its journal has
+abbrev count_of : ServedView ℕ ℕ → ℕ
+count_of view = length view.linked.recorded.journal.notes
+
+-- no step makes a journal shorter
+grown : (old new : Journal ℕ) → Grows old new → length old ≤ length new
+grown old new (newer, same) = let longer : length new ≡ length (newer ++ old) = ap (λ (notes : Journal ℕ). length notes) same in omega (arith, longer, length-append newer old)
+
+-- a worker that isn't at its end wasn't there before
+is_open : (was is : Bool) → (was ≡ true → is ≡ true) → is ≡ false → was ≡ false
+is_open true is ended open_now = absurd (true≢false (sym (ended refl) ∙ open_now))
+is_open false is ended open_now = refl
+
+-- a step that tells of work wrote a note
+wrote : (old new : ServedView ℕ ℕ) → StepsServed old true new → new.ending ≡ false → count_of old < count_of new
+wrote old new steps open_now = steps.tells (open_now ∙ sym (is_open old.ending new.ending steps.ended open_now))
+
+-- so of three steps, of which one tells of work
+one_wrote : (worked came back : Bool) (old heard turned new : ServedView ℕ ℕ) → true ≡ (worked || (came || back)) →
+    StepsServed old came heard → StepsServed heard worked turned → StepsServed turned back new → new.ending ≡ false → count_of old < count_of new
+one_wrote true came back old heard turned new told first second third open_now =
+    let turned_open = is_open turned.ending new.ending third.ended open_now in
+    omega (arith, grown _ _ first.stays.grows, wrote heard turned second turned_open, grown _ _ third.stays.grows)
+one_wrote false true back old heard turned new told first second third open_now =
+    let turned_open = is_open turned.ending new.ending third.ended open_now in
+    let heard_open = is_open heard.ending turned.ending second.ended turned_open in
+    omega (arith, wrote old heard first heard_open, grown _ _ second.stays.grows, grown _ _ third.stays.grows)
+one_wrote false false true old heard turned new told first second third open_now =
+    omega (arith, grown _ _ first.stays.grows, grown _ _ second.stays.grows, wrote turned new third open_now)
+one_wrote false false false old heard turned new told first second third open_now = absurd (true≢false told)
+
+module _ (meaning : Meaning ℕ ℕ) (reads : ℕ → ℕ → ℕ → Type 0) (asked : ℕ → ℕ → JobId → ℕ → Type 0) where
+  look_wrote : (turns : ℕ) (old new : RoundView ℕ ℕ ℕ ℕ) → LooksAtAll meaning reads asked old true turns new → new.served.ending ≡ false → count_of old.served < count_of new.served
+  look_wrote turns old new looks open_now =
+      one_wrote looks.worked looks.came looks.back old.served looks.heard looks.turned new.served looks.tells looks.steps looks.turn_steps looks.gathers open_now
+
+  -- no turn is told as work without a note
+  alone_keeps : (turns left : ℕ) (some : Bool) (old new : RoundView ℕ ℕ ℕ ℕ) → TurnsAlone meaning reads asked turns old some left new → count_of old.served ≤ count_of new.served
+  alone_keeps turns left some old new (inl (_, _, same)) = let count = ap (λ (view : RoundView ℕ ℕ ℕ ℕ). count_of view.served) same in omega (arith, count)
+  alone_keeps turns left some old new (inr (_, _, steps)) = grown _ _ steps.stays.grows
+
+  rests_or_wrote : (was_idle : Bool) (turns left : ℕ) (old new : RoundView ℕ ℕ ℕ ℕ) → LooksOrRests meaning reads asked was_idle turns old true left new → new.served.ending ≡ false → count_of old.served < count_of new.served
+  rests_or_wrote was_idle turns left old new (inl looks) open_now = look_wrote left old new looks open_now
+  rests_or_wrote was_idle turns left old new (inr (_, _, none, _, _)) open_now = absurd (true≢false none)
+
+  -- a round that tells of work wrote a note
+  round_wrote : (was_idle : Bool) (turns left : ℕ) (old new : RoundView ℕ ℕ ℕ ℕ) → MakesRound meaning reads asked was_idle turns old true left new → new.served.ending ≡ false → count_of old.served < count_of new.served
+  round_wrote was_idle turns left old new (inl (_, inl (_, none, _))) open_now = absurd (true≢false none)
+  round_wrote was_idle turns left old new (inl (_, inr (_, _, steps))) open_now = wrote old.served new.served steps open_now
+  round_wrote was_idle turns left old new (inr (middle, fewer, alone, looks)) open_now =
+      omega (arith, alone_keeps turns fewer false old middle alone, rests_or_wrote was_idle fewer left middle new looks open_now)
+
+  -- a worker that tries no round more, whose one note was passed on and isn't published
+  abbrev unpublished : SmallWorker
+  unpublished = small_worker (linked_of one_note one_note 1000) one_note 0
+
+  -- it goes on without a note
+  goes_on_idle : GoesOn meaning reads asked has never silent unpublished true unpublished → ⊥
+  goes_on_idle goes = counted goes.some goes.makes goes.counts
+    where
+      same : length goes.ready.linked.recorded.journal.notes ≡ 1
+      same = ap (λ (notes : Journal ℕ). length notes) (where_notes has never _ unpublished goes.ready goes.hands)
+
+      counted : (some : Bool) → MakesRound meaning reads asked (nat_lt 0 goes.ready.idle) goes.ready.turns (round_of goes.ready) some 0 (round_of unpublished) → CountsIdle goes.ready.tries some goes.ready.idle true 0 → ⊥
+      counted true makes counts = omega (arith, same, round_wrote _ goes.ready.turns 0 (round_of goes.ready) (round_of unpublished) makes refl)
+      counted false makes counts = omega (arith, counts.0, goes.keeps.tries)
+
+  look_keeps : (turns : ℕ) (some : Bool) (old new : RoundView ℕ ℕ ℕ ℕ) → LooksAtAll meaning reads asked old some turns new → count_of old.served ≤ count_of new.served
+  look_keeps turns some old new looks = omega (arith, grown _ _ looks.steps.stays.grows, grown _ _ looks.turn_steps.stays.grows, grown _ _ looks.gathers.stays.grows)
+
+  -- it sleeps, and its note isn't published
+  sleeps_unpublished : (tired told : SmallWorker) (slept : Bool) → tired.shown ≡ board_of [] 0 → ShowsNow tired told → Rests meaning reads asked has never silent told slept unpublished → ⊥
+  sleeps_unpublished tired told slept was shows rests = is_told shows.shows
+    where
+      count : 0 ≡ told.shown.count
+      count = ap (λ (shown : ShownView ℕ). shown.count) (rests.keeps.shown ∙ where_shown meaning reads asked has never silent _ told rests.ready rests.hands)
+
+      few : length tired.linked.recorded.journal.notes ≤ 1
+      few =
+          let kept = ap (λ (notes : Journal ℕ). length notes) (where_notes has never _ told rests.ready rests.hands) in
+          let still = ap (λ (worker : SmallWorker). length worker.linked.recorded.journal.notes) shows.rest in
+          omega (arith, kept, still, look_keeps _ _ (round_of rests.ready) (round_of unpublished) rests.looks)
+
+      is_told : Shows tired.linked.recorded.journal.notes tired.shown told.shown → ⊥
+      is_told (inl did) = let next = ap (λ (shown : ShownView ℕ). shown.count) did in omega (arith, count, next)
+      is_told (inr (inl many, same)) = let none = ap (λ (shown : ShownView ℕ). shown.count) was in omega (arith, none, many)
+      is_told (inr (inr many, same)) = omega (arith, few, many)
+
+  -- it goes on without a note, or lies down without having published
+  stays_unpublished : ServesOnce meaning reads asked has never silent unpublished unpublished → ⊥
+  stays_unpublished (inl goes) = goes_on_idle goes
+  stays_unpublished (inr (tired, goes, (told, shows, (slept, rests)))) =
+      sleeps_unpublished tired told slept (goes.keeps.shown ∙ where_shown meaning reads asked has never silent _ unpublished goes.ready goes.hands) shows rests

@@ -1,0 +1,139 @@
+-- A worker that passes on its notes before a round comes to its end in it only if its sink refused.
+use Rattle.std.proofs.Common.{◌≡◌, ◌⊎◌, inl, inr, ℕ, ◌+◌, ◌*◌, ◌<◌, ◌≤◌, Option, [], length, refl, sym, ◌∙◌, ap, subst, arith, ⊎_elim}
+use Rattle.std.specs.Prelude.{Bool, true, false}
+use Rattle.std.proofs.lemmas.Bool.{cases_lt, false≢true}
+use Rattle.base_words.specs.Journal.{Journal}
+use Rattle.base_jobs.specs.Meanings.{Meaning}
+use Rattle.note_journal.specs.Journals.{free_notes, places_of}
+use Rattle.actor_core.specs.Recorded.{terms_at}
+use Rattle.link_ring.specs.Ends.{SameEnds}
+use Rattle.link_ring.proofs.Using.{ends_same}
+use Rattle.run_worker.specs.Ended.{IsServed, ServedView}
+use Rattle.run_worker.specs.Few.{RoundsFew}
+use Rattle.actor_seat.specs.Linked.{IsBetweenTurns, IsLinked, LinkedView, RunsOn, SeesNoLess, StaysLinked}
+use Rattle.run_worker.specs.Passing.{HandsOn, HandsOnWhere, HasPlaces, IsDue, IsDueAtRest, IsSupplied, PassesTo}
+use Rattle.actor_seat.specs.Queues.{opening_of}
+use Rattle.run_worker.specs.Rooms.{ActsAsItMay, ActsByCommand, HasSpare, IsProvided, least_free}
+use Rattle.run_worker.specs.Shown.{IsShown, ShownView}
+use Rattle.run_worker.specs.Workers.{WorkerView}
+use Rattle.run_worker.proofs.Spare.{least_along}
+use Rattle.actor_seat.proofs.Along.{runs_same, sees_same}
+use Rattle.run_worker.proofs.Published.{shown_runs}
+use Rattle.actor_seat.proofs.Passed.{free_behind, has_passed, same_notes, same_places, still_free}
+
+module _ {J T S : Type 0} (has : S → Journal T) (refused : S → ℕ → Type 0) where
+  module _ {asks : S → Option ℕ} (old new : LinkedView J T) (before after : S) (did : HandsOn has refused asks old before new after) where
+    pub hands_notes : new.recorded.journal.notes ≡ old.recorded.journal.notes
+    hands_notes = same_notes has refused old.recorded.journal new.recorded.journal before after did.answer did.passes
+
+    pub hands_places : places_of new.recorded.journal ≡ places_of old.recorded.journal
+    hands_places = same_places has refused old.recorded.journal new.recorded.journal before after did.answer did.passes
+
+    pub hands_least : least_free new.recorded.core.cores new.recorded.cap new.recorded.core.bursts.burst ≡ least_free old.recorded.core.cores old.recorded.cap old.recorded.core.bursts.burst
+    hands_least = ap (λ view. least_free view.recorded.core.cores view.recorded.cap view.recorded.core.bursts.burst) did.rest
+
+    -- it is part of a worker's life
+    pub hands_runs : RunsOn old new
+    hands_runs = record {
+      seat = ap (λ view. terms_at view.recorded) did.rest;
+      places = hands_places;
+      ends = subst (SameEnds old.ends) (sym (ap (λ view. view.ends) did.rest)) (ends_same old.ends);
+      sees = subst (SeesNoLess old.ends) (sym (ap (λ view. view.ends) did.rest)) (sees_same old.ends);
+      opening = ap opening_of hands_notes;
+      grows = ([], hands_notes);
+    }
+
+    -- what was published stays a beginning of the journal
+    pub hands_shown : (shown : ShownView T) → IsShown old.recorded shown → IsShown new.recorded shown
+    hands_shown shown is = shown_runs old new shown hands_runs is
+
+    -- the worker isn't at its end, and its sink has what was passed on
+    pub hands_passes : HasPlaces old.recorded → has before ≡ old.recorded.journal.passed → (ending : Bool) → ending ≡ false → PassesTo has refused (record { linked = new; ending = ending }) after
+    hands_passes places had ending going = record {
+      passed = has_passed has refused old.recorded.journal new.recorded.journal before after did.answer did.passes had;
+      places = omega (arith, places, hands_places, hands_least);
+      refuses = λ is. cc;
+    }
+
+    -- there is room for its end
+    pub hands_spare : HasPlaces old.recorded → HasSpare old.recorded → HasSpare new.recorded
+    hands_spare places spare =
+        let same : (new.recorded.core.cores + 1) * (new.recorded.cap + 1) ≡ (old.recorded.core.cores + 1) * (old.recorded.cap + 1) = ap (λ view. (view.recorded.core.cores + 1) * (view.recorded.cap + 1)) did.rest in
+        let free = still_free has refused old.recorded.journal new.recorded.journal before after did.answer did.passes (4 * ((old.recorded.core.cores + 1) * (old.recorded.cap + 1))) spare (omega (arith, places)) in
+        omega (arith, free, same)
+
+    -- a worker that isn't at its end has room for it behind a passing, and never closed by itself
+    pub hands_served : {meaning : Meaning J T} (ending : Bool) → ending ≡ false → HasPlaces old.recorded → IsServed meaning (record { linked = old; ending = ending }) → IsLinked meaning new → IsBetweenTurns new.recorded →
+        IsServed meaning (record { linked = new; ending = ending })
+    hands_served ending going places served linked between = record {
+      linked = linked;
+      between = between;
+      provided =
+          subst (λ ending. IsProvided ending new.recorded) (sym going)
+          (hands_spare places (subst (λ ending. IsProvided ending old.recorded) going served.provided));
+      acts =
+          subst (λ ending. ActsAsItMay ending new.recorded) (sym going)
+          (subst ActsByCommand (sym hands_notes) (subst (λ ending. ActsAsItMay ending old.recorded) going served.acts));
+    }
+
+    -- as much is free as two rounds may write, or the sink refused
+    pub hands_supplied : HasPlaces old.recorded → (ending : Bool) → IsSupplied has refused (record { linked = new; ending = ending }) after
+    hands_supplied places ending =
+        subst (λ least. (2 * least ≤ free_notes new.recorded.journal) ⊎ refused after (length new.recorded.journal.passed)) (sym hands_least)
+        (free_behind has refused old.recorded.journal new.recorded.journal before after did.answer did.passes _ places)
+
+  module _ (served : ServedView J T) (sink : S) (passes : PassesTo has refused served sink) where
+    -- a journal that isn't low has enough notes free
+    pub supplied_high : (IsDue served → ⊥) → IsSupplied has refused served sink
+    supplied_high high = by_ending served.ending refl
+      where
+        by_ending : (ending : Bool) → served.ending ≡ ending → IsSupplied has refused served sink
+        by_ending true is = inr (passes.refuses is)
+        by_ending false is =
+            ⊎_elim
+            (λ (few : free_notes served.linked.recorded.journal < 2 * least_free served.linked.recorded.core.cores served.linked.recorded.cap served.linked.recorded.core.bursts.burst). absurd (high (is, inl few)))
+            (λ (enough : 2 * least_free served.linked.recorded.core.cores served.linked.recorded.cap served.linked.recorded.core.bursts.burst ≤ free_notes served.linked.recorded.journal). inl enough)
+            (cases_lt (free_notes served.linked.recorded.journal) (2 * least_free served.linked.recorded.core.cores served.linked.recorded.cap served.linked.recorded.core.bursts.burst))
+
+    -- and so has one that keeps none
+    pub supplied_empty : (IsDueAtRest served → ⊥) → IsSupplied has refused served sink
+    supplied_empty empty = by_ending served.ending refl
+      where
+        by_ending : (ending : Bool) → served.ending ≡ ending → IsSupplied has refused served sink
+        by_ending true is = inr (passes.refuses is)
+        by_ending false is =
+            ⊎_elim
+            (λ (some : length served.linked.recorded.journal.passed < length served.linked.recorded.journal.notes). absurd (empty (is, some)))
+            (λ (none : length served.linked.recorded.journal.notes ≤ length served.linked.recorded.journal.passed). inl (let places = passes.places in omega (arith, places, none)))
+            (cases_lt (length served.linked.recorded.journal.passed) (length served.linked.recorded.journal.notes))
+
+    -- behind a round the worker is at its end only if its sink refused
+    pub round_passes : (new : ServedView J T) → IsSupplied has refused served sink → StaysLinked served.linked new.linked → RoundsFew served new → PassesTo has refused new sink
+    round_passes new supplied stays few = record {
+      passed = passes.passed ∙ sym stays.seat.passed;
+      places =
+          let places = passes.places in
+          let least = least_along served.linked.recorded new.linked.recorded stays.seat in
+          let passed : length new.linked.recorded.journal.passed ≡ length served.linked.recorded.journal.passed = ap length stays.seat.passed in
+          omega (arith, places, least, passed, stays.seat.room);
+      refuses = λ ends. subst (λ passed. refused sink (length passed)) (sym stays.seat.passed) (by_ending served.ending refl ends supplied);
+    }
+      where
+        by_ending : (ending : Bool) → served.ending ≡ ending → new.ending ≡ true → IsSupplied has refused served sink → refused sink (length served.linked.recorded.journal.passed)
+        by_ending true is ends had = passes.refuses is
+        by_ending false is ends (inr had) = had
+        by_ending false is ends (inl enough) = let goes : new.ending ≡ false = few.goes is (omega (arith, enough)) in absurd (false≢true (sym goes ∙ ends))
+
+  module _ {C G : Type 0} {asks : S → Option ℕ} (due : Type 0) (old new : WorkerView J T C G S) where
+    -- what is handed on where it is due, or nothing
+    pub where_runs : HandsOnWhere has refused asks due old new → RunsOn old.linked new.linked
+    where_runs (inl did) = hands_runs old.linked new.linked old.sink new.sink did.1
+    where_runs (inr none) = subst (λ (view : WorkerView J T C G S). RunsOn old.linked view.linked) (sym none.1) (runs_same old.linked)
+
+    pub where_notes : HandsOnWhere has refused asks due old new → new.linked.recorded.journal.notes ≡ old.linked.recorded.journal.notes
+    where_notes (inl did) = hands_notes old.linked new.linked old.sink new.sink did.1
+    where_notes (inr none) = ap (λ view. view.linked.recorded.journal.notes) none.1
+
+    pub where_gate : HandsOnWhere has refused asks due old new → new.gate ≡ old.gate
+    where_gate (inl did) = ap (λ view. view.gate) did.2
+    where_gate (inr none) = ap (λ view. view.gate) none.1

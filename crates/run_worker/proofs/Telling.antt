@@ -1,0 +1,155 @@
+-- What the steps of a round tell of their notes, one after another.
+use Rattle.std.proofs.Common.{◌≡◌, ℕ, zero, suc, ◌+◌, ◌*◌, ◌<◌, List, [], ◌∷◌, ◌++◌, length, refl, sym, ◌∙◌, ap, subst, arith}
+use Rattle.std.specs.Prelude.{◌||◌, Bool, true, false, Option, Some, None, nat_lt}
+use Rattle.std.proofs.lemmas.Bool.{lt-ltb}
+use Rattle.std.proofs.lemmas.List.{length-append}
+use Rattle.base_words.specs.declared.names.JobId.{JobId}
+use Rattle.base_words.specs.declared.note.Note.{Note}
+use Rattle.base_words.specs.declared.note.Note.TheVariants as writes
+use Rattle.base_words.specs.declared.order.Answer.{Answer}
+use Rattle.base_words.specs.declared.order.Order.{Order}
+use Rattle.base_words.specs.declared.order.Order.TheVariants.{Job, Create, SetShares, Close, CloseCore, Wake}
+use Rattle.base_words.specs.Commands.{effect_note}
+use Rattle.base_words.specs.Journal.{Journal}
+use Rattle.actor_core.specs.Deliveries.{IsDelivery, with_effect}
+use Rattle.actor_seat.specs.Linked.{LinkedView, Grows, StaysLinked}
+use Rattle.run_worker.specs.Ended.{ServedView}
+use Rattle.actor_seat.specs.Steps.{DeliversFrom, CollectsOf}
+use Rattle.run_worker.specs.Rooms.{IsShort}
+use Rattle.run_worker.specs.Rounds.{TellsNotes, LooksAtRoom, StepsServed}
+use Rattle.actor_seat.proofs.Along.{stays_along, stays_same}
+use Rattle.actor_seat.proofs.Growing.{no_shorter}
+
+effects_some : (T : Type 0) (name : JobId) (order : Order (Unit {0})) (answer : Answer) → 0 < length (with_effect {T = T} (effect_note name.to order answer) (writes.Answered name answer ∷ []))
+effects_some T name order answer = by_effect (effect_note name.to order answer)
+  where
+    by_effect : (effect : Option (Note T)) → 0 < length (with_effect effect (writes.Answered name answer ∷ []))
+    by_effect None = omega arith
+    by_effect (Some note) = omega arith
+
+module _ {T : Type 0} where
+  -- a step that wrote something, behind others
+  pub tells_true : (old middle new : Journal T) → Grows old middle → TellsNotes true middle new → TellsNotes true old new
+  tells_true old middle new grows more = let longer = no_shorter old middle grows in omega (arith, longer, more)
+
+  -- a step that wrote nothing, behind others
+  pub tells_false : (some : Bool) (old middle new : Journal T) → TellsNotes some old middle → TellsNotes false middle new → TellsNotes some old new
+  tells_false some old middle new told none = subst (TellsNotes some old) (sym none) told
+
+  pub tells_more : (one two : Bool) (old middle new : Journal T) → Grows old middle → TellsNotes one old middle → TellsNotes two middle new → TellsNotes (one || two) old new
+  tells_more true true old middle new grows told more = tells_true old middle new grows more
+  tells_more false true old middle new grows told more = tells_true old middle new grows more
+  tells_more true false old middle new grows told none = tells_false true old middle new told none
+  tells_more false false old middle new grows told none = tells_false false old middle new told none
+
+  -- one note or more behind the old ones
+  longer_by : (notes : List (Note T)) (old new : Journal T) → new ≡ notes ++ old → 0 < length notes → TellsNotes true old new
+  longer_by notes old new is some = let now : length new ≡ length notes + length old = ap length is ∙ length-append notes old in omega (arith, now, some)
+
+  delivery_some : {J : Type 0} (name : JobId) (before : Journal T) (order : Order J) (notes : List (Note T)) → IsDelivery name order before notes → 0 < length notes
+  delivery_some name before (Job queue job) notes is = rw is (omega arith)
+  delivery_some name before (Create weight) notes is = rw is.2 (effects_some T name (Create weight) is.0)
+  delivery_some name before (SetShares queue weight) notes is = rw is.2 (effects_some T name (SetShares queue weight) is.0)
+  delivery_some name before (Close queue mode) notes is = rw is.2 (effects_some T name (Close queue mode) is.0)
+  delivery_some name before (CloseCore mode) notes is = rw is.2 (effects_some T name (CloseCore mode) is.0)
+  delivery_some name before (Wake actor number) notes is = rw is.2 (effects_some T name (Wake actor number) is.0)
+
+  no_notes : (notes : List (Note T)) → length notes ≡ 0 → notes ≡ []
+  no_notes [] none = refl
+  no_notes (note ∷ notes) none = absurd (omega (arith, none))
+
+  collected_notes : (count : ℕ) (notes : List (Note T)) (old new : Journal T) → new ≡ notes ++ old → length notes ≡ count → TellsNotes (nat_lt 0 count) old new
+  collected_notes zero notes old new is none = is ∙ ap (λ notes. notes ++ old) (no_notes notes none)
+  collected_notes (suc count) notes old new is some =
+      subst (λ some. TellsNotes some old new) (sym (lt-ltb 0 (suc count) (omega arith))) (longer_by notes old new is (omega (arith, some)))
+
+module _ {J T : Type 0} where
+  pub delivered_tells : (sender : ℕ) (old new : LinkedView J T) (found : Bool) → DeliversFrom sender old found new → TellsNotes found old.recorded.journal.notes new.recorded.journal.notes
+  delivered_tells sender old new true did =
+      longer_by did.delivers.2.notes old.recorded.journal.notes new.recorded.journal.notes (ap (λ journal. journal.notes) did.delivers.2.journal)
+      (delivery_some did.delivers.0.name old.recorded.journal.notes did.delivers.0.order did.delivers.2.notes did.delivers.2.delivery)
+  delivered_tells sender old new false did = ap (λ view. view.journal.notes) did.delivers.1
+
+  pub collected_tells : (core count : ℕ) (old new : LinkedView J T) → CollectsOf core old count new → TellsNotes (nat_lt 0 count) old.recorded.journal.notes new.recorded.journal.notes
+  collected_tells core count old new did = collected_notes count did.collects.0 old.recorded.journal.notes new.recorded.journal.notes (ap (λ journal. journal.notes) did.collects.3) did.collects.2
+
+-- three answers, the second one first
+order_of_three : (one two three : Bool) → (one || two) || three ≡ two || (one || three)
+order_of_three true true three = refl
+order_of_three true false three = refl
+order_of_three false true three = refl
+order_of_three false false three = refl
+
+-- a worker that came to its end before came to it between
+pub same_between : (old middle new : Bool) → (old ≡ true → middle ≡ true) → (middle ≡ true → new ≡ true) → new ≡ old → middle ≡ old
+same_between true middle new one two is = one refl
+same_between false false new one two is = refl
+same_between false true new one two is = sym (two refl) ∙ is
+
+pub not_before : (old new : Bool) → (old ≡ true → new ≡ true) → new ≡ false → old ≡ false
+not_before false new one is = refl
+not_before true new one is = sym (one refl) ∙ is
+
+module _ {J T : Type 0} where
+  -- a short journal stays short
+  still_short : (old new : LinkedView J T) → StaysLinked old new → IsShort old.recorded → IsShort new.recorded
+  still_short old new stays short =
+      let longer = no_shorter old.recorded.journal.notes new.recorded.journal.notes stays.grows in
+      let same : (new.recorded.core.cores + 1) * (new.recorded.cap + 1) ≡ (old.recorded.core.cores + 1) * (old.recorded.cap + 1) = ap (λ cores. (cores + 1) * (new.recorded.cap + 1)) stays.seat.cores ∙ ap (λ cap. (old.recorded.core.cores + 1) * (cap + 1)) stays.seat.cap in
+      omega (arith, short, longer, same, stays.seat.burst, stays.seat.room)
+
+  -- the room is looked at, and then a step is made
+  pub looked_steps : (old middle inside : ServedView J T) (new : LinkedView J T) (some : Bool) → inside ≡ middle → LooksAtRoom old middle → StaysLinked old.linked middle.linked → StaysLinked inside.linked new →
+      TellsNotes some inside.linked.recorded.journal.notes new.recorded.journal.notes → StepsServed old some (record { linked = new; ending = inside.ending })
+  looked_steps old middle inside new some seen looks stays stepped told = record {
+    stays = stays_along old.linked middle.linked new stays (subst (λ (view : ServedView J T). StaysLinked view.linked new) seen stepped);
+    ended = λ is. ap (λ view. view.ending) seen ∙ looks.ended is;
+    short = λ was now. still_short old.linked new (stays_along old.linked middle.linked new stays (subst (λ (view : ServedView J T). StaysLinked view.linked new) seen stepped)) (looks.short was (sym (ap (λ view. view.ending) seen) ∙ now));
+    tells = λ same.
+        let whole : inside ≡ old = seen ∙ looks.same (sym (ap (λ view. view.ending) seen) ∙ same) in
+        subst (λ (view : ServedView J T). TellsNotes some view.linked.recorded.journal.notes new.recorded.journal.notes) whole told;
+  }
+
+  -- the room is looked at, and nothing else is done
+  pub looked_alone : (old middle : ServedView J T) → LooksAtRoom old middle → StaysLinked old.linked middle.linked → StepsServed old false middle
+  looked_alone old middle looks stays = record {
+    stays = stays;
+    ended = looks.ended;
+    short = λ was now. still_short old.linked middle.linked stays (looks.short was now);
+    tells = λ same. ap (λ view. view.linked.recorded.journal.notes) (looks.same same);
+  }
+
+  pub steps_none : (view : ServedView J T) → StepsServed view false view
+  steps_none view = record { stays = stays_same view.linked; ended = λ is. is; short = λ was now. cc; tells = λ same. refl }
+
+  -- one step behind others
+  pub steps_more : (one two : Bool) (old middle new : ServedView J T) → StepsServed old one middle → StepsServed middle two new → StepsServed old (one || two) new
+  steps_more one two old middle new first next = record {
+    stays = stays_along old.linked middle.linked new.linked first.stays next.stays;
+    ended = λ is. next.ended (first.ended is);
+    short = λ was now. by_middle was now middle.ending refl;
+    tells = λ same.
+        let between : middle.ending ≡ old.ending = same_between old.ending middle.ending new.ending first.ended next.ended same in
+        tells_more one two old.linked.recorded.journal.notes middle.linked.recorded.journal.notes new.linked.recorded.journal.notes first.stays.grows (first.tells between) (next.tells (same ∙ sym between));
+  }
+    where
+      by_middle : old.ending ≡ false → new.ending ≡ true → (ending : Bool) → middle.ending ≡ ending → IsShort new.linked.recorded
+      by_middle was now true is = still_short middle.linked new.linked next.stays (first.short was is)
+      by_middle was now false is = next.short is now
+
+  pub steps_found : (some : Bool) (old middle new : ServedView J T) → StepsServed old some middle → StepsServed middle true new → StepsServed old true new
+  steps_found true old middle new first next = steps_more true true old middle new first next
+  steps_found false old middle new first next = steps_more false true old middle new first next
+
+  pub steps_same : (some : Bool) (old middle new : ServedView J T) → StepsServed old some middle → StepsServed middle false new → StepsServed old some new
+  steps_same true old middle new first next = steps_more true false old middle new first next
+  steps_same false old middle new first next = steps_more false false old middle new first next
+
+  -- three steps, of which the answer of the second one is told first
+  pub steps_three : (one two three : Bool) (old middle later new : ServedView J T) → StepsServed old one middle → StepsServed middle two later → StepsServed later three new → StepsServed old (two || (one || three)) new
+  steps_three one two three old middle later new first second third =
+      subst (λ some. StepsServed old some new) (order_of_three one two three) (steps_more (one || two) three old later new (steps_more one two old middle later first second) third)
+
+  -- the cores of the house are the same behind two steps
+  pub steps_cores : {one two : Bool} {old middle new : ServedView J T} → StepsServed old one middle → StepsServed middle two new → new.linked.recorded.core.cores ≡ old.linked.recorded.core.cores
+  steps_cores first second = second.stays.seat.cores ∙ first.stays.seat.cores

@@ -1,0 +1,6 @@
+use Rattle.std.proofs.Common.{subst}
+use Rattle.run_worker.specs.Ended.{HasEnded}
+use Rattle.run_worker.proofs.ended.Ended.into_parts.Goals as goal
+
+pub returns-clause-ended : goal.returns-clause-ended
+returns-clause-ended g c = subst (λ view. HasEnded g.J.Task.meaning g.S.Sink.has g.S.Sink.refused view) c.self.view_is c.self.invariant

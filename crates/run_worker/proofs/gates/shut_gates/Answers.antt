@@ -1,0 +1,30 @@
+use Rattle.std.proofs.Common.{refl, sym, subst, arith}
+use Rattle.std.specs.Prelude.{IsSome}
+use Rattle.run_worker.proofs.Gated.{shuts_none, shuts_more}
+use Rattle.run_worker.specs.Rounds.{TellsNotes}
+use Rattle.run_worker.proofs.Telling.{tells_true, tells_false}
+use Rattle.run_worker.proofs.gates.shut_gates.Goals.{then-shut_if_open, else-shut_if_open}
+use Rattle.run_worker.proofs.gates.shut_gates.Goals as goal
+
+pub loop-sender-init : goal.loop-sender-init
+loop-sender-init g c = record { first = shuts_none c.args.seat.now; tells = refl; linked = c.requires.linked; end = omega (arith, c.requires.cores) }
+
+pub shut_if_open-requires-clause-closed : goal.shut_if_open-requires-clause-closed
+shut_if_open-requires-clause-closed g c = subst (λ mode. IsSome mode) (sym c.loop-sender.invariant.first.mode) c.requires.closed
+
+pub loop-sender-preserved : goal.loop-sender-preserved
+loop-sender-preserved g c = record {
+  first = shuts_more _ _ _ _ c.loop-sender.invariant.first c.shut_if_open.ensures.leaves;
+  tells = elim c.if-shut_if_open.branch [
+    | then-shut_if_open w ↦
+        subst (λ some. TellsNotes some c.args.seat.now.recorded.journal.notes c.shut_if_open.new.seat.recorded.journal.notes) (sym w.some-is)
+        (tells_true c.args.seat.now.recorded.journal.notes c.loop-sender.seat.recorded.journal.notes c.shut_if_open.new.seat.recorded.journal.notes c.loop-sender.invariant.first.stays.grows
+        (subst (λ found. TellsNotes found c.loop-sender.seat.recorded.journal.notes c.shut_if_open.new.seat.recorded.journal.notes) w.if-shut_if_open.true c.shut_if_open.ensures.tells))
+    | else-shut_if_open w ↦
+        subst (λ some. TellsNotes some c.args.seat.now.recorded.journal.notes c.shut_if_open.new.seat.recorded.journal.notes) (sym w.some-is)
+        (tells_false c.loop-sender.some c.args.seat.now.recorded.journal.notes c.loop-sender.seat.recorded.journal.notes c.shut_if_open.new.seat.recorded.journal.notes c.loop-sender.invariant.tells
+        (subst (λ found. TellsNotes found c.loop-sender.seat.recorded.journal.notes c.shut_if_open.new.seat.recorded.journal.notes) w.if-shut_if_open.false c.shut_if_open.ensures.tells))
+  ];
+  linked = c.shut_if_open.ensures.linked;
+  end = c.loop-sender.invariant.end;
+}

@@ -1,0 +1,21 @@
+use Rattle.std.proofs.Common.{◌∙◌, sym, ap}
+use Rattle.run_worker.specs.Queues.{creations}
+use Rattle.actor_seat.proofs.Opened.{opened_linked}
+use Rattle.run_worker.proofs.Opened.{opened_between, opened_acts}
+use Rattle.run_worker.proofs.opening.serve_core.Goals as goal
+
+pub of-requires-clause-linked : goal.of-requires-clause-linked
+of-requires-clause-linked g c =
+    opened_linked _ _ _ _ _ _ c.in_ok-recorded.recorded c.args.ends c.in_ok-recorded.ensures.since c.requires.ends (ap (λ ends. ends.number) (sym c.ends.view_is) ∙ sym c.number.view_is)
+
+pub of-requires-clause-between : goal.of-requires-clause-between
+of-requires-clause-between g c = opened_between _ _ _ _ _ _ c.in_ok-recorded.recorded c.in_ok-recorded.ensures.since
+
+pub of-requires-clause-acts : goal.of-requires-clause-acts
+of-requires-clause-acts g c = opened_acts _ _ _ _ _ _ c.in_ok-recorded.recorded c.in_ok-recorded.ensures.since
+
+pub returns-clause-queues : goal.returns-clause-queues
+returns-clause-queues g c =
+    ap (λ served. served.linked.recorded.journal.notes) c.of.ensures ∙ (c.in_ok-recorded.ensures.noted
+    ∙ (ap (λ core. creations core c.deref.result.now) (sym (ap (λ ends. ends.number) (sym c.ends.view_is) ∙ sym c.number.view_is))
+    ∙ ap (creations c.args.ends.number) c.deref.ensures.value))

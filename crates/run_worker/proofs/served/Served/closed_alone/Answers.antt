@@ -1,0 +1,6 @@
+use Rattle.std.proofs.Common.{subst}
+use Rattle.run_worker.specs.Shown.{TellsAlone}
+use Rattle.run_worker.proofs.served.Served.closed_alone.Goals as goal
+
+pub returns : goal.returns
+returns g c = subst (λ view. TellsAlone c.self.inside.alone view.linked.recorded.journal.notes) c.self.view_is c.self.invariant.1

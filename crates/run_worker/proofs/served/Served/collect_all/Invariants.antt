@@ -1,0 +1,14 @@
+use Rattle.std.proofs.Common.{◌≡◌, ◌*◌}
+use Rattle.run_worker.specs.Asks.{NotesNoPoll}
+use Rattle.run_worker.specs.Few.{WritesFew}
+use Rattle.run_worker.specs.Rounds.{CollectsFirst, StepsServed}
+use Rattle.run_worker.proofs.served.Served.collect_all.Given as goal
+
+abbrev pub invariant-loop-core : goal.invariant-loop-core
+invariant-loop-core g l = record {
+  steps : StepsServed l.fn.self l.some l.self;
+  few : WritesFew (l.core * l.fn.self.linked.recorded.cap) l.fn.self l.self;
+  collects : CollectsFirst l.core l.self;
+  end : l.core-end ≡ l.fn.self.linked.recorded.core.cores;
+  polls : NotesNoPoll l.fn.self.linked.recorded.journal.notes l.self.linked.recorded.journal.notes;
+}

@@ -1,0 +1,6 @@
+use Rattle.std.proofs.Common.{subst}
+use Rattle.run_worker.specs.Ended.{IsServed}
+use Rattle.run_worker.proofs.served.Served.journal.Goals as goal
+
+pub returns-clause-sound : goal.returns-clause-sound
+returns-clause-sound g c = subst (IsServed g.J.Task.meaning) c.self.view_is c.self.invariant.0

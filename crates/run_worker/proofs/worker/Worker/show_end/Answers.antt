@@ -1,0 +1,12 @@
+use Rattle.std.proofs.Common.{inl, inr, refl, sym, ◌∙◌}
+use Rattle.std.proofs.lemmas.Bool.{false≢true}
+use Rattle.run_worker.proofs.worker.Worker.show_end.Goals as goal
+
+pub returns-then-was : goal.returns-then-was
+returns-then-was g c = inr (λ ended. false≢true (sym ended.0 ∙ c.if-was.true), refl)
+
+pub returns-then-is_ending : goal.returns-then-is_ending
+returns-then-is_ending g c = inl (c.if-was.false, sym c.is_ending.ensures ∙ c.if-is_ending.true, c.show.ensures)
+
+pub returns-else-is_ending : goal.returns-else-is_ending
+returns-else-is_ending g c = inr (λ ended. false≢true (sym c.if-is_ending.false ∙ (c.is_ending.ensures ∙ ended.1)), refl)

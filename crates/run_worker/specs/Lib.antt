@@ -1,0 +1,16 @@
+pub mod Queues
+pub mod Rooms
+pub mod Shown
+pub mod Gates
+pub mod Ended
+pub mod Few
+pub mod Workers
+pub mod Passing
+pub mod Rounds
+pub mod Turns
+pub mod Asks
+pub mod Looks
+pub mod Serves
+pub mod Together
+pub mod Readings
+pub mod Again

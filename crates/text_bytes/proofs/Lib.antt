@@ -1,0 +1,9 @@
+pub mod KnownLemmas
+pub mod LawLemmas
+pub mod TryLemmas
+pub mod BadLemmas
+pub mod FaultLemmas
+pub mod TextLemmas
+pub mod TakingLemmas
+pub mod RoomLemmas
+pub mod SourceLemmas

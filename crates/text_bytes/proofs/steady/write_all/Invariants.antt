@@ -1,0 +1,15 @@
+-- The first bytes are written, so many as were counted.
+use Rattle.std.proofs.Common.{◌-◌, ◌≤◌, length, take}
+use Rattle.std.specs.Io.KnownBytes.{Appends}
+use Rattle.text_bytes.specs.Tries.{IsNoFewer}
+use Rattle.text_bytes.proofs.steady.write_all.Given as goal
+
+abbrev pub invariant-loop-written : goal.invariant-loop-written
+invariant-loop-written g l = record {
+  within : l.written ≤ length l.bytes;
+  done : Appends (g.S.Sink.contents l.initial.sink) (g.S.Sink.contents l.sink) (take l.written l.bytes);
+  tried : IsNoFewer (g.S.Sink.tries l.initial.sink) (g.S.Sink.tries l.sink);
+}
+
+abbrev pub decreases-loop-written : goal.decreases-loop-written
+decreases-loop-written g l = length l.bytes - l.written

@@ -1,0 +1,9 @@
+pub mod Tries
+pub mod Laws
+pub mod BadFaults
+pub mod Feeds
+pub mod Texts
+pub mod Faults
+pub mod Readings
+pub mod Sources
+pub mod Taking

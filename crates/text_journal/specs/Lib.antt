@@ -1,0 +1,17 @@
+pub mod Fields
+pub mod Kinds
+pub mod Phrases
+pub mod NoteWords
+pub mod Laws
+pub mod Texts
+pub mod Pages
+pub mod Faults
+pub mod Raised
+pub mod Handed
+pub mod Heads
+pub mod Drafts
+pub mod Passing
+pub mod JournalTexts
+pub mod ReadLaws
+pub mod FaultyForms
+pub mod BadPasses

@@ -1,0 +1,70 @@
+//! What becomes of the notes of a house.
+
+use fairexec::linked::{Config, Core, House, Journal, NoteCounts, Opened, Outcome, Outside, Step};
+use fairexec::{Error, Mode};
+use std::sync::{Arc, Mutex};
+
+/// Runs so many jobs, one after another, on a core whose clock stands still.
+fn run_jobs(core: &mut Core<u64>, outside: &mut Outside<u64>, jobs: u64) -> Result<(), Error> {
+    core.set_clock(|| 0);
+    for job in 0..jobs {
+        let ticket = outside.submit(0, 0, job).map_err(|(error, _)| error)?;
+        while core.round(|job, _| Step::Done(*job))? {}
+        assert_eq!(outside.wait_for(&ticket)?, Outcome::Done(job));
+    }
+    Ok(())
+}
+
+#[test]
+fn a_house_runs_without_end_if_its_notes_are_forgotten() -> Result<(), Error> {
+    for (journal, notes) in [Journal::Forget, Journal::Last(5), Journal::Last(700)].into_iter().flat_map(|it| [12, 1 << 11, 1 << 13].map(|notes| (it, notes))) {
+        let (house, mut cores, mut outside): Opened<u64> = House::open(&Config { places: 4, notes, journal, ..Config::default() })?;
+        run_jobs(&mut cores[0], &mut outside, 1500)?;
+        let mut text = b"before\n".to_vec();
+        let most = if let Journal::Last(most) = journal { u64::from(most) } else { 5 };
+        let count = cores[0].newest(most, &mut text)?;
+        let all = String::from_utf8(text).expect("a journal is ASCII");
+        let lines: Vec<_> = all.lines().collect();
+        assert_eq!(lines.len() as u64, 1 + count);
+        // The newest stay in their order: four are of each job.
+        if let Journal::Last(_) = journal {
+            let job_of = |back: usize| 1500 - back as u64 / 4;
+            assert_eq!(count, most);
+            assert!(lines.iter().rev().enumerate().take(most as usize).all(|(back, line)| line.contains(&format!(" 1>0#{}", job_of(back))) || line.contains(" pick q0")));
+        }
+        assert!(count == 0 || lines.last() == Some(&"0 done 1>0#1500 0 = 1499"));
+        cores[0].close(Mode::Finish)?;
+        while cores[0].round(|job, _| Step::Done(*job))? {}
+        assert_eq!(house.end(cores, outside).map_err(|(error, ..)| error)?.audit().err(), Some(Error::PassedOn));
+    }
+    Ok(())
+}
+
+#[test]
+fn notes_go_on_before_a_long_journal_is_full() -> Result<(), Error> {
+    let (_house, mut cores, mut outside): Opened<u64> = House::open(&Config { places: 4, notes: 1 << 12, ..Config::default() })?;
+    let parts = Arc::new(Mutex::new(Vec::new()));
+    let takes = Arc::clone(&parts);
+    cores[0].keep_notes_by(move |part| takes.lock().expect("no panic").push(part.iter().filter(|byte| **byte == b'\n').count()));
+    outside.keep_notes_by(|_| {});
+    run_jobs(&mut cores[0], &mut outside, 4000)?;
+    let parts = parts.lock().expect("no panic").clone();
+    assert!(parts.len() >= 8 && parts.iter().all(|count| (1024..2048).contains(count)), "{parts:?}");
+    let counts = cores[0].note_counts()?;
+    assert_eq!((counts.kept as usize + parts.iter().sum::<usize>(), counts.kept + counts.free), (16_000, 1 << 12));
+    assert_eq!((cores[0].forget()?, cores[0].note_counts()?), (counts.kept, NoteCounts { kept: 0, free: 1 << 12 }));
+    Ok(())
+}
+
+#[test]
+fn a_journal_that_is_kept_is_whole() -> Result<(), Error> {
+    let (house, mut cores, mut outside): Opened<u64> = House::open(&Config { places: 4, ..Config::default() })?;
+    run_jobs(&mut cores[0], &mut outside, 1000)?;
+    let (mut newest, mut none) = (Vec::new(), Vec::new());
+    assert_eq!((cores[0].newest(2, &mut newest)?, cores[0].newest(0, &mut none)?), (2, 0));
+    assert_eq!(String::from_utf8_lossy(&newest), "0 start 1>0#1000\n0 done 1>0#1000 0 = 999\n");
+    cores[0].close(Mode::Finish)?;
+    while cores[0].round(|job, _| Step::Done(*job))? {}
+    assert!(house.end(cores, outside).map_err(|(error, ..)| error)?.audit()?.is_sound);
+    Ok(())
+}
