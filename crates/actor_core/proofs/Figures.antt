@@ -4,7 +4,7 @@ use Rattle.actor_core.proofs.AgreementNames.{counted_up, figures_in, figures_not
 use Rattle.actor_core.proofs.AgreementNames.{poll_note, Bool, JobId, Journal, List, Note, Some, ap, arith, cond, get_or}
 use Rattle.actor_core.proofs.AgreementNames.{get_or-set_same, has_bursts, length, refl, set, true, false, ℕ, ◌+◌, ◌<◌, ◌==◌, ◌∙◌, ◌∷◌, ◌≡◌, clamped}
 use Rattle.base_words.specs.declared.note.Note.TheVariants as writes
-use Rattle.note_stats.specs.Sums.{finished_count}
+use Rattle.base_words.specs.Sums.{finished_count}
 
 -- a sum of which a summand was counted up is counted up the same
 counted_twice : (count more : ℕ) → counted_up (count + more) ≡ counted_up (counted_up count + more)

@@ -4,7 +4,7 @@ use Rattle.actor_core.proofs.Names.{length-replicate, get_or-replicate, All-nil,
 use Rattle.actor_core.proofs.Names.{runtime_of, opened, Agrees, AreMarked, no_figures, figures_of, IsRecorded}
 use Rattle.actor_core.proofs.Names.{HasTask, sum_upto, given_count, opened_beside, none-some, names_of, names_parked, parked_of}
 use Rattle.actor_core.proofs.AgreementNames.{has_bursts, none_either}
-use Rattle.note_stats.proofs.Tables.{all_alike}
+use Rattle.base_words.proofs.Tables.{all_alike}
 
 module _ (J : Type 0) (core cores cap burst : ℕ) where
   abbrev new_core : CoreView J

@@ -23,12 +23,12 @@ use Rattle.base_words.specs.declared.stats.QueueStats.{QueueStats}
 use Rattle.base_words.specs.Lawful.{MayFollow}
 use Rattle.base_words.specs.Limits.{most_turns}
 use Rattle.base_words.proofs.RuntimeBound.{no_runtime_wraps}
-use Rattle.note_stats.specs.Stats.{stats_of}
-use Rattle.note_stats.specs.Sums.{finished_count, queue_of_told, waiting_count}
+use Rattle.base_words.specs.Stats.{stats_of}
+use Rattle.base_words.specs.Sums.{finished_count, queue_of_told, waiting_count}
 use Rattle.std.specs.Prelude.{Bool, true, false}
 use Rattle.base_words.specs.Filters.{name_finished}
 use Rattle.actor_core.specs.Figures.{counted_up}
-use Rattle.note_stats.proofs.WaitingLaw.{waiting_is_line}
+use Rattle.base_words.proofs.WaitingLaw.{waiting_is_line}
 use Rattle.core_core.specs.Closing as closing
 use Rattle.actor_core.specs.Recorded.{terms_at}
 use Rattle.actor_core.specs.Stats.{AreExact}

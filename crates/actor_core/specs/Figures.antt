@@ -6,7 +6,7 @@ use Rattle.base_words.specs.HandBacks.{picks_of, queue_picked}
 use Rattle.base_words.specs.Journal.{Journal}
 use Rattle.base_words.specs.Names.{is_number}
 use Rattle.base_words.specs.Work.{number_if}
-use Rattle.note_stats.specs.Sums.{run_time, time_noted, finished_count, returned_count, queue_of_told, name_returned}
+use Rattle.base_words.specs.Sums.{run_time, time_noted, finished_count, returned_count, queue_of_told, name_returned}
 use Rattle.core_core.specs.declared.tally.Tally.{Tally}
 use Rattle.core_core.specs.State.{CoreView, tally_of}
 

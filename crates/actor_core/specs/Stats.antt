@@ -8,7 +8,7 @@ use Rattle.base_words.specs.Journal.{Journal}
 use Rattle.base_words.specs.Lines.{line}
 use Rattle.base_words.specs.Parks.{parked}
 use Rattle.base_words.specs.Runtimes.{virtual_runtime}
-use Rattle.note_stats.specs.Stats.{core_stats, stats_of}
+use Rattle.base_words.specs.Stats.{core_stats, stats_of}
 
 module _ {T : Type 0} where
   -- of a core: its turns, its floor and the jobs inside, and whether it is drained

@@ -51,4 +51,6 @@ pub mod BadBursts
 pub mod GoodJournals
 pub mod GoodParks
 pub mod Lag
+pub mod Sums
+pub mod Stats
 pub mod Charge

@@ -6,7 +6,7 @@ use Rattle.judge_audit.specs.declared.judge.Verdict.{Verdict}
 use Rattle.judge_audit.proofs.OneVerdict.{one_verdict}
 use Rattle.text_journal.specs.Texts.{journal_text}
 use Rattle.text_journal.proofs.LineLemmas.{journal_some}
-use Rattle.note_stats.specs.Stats.{core_stats}
+use Rattle.base_words.specs.Stats.{core_stats}
 use Rattle.fairexec_report.specs.Outcomes.{outcomes_text}
 use Rattle.fairexec_report.specs.Reports.{WrongReportsAreRefused}
 use Rattle.fairexec_report.specs.StatLines.{core_line}

@@ -4,7 +4,7 @@ use Rattle.std.specs.Prelude.{◌↔◌, IsTrue}
 use Rattle.base_words.specs.Assembly.{Assembly, journal_of}
 use Rattle.base_words.specs.Closing.{IsDrained}
 use Rattle.base_words.specs.Journal.{Journal}
-use Rattle.note_stats.specs.Stats.{core_stats, queue_stats}
+use Rattle.base_words.specs.Stats.{core_stats, queue_stats}
 use Rattle.fairexec_report.specs.StatTexts.{core_text, queue_text, queues_below, IsCoreText, IsTextBelow, IsStatsText}
 
 next : (number : ℕ) → suc number ≡ number + 1

@@ -5,7 +5,7 @@ use Rattle.base_words.specs.declared.stats.QueueStats.{QueueStats}
 use Rattle.base_words.specs.Assembly.{Assembly, journal_of}
 use Rattle.base_words.specs.Closing.{IsDrained}
 use Rattle.base_words.specs.Journal.{Journal}
-use Rattle.note_stats.specs.Stats.{core_stats, queue_stats}
+use Rattle.base_words.specs.Stats.{core_stats, queue_stats}
 use Rattle.fairexec_report.specs.StatLines.{core_line, queue_line}
 
 -- the line of a core

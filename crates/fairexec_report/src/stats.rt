@@ -4,7 +4,7 @@ ghost use Rattle.std.specs.Prelude.{◌≡◌, ◌++◌, ℕ, List, OnOk, string
 ghost use Rattle.fairexec_report.specs.StatTexts as spec;
 ghost use Rattle.base_words.specs.Assembly.{journal_of};
 ghost use Rattle.base_words.specs.Journal.{Journal as Notes};
-ghost use Rattle.note_stats.specs.Stats.{queue_stats};
+ghost use Rattle.base_words.specs.Stats.{queue_stats};
 ghost use Rattle.note_stats.specs.Walks.{KnowsSums};
 
 use crate::line::{CoreLine, QueueLine};

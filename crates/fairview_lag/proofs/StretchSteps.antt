@@ -5,7 +5,7 @@ use Rattle.std.proofs.lemmas.Option.{same_Some}
 use Rattle.base_words.specs.declared.note.Note.{Note}
 use Rattle.base_words.specs.Journal.{Journal}
 use Rattle.base_words.specs.Lag.{gained}
-use Rattle.note_stats.specs.Sums.{charges}
+use Rattle.base_words.specs.Sums.{charges}
 use Rattle.fairview_marks.specs.Leads.{are_together}
 use Rattle.fairview_lag.specs.Stretches.{later_notes, earlier_notes, gained_together, charged_of, begun_of, begun}
 use Rattle.fairview_lag.specs.declared.stretch.Begun.{Begun}

@@ -2,7 +2,7 @@
 use Rattle.std.specs.Prelude.{◌≡◌, ℕ, [], ◌∷◌, if◌then◌else◌, Option, Some, None}
 use Rattle.base_words.specs.Journal.{Journal}
 use Rattle.base_words.specs.Lag.{gained}
-use Rattle.note_stats.specs.Sums.{charges}
+use Rattle.base_words.specs.Sums.{charges}
 use Rattle.fairview_marks.specs.Leads.{are_together, KnowsStanding}
 use Rattle.fairview_lag.specs.declared.stretch.Begun.{Begun}
 use Rattle.fairview_lag.specs.declared.stretch.Stretch.{Stretch}

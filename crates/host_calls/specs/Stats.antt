@@ -4,7 +4,7 @@ use Rattle.base_words.specs.declared.stats.QueueStats.{QueueStats}
 use Rattle.base_words.specs.Commands.{created_count}
 use Rattle.base_words.specs.Work.{number_if}
 use Rattle.actor_core.specs.Stats.{TellsQueue}
-use Rattle.note_stats.specs.Stats.{core_stats}
+use Rattle.base_words.specs.Stats.{core_stats}
 use Rattle.host_core.specs.Hosted.{HostedView}
 use Rattle.host_calls.specs.declared.code.Code.{Code}
 use Rattle.host_calls.specs.declared.code.Code.TheVariants as code

@@ -8,7 +8,7 @@ use Rattle.note_facts.specs.Accounts.{fresh_account, greatest_runtime}
 use Rattle.note_facts.specs.AllAccounts.{KnowsAccounts}
 use Rattle.note_facts.specs.declared.accounts.Account.{Account}
 use Rattle.note_facts.specs.declared.accounts.Accounts.{Accounts}
-use Rattle.note_stats.specs.Sums.{waiting_count}
+use Rattle.base_words.specs.Sums.{waiting_count}
 use Rattle.note_stats.specs.Tallies.{no_tally}
 use Rattle.note_stats.specs.Walks.{KnowsTallies}
 use Rattle.note_stats.specs.declared.tally.Tallies.{Tallies}

@@ -6,8 +6,8 @@ use Rattle.base_words.specs.Limits.{most_queues}
 use Rattle.base_words.specs.Runtimes.{shares}
 use Rattle.base_words.specs.Work.{has_work}
 use Rattle.note_facts.specs.Accounts.{greatest_runtime}
-use Rattle.note_stats.specs.Stats.{queue_stats}
-use Rattle.note_stats.specs.Sums.{waiting_count}
+use Rattle.base_words.specs.Stats.{queue_stats}
+use Rattle.base_words.specs.Sums.{waiting_count}
 use Rattle.judge_view.specs.Clocks.{time_settled}
 use Rattle.judge_view.specs.declared.shares.QueueShare.{QueueShare}
 

@@ -6,8 +6,8 @@ ghost use Rattle.base_words.specs.Journal.{EachNote};
 ghost use Rattle.base_words.specs.Lag.{greatest_charge};
 ghost use Rattle.base_words.specs.Lawful.{MayStand};
 ghost use Rattle.base_words.specs.Terms.{Terms};
-ghost use Rattle.note_stats.specs.Stats as spec;
-ghost use Rattle.note_stats.specs.Sums.{charges};
+ghost use Rattle.base_words.specs.Stats as spec;
+ghost use Rattle.base_words.specs.Sums.{charges};
 ghost use Rattle.note_sinks.specs.Naps.{IsNoPark};
 
 use crate::ledger::Ledger;

@@ -5,7 +5,7 @@ use Rattle.base_words.specs.declared.note.Note.{Note}
 use Rattle.base_words.specs.Journal.{Journal, at_place}
 use Rattle.base_words.specs.Lag.{gained}
 use Rattle.note_stats.specs.Places.{notes_from, gained_from, gained_between}
-use Rattle.note_stats.specs.Sums.{charges}
+use Rattle.base_words.specs.Sums.{charges}
 
 module _ {T : Type 0} where
   -- no more was read than there are places

@@ -19,7 +19,7 @@ use Rattle.note_stats.specs.declared.gates.Gate.{Gate}
 use Rattle.note_stats.specs.declared.gates.Gates.{Gates}
 use Rattle.note_stats.specs.Gates.{gate_of, gate_after, gate_noted, open_gate, creation_count}
 use Rattle.note_stats.specs.Walks.{KnowsGates}
-use Rattle.note_stats.proofs.Tables.{each_next}
+use Rattle.base_words.proofs.Tables.{each_next}
 use Rattle.note_stats.proofs.TallyCounts.{number_if-within, still, is_this, one_more_fits}
 
 counts : (count more notes : ℕ) → count ≤ notes → more ≤ 1 → notes < greatest_count → min (count + more) greatest_count ≡ count + more

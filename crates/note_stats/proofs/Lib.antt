@@ -1,8 +1,6 @@
-pub mod Tables
 pub mod TallyCounts
 pub mod TallySteps
 pub mod GateSteps
 pub mod HeldSteps
 pub mod Gains
 pub mod SumSteps
-pub mod WaitingLaw

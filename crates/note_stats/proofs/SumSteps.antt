@@ -12,7 +12,7 @@ use Rattle.note_facts.specs.AllAccounts.{HasNobody, IsEmpty, account_of}
 use Rattle.note_facts.proofs.AllAccounts.{has_nobody, is_empty}
 use Rattle.note_stats.specs.declared.gates.Gate.{Gate}
 use Rattle.note_stats.specs.Gates.{open_gate}
-use Rattle.note_stats.specs.Stats.{core_stats}
+use Rattle.base_words.specs.Stats.{core_stats}
 use Rattle.note_stats.specs.Walks.{FiguresView, KnowsFigures, inside_below}
 use Rattle.note_stats.proofs.HeldSteps.{inside_known, held-within}
 

@@ -16,7 +16,7 @@ use Rattle.base_words.specs.Runtimes.{charge_of, poll_charged, turn_charged}
 use Rattle.base_words.specs.Work.{queue_of, number_if}
 use Rattle.note_facts.specs.Accounts.{greatest_runtime, greatest_count}
 use Rattle.note_stats.specs.declared.tally.Tally.{Tally}
-use Rattle.note_stats.specs.Sums.{count_of, queue_of_told, run_time, time_noted, time_of, charges, begun_count, settled_count, finished_count, returned_count}
+use Rattle.base_words.specs.Sums.{count_of, queue_of_told, run_time, time_noted, time_of, charges, begun_count, settled_count, finished_count, returned_count}
 use Rattle.note_stats.specs.Tallies.{tally_of, queue_noted}
 
 pub number_if-within : (test : Bool) → number_if test ≤ 1

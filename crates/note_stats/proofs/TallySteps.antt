@@ -15,8 +15,8 @@ use Rattle.base_words.specs.Runtimes.{shares, charge_of, poll_charged, turn_char
 use Rattle.base_words.specs.Work.{queue_of, number_if}
 use Rattle.note_facts.specs.Accounts.{greatest_runtime, greatest_count}
 use Rattle.note_stats.specs.declared.tally.Tally.{Tally}
-use Rattle.note_stats.specs.Sums.{run_time, time_of, charges, begun_count, settled_count, finished_count, returned_count}
-use Rattle.note_stats.proofs.Tables.{each_next}
+use Rattle.base_words.specs.Sums.{run_time, time_of, charges, begun_count, settled_count, finished_count, returned_count}
+use Rattle.base_words.proofs.Tables.{each_next}
 use Rattle.note_stats.specs.Tallies.{charged_if, tally_after, tally_of, queue_noted, cost_told, KnowsTally, no_tally}
 use Rattle.note_stats.proofs.TallyCounts.{still, keeps, is_this, one_more_fits, sum_fits, clamped_below, picks_of-within, count_of-within, run_time-within, tally_is, tally_other}
 

@@ -5,7 +5,7 @@ use Rattle.base_words.specs.Lawful.{MayStand}
 use Rattle.base_words.specs.Lines.{line}
 use Rattle.base_words.specs.Parks.{parked}
 use Rattle.base_words.specs.Terms.{Terms}
-use Rattle.note_stats.specs.Sums.{waiting_count}
+use Rattle.base_words.specs.Sums.{waiting_count}
 
 -- in a lawful journal the jobs that wait are those of the queue's line and the parked ones
 abbrev pub WaitingIsLine : Type 0

@@ -1,6 +1,4 @@
-pub mod Sums
 pub mod Places
-pub mod Stats
 pub mod Tallies
 pub mod Gates
 pub mod Walks

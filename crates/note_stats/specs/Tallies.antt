@@ -10,7 +10,7 @@ use Rattle.base_words.specs.Lag.{greatest_charge}
 use Rattle.note_facts.specs.Accounts.{greatest_runtime, greatest_count}
 pub use Rattle.note_facts.specs.Spots.{queue_noted}
 use Rattle.note_stats.specs.declared.tally.Tally.{Tally}
-use Rattle.note_stats.specs.Sums.{run_time, charges, begun_count, settled_count, finished_count, returned_count}
+use Rattle.base_words.specs.Sums.{run_time, charges, begun_count, settled_count, finished_count, returned_count}
 
 -- before the first note
 abbrev pub no_tally : Tally

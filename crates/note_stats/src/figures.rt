@@ -6,8 +6,8 @@ ghost use Rattle.base_words.specs.Journal.{Journal as Notes};
 ghost use Rattle.base_words.specs.Lag.{greatest_charge};
 ghost use Rattle.note_facts.specs.Accounts.{greatest_count};
 ghost use Rattle.note_facts.specs.Spots.{FitsSpot};
-ghost use Rattle.note_stats.specs.Stats as spec;
-ghost use Rattle.note_stats.specs.Sums.{charges};
+ghost use Rattle.base_words.specs.Stats as spec;
+ghost use Rattle.base_words.specs.Sums.{charges};
 ghost use Rattle.note_stats.specs.Walks.{KnowsFigures, inside_below};
 
 use crate::gates::{Gates, all_done};

@@ -8,7 +8,7 @@ ghost use Rattle.std.specs.Prelude.{◌≡◌, ◌↔◌, IfOk, IsTrue};
 ghost use Rattle.base_words.specs.Closing.{IsDrained};
 ghost use Rattle.base_words.specs.Lag.{greatest_charge};
 ghost use Rattle.note_stats.specs.Places.{gained_between};
-ghost use Rattle.note_stats.specs.Stats as spec;
+ghost use Rattle.base_words.specs.Stats as spec;
 
 use crate::sums::Sums;
 use base_words::{CoreStats, QueueNo, QueueStats};

@@ -5,8 +5,8 @@ ghost use Rattle.base_words.specs.Closing.{IsDrained};
 ghost use Rattle.base_words.specs.Journal.{Journal as Notes, at_place};
 ghost use Rattle.base_words.specs.Lag.{greatest_charge};
 ghost use Rattle.note_facts.specs.Accounts.{greatest_count};
-ghost use Rattle.note_stats.specs.Stats as spec;
-ghost use Rattle.note_stats.specs.Sums.{charges};
+ghost use Rattle.base_words.specs.Stats as spec;
+ghost use Rattle.base_words.specs.Sums.{charges};
 ghost use Rattle.note_stats.specs.Walks.{KnowsSums};
 
 use crate::figures::Figures;

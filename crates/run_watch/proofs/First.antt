@@ -2,7 +2,7 @@
 use Rattle.std.proofs.Common.{◌≡◌, ℕ, zero, suc, ◌+◌, ◌<◌, false, true, List, [], ◌∷◌, ◌++◌, length, get_or, refl, ap, ◌∙◌, arith, subst}
 use Rattle.std.specs.Prelude.{Some, None}
 use Rattle.base_words.specs.Closing.{IsDrained}
-use Rattle.note_stats.specs.Stats.{core_stats, stats_of}
+use Rattle.base_words.specs.Stats.{core_stats, stats_of}
 use Rattle.run_watch.specs.Tells.{Tells}
 use Rattle.run_watch.specs.Words.{core_words, queue_words, place_of, first_word, words_from, first_row, HasAt}
 use Rattle.run_watch.specs.declared.board.Terms.{Terms}

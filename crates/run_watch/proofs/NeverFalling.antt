@@ -5,7 +5,7 @@ use Rattle.base_words.specs.HandBacks.{picks_of}
 use Rattle.base_words.specs.Journal.{Journal}
 use Rattle.base_words.specs.Picks.{turns}
 use Rattle.base_words.specs.Runtimes.{floor}
-use Rattle.note_stats.specs.Sums.{run_time, finished_count, returned_count}
+use Rattle.base_words.specs.Sums.{run_time, finished_count, returned_count}
 use Rattle.run_watch.specs.Laws.{NoLess, NumbersNeverFall}
 
 no-less : (count : Journal ℕ → ℕ) → ((note : Note ℕ) (before : Journal ℕ) → count before ≤ count (note ∷ before)) → (newer old : Journal ℕ) → count old ≤ count (newer ++ old)

@@ -3,7 +3,7 @@ use Rattle.std.proofs.Common.{◌≡◌, ℕ, zero, suc, ◌+◌, ◌/◌, ◌^�
 use Rattle.std.specs.Prelude.{Some, None, nat_eq}
 use Rattle.base_words.specs.Charge.{InRange}
 use Rattle.base_words.specs.Closing.{IsDrained}
-use Rattle.note_stats.specs.Stats.{core_stats, stats_of}
+use Rattle.base_words.specs.Stats.{core_stats, stats_of}
 use Rattle.run_watch.specs.BadRows as bad
 use Rattle.run_watch.specs.BadRows.{RowsAreRefused}
 use Rattle.run_watch.specs.Words.{HasAt, place_of, core_words, queue_words, word_if}

@@ -6,7 +6,7 @@ use Rattle.base_words.specs.declared.stats.CoreStats.{CoreStats}
 use Rattle.base_words.specs.declared.stats.QueueStats.{QueueStats}
 use Rattle.base_words.specs.Commands.{created_count}
 use Rattle.base_words.specs.Journal.{Journal}
-use Rattle.note_stats.specs.Stats.{queue_stats, stats_of}
+use Rattle.base_words.specs.Stats.{queue_stats, stats_of}
 use Rattle.run_watch.specs.Closed.{closed_by_itself}
 use Rattle.run_watch.specs.Tells.{Tells, TellsCore, TellsQueues}
 use Rattle.run_watch.specs.Words.{HasAt, closed_in, core_words, queue_words, place_of}

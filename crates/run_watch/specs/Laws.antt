@@ -4,7 +4,7 @@ use Rattle.base_words.specs.HandBacks.{picks_of}
 use Rattle.base_words.specs.Journal.{Journal}
 use Rattle.base_words.specs.Picks.{turns}
 use Rattle.base_words.specs.Runtimes.{floor}
-use Rattle.note_stats.specs.Sums.{run_time, finished_count, returned_count}
+use Rattle.base_words.specs.Sums.{run_time, finished_count, returned_count}
 use Rattle.run_watch.specs.Growth.{Grows}
 
 -- turns and floor of the core, and of each queue the picks, the times, the jobs done and the jobs handed back are no less than before

@@ -6,7 +6,7 @@ use Rattle.base_words.specs.declared.stats.QueueStats.{QueueStats}
 use Rattle.base_words.specs.Closing.{IsDrained}
 use Rattle.base_words.specs.Commands.{created_count}
 use Rattle.base_words.specs.Journal.{Journal}
-use Rattle.note_stats.specs.Stats.{core_stats, stats_of}
+use Rattle.base_words.specs.Stats.{core_stats, stats_of}
 use Rattle.run_watch.specs.Closed.{closed_by_itself}
 use Rattle.run_watch.specs.Words.{core_words, queue_words, place_of, HasAt}
 use Rattle.run_watch.specs.declared.board.Terms.{Terms}

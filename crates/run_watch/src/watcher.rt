@@ -2,7 +2,7 @@
 
 ghost use Rattle.std.specs.Prelude.{◌≡◌, ◌+◌, ◌<◌, ◌≤◌, true, false, IfOk, None};
 ghost use Rattle.base_words.specs.Commands.{created_count};
-ghost use Rattle.note_stats.specs.Stats as spec;
+ghost use Rattle.base_words.specs.Stats as spec;
 ghost use Rattle.run_watch.specs.Closed.{closed_by_itself as tells_own_closing};
 ghost use Rattle.run_watch.specs.Growth.{Grows};
 ghost use Rattle.run_watch.specs.Tells.{TellsCore};

@@ -13,7 +13,7 @@ use Rattle.actor_core.specs.Recorded.{RecordedView}
 use Rattle.actor_core.specs.Stats as told
 use Rattle.actor_core.specs.Stats.{AreExact}
 use Rattle.actor_core.proofs.StatsTold.{finished-within}
-use Rattle.note_stats.specs.Stats.{stats_of}
+use Rattle.base_words.specs.Stats.{stats_of}
 use Rattle.run_watch.specs.Tells as board
 use Rattle.run_watch.specs.declared.board.Terms.{Terms}
 use Rattle.actor_seat.specs.Linked.{LinkedView, RunsOn}

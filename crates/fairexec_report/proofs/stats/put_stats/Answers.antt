@@ -1,6 +1,6 @@
 use Rattle.std.proofs.Common.{ap, ◌++◌, ◌∙◌, refl, append_assoc}
 use Rattle.std.proofs.lemmas.Result.{on_ok_weaker}
-use Rattle.note_stats.specs.Stats.{core_stats}
+use Rattle.base_words.specs.Stats.{core_stats}
 use Rattle.fairexec_report.specs.StatTexts.{core_text, queues_below}
 use Rattle.fairexec_report.proofs.stats.put_stats.Goals as goal
 

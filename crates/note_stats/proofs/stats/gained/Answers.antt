@@ -1,7 +1,7 @@
 use Rattle.std.proofs.Common.{ℕ, ◌-◌, sym, subst, ap, ◌∙◌, arith}
 use Rattle.base_words.specs.Journal.{Journal, at_place}
 use Rattle.note_facts.proofs.Walks.{at_start}
-use Rattle.note_stats.specs.Sums.{charges}
+use Rattle.base_words.specs.Sums.{charges}
 use Rattle.note_stats.specs.Walks.{KnowsSums}
 use Rattle.note_stats.proofs.Gains.{gained_is}
 use Rattle.note_stats.proofs.stats.gained.Goals as goal

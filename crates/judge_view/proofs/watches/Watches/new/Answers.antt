@@ -1,5 +1,5 @@
 use Rattle.std.proofs.Common.{get_or, replicate}
-use Rattle.note_stats.proofs.Tables.{all_alike}
+use Rattle.base_words.proofs.Tables.{all_alike}
 use Rattle.judge_view.specs.Watches.{no_watch}
 use Rattle.judge_view.proofs.WatchSteps.{none_watched}
 use Rattle.judge_view.proofs.watches.Watches.new.Goals as goal

@@ -2,7 +2,7 @@ use Rattle.std.proofs.Common.{◌≡◌, ◌<◌, ◌^◌, length, subst}
 use Rattle.base_words.specs.Journal.{EachNote}
 use Rattle.base_words.specs.Lawful.{MayStand}
 use Rattle.base_words.specs.Terms.{Terms}
-use Rattle.note_stats.specs.Sums.{charges}
+use Rattle.base_words.specs.Sums.{charges}
 use Rattle.note_sinks.specs.Sums.{SumsView}
 use Rattle.note_sinks.proofs.SumLemmas.{known_of_sums}
 use Rattle.note_sinks.proofs.sums.Sums.charged.Goals as goal

@@ -4,7 +4,7 @@ use Rattle.base_words.specs.Closing.{IsDrained}
 use Rattle.base_words.specs.Journal.{EachNote}
 use Rattle.base_words.specs.Lawful.{MayStand}
 use Rattle.base_words.specs.Terms.{Terms}
-use Rattle.note_stats.specs.Stats as spec
+use Rattle.base_words.specs.Stats as spec
 use Rattle.note_sinks.specs.Sums.{SumsView}
 use Rattle.note_sinks.proofs.SumLemmas.{known_of_sums}
 use Rattle.note_sinks.proofs.sums.Sums.core_stats.Goals as goal

@@ -1,6 +1,6 @@
 use Rattle.std.proofs.Common.{refl, arith}
 use Rattle.note_stats.specs.Gates.{open_gate}
-use Rattle.note_stats.proofs.Tables.{all_alike}
+use Rattle.base_words.proofs.Tables.{all_alike}
 use Rattle.note_stats.proofs.gates.Gates.new.Goals as goal
 
 pub returns : goal.returns

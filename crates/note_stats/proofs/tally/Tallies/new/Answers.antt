@@ -1,6 +1,6 @@
 use Rattle.std.proofs.Common.{get_or, replicate}
 use Rattle.note_stats.specs.Tallies.{no_tally}
-use Rattle.note_stats.proofs.Tables.{all_alike}
+use Rattle.base_words.proofs.Tables.{all_alike}
 use Rattle.note_stats.proofs.TallySteps.{none_knows}
 use Rattle.note_stats.proofs.tally.Tallies.new.Goals as goal
 

@@ -2,7 +2,7 @@ use Rattle.std.proofs.Common.{◌≡◌, ℕ, ◌≤◌, ◌∙◌, List, ap, sy
 use Rattle.std.specs.Prelude.{slice_index}
 use Rattle.base_words.specs.Charge.{InRange}
 use Rattle.base_words.specs.Commands.{created_count}
-use Rattle.note_stats.specs.Stats.{queue_stats}
+use Rattle.base_words.specs.Stats.{queue_stats}
 use Rattle.run_watch.specs.Words.{HasAt, queue_words}
 use Rattle.run_watch.proofs.Telling.{shares-told, queue-told}
 use Rattle.run_watch.proofs.watcher.Watcher.queue_stats.Goals as goal

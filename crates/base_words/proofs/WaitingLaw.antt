@@ -13,7 +13,7 @@ use Rattle.base_words.specs.Work.{queue_of, number_if}
 use Rattle.base_words.proofs.Counts.{queue_out-alone, queue_out-stays, counts_agree}
 use Rattle.base_words.proofs.JobsOut.{nobody_at_turn, jobs_out-start, jobs_out-resume, names_but-alone}
 use Rattle.base_words.proofs.Known.{known_of}
-use Rattle.note_stats.specs.Sums.{begun_count, settled_count, waiting_count}
+use Rattle.base_words.specs.Sums.{begun_count, settled_count, waiting_count}
 
 module _ {T : Type 0} (terms : Terms) (queue : ℕ) where
   -- a poll that was begun is settled, or its job is out

@@ -7,7 +7,7 @@ use Rattle.base_words.specs.HandBacks.{jobs_held, picks_of}
 use Rattle.base_words.specs.Journal.{Journal}
 use Rattle.base_words.specs.Picks.{turns}
 use Rattle.base_words.specs.Runtimes.{shares, floor, virtual_runtime}
-use Rattle.note_stats.specs.Sums.{run_time, waiting_count, finished_count, returned_count}
+use Rattle.base_words.specs.Sums.{run_time, waiting_count, finished_count, returned_count}
 
 -- the statistics of one queue, where a turn may have so many polls; a virtual runtime that no `u128` holds is told as the greatest one
 abbrev pub stats_of : {T : Type 0} → ℕ → ℕ → Journal T → QueueStats
