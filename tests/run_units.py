@@ -5,11 +5,9 @@
 LAYER..   these layers alone; without a name all of them
 --jobs N  this many side by side (as many as there are processors if left out; each takes about 1 GB)
 
-A layer is a crate that stands in no line of crates.txt, since its tests needn't be proved: the code below them is. Its folder holds
-
-  lib.rt.txt, NAME.rt.txt   its source, in subfolders too, and NAME.antt.txt in specs/
-  crates                    a line of the libraries that it uses, as in crates.txt, and if need be a line 'shared: NAME..' of modules of
-                            tests/units/shared/, which are copied into the source
+A layer is a crate that stands in no line of crates.txt, since its tests needn't be proved: the code below them is. Its folder
+holds its source, lib.rt.txt and NAME.rt.txt, in subfolders too, and NAME.antt.txt in specs/. A line of tests/units/layers.txt names the
+libraries that it uses, and the modules of tests/units/shared/ that are copied into its source.
 
 All layers are laid out in one copy of the repository, each as the crate units_LAYER. `rt try --test` compiles it there with all that it
 uses and with checks, and runs it. Those that take longest begin first.
@@ -34,22 +32,6 @@ ROOT = Path(__file__).resolve().parent.parent
 UNITS = ROOT / "tests" / "units"
 SHARED = UNITS / "shared"
 
-# About how many processor seconds each layer takes, so that the longest begin first. One that isn't named begins before all.
-SECONDS = {
-    "run": 200,
-    "run_sinks": 150,
-    "host": 120,
-    "fairexec": 110,
-    "note": 100,
-    "run_workers": 90,
-    "model": 80,
-    "link": 80,
-    "judge": 60,
-    "actor": 45,
-    "core": 45,
-    "base": 45,
-    "fairview": 40,
-}
 # How many seconds the tests of a layer may run for. On a busy machine they must not be too few.
 MOST_SECONDS = 300
 
@@ -64,7 +46,14 @@ def stop(why):
 
 
 def layers():
-    return sorted(it.parent.name for it in UNITS.glob("*/crates"))
+    """Of each layer, slowest first, the libraries that it uses and the modules of shared/."""
+    found = {}
+    for line in (UNITS / "layers.txt").read_text().splitlines():
+        if line.strip() and not line.startswith("#"):
+            name, _, words = line.partition(":")
+            libraries, _, shared = words.partition("|")
+            found[name.split()[0]] = (libraries.split(), shared.split())
+    return found
 
 
 def crate_of(layer):
@@ -73,13 +62,10 @@ def crate_of(layer):
 
 def lay_out(layer, top):
     """Makes a crate of the layer in a copy of the repository, with its line of crates.txt, or says why it can't."""
-    wanted = {"libraries": "", "shared": ""}
-    for line in (UNITS / layer / "crates").read_text().splitlines():
-        kind, found, words = line.partition(":")
-        wanted["shared" if found and kind == "shared" else "libraries"] += f" {words if found else line}"
+    libraries, shared = layers()[layer]
     source = UNITS / layer
     files = {it.relative_to(source): it for it in source.rglob("*.rt.txt")}
-    for name in wanted["shared"].split():
+    for name in shared:
         files[Path(f"{name}.rt.txt")] = SHARED / f"{name}.rt.txt"
     laid = {Path("src") / it: file for it, file in files.items()}
     laid.update({it.relative_to(source): it for it in source.glob("specs/**/*.antt.txt")})
@@ -90,7 +76,7 @@ def lay_out(layer, top):
         target.parent.mkdir(parents=True, exist_ok=True)
         shutil.copyfile(file, target)
     with open(top / "crates.txt", "a") as file:
-        file.write(f"{crate_of(layer)} tests_may=Threads+Wait:{wanted['libraries']}\n")
+        file.write(f"{crate_of(layer)} tests_may=Threads+Wait: {' '.join(libraries)}\n")
     return None
 
 
@@ -217,7 +203,7 @@ def main(words):
     for name in names:
         if name not in here:
             stop(f"tests/run-units: no layer {name}")
-    left = sorted(names or here, key=lambda it: -SECONDS.get(it, 10**6))
+    left = [it for it in here if not names or it in names]
     sums = [0, 0]
     commands, telling = Commands(), threading.Lock()
 
