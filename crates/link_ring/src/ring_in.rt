@@ -1,4 +1,12 @@
 //! The receiver's end of a ring.
+//!
+//! It shares the board with the sender's end (link_board). All other fields are its thread's own.
+//!
+//! - It may touch a cell while that cell's word is 0. Making it a number gives the cell back, with an outcome in it.
+//! - `taken - given` is at most `capacity`: an order's outcome goes back through the order's cell.
+//! - `take` reads the word of the next order's cell first. `give` writes the outcome, then the word.
+//! - `shut` sets the top bit of the word that the next order would find, and is the last word on how many were accepted (`total`). If there is no
+//!   such word, each outcome that is given sets the bit.
 
 ghost use Rattle.std.specs.Prelude.{◌≡◌, ◌+◌, ◌-◌, ◌%◌, ◌^◌, ◌<◌, ◌≤◌, ℕ, true, length, take, [], ◌∷◌, ◌++◌};
 ghost use Rattle.link_ends.specs.Calls.{MayGive};
