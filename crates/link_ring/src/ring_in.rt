@@ -56,7 +56,6 @@ pub struct RingIn<J: Task> {
 }
 
 impl<J: Task> Model for RingIn<J> {
-    ghost use Rattle.std.specs.Arc.{arc_value};
     ghost use Rattle.link_ring.specs.declared.ring_in.Receiving.{Receiving};
 
     ghost Value = { Receiving J J.Out };
@@ -65,7 +64,7 @@ impl<J: Task> Model for RingIn<J> {
 
     ghost view = { λ s. record { link = name_of s.seat.rows; inward = s.seat.me.view.inward } };
 
-    ghost invariant = { λ s. IsInward s.seat.rows (arc_value s.board).lines.id s.seat.heap (arc_value s.board).lines.heap (arc_value s.board).gap (arc_value s.board).lines.key.capacity s.seat.me s.from s.to s.base s.capacity s.taken s.given s.shut s.total s.next_order s.next_outcome };
+    ghost invariant = { IsInward };
 }
 
 impl<J: Task> RingIn<J> {

@@ -60,7 +60,6 @@ pub struct RingOut<J: Task> {
 }
 
 impl<J: Task> Model for RingOut<J> {
-    ghost use Rattle.std.specs.Arc.{arc_value};
     ghost use Rattle.link_ring.specs.declared.ring_out.Sending.{Sending};
 
     ghost Value = { Sending J J.Out };
@@ -69,7 +68,7 @@ impl<J: Task> Model for RingOut<J> {
 
     ghost view = { λ s. record { link = name_of s.seat.rows; out = s.seat.me.view.out; credited = s.credited } };
 
-    ghost invariant = { λ s. IsOut s.seat.rows (arc_value s.board).lines.id s.seat.heap (arc_value s.board).lines.heap (arc_value s.board).gap (arc_value s.board).lines.key.capacity s.seat.me s.base s.capacity s.count s.collected s.credited s.closed s.next_order s.next_outcome };
+    ghost invariant = { IsOut };
 }
 
 impl<J: Task> RingOut<J> {
