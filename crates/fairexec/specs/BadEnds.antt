@@ -4,36 +4,37 @@ use Rattle.clap.specs.declared.error.kind.ErrorKind.TheVariants.{DisplayHelp, Un
 use Rattle.fairexec_args.specs.declared.asked.What.{What}
 use Rattle.fairexec_args.specs.declared.asked.What.TheVariants.{Run, Threads, Audit}
 use Rattle.fairexec_script.specs.declared.fault.ThreadsFault.TheVariants.{Thread}
+use Rattle.text_bytes.specs.declared.sink.Sink as writing
 use Rattle.text_journal.specs.declared.fault.JournalCause.{JournalCause}
 use Rattle.text_words.specs.declared.status.Status.{Status}
 use Rattle.text_words.specs.declared.status.Status.TheVariants as status
-use Rattle.fairexec.specs.Answers.{AuditAnswer, HasJudged, HasRun, HasRunOnThreads, RunAnswer, ThreadsAnswer}
+use Rattle.fairexec.specs.Answers.{AuditAnswer, HasJudged, HasRun, HasRunOnThreads, Passed, RunAnswer, ThreadsAnswer, file_reads}
 use Rattle.fairexec.specs.Ends.{EndsBy, EndsFor, EndsUnasked}
 use Rattle.fairexec.specs.Files.{IsUnopened, IsUnopenedScript}
 
--- nothing is known of a try of a reader or a writer
-abbrev pub IsAny : List ℕ → List ℕ → Type 0
-IsAny old new = Unit {0}
+-- a list of bytes is a sink, and nothing is known of a try
+abbrev pub list_writes : writing.Ghosts (List ℕ)
+list_writes = record { contents = Some; tries = λ sink. None; interrupts = λ old new. Unit {0}; fails = λ old new. Unit {0} }
 
--- A list of bytes is a source, and what is left of it; another is a sink, before and behind. A script is run of that source.
+-- a list is a source, and this is left of it; another is a sink, before and behind
+abbrev pub passed : List ℕ → List ℕ → List ℕ → List ℕ → Passed (List ℕ) (List ℕ)
+passed source left old new = record { source_old = source; source_new = left; sink_old = old; sink_new = new }
+
+-- a script is run of that source
 abbrev pub RunIn : List ℕ → List ℕ → List ℕ → List ℕ → RunAnswer → Type 0
-RunIn source left old new answer =
-    HasRun {R = List ℕ} {S = List ℕ} Some (λ source. None) (λ old bytes new. Unit {0}) IsAny IsAny Some (λ sink. None) IsAny IsAny false false source left old new answer
+RunIn source left old new answer = HasRun (file_reads Some) list_writes false false (passed source left old new) answer
 
 -- the same on threads
 abbrev pub ThreadsIn : List ℕ → List ℕ → List ℕ → List ℕ → ThreadsAnswer → Type 0
-ThreadsIn source left old new answer =
-    HasRunOnThreads {R = List ℕ} {S = List ℕ} Some (λ source. None) (λ old bytes new. Unit {0}) IsAny IsAny Some (λ sink. None) IsAny IsAny false false source left old new answer
+ThreadsIn source left old new answer = HasRunOnThreads (file_reads Some) list_writes false false (passed source left old new) answer
 
 -- the journals of such a source are judged
 abbrev pub JudgedIn : List ℕ → List ℕ → List ℕ → List ℕ → AuditAnswer → Type 0
-JudgedIn source left old new answer =
-    HasJudged {R = List ℕ} {S = List ℕ} Some (λ source. None) (λ old bytes new. Unit {0}) IsAny IsAny Some (λ sink. None) IsAny IsAny source left old new answer
+JudgedIn source left old new answer = HasJudged (file_reads Some) list_writes (passed source left old new) answer
 
 -- what is asked for ends so, with such a source, a file that is one too, and such a sink
 abbrev pub EndsIn : List ℕ → List ℕ → List ℕ → List ℕ → Option (List ℕ) → What → Status → Type 0
-EndsIn source left old new file what result =
-    EndsFor {R = List ℕ} {F = List ℕ} {S = List ℕ} Some (λ source. None) (λ old bytes new. Unit {0}) IsAny IsAny Some Some (λ sink. None) IsAny IsAny source left old new file what result
+EndsIn source left old new file what result = EndsFor {R = List ℕ} {F = List ℕ} {S = List ℕ} (record { source = file_reads Some; file = Some; sink = list_writes }) (passed source left old new) file what result
 
 -- each of these is refused
 pub record EndsAreRefused : Type 0 where

@@ -11,18 +11,15 @@ use Rattle.fairexec_script.specs.Faults.{status_of as threads_status}
 use Rattle.text_words.specs.Statuses.{status_of}
 use Rattle.text_words.specs.declared.status.Status.{Status}
 use Rattle.text_words.specs.declared.status.Status.TheVariants as status
-use Rattle.fairexec.specs.Answers.{AuditAnswer, Bytes, RunAnswer, ThreadsAnswer, Tries, Try}
-use Rattle.fairexec.specs.Files.{Judges, Runs, RunsOnThreads}
+use Rattle.fairexec.specs.Answers.{AuditAnswer, Passed, RunAnswer, ThreadsAnswer}
+use Rattle.fairexec.specs.Files.{Devices, Judges, Runs, RunsOnThreads}
 
-module _ {R F S : Type 0} (remaining : Bytes R) (tries : Tries R) (reads : R → List ℕ → R → Type 0) (interrupts fails : Try R) (file_remaining : Bytes F) (contents : Bytes S) (writes : Tries S) (halts breaks : Try S) (source_old source_new : R) (sink_old sink_new : S) where
+module _ {R F S : Type 0} (devices : Devices R F S) (at : Passed R S) where
   -- what is asked for is done with the file, or with the source; the status is that of an answer, which tells what was read and written
   abbrev pub EndsFor : Option (List ℕ) → What → Status → Type 0
-  EndsFor file (Run journal stats) result =
-      (answer : RunAnswer) × (result ≡ status_of answer) × Runs remaining tries reads interrupts fails file_remaining contents writes halts breaks source_old source_new sink_old sink_new file journal stats answer
-  EndsFor file (Threads journal stats) result =
-      (answer : ThreadsAnswer) × (result ≡ threads_status answer) × RunsOnThreads remaining tries reads interrupts fails file_remaining contents writes halts breaks source_old source_new sink_old sink_new file journal stats answer
-  EndsFor file Audit result =
-      (answer : AuditAnswer) × (result ≡ status_of answer) × Judges remaining tries reads interrupts fails file_remaining contents writes halts breaks source_old source_new sink_old sink_new file answer
+  EndsFor file (Run journal stats) result = (answer : RunAnswer) × (result ≡ status_of answer) × Runs devices at file journal stats answer
+  EndsFor file (Threads journal stats) result = (answer : ThreadsAnswer) × (result ≡ threads_status answer) × RunsOnThreads devices at file journal stats answer
+  EndsFor file Audit result = (answer : AuditAnswer) × (result ≡ status_of answer) × Judges devices at file answer
 
 -- the status of words that ask for nothing
 abbrev pub status_unasked : Unasked → Status

@@ -6,7 +6,7 @@ ghost use Rattle.std.specs.declared.io.ErrorKind.TheVariants as kinds;
 ghost use Rattle.clap.specs.Words.{fault_of};
 ghost use Rattle.fair_args.specs.Asks.{asks_of};
 ghost use Rattle.fairexec.specs.Ends.{EndsBy, EndsFor, status_unasked};
-ghost use Rattle.fairexec.specs.Files.{IsUnopened, IsUnopenedScript, Judges, JudgesFile, Runs, RunsFile, RunsFileOnThreads, RunsOnThreads};
+ghost use Rattle.fairexec.specs.Files.{IsUnopened, IsUnopenedScript, Judges, Runs, RunsOnThreads};
 ghost use Rattle.fairexec_args.specs.Asks.{what_named};
 ghost use Rattle.fairexec_args.specs.CommandLine.{our_app};
 ghost use Rattle.fairexec_args.specs.declared.asked.What.TheVariants as whats;
@@ -72,7 +72,7 @@ fn by_words<C: Print + Eprint, R, I: Source, S: Sink>(
 where
     R: ReadOnlyFiles + AllocGlobal + Threads + Wait + Copy + Drop + Send + 'static,
     ensures ends { EndsBy
-        (EndsFor I.remaining I.tries I.reads I.interrupts I.fails R.File.remaining S.contents S.tries S.interrupts S.fails input.old input.new output.old output.new)
+        (EndsFor (record { source = I.Source; file = R.File.remaining; sink = S.Sink }) (record { source_old = input.old; source_new = input.new; sink_old = output.old; sink_new = output.new }))
         ((input.new ≡ input.old) × (output.new ≡ output.old))
         (fault_of our_app (map string_bytes words.now)) (asks_of what_named our_app (map string_bytes words.now)) result }
 {
@@ -93,8 +93,8 @@ fn done<C: Eprint, R, I: Source, S: Sink>(
 ) -> Status
 where
     R: ReadOnlyFiles + AllocGlobal + Threads + Wait + Copy + Drop + Send + 'static,
-    ensures ends { EndsFor I.remaining I.tries I.reads I.interrupts I.fails R.File.remaining S.contents S.tries S.interrupts S.fails
-        input.old input.new output.old output.new (option_map (λ path. path.now) file.entry) what result }
+    ensures ends { EndsFor (record { source = I.Source; file = R.File.remaining; sink = S.Sink })
+        (record { source_old = input.old; source_new = input.new; sink_old = output.old; sink_new = output.new }) (option_map (λ path. path.now) file.entry) what result }
     ensures never { what ≢ whats.Audit → result ≢ status.FaultFound }
 {
     match what {
@@ -130,30 +130,16 @@ fn run<R: ReadOnlyFiles + AllocGlobal, I: Source, S: Sink>(
     input: &mut I,
     output: &mut S,
 ) -> Result<bool, Fault<Cause>>
-    ensures runs { Runs I.remaining I.tries I.reads I.interrupts I.fails R.File.remaining S.contents S.tries S.interrupts S.fails
-        input.old input.new output.old output.new (option_map (λ path. path.now) file.entry) journal stats result }
+    ensures runs { Runs (record { source = I.Source; file = R.File.remaining; sink = S.Sink })
+        (record { source_old = input.old; source_new = input.new; sink_old = output.old; sink_new = output.new }) (option_map (λ path. path.now) file.entry) journal stats result }
     ensures done { IfOk result (λ done. done ≡ true) }
 {
     match file {
         None => run_script(rt.alloc(), journal, stats, input, output),
-        Some(path) => run_file(rt, journal, stats, path, output),
-    }
-}
-
-/// Runs the script of the file of this path.
-fn run_file<R: ReadOnlyFiles + AllocGlobal, S: Sink>(
-    rt: &R,
-    journal: bool,
-    stats: bool,
-    path: &str,
-    output: &mut S,
-) -> Result<bool, Fault<Cause>>
-    ensures runs { RunsFile R.File.remaining S.contents S.tries S.interrupts S.fails journal stats output.old output.new result }
-    ensures done { IfOk result (λ done. done ≡ true) }
-{
-    match rt.open_to_read(path) {
-        Ok(mut source) => run_script(rt.alloc(), journal, stats, &mut source, output),
-        Err(error) => Err(opening_fault(error.kind())),
+        Some(path) => match rt.open_to_read(path) {
+            Ok(mut source) => run_script(rt.alloc(), journal, stats, &mut source, output),
+            Err(error) => Err(opening_fault(error.kind())),
+        },
     }
 }
 
@@ -168,32 +154,16 @@ fn threads<R, I: Source, S: Sink>(
 ) -> Result<bool, ThreadsFault>
 where
     R: ReadOnlyFiles + AllocGlobal + Threads + Wait + Copy + Drop + Send + 'static,
-    ensures runs { RunsOnThreads I.remaining I.tries I.reads I.interrupts I.fails R.File.remaining S.contents S.tries S.interrupts S.fails
-        input.old input.new output.old output.new (option_map (λ path. path.now) file.entry) journal stats result }
+    ensures runs { RunsOnThreads (record { source = I.Source; file = R.File.remaining; sink = S.Sink })
+        (record { source_old = input.old; source_new = input.new; sink_old = output.old; sink_new = output.new }) (option_map (λ path. path.now) file.entry) journal stats result }
     ensures sound { IfOk result (λ sound. sound ≡ true) }
 {
     match file {
         None => threads_script(*rt, rt.alloc(), journal, stats, input, output),
-        Some(path) => threads_file(rt, journal, stats, path, output),
-    }
-}
-
-/// Runs the script of the file of this path on threads.
-fn threads_file<R, S: Sink>(
-    rt: &R,
-    journal: bool,
-    stats: bool,
-    path: &str,
-    output: &mut S,
-) -> Result<bool, ThreadsFault>
-where
-    R: ReadOnlyFiles + AllocGlobal + Threads + Wait + Copy + Drop + Send + 'static,
-    ensures runs { RunsFileOnThreads R.File.remaining S.contents S.tries S.interrupts S.fails journal stats output.old output.new result }
-    ensures sound { IfOk result (λ sound. sound ≡ true) }
-{
-    match rt.open_to_read(path) {
-        Ok(mut source) => threads_script(*rt, rt.alloc(), journal, stats, &mut source, output),
-        Err(error) => Err(not_opened(error.kind())),
+        Some(path) => match rt.open_to_read(path) {
+            Ok(mut source) => threads_script(*rt, rt.alloc(), journal, stats, &mut source, output),
+            Err(error) => Err(not_opened(error.kind())),
+        },
     }
 }
 
@@ -204,26 +174,15 @@ fn audit<R: ReadOnlyFiles + AllocGlobal, I: Source, S: Sink>(
     input: &mut I,
     output: &mut S,
 ) -> Result<bool, Fault<JournalCause>>
-    ensures { Judges I.remaining I.tries I.reads I.interrupts I.fails R.File.remaining S.contents S.tries S.interrupts S.fails
-        input.old input.new output.old output.new (option_map (λ path. path.now) file.entry) result }
+    ensures { Judges (record { source = I.Source; file = R.File.remaining; sink = S.Sink })
+        (record { source_old = input.old; source_new = input.new; sink_old = output.old; sink_new = output.new }) (option_map (λ path. path.now) file.entry) result }
 {
     match file {
         None => audit_text(rt.alloc(), input, output),
-        Some(path) => audit_file(rt, path, output),
-    }
-}
-
-/// Judges the journal text of the file of this path.
-fn audit_file<R: ReadOnlyFiles + AllocGlobal, S: Sink>(
-    rt: &R,
-    path: &str,
-    output: &mut S,
-) -> Result<bool, Fault<JournalCause>>
-    ensures { JudgesFile R.File.remaining S.contents S.tries S.interrupts S.fails output.old output.new result }
-{
-    match rt.open_to_read(path) {
-        Ok(mut source) => audit_text(rt.alloc(), &mut source, output),
-        Err(error) => Err(opening_fault(error.kind())),
+        Some(path) => match rt.open_to_read(path) {
+            Ok(mut source) => audit_text(rt.alloc(), &mut source, output),
+            Err(error) => Err(opening_fault(error.kind())),
+        },
     }
 }
 

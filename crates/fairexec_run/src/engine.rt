@@ -7,8 +7,7 @@ ghost use Rattle.model_world.specs.Opening.{IsFresh, IsUnbegun};
 ghost use Rattle.model_world.specs.State.{journal_at};
 ghost use Rattle.fairexec_script.specs.Limits.{IsSize, IsBurst, ArePlaced, HasFewQueues};
 ghost use Rattle.fairexec_script.specs.Drafts.{empty_draft};
-ghost use Rattle.fairexec_script.specs.Scripts.{judge, script_of};
-ghost use Rattle.fairexec_script.specs.Whole.{drafted};
+ghost use Rattle.fairexec_script.specs.Scripts.{judge, script_of, drafted};
 ghost use Rattle.text_bytes.specs.Taking.{IsPrompt, IsToldByRead};
 ghost use Rattle.text_bytes.specs.Tries.{HasFailedSince};
 ghost use Rattle.text_words.specs.Faults.{IfRead, IfText, IfUnread, IfUnwritten, IfEnded};
@@ -20,7 +19,7 @@ ghost use Rattle.fairexec_run.specs.Transcripts.{with_queue, with_queues};
 ghost use Rattle.fairexec_run.specs.Transcripts as spec;
 ghost use Rattle.fairexec_script.specs.TextLimits.{most_lines};
 
-use crate::journal::{events_of, print_journal, print_journal_rear, print_rear};
+use crate::journal::{events_of, print_journal, print_rear};
 use crate::print::{FULL_PAGE, LONGEST_PRINT, Model, print_events};
 use base_words::{CoreNo, Shares};
 use core_queues::CreateError;
@@ -109,6 +108,7 @@ fn play_events<S: Sink>(
     let mut model = open_model(alloc, cores, cap, burst, queues.as_slice())?;
     let mut page = String::with_capacity(alloc, FULL_PAGE + LONGEST_PRINT)?;
     print_events(alloc, &mut model, events, &mut page, sink)?;
+    // These calls do nothing. Their contracts say what an output claims of the journals behind it.
     model.complete();
     model.joined();
     model.sound();
@@ -140,7 +140,7 @@ fn play_journal<S: Sink>(
     let mut page = String::with_capacity(alloc, FULL_PAGE + LONGEST_PRINT)?;
     let assembly = model.run(events);
     print_journal(alloc, &assembly, sink)?;
-    print_journal_rear(alloc, stats, &assembly, &mut page, sink)
+    print_rear(alloc, stats, &assembly, &mut page, sink)
 }
 
 /// A world of so many cores with links of that capacity, with turns of so many polls and with these queues. Its journals have room for all notes of a script.

@@ -1,7 +1,8 @@
 //! Prints the journals of a run, and the statistics of its cores.
 
-ghost use Rattle.std.specs.Prelude.{◌≡◌, ◌++◌, ℕ, List, map, IfOk, IfErr, OnOk, OnErr, string_bytes};
+ghost use Rattle.std.specs.Prelude.{◌≡◌, ◌<◌, ◌++◌, ℕ, List, map, IfOk, IfErr, OnOk, OnErr, string_bytes};
 ghost use Rattle.std.specs.Io.KnownBytes.{Appends};
+ghost use Rattle.base_words.specs.Assembly.{Assembly, journal_of};
 ghost use Rattle.base_words.specs.Spelled.{IsSpelled};
 ghost use Rattle.fairexec_report.specs.StatTexts.{IsCoreText, IsStatsIf};
 ghost use Rattle.text_journal.specs.Pages.{Puts, AppendsFront};
@@ -25,6 +26,56 @@ use std::alloc::Global;
 use text_bytes::{Sink, flush};
 use text_journal::write_journal;
 use text_words::{Cause, Fault};
+
+/// Cores whose statistics may be told: those of a world, and those whose journals a run left.
+pub(crate) trait HasCores {
+    ghost assembly: { Self → Assembly ℕ };
+
+    /// How many cores there are.
+    fn core_count(&self) -> u8
+        ensures { result ≡ (assembly self.now).cores };
+
+    /// How many polls a turn may have.
+    fn most_polls(&self) -> u8
+        ensures { result ≡ (assembly self.now).burst };
+
+    /// The notes of a core.
+    fn notes_of(&self, core: CoreNo) -> &Journal<u64>
+        requires { core < (assembly self.now).cores }
+        ensures { result.now.notes ≡ journal_of core (assembly self.now) };
+}
+
+impl HasCores for Model {
+    ghost assembly = { assembly_of };
+
+    fn core_count(&self) -> u8 {
+        self.cores()
+    }
+
+    fn most_polls(&self) -> u8 {
+        self.burst()
+    }
+
+    fn notes_of(&self, core: CoreNo) -> &Journal<u64> {
+        self.journal(ActorNo(core.0))
+    }
+}
+
+impl HasCores for Assembly {
+    ghost assembly = { λ assembly. assembly };
+
+    fn core_count(&self) -> u8 {
+        self.cores()
+    }
+
+    fn most_polls(&self) -> u8 {
+        self.burst()
+    }
+
+    fn notes_of(&self, core: CoreNo) -> &Journal<u64> {
+        self.journal(ActorNo(core.0))
+    }
+}
 
 /// The events of a script as events of the model, in their order.
 pub(crate) fn events_of(
@@ -58,17 +109,17 @@ pub(crate) fn print_journal<S: Sink>(
     write_journal(alloc, assembly, sink)
 }
 
-/// Prints the page, and behind it the statistics of a world if they are wanted. Then it tells the sink that no more comes.
-pub(crate) fn print_rear<S: Sink>(
+/// Prints the page, and behind it the statistics of the cores if they are wanted. Then it tells the sink that no more comes.
+pub(crate) fn print_rear<T: HasCores, S: Sink>(
     alloc: Global,
     stats: bool,
-    model: &Model,
+    told: &T,
     page: &mut String,
     sink: &mut S,
 ) -> Result<(), Fault<Cause>>
-    ensures ok { OnOk result ((text : List ℕ) × IsStatsIf stats (assembly_of model.now) text
+    ensures ok { OnOk result ((text : List ℕ) × IsStatsIf stats (T.assembly told.now) text
         × Appends (S.contents sink.old) (S.contents sink.new) (string_bytes page.old ++ text)) }
-    ensures err { OnErr result ((text : List ℕ) × IsRearPart stats (assembly_of model.now) text
+    ensures err { OnErr result ((text : List ℕ) × IsRearPart stats (T.assembly told.now) text
         × AppendsFront (S.contents sink.old) (S.contents sink.new) (string_bytes page.old ++ text)) }
     ensures device { IfErr result (IfUnread ⊥) }
     ensures failed { IfErr result (IfUnwritten (HasFailedSince S.tries S.interrupts S.fails sink.old sink.new)) }
@@ -76,83 +127,32 @@ pub(crate) fn print_rear<S: Sink>(
     if !stats {
         return print_last(page, sink);
     }
-    print_stats(alloc, model, page, sink)?;
+    print_stats(alloc, told, page, sink)?;
     print_last(page, sink)
 }
 
-/// The same, of the cores whose journals these are.
-pub(crate) fn print_journal_rear<S: Sink>(
+/// Puts the statistics of all cores on the page. A full page is written to the sink at once.
+fn print_stats<T: HasCores, S: Sink>(
     alloc: Global,
-    stats: bool,
-    assembly: &Assembly,
+    told: &T,
     page: &mut String,
     sink: &mut S,
 ) -> Result<(), Fault<Cause>>
-    ensures ok { OnOk result ((text : List ℕ) × IsStatsIf stats assembly.now text
-        × Appends (S.contents sink.old) (S.contents sink.new) (string_bytes page.old ++ text)) }
-    ensures err { OnErr result ((text : List ℕ) × IsRearPart stats assembly.now text
-        × AppendsFront (S.contents sink.old) (S.contents sink.new) (string_bytes page.old ++ text)) }
-    ensures device { IfErr result (IfUnread ⊥) }
-    ensures failed { IfErr result (IfUnwritten (HasFailedSince S.tries S.interrupts S.fails sink.old sink.new)) }
-{
-    if !stats {
-        return print_last(page, sink);
-    }
-    print_journal_stats(alloc, assembly, page, sink)?;
-    print_last(page, sink)
-}
-
-/// Puts the statistics of all cores of a world on the page. A full page is written to the sink at once.
-fn print_stats<S: Sink>(
-    alloc: Global,
-    model: &Model,
-    page: &mut String,
-    sink: &mut S,
-) -> Result<(), Fault<Cause>>
-    ensures ok { OnOk result (PutsStats (assembly_of model.now) (string_bytes page.old) (string_bytes page.new) (S.contents sink.old) (S.contents sink.new)) }
-    ensures err { OnErr result (WritesStats (assembly_of model.now) (string_bytes page.old) (S.contents sink.old) (S.contents sink.new)) }
+    ensures ok { OnOk result (PutsStats (T.assembly told.now) (string_bytes page.old) (string_bytes page.new) (S.contents sink.old) (S.contents sink.new)) }
+    ensures err { OnErr result (WritesStats (T.assembly told.now) (string_bytes page.old) (S.contents sink.old) (S.contents sink.new)) }
     ensures device { IfErr result (IfUnread ⊥) }
     ensures failed { IfErr result (IfUnwritten (HasFailedSince S.tries S.interrupts S.fails sink.old sink.new)) }
     ensures tried { IsNoFewer (S.tries sink.old) (S.tries sink.new) }
 {
-    let cores = model.cores();
-    let burst = model.burst();
+    let cores = told.core_count();
+    let burst = told.most_polls();
     for core in 0..cores {
         print_core(
             alloc,
             CoreNo(core),
             cores,
             burst,
-            model.journal(ActorNo(core)),
-            page,
-            sink,
-        )?;
-    }
-    Ok(())
-}
-
-/// The same, of the cores whose journals these are.
-fn print_journal_stats<S: Sink>(
-    alloc: Global,
-    assembly: &Assembly,
-    page: &mut String,
-    sink: &mut S,
-) -> Result<(), Fault<Cause>>
-    ensures ok { OnOk result (PutsStats assembly.now (string_bytes page.old) (string_bytes page.new) (S.contents sink.old) (S.contents sink.new)) }
-    ensures err { OnErr result (WritesStats assembly.now (string_bytes page.old) (S.contents sink.old) (S.contents sink.new)) }
-    ensures device { IfErr result (IfUnread ⊥) }
-    ensures failed { IfErr result (IfUnwritten (HasFailedSince S.tries S.interrupts S.fails sink.old sink.new)) }
-    ensures tried { IsNoFewer (S.tries sink.old) (S.tries sink.new) }
-{
-    let cores = assembly.cores();
-    let burst = assembly.burst();
-    for core in 0..cores {
-        print_core(
-            alloc,
-            CoreNo(core),
-            cores,
-            burst,
-            assembly.journal(ActorNo(core)),
+            told.notes_of(CoreNo(core)),
             page,
             sink,
         )?;

@@ -6,7 +6,6 @@ pub mod engine;
 mod journal;
 pub mod laws;
 mod print;
-pub mod refused;
 mod reply;
 
 pub use engine::run_script;

@@ -1,12 +1,15 @@
--- Each draft with one thing wrong is refused.
-use Rattle.std.proofs.Common.{◌≡◌, ◌<◌, ◌≤◌, ℕ, List, [], ◌∷◌, All, arith}
+-- Each draft and each order with one thing wrong is refused.
+use Rattle.std.proofs.Common.{◌≡◌, ◌<◌, ◌≤◌, ℕ, List, [], ◌∷◌, All, arith, true, false}
 use Rattle.base_words.specs.declared.order.Order.TheVariants.{Job}
 use Rattle.base_jobs.specs.Scripts.{Script}
-use Rattle.base_jobs.specs.declared.poll.Poll.TheVariants.{Done}
+use Rattle.base_jobs.specs.declared.poll.Poll.TheVariants.{Done, Park}
 use Rattle.fairexec_script.specs.declared.event.ScriptEvent.{ScriptEvent}
 use Rattle.fairexec_script.specs.declared.event.ScriptEvent.TheVariants.{Send, Deliver, Turn}
 use Rattle.fairexec_script.specs.BadDrafts.{DraftsAreRefused}
 use Rattle.fairexec_script.specs.Limits.{IsEventOf}
+use Rattle.fairexec_script.specs.BadOrders.{OrdersAreRefused, job_told, queue_told}
+use Rattle.fairexec_script.specs.ThreadsLimits.{IsToldOf}
+use Rattle.fairexec_script.specs.Orders.{Told}
 
 some_line : (queue : ℕ × ℕ) (queues : List (ℕ × ℕ)) → queue ∷ queues ≡ [] → ⊥
 some_line queue queues h = cc
@@ -35,4 +38,23 @@ drafts_refused = record {
   was_polled = λ limits. let none : 1 ≡ 0 = (sent (record { polls = Done 5 1 ∷ []; polled = 1 }) limits.happen).none_made in omega arith;
   uncounted = λ counted. let same : 0 ≡ 1 = counted.each 0 in omega arith;
   counted_twice = λ counted. let same : 2 ≡ 1 = counted.each 0 in omega arith;
+}
+
+some_order : (told : Told) (orders : List Told) → told ∷ orders ≡ [] → ⊥
+some_order told orders none = cc
+
+-- what is so of all orders is so of the only one
+only : (told : Told) → All (IsToldOf 1) (told ∷ []) → IsToldOf 1 told
+only told all = all 0 told (omega arith)
+
+pub orders_refused : OrdersAreRefused
+orders_refused = record {
+  without_size = λ told. some_order _ _ told;
+  to_none = λ told. let there : 1 < 1 = (only (queue_told 1) told).core in omega arith;
+  no_polls = λ told. let some : 1 ≤ 0 = (only (job_told [] 0) told).some_polls in omega arith;
+  was_polled = λ told. let none : 1 ≡ 0 = (only (job_told (Done 5 1 ∷ []) 1) told).none_made in omega arith;
+  parks = λ told. let never : true ≡ false = (only (job_told (Park 5 ∷ Done 5 1 ∷ []) 0) told).never_parks in cc;
+  no_spare = λ spare. let few : 2 < 2 = spare 0 in omega arith;
+  uncounted = λ counted. let same : 0 ≡ 1 = counted.sent_are 0 in omega arith;
+  counted_twice = λ counted. let same : 2 ≡ 1 = counted.sent_are 0 in omega arith;
 }

@@ -3,7 +3,5 @@ pub mod EventLimits
 pub mod LimitLemmas
 pub mod PollLemmas
 pub mod SubmitLemmas
-pub mod SubmitPolls
 pub mod ThreadsLimitLemmas
 pub mod NoParks
-pub mod OrdersRefused

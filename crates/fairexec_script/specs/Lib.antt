@@ -9,7 +9,6 @@ pub mod Counts
 pub mod BadDrafts
 pub mod Ends
 pub mod Scripts
-pub mod Whole
 pub mod Faults
 pub mod ThreadsLines
 pub mod Orders
@@ -17,4 +16,3 @@ pub mod ThreadsDrafts
 pub mod ThreadsLimits
 pub mod BadOrders
 pub mod ThreadsScripts
-pub mod ThreadsWhole

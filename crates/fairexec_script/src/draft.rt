@@ -101,7 +101,7 @@ impl ScriptDraft for Draft {
 
     ghost use Rattle.std.specs.Prelude.{◌≡◌, length};
     ghost use Rattle.fairexec_script.specs.Drafts.{with_text};
-    ghost use Rattle.fairexec_script.specs.Whole.{drafted};
+    ghost use Rattle.fairexec_script.specs.Scripts.{drafted};
 
     ghost told = { λ cause. cause };
 

@@ -3,6 +3,7 @@
 ghost use Rattle.std.specs.Prelude.{◌≡◌};
 ghost use Rattle.fairexec_script.specs.Keywords as spec;
 
+use base_jobs::MOST_POLLS;
 use text_words::field::is_word;
 
 /// What a line after the first does, by its first word.
@@ -106,7 +107,8 @@ impl Keyword {
     {
         match self {
             Keyword::Queue => count == 3,
-            Keyword::Submit => count >= 5 && count <= 68,
+            // Behind its first four words stands one for each poll.
+            Keyword::Submit => count >= 5 && count <= 4 + MOST_POLLS,
             Keyword::Create => count == 4,
             Keyword::Shares => count == 5,
             Keyword::Close => count == 5,

@@ -18,7 +18,6 @@ pub mod script;
 pub mod source;
 mod threads_draft;
 mod threads_line;
-pub mod threads_refused;
 pub mod threads_script;
 pub mod threads_source;
 

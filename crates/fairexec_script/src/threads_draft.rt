@@ -220,7 +220,7 @@ impl ScriptDraft for Draft {
     ghost use Rattle.std.specs.Prelude.{◌≡◌, length};
     ghost use Rattle.fairexec_script.specs.declared.fault.ThreadsCause.TheVariants.{Line};
     ghost use Rattle.fairexec_script.specs.ThreadsDrafts.{with_text};
-    ghost use Rattle.fairexec_script.specs.ThreadsWhole.{drafted};
+    ghost use Rattle.fairexec_script.specs.ThreadsScripts.{drafted};
 
     ghost told = { Line };
 

@@ -1,9 +1,8 @@
 //! Reads a whole script for threads before anything is done.
 
 ghost use Rattle.std.specs.Prelude.{◌≡◌, Ok, Err, IfOk, IfErr, IfSome};
-ghost use Rattle.fairexec_script.specs.ThreadsScripts.{judge, threads_script_of};
+ghost use Rattle.fairexec_script.specs.ThreadsScripts.{judge, threads_script_of, drafted};
 ghost use Rattle.fairexec_script.specs.ThreadsDrafts.{empty_draft};
-ghost use Rattle.fairexec_script.specs.ThreadsWhole.{drafted};
 ghost use Rattle.text_bytes.specs.Taking.{IsPrompt, IsToldByRead};
 ghost use Rattle.text_bytes.specs.Tries.{HasFailedSince};
 ghost use Rattle.text_words.specs.Faults.{IfRead, IfText, IfUnwritten};

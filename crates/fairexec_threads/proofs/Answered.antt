@@ -13,8 +13,7 @@ use Rattle.fairexec_script.specs.Orders.{Told}
 use Rattle.fairexec_threads.specs.Offers.{OffersAll}
 use Rattle.run_runtime.specs.Laws.{IsToldOf}
 use Rattle.run_runtime.proofs.Outcomes.{submitted_told}
-use Rattle.fairexec_threads.specs.Outcomes.{AreAnswered}
-use Rattle.fairexec_threads.specs.Rooms.{room_of}
+use Rattle.fairexec_threads.specs.Accepted.{AreAnswered, room_of}
 use Rattle.fairexec_threads.proofs.Sending.{grows}
 use Rattle.fairexec_threads.proofs.Standing.{View, Stands, stands}
 

@@ -13,7 +13,7 @@ use Rattle.base_jobs.specs.Scripts.{Script}
 use Rattle.run_runtime.specs.declared.error.StartError.{StartError}
 use Rattle.run_runtime.specs.declared.error.StartError.TheVariants.{BadConfig}
 use Rattle.run_runtime.specs.Calls.{Starts}
-use Rattle.fairexec_threads.specs.Rooms.{room_of}
+use Rattle.fairexec_threads.specs.Accepted.{room_of}
 
 number_of : (same : Bool) → number_if same ≡ cond same 1 0
 number_of true = refl

@@ -24,8 +24,7 @@ use Rattle.base_jobs.specs.Scripts.{Script}
 use Rattle.run_runtime.specs.Calls.{HasFinished}
 use Rattle.run_runtime.specs.State.{RuntimeView}
 use Rattle.run_worker.specs.Rooms.{MayAct, least_free}
-use Rattle.fairexec_threads.specs.Accepted.{HasClosed, ClosesItself, IsToldToClose}
-use Rattle.fairexec_threads.specs.Rooms.{room_of}
+use Rattle.fairexec_threads.specs.Accepted.{HasClosed, ClosesItself, IsToldToClose, room_of}
 use Rattle.fairexec_threads.proofs.Suffixes.{tells, each_behind, told_more, shut_is, closed_is}
 
 -- only an order to close the core has this effect

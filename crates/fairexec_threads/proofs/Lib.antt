@@ -4,13 +4,10 @@ pub mod Closings
 pub mod Good
 pub mod Walking
 pub mod Running
-pub mod Ready
-pub mod Opened
 pub mod Standing
 pub mod Answered
 pub mod Polled
 pub mod Suffixes
 pub mod Heard
 pub mod Walked
-pub mod OpenCores
 pub mod RunsRefused

@@ -25,7 +25,7 @@ use Rattle.run_config.specs.Configs.{Entry}
 use Rattle.fairexec_script.specs.Orders.{Told}
 use Rattle.fairexec_threads.specs.Offers.{HasWords, OffersAll}
 use Rattle.fairexec_threads.specs.Polled.{IsItsWord, TellsItsWord, IsPolledAsTold, ArePolledAsTold}
-use Rattle.fairexec_threads.specs.Rooms.{room_of}
+use Rattle.fairexec_threads.specs.Accepted.{room_of}
 use Rattle.fairexec_threads.proofs.Sending.{grows}
 use Rattle.fairexec_threads.proofs.Standing.{View, Stands, stands}
 

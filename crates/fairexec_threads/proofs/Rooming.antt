@@ -10,7 +10,7 @@ use Rattle.note_journal.specs.Journals.{free_notes}
 use Rattle.run_runtime.specs.Sends.{outstanding_upto, room_left}
 use Rattle.run_runtime.specs.State.{RuntimeView}
 use Rattle.fairexec_threads.specs.Counting.{HasPlace}
-use Rattle.fairexec_threads.specs.Rooms.{room_of}
+use Rattle.fairexec_threads.specs.Accepted.{room_of}
 use Rattle.fairexec_script.specs.TextLimits.{most_lines}
 use Rattle.base_words.specs.Limits.{most_cores}
 

@@ -7,8 +7,7 @@ use Rattle.fairexec_report.specs.VerdictTexts.{is_sound}
 use Rattle.run_config.specs.Configs.{Entry}
 use Rattle.fairexec_script.specs.declared.threads_script.ThreadsScript.{ThreadsScript}
 use Rattle.fairexec_script.specs.Orders.{Told}
-use Rattle.fairexec_script.specs.ThreadsScripts.{threads_script_of}
-use Rattle.fairexec_script.specs.ThreadsWhole.{drafted}
+use Rattle.fairexec_script.specs.ThreadsScripts.{threads_script_of, drafted}
 use Rattle.fairexec_threads.specs.Runs.{RunsOrders, TellsRun}
 
 pub own : (P : ℕ → ℕ → Type 0) (a b c d : ℕ) → c ≡ a → d ≡ b → P a b → P c d

@@ -16,7 +16,7 @@ use Rattle.note_journal.specs.Journals.{JournalView}
 use Rattle.run_runtime.specs.Calls.{IsStarted}
 use Rattle.fairexec_script.specs.Limits.{IsSize}
 use Rattle.run_config.specs.Configs.{Entry}
-use Rattle.fairexec_threads.specs.Rooms.{room_of}
+use Rattle.fairexec_threads.specs.Accepted.{room_of}
 use Rattle.base_jobs.specs.Scripts.{Script}
 use Rattle.actor_caller.specs.declared.error.SubmitError.{SubmitError}
 use Rattle.actor_caller.specs.declared.error.SubmitError.TheVariants.{JournalFull, Send}

@@ -24,9 +24,8 @@ use Rattle.run_runtime.specs.Sends.{SendsTo}
 use Rattle.run_runtime.specs.State.{RuntimeView, is_told_shut}
 use Rattle.run_config.specs.Configs.{Entry}
 use Rattle.fairexec_script.specs.Orders.{Told}
-use Rattle.fairexec_threads.specs.Accepted.{AreHeard, IsHeard}
+use Rattle.fairexec_threads.specs.Accepted.{AreHeard, IsHeard, room_of}
 use Rattle.fairexec_threads.specs.Offers.{IsTaken, Offers, OffersAll}
-use Rattle.fairexec_threads.specs.Rooms.{room_of}
 use Rattle.fairexec_threads.proofs.Heard.{has_closed}
 use Rattle.fairexec_threads.proofs.Sending.{grows}
 

@@ -1,5 +1,5 @@
--- Which orders of a script were accepted, and why another was not.
-use Rattle.std.specs.Prelude.{◌≡◌, ◌⊎◌, ℕ, ◌-◌, ◌<◌, ◌≤◌, ◌++◌, List, [], ◌∷◌, Some, Result, Ok, Err, length}
+-- Which orders of a script were accepted, why another was not, and what the journals tell of them.
+use Rattle.std.specs.Prelude.{◌≡◌, ◌⊎◌, ℕ, ◌+◌, ◌-◌, ◌*◌, ◌^◌, ◌<◌, ◌≤◌, ◌++◌, List, [], ◌∷◌, Some, Result, Ok, Err, length, None, IfOk}
 use Rattle.base_words.specs.declared.names.JobId.{JobId}
 use Rattle.base_words.specs.declared.note.Note.TheVariants.{Sent, CoreClosed, Shut}
 use Rattle.base_words.specs.declared.order.Mode.{Mode}
@@ -16,7 +16,13 @@ use Rattle.run_runtime.specs.State.{RuntimeView}
 use Rattle.run_worker.specs.Rooms.{least_free}
 use Rattle.fairexec_script.specs.Orders.{Told}
 use Rattle.fairexec_threads.specs.Offers.{OffersAll}
-use Rattle.fairexec_threads.specs.Rooms.{room_of}
+use Rattle.base_words.specs.Closing.{core_mode}
+use Rattle.base_jobs.specs.ScriptMeaning.{script_meaning}
+use Rattle.run_runtime.specs.Laws.{IsToldOf}
+
+-- how many notes each journal of a script's runtime has room for
+abbrev pub room_of : ℕ → ℕ → ℕ → ℕ
+room_of cores cap burst = 2 ^ 16 + 16 * ((cores + 1) * (cap + 1)) + 4 * (burst - 1)
 
 -- the outside actor's journal tells that this order was sent under this name
 pub record IsSent (told : Told) (name : JobId) (assembly : Assembly ℕ) : Type 0 where
@@ -59,3 +65,14 @@ IsHeard assembly told (Err _) = ⊥
 abbrev pub AreHeard : (orders : List Told) (old new : RuntimeView Script ℕ) → OffersAll orders old new → Assembly ℕ → Type 0
 AreHeard [] old new offers assembly = Unit {0}
 AreHeard (told ∷ rest) old new offers assembly = IsHeard assembly told offers.1.answer × AreHeard rest offers.0 new offers.2 assembly
+
+-- a core whose journal tells of no closing refuses no order
+abbrev pub OpenCoresRefuseNone : Type 0
+OpenCoresRefuseNone = (core final : ℕ) (assembly : Assembly ℕ) → core_mode (journal_of core assembly) ≡ None → HasClosed core final assembly → ⊥
+
+-- The journals tell an outcome of each order that was accepted, and it fits the order: a job is finished with the value of its last poll, or comes
+-- back with its polls; a command is answered.
+abbrev pub AreAnswered : (orders : List Told) (old new : RuntimeView Script ℕ) → OffersAll orders old new → Assembly ℕ → Type 0
+AreAnswered [] old new offers assembly = Unit {0}
+AreAnswered (told ∷ rest) old new offers assembly =
+    IfOk offers.1.answer (λ name. IsToldOf script_meaning assembly name told.1) × AreAnswered rest offers.0 new offers.2 assembly

@@ -21,8 +21,7 @@ use Rattle.fairexec_threads.specs.Accepted.{IsSent, ClosesItself, IsHeard}
 use Rattle.fairexec_threads.specs.Counting.{sent_to, HasPlace, CanClose}
 use Rattle.fairexec_threads.specs.Offers.{Offers}
 use Rattle.fairexec_threads.specs.Polled.{IsPolledAsTold}
-use Rattle.fairexec_threads.specs.Runs.{IsRun, IsCutShort}
-use Rattle.fairexec_threads.specs.Starting.{IsOfStart}
+use Rattle.fairexec_threads.specs.Runs.{IsRun, IsCutShort, IsOfStart}
 
 -- the journals of one core and of the outside actor tell of nothing
 abbrev pub silent : Assembly ℕ

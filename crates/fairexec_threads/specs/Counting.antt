@@ -4,7 +4,7 @@ use Rattle.base_words.specs.Filters.{accepted_orders}
 use Rattle.base_words.specs.Limits.{most_capacity, most_cores}
 use Rattle.base_jobs.specs.Scripts.{Script}
 use Rattle.run_runtime.specs.State.{RuntimeView, closing_at}
-use Rattle.fairexec_threads.specs.Rooms.{room_of}
+use Rattle.fairexec_threads.specs.Accepted.{room_of}
 use Rattle.fairexec_script.specs.TextLimits.{most_lines}
 
 -- how many submissions were sent to a core

@@ -1,10 +1,6 @@
-pub mod Rooms
-pub mod Starting
 pub mod Offers
 pub mod Counting
-pub mod Outcomes
 pub mod Polled
 pub mod Accepted
 pub mod Runs
-pub mod Laws
 pub mod BadRuns

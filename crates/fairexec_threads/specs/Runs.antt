@@ -1,5 +1,5 @@
 -- A whole run of a script on threads.
-use Rattle.std.specs.Prelude.{◌≡◌, ◌<◌, ◌++◌, ℕ, Bool, List, Option, Some, Ok}
+use Rattle.std.specs.Prelude.{◌≡◌, ◌<◌, ℕ, ◌++◌, Bool, List, Option, Some, Ok}
 use Rattle.std.specs.Option.{IfSome}
 use Rattle.base_words.specs.Assembly.{Assembly, journal_of}
 use Rattle.base_jobs.specs.ScriptMeaning.{script_meaning}
@@ -14,13 +14,12 @@ use Rattle.text_words.specs.Faults.{IfUnjudged}
 use Rattle.fairexec_script.specs.Orders.{Told}
 use Rattle.fairexec_script.specs.ThreadsDrafts.{Drafted}
 use Rattle.fairexec_script.specs.ThreadsScripts.{threads_script_of}
-use Rattle.fairexec_threads.specs.Accepted.{AreHeard}
+use Rattle.fairexec_threads.specs.Accepted.{AreAnswered, AreHeard, room_of}
 use Rattle.fairexec_threads.specs.Offers.{OffersAll, closings}
-use Rattle.fairexec_threads.specs.Outcomes.{AreAnswered}
 use Rattle.fairexec_threads.specs.Polled.{ArePolledAsTold}
-use Rattle.fairexec_threads.specs.Rooms.{room_of}
 use Rattle.run_worker.specs.Queues.{creations}
 use Rattle.actor_seat.specs.Queues.{opening_of}
+use Rattle.text_words.specs.declared.fault.Fault.TheVariants.{Memory}
 
 -- A runtime of these numbers and queues is started, the orders are sent, each core is closed from 0 upwards, and the runtime is finished. The
 -- journal of each core begins with the creation of its queues. Each order is accepted, unless its core has closed. What the journals tell of an
@@ -61,3 +60,9 @@ pub record IsCutShort (journal stats : Bool) (source sink_old sink_new : Option 
 abbrev pub IfUntold : Type 0 → ThreadsFault → Type 0
 IfUntold fact (Of fault) = IfUnjudged fact fault
 IfUntold fact Thread = fact
+
+-- why a runtime doesn't start: want of memory, or of a thread
+abbrev pub IsOfStart : ThreadsFault → Type 0
+IsOfStart (Of Memory) = Unit {0}
+IsOfStart (Of _) = ⊥
+IsOfStart Thread = Unit {0}

@@ -4,8 +4,8 @@ ghost use Rattle.std.specs.Prelude.{◌≡◌, ◌≤◌, length, IfOk, IfErr, S
 ghost use Rattle.base_words.specs.Limits.{most_capacity, most_cores};
 ghost use Rattle.run_runtime.specs.Calls.{IsStarted};
 ghost use Rattle.fairexec_script.specs.Limits.{IsSize, IsBurst, ArePlaced, HasFewQueues};
-ghost use Rattle.fairexec_threads.specs.Rooms as spec;
-ghost use Rattle.fairexec_threads.specs.Starting.{IsOfStart};
+ghost use Rattle.fairexec_threads.specs.Accepted as spec;
+ghost use Rattle.fairexec_threads.specs.Runs.{IsOfStart};
 
 use crate::clock::StillClock;
 use base_jobs::ScriptJob;

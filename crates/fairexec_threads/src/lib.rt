@@ -5,7 +5,6 @@ pub mod calls;
 mod clock;
 pub mod house;
 pub mod laws;
-pub mod refused;
 pub mod run;
 
 pub use run::threads_script;

@@ -8,8 +8,7 @@ ghost use Rattle.fairexec_script.specs.ThreadsScripts.{judge, threads_script_of}
 ghost use Rattle.text_bytes.specs.Taking.{IsPrompt, IsToldByRead};
 ghost use Rattle.text_bytes.specs.Tries.{HasFailedSince};
 ghost use Rattle.text_words.specs.Faults.{IfRead, IfText, IfUnwritten};
-ghost use Rattle.fairexec_threads.specs.Runs.{RunsOrders, IsRun, IsCutShort, IfUntold};
-ghost use Rattle.fairexec_threads.specs.Starting.{IsOfStart};
+ghost use Rattle.fairexec_threads.specs.Runs.{RunsOrders, IsRun, IsCutShort, IfUntold, IsOfStart};
 
 use crate::calls::{close_all, offer_all};
 use crate::house::start_house;

@@ -11,8 +11,9 @@ use Rattle.fairview_args.specs.Asks as wish
 use Rattle.fairview_report.specs.declared.fault.ViewFault.TheVariants as fault
 use Rattle.fairview_report.specs.declared.view.View.{View}
 use Rattle.fairview_report.specs.declared.view.View.TheVariants.{Polls}
+use Rattle.text_bytes.specs.declared.sink.Sink as writing
 use Rattle.text_words.specs.declared.status.Status.TheVariants as status
-use Rattle.fairview.specs.Answers.{Answer, Answers, IsUnopened, ShowsOf}
+use Rattle.fairview.specs.Answers.{Answer, Answers, IsUnopened, ShowsOf, file_reads}
 use Rattle.fairview.specs.Ends.{EndsBy, EndsFor, EndsUnasked, status_unasked}
 use Rattle.fairview.specs.declared.refusal.Refusal.TheVariants.{Name}
 
@@ -20,14 +21,13 @@ use Rattle.fairview.specs.declared.refusal.Refusal.TheVariants.{Name}
 abbrev pub Anything : Option (List ℕ) → View → Answer → Type 0
 Anything file view answer = Unit {0}
 
--- nothing is known of a try of a reader or a writer
-abbrev pub IsAny : List ℕ → List ℕ → Type 0
-IsAny old new = Unit {0}
+-- a list of bytes is a sink, and nothing is known of a try
+abbrev pub list_writes : writing.Ghosts (List ℕ)
+list_writes = record { contents = Some; tries = λ sink. None; interrupts = λ old new. Unit {0}; fails = λ old new. Unit {0} }
 
 -- these words of a file are the source, these stand in the sink before, and these behind it
 abbrev pub AnswersIn : List ℕ → List ℕ → List ℕ → Answer → Type 0
-AnswersIn source old new answer =
-    Answers {R = List ℕ} {S = List ℕ} Some (λ source. None) (λ old bytes new. Unit {0}) IsAny IsAny Some (λ sink. None) IsAny IsAny Polls source [] old new answer
+AnswersIn source old new answer = Answers (file_reads Some) list_writes Polls (record { source_old = source; source_new = []; sink_old = old; sink_new = new }) answer
 
 -- polls are shown, and nothing is written
 pub nothing_is_written : (source : List ℕ) → AnswersIn source [] [] (Ok tt) → ⊥
@@ -40,7 +40,7 @@ sink_is_emptied source answers = cc answers.done.appends
 -- these words of a file are the source and these are left of it, polls are shown of a file, and nothing is written
 abbrev pub ShowsFile : List ℕ → List ℕ → Answer → Type 0
 ShowsFile source left answer =
-    ShowsOf {R = List ℕ} {F = List ℕ} {S = List ℕ} Some (λ source. None) (λ old bytes new. Unit {0}) IsAny IsAny Some Some (λ sink. None) IsAny IsAny source left [] [] (Some (codes "a")) Polls answer
+    ShowsOf {R = List ℕ} {F = List ℕ} {S = List ℕ} (record { source = file_reads Some; file = Some; sink = list_writes }) (record { source_old = source; source_new = left; sink_old = []; sink_new = [] }) (Some (codes "a")) Polls answer
 
 -- the source is read beside the file
 pub source_is_read_too : ShowsFile (1 ∷ []) [] (Err fault.Read) → ⊥

@@ -1,5 +1,4 @@
 pub mod Answers
 pub mod BadEnds
 pub mod Ends
-pub mod Refusals
 pub mod Shows

@@ -1,5 +1,5 @@
 -- What the words of a command line show, or what is wrong with them.
-use Rattle.std.specs.Prelude.{ℕ, ◌-◌, ◌^◌, nat_lt, if◌then◌else◌, List, Bool, true, false, Option, Some, None, Result, Ok, Err}
+use Rattle.std.specs.Prelude.{ℕ, ◌-◌, ◌^◌, nat_lt, if◌then◌else◌, List, Bool, true, false, Option, Some, None, Result, Ok, Err, codes}
 use Rattle.base_words.specs.declared.names.JobId.{JobId}
 use Rattle.text_journal.specs.Fields.{name_of, number_in}
 use Rattle.fairview_args.specs.Asks.{Wish}
@@ -71,3 +71,10 @@ view_asked wish.Csv = Ok Polls
 view_asked (wish.Gantt core from to) = gantt_asked core from to
 view_asked (wish.Lag text) = Ok (Lag text)
 view_asked wish.Trace = Ok Trace
+
+-- the text of a refusal
+abbrev pub refusal_text : Refusal → List ℕ
+refusal_text Name = codes "NAME is no name of a submission: sender, receiver and number, as '0>1#2'"
+refusal_text Core = codes "--core wants the number of a core, from 0 to 15"
+refusal_text Turn = codes "--from and --to want the number of a turn, from 0 to 18446744073709551615"
+refusal_text Order = codes "--from is above --to"

@@ -9,7 +9,7 @@ ghost use Rattle.std.specs.Prelude.{◌≡◌, ◌≢◌, Err, map, option_map, 
 ghost use Rattle.std.specs.declared.io.ErrorKind.TheVariants as kinds;
 ghost use Rattle.clap.specs.Words.{fault_of};
 ghost use Rattle.fair_args.specs.Asks.{asks_of};
-ghost use Rattle.fairview.specs.Answers.{IsUnopened, OpensFile, ShowsOf};
+ghost use Rattle.fairview.specs.Answers.{IsUnopened, ShowsOf};
 ghost use Rattle.fairview.specs.Ends.{EndsBy, EndsFor, status_unasked};
 ghost use Rattle.fairview.specs.Shows.{view_asked};
 ghost use Rattle.fairview_args.specs.Asks.{what_named, what_told};
@@ -68,7 +68,7 @@ fn by_words<C: Print + Eprint, R: ReadOnlyFiles + AllocGlobal, I: Source, S: Sin
     output: &mut S,
 ) -> Status
     ensures ends { EndsBy
-        (ShowsOf I.remaining I.tries I.reads I.interrupts I.fails R.File.remaining S.contents S.tries S.interrupts S.fails input.old input.new output.old output.new)
+        (ShowsOf (record { source = I.Source; file = R.File.remaining; sink = S.Sink }) (record { source_old = input.old; source_new = input.new; sink_old = output.old; sink_new = output.new }))
         ((input.new ≡ input.old) × (output.new ≡ output.old))
         (fault_of our_app (map string_bytes words.now)) (asks_of what_named our_app (map string_bytes words.now)) result }
     ensures never { result ≢ status.FaultFound }
@@ -89,7 +89,7 @@ fn done<C: Eprint, R: ReadOnlyFiles + AllocGlobal, I: Source, S: Sink>(
     output: &mut S,
 ) -> Status
     ensures ends { EndsFor
-        (ShowsOf I.remaining I.tries I.reads I.interrupts I.fails R.File.remaining S.contents S.tries S.interrupts S.fails input.old input.new output.old output.new (option_map (λ path. path.now) file.entry))
+        (ShowsOf (record { source = I.Source; file = R.File.remaining; sink = S.Sink }) (record { source_old = input.old; source_new = input.new; sink_old = output.old; sink_new = output.new }) (option_map (λ path. path.now) file.entry))
         ((input.new ≡ input.old) × (output.new ≡ output.old)) (view_asked (what_told what.entry)) result }
     ensures never { result ≢ status.FaultFound }
 {
@@ -119,27 +119,15 @@ fn show<R: ReadOnlyFiles + AllocGlobal, I: Source, S: Sink>(
     input: &mut I,
     output: &mut S,
 ) -> Result<(), ViewFault>
-    ensures { ShowsOf I.remaining I.tries I.reads I.interrupts I.fails R.File.remaining S.contents S.tries S.interrupts S.fails
-        input.old input.new output.old output.new (option_map (λ path. path.now) file.entry) view result }
+    ensures { ShowsOf (record { source = I.Source; file = R.File.remaining; sink = S.Sink })
+        (record { source_old = input.old; source_new = input.new; sink_old = output.old; sink_new = output.new }) (option_map (λ path. path.now) file.entry) view result }
 {
     match file {
         None => view_text(rt.alloc(), view, input, output),
-        Some(path) => show_file(rt, view, path, output),
-    }
-}
-
-/// Shows what is asked for of the journal text of the file of this path.
-fn show_file<R: ReadOnlyFiles + AllocGlobal, S: Sink>(
-    rt: &R,
-    view: View,
-    path: &str,
-    output: &mut S,
-) -> Result<(), ViewFault>
-    ensures { OpensFile R.File.remaining S.contents S.tries S.interrupts S.fails view output.old output.new result }
-{
-    match rt.open_to_read(path) {
-        Ok(mut source) => view_text(rt.alloc(), view, &mut source, output),
-        Err(error) => Err(unopened(error.kind())),
+        Some(path) => match rt.open_to_read(path) {
+            Ok(mut source) => view_text(rt.alloc(), view, &mut source, output),
+            Err(error) => Err(unopened(error.kind())),
+        },
     }
 }
 

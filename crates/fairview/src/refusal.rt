@@ -1,7 +1,7 @@
 //! Why a word of the command line is refused.
 
 ghost use Rattle.std.specs.Prelude.{Some};
-ghost use Rattle.fairview.specs.Refusals.{refusal_text};
+ghost use Rattle.fairview.specs.Shows.{refusal_text};
 
 use std::fmt;
 

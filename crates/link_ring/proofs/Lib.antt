@@ -1,7 +1,6 @@
 pub mod Windows
 pub mod Fronts
 pub mod SeatViews
-pub mod Outcomes
 pub mod InLaws
 pub mod Parts
 pub mod Places

@@ -1,4 +1,12 @@
 //! The receiver's end of a ring.
+//!
+//! It shares the board with the sender's end (link_board). All other fields are its thread's own.
+//!
+//! - It may touch a cell while that cell's word is 0. Making it a number gives the cell back, with an outcome in it.
+//! - `taken - given` is at most `capacity`: an order's outcome goes back through the order's cell.
+//! - `take` reads the word of the next order's cell first. `give` writes the outcome, then the word.
+//! - `shut` sets the top bit of the word that the next order would find, and is the last word on how many were accepted (`total`). If there is no
+//!   such word, each outcome that is given sets the bit.
 
 ghost use Rattle.std.specs.Prelude.{◌≡◌, ◌+◌, ◌-◌, ◌%◌, ◌^◌, ◌<◌, ◌≤◌, ℕ, true, length, take, [], ◌∷◌, ◌++◌};
 ghost use Rattle.link_ends.specs.Calls.{MayGive};
@@ -48,7 +56,6 @@ pub struct RingIn<J: Task> {
 }
 
 impl<J: Task> Model for RingIn<J> {
-    ghost use Rattle.std.specs.Arc.{arc_value};
     ghost use Rattle.link_ring.specs.declared.ring_in.Receiving.{Receiving};
 
     ghost Value = { Receiving J J.Out };
@@ -57,7 +64,7 @@ impl<J: Task> Model for RingIn<J> {
 
     ghost view = { λ s. record { link = name_of s.seat.rows; inward = s.seat.me.view.inward } };
 
-    ghost invariant = { λ s. IsInward s.seat.rows (arc_value s.board).lines.id s.seat.heap (arc_value s.board).lines.heap (arc_value s.board).gap (arc_value s.board).lines.key.capacity s.seat.me s.from s.to s.base s.capacity s.taken s.given s.shut s.total s.next_order s.next_outcome };
+    ghost invariant = { IsInward };
 }
 
 impl<J: Task> RingIn<J> {

@@ -1,4 +1,13 @@
 //! The sender's end of a ring.
+//!
+//! It shares the board with the receiver's end (link_board): a word for the gate, and a cell with a word for each place. All other fields are
+//! its thread's own.
+//!
+//! - It may touch a cell while that cell's word isn't 0. Making it 0 gives the cell to the receiver, with an order in it.
+//! - `count - credited` is at most `capacity`, and credits are of collected outcomes. So the cell of the next order was emptied.
+//! - `send` writes the order, then the word: one compare-and-exchange, which only a shut gate can make fail. It asks the gate's own word only if
+//!   it has no free cell or no further number.
+//! - `collect` reads the word of the next outcome's cell first. What lies in the cell comes with the word that tells of it.
 
 ghost use Rattle.std.specs.Prelude.{◌≡◌, ◌+◌, ◌-◌, ◌%◌, ◌^◌, ◌<◌, ◌≤◌, ℕ, true, length, take};
 ghost use Rattle.base_jobs.specs.Ready.{HasReadyJob};
@@ -51,7 +60,6 @@ pub struct RingOut<J: Task> {
 }
 
 impl<J: Task> Model for RingOut<J> {
-    ghost use Rattle.std.specs.Arc.{arc_value};
     ghost use Rattle.link_ring.specs.declared.ring_out.Sending.{Sending};
 
     ghost Value = { Sending J J.Out };
@@ -60,7 +68,7 @@ impl<J: Task> Model for RingOut<J> {
 
     ghost view = { λ s. record { link = name_of s.seat.rows; out = s.seat.me.view.out; credited = s.credited } };
 
-    ghost invariant = { λ s. IsOut s.seat.rows (arc_value s.board).lines.id s.seat.heap (arc_value s.board).lines.heap (arc_value s.board).gap (arc_value s.board).lines.key.capacity s.seat.me s.base s.capacity s.count s.collected s.credited s.closed s.next_order s.next_outcome };
+    ghost invariant = { IsOut };
 }
 
 impl<J: Task> RingOut<J> {
@@ -162,6 +170,7 @@ impl<J: Task> OutEnd<J> for RingOut<J> {
     #[inline(always)]
     fn collect(&mut self) -> Option<(u64, Outcome<J, J::Out>)> {
         if self.collected == self.count {
+            // One load for the proof alone: what was seen before is of what was sent. Nobody writes to that cache line before the gate is shut.
             see_none(&self.board, &mut self.seat);
             return None;
         }

@@ -1,4 +1,12 @@
 //! What a worker does round by round. Each step rings the bells of those who have something from its notes.
+//!
+//! All fields are the worker's own. Only its rings reach another thread: each step counts the kept notes, does its work, and rings for the
+//! notes behind that count. So an outcome lies in its link before its sender is woken.
+//!
+//! - `served` stands between two steps: no job is out, and no turn is open.
+//! - `watch` and `gate` are lent to a turn alone. A look that made no turn makes the watch forget its reading.
+//! - `plan` sets `turns` behind a look, and `passes_links` takes one of them. At 0 the next round looks.
+//! - A look goes in the order of `look`: gates, deliveries, a turn, outcomes.
 
 ghost use Rattle.std.specs.Prelude.{◌≡◌, ◌||◌, ◌+◌, ◌*◌, ◌≤◌, None, drop, false, length, reverse, true};
 ghost use Rattle.run_worker.specs.Rounds.{AreRung};

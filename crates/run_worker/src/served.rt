@@ -1,4 +1,11 @@
 //! A linked core that keeps room for its end: each of its steps is one of a worker's round.
+//!
+//! Its ends are one side of each link. The other side belongs to another thread, and no step waits for it. All else here is the worker's own.
+//!
+//! - A step that may write looks at the room first (`look`). If the journal is short, the core closes in mode `Return`, and each gate is shut
+//!   at once. `ending` says so, and is never unset.
+//! - At its end it only delivers and hands back, two notes a step: nothing is polled or collected, and no notes are passed on.
+//! - `alone` says that the close was the worker's own. It is published, and no step asks for it.
 
 ghost use Rattle.std.specs.Prelude.{◌≡◌, ◌+◌, ◌*◌, ◌<◌, ◌≤◌, ◌↔◌, IsTrue, false, is_some, true};
 ghost use Rattle.base_words.specs.Closing.{IsDrained, core_mode};

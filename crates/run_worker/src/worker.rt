@@ -1,4 +1,15 @@
 //! A worker: it serves one core until the core is drained.
+//!
+//! A worker that hasn't begun may go to any thread. From `Work::run` on it is its thread's, which gives back what is left of it.
+//!
+//! - `own` is its bell: others ring it, and only this worker sleeps on it. A rest looks at `rounds` between lying down and parking.
+//! - `publisher` writes the board, which others read at any time. `since` counts the rounds that did something since the last publication.
+//! - `sink` is asked between two rounds or before a rest, and once more at the end. A worker at its end doesn't ask it before that.
+//! - `local` is ready before the first poll, and is lent to each poll.
+//! - `idle` counts idle rounds in a row. A sleep leaves it as it is, so one idle round behind it leads to the next rest.
+//!
+//! In this order, each time (`serve`): publish if it is time, pass on if the journal is low, one round. If that was idle often enough:
+//! publish, pass on, rest.
 
 ghost use Rattle.std.specs.Prelude.{◌≡◌, false};
 ghost use Rattle.base_words.specs.Closing.{IsDrained};

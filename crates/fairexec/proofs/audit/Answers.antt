@@ -1,4 +1,4 @@
-use Rattle.std.proofs.Common.{refl}
+use Rattle.std.proofs.Common.{inl, refl}
 use Rattle.fairexec.proofs.audit.Goals as goal
 
 pub returns-in-None : goal.returns-in-None
@@ -16,5 +16,23 @@ returns-in-None g c =
       failed = c.audit_text.ensures.failed;
     })
 
-pub returns-in-Some : goal.returns-in-Some
-returns-in-Some g c = rw c.in-Some.is (c.audit_file.ensures, refl)
+pub returns-in-Ok : goal.returns-in-Ok
+returns-in-Ok g c =
+    rw c.in-Some.is (
+      inl (
+        c.in-Ok.source,
+        c.audit_text-in-Ok.new.source,
+        record {
+          done = c.audit_text-in-Ok.ensures.done;
+          sound = c.audit_text-in-Ok.ensures.sound;
+          faulty = c.audit_text-in-Ok.ensures.faulty;
+          prompt = c.audit_text-in-Ok.ensures.prompt;
+          at_once = c.audit_text-in-Ok.ensures.at_once;
+          unread = c.audit_text-in-Ok.ensures.unread;
+          silent = c.audit_text-in-Ok.ensures.silent;
+          unwritten = c.audit_text-in-Ok.ensures.unwritten;
+          failed = c.audit_text-in-Ok.ensures.failed;
+        },
+      ),
+      refl,
+    )

@@ -2,7 +2,7 @@ use Rattle.std.proofs.Common.{inl, sym, subst, refl}
 use Rattle.std.proofs.KnownBytes.{Keeps-refl}
 use Rattle.std.proofs.lemmas.Result.{on_ok_weaker, on_err_weaker}
 use Rattle.fairexec_script.specs.Limits.{HasFewQueues}
-use Rattle.fairexec_script.specs.Whole.{drafted}
+use Rattle.fairexec_script.specs.Scripts.{drafted}
 use Rattle.text_journal.proofs.PageLemmas.{OnErr-any}
 use Rattle.fairexec_run.specs.Rooms.{IsOpened}
 use Rattle.fairexec_run.proofs.OpeningLemmas.{opened_roomy, opened_events}

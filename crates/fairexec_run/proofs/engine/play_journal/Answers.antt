@@ -2,7 +2,7 @@ use Rattle.std.proofs.Common.{inl, sym, subst, refl}
 use Rattle.std.proofs.KnownBytes.{Keeps-refl}
 use Rattle.std.proofs.lemmas.Result.{on_ok_weaker, on_err_weaker}
 use Rattle.fairexec_script.specs.Limits.{HasFewQueues}
-use Rattle.fairexec_script.specs.Whole.{drafted}
+use Rattle.fairexec_script.specs.Scripts.{drafted}
 use Rattle.text_journal.proofs.PageLemmas.{OnErr-any}
 use Rattle.fairexec_run.specs.Rooms.{IsOpened}
 use Rattle.fairexec_run.specs.Transcripts.{RunsOf}
@@ -46,25 +46,25 @@ returns-clause-ok g c =
     let opened = subst (λ queues. IsOpened c.args.script.cores c.args.script.cap c.args.script.burst queues c.in_ok-model.model) c.as_slice.ensures.value c.in_ok-model.ensures.ok in
     let runs = subst (λ events. RunsOf events c.in_ok-model.model c.run-assembly.result) c.in_ok-events.ensures.ok c.run-assembly.ensures.run in
     let spelled = run_spelled _ _ _ _ c.in_ok-model.model c.in_ok-model.ensures.ok c.args.script.sized c.args.script.bursts _ c.run-assembly.result c.run-assembly.ensures.run c.run-assembly.ensures.joined in
-    on_ok_weaker c.print_journal_rear.result
+    on_ok_weaker c.print_rear.result
     (
     journal_printed (drafted c.args.script) _ _ refl c.in_ok-model.model opened c.run-assembly.result runs spelled c.run-assembly.ensures.joined c.run-assembly.ensures.sound
-    (g.S.Sink.contents c.args.sink.now) _ c.in_ok-print_journal.ensures.ok _ c.in_ok-page.ensures.bytes c.args.stats (g.S.Sink.contents c.print_journal_rear.new.sink)
+    (g.S.Sink.contents c.args.sink.now) _ c.in_ok-print_journal.ensures.ok _ c.in_ok-page.ensures.bytes c.args.stats (g.S.Sink.contents c.print_rear.new.sink)
     )
-    c.print_journal_rear.ensures.ok
+    c.print_rear.ensures.ok
 
 pub returns-clause-err : goal.returns-clause-err
 returns-clause-err g c =
     let opened = subst (λ queues. IsOpened c.args.script.cores c.args.script.cap c.args.script.burst queues c.in_ok-model.model) c.as_slice.ensures.value c.in_ok-model.ensures.ok in
     let runs = subst (λ events. RunsOf events c.in_ok-model.model c.run-assembly.result) c.in_ok-events.ensures.ok c.run-assembly.ensures.run in
     let spelled = run_spelled _ _ _ _ c.in_ok-model.model c.in_ok-model.ensures.ok c.args.script.sized c.args.script.bursts _ c.run-assembly.result c.run-assembly.ensures.run c.run-assembly.ensures.joined in
-    on_err_weaker c.print_journal_rear.result
+    on_err_weaker c.print_rear.result
     (
     journal_begun (drafted c.args.script) _ _ refl c.in_ok-model.model opened c.run-assembly.result runs spelled c.run-assembly.ensures.joined c.run-assembly.ensures.sound
-    (g.S.Sink.contents c.args.sink.now) _ c.in_ok-print_journal.ensures.ok _ c.in_ok-page.ensures.bytes c.args.stats (g.S.Sink.contents c.print_journal_rear.new.sink)
+    (g.S.Sink.contents c.args.sink.now) _ c.in_ok-print_journal.ensures.ok _ c.in_ok-page.ensures.bytes c.args.stats (g.S.Sink.contents c.print_rear.new.sink)
     )
-    c.print_journal_rear.ensures.err
+    c.print_rear.ensures.err
 
 pub returns-clause-failed : goal.returns-clause-failed
 returns-clause-failed g c =
-    call_unwritten_since g.S.Sink.tries g.S.Sink.interrupts g.S.Sink.fails c.args.sink.now c.print_journal.new.sink c.print_journal_rear.new.sink c.print_journal_rear.result c.print_journal.ensures.tried c.print_journal_rear.ensures.failed
+    call_unwritten_since g.S.Sink.tries g.S.Sink.interrupts g.S.Sink.fails c.args.sink.now c.print_journal.new.sink c.print_rear.new.sink c.print_rear.result c.print_journal.ensures.tried c.print_rear.ensures.failed

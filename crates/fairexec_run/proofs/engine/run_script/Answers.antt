@@ -6,7 +6,7 @@ use Rattle.text_words.specs.declared.fault.Fault.TheVariants.{Text, Read, Write,
 use Rattle.text_words.specs.Faults.{IfUnwritten, IfEnded}
 use Rattle.fairexec_run.specs.Begun.{IsCutShort}
 use Rattle.fairexec_run.specs.Outputs.{TellsScript}
-use Rattle.fairexec_script.specs.Whole.{drafted}
+use Rattle.fairexec_script.specs.Scripts.{drafted}
 use Rattle.fairexec_run.proofs.engine.run_script.Goals as goal
 
 -- what holds anyway holds where a write failed

@@ -1,29 +1,27 @@
-use Rattle.std.proofs.Common.{[], sym, ◌∙◌, arith, string_bytes}
-use Rattle.std.proofs.lemmas.Option.{unwrap_or-slice_get}
+use Rattle.std.proofs.Common.{arith, string_bytes}
 use Rattle.std.proofs.lemmas.Result.{err_from_is_err_and}
 use Rattle.text_bytes.proofs.TryLemmas.{no_fewer}
 use Rattle.text_journal.proofs.PageLemmas.{OnErr-any}
-use Rattle.model_world.specs.State.{assembly_of}
 use Rattle.fairexec_run.proofs.RearLemmas.{no_stats, stats_more, stats_stop, stats_whole}
 use Rattle.text_journal.proofs.TryLemmas.{unwritten_since}
 use Rattle.fairexec_run.proofs.journal.print_stats.Goals as goal
 
 pub loop-core-init : goal.loop-core-init
-loop-core-init g c = record { stats = no_stats (assembly_of c.args.model.now) (string_bytes c.args.page.now) (g.S.Sink.contents c.args.sink.now); tried = omega arith }
+loop-core-init g c = record { stats = no_stats (g.T.HasCores.assembly c.args.told.now) (string_bytes c.args.page.now) (g.S.Sink.contents c.args.sink.now); tried = omega arith }
 
 pub loop-core-preserved : goal.loop-core-preserved
 loop-core-preserved g c = record {
-  stats = stats_more (assembly_of c.args.model.now) c.loop-core.core _ _ c.cores-cores.ensures c.burst-burst.ensures _ (c.journal.ensures.notes ∙ sym (unwrap_or-slice_get c.args.model.now.journals c.loop-core.core [])) _ _ _ _ c.loop-core.invariant.stats _ _ c.in_ok-print_core.ensures.ok;
+  stats = stats_more (g.T.HasCores.assembly c.args.told.now) c.loop-core.core _ _ c.core_count-cores.ensures c.most_polls-burst.ensures _ c.notes_of.ensures _ _ _ _ c.loop-core.invariant.stats _ _ c.in_ok-print_core.ensures.ok;
   tried = no_fewer _ _ _ c.loop-core.invariant.tried c.print_core.ensures.tried;
 }
 
 pub returns-in_err-print_core-clause-err : goal.returns-in_err-print_core-clause-err
 returns-in_err-print_core-clause-err g c =
     OnErr-any c.from_residual.result
-    (stats_stop (assembly_of c.args.model.now) c.loop-core.core _ _ c.cores-cores.ensures c.burst-burst.ensures _ (c.journal.ensures.notes ∙ sym (unwrap_or-slice_get c.args.model.now.journals c.loop-core.core [])) _ _ _ _ c.loop-core.invariant.stats _ (omega arith) c.in_err-print_core.ensures.err)
+    (stats_stop (g.T.HasCores.assembly c.args.told.now) c.loop-core.core _ _ c.core_count-cores.ensures c.most_polls-burst.ensures _ c.notes_of.ensures _ _ _ _ c.loop-core.invariant.stats _ (omega arith) c.in_err-print_core.ensures.err)
 
 pub returns-clause-ok : goal.returns-clause-ok
-returns-clause-ok g c = stats_whole (assembly_of c.args.model.now) c.loop-core.core _ _ _ _ (let all = c.cores-cores.ensures in omega arith) c.loop-core.invariant.stats
+returns-clause-ok g c = stats_whole (g.T.HasCores.assembly c.args.told.now) c.loop-core.core _ _ _ _ (let all = c.core_count-cores.ensures in omega arith) c.loop-core.invariant.stats
 
 pub returns-in_err-print_core-clause-failed : goal.returns-in_err-print_core-clause-failed
 returns-in_err-print_core-clause-failed g c =

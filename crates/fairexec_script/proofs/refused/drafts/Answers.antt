@@ -1,5 +1,5 @@
-use Rattle.fairexec_script.proofs.DraftsRefused.{drafts_refused}
+use Rattle.fairexec_script.proofs.DraftsRefused.{drafts_refused, orders_refused}
 use Rattle.fairexec_script.proofs.refused.drafts.Goals as goal
 
 pub returns : goal.returns
-returns c = drafts_refused
+returns c = record { drafts = drafts_refused; orders = orders_refused }

@@ -7,7 +7,7 @@ use Rattle.link_ring.proofs.ring_in.RingInInEnd.take.Goals as goal
 
 pub invariant_of-self-2 : goal.invariant_of-self-2
 invariant_of-self-2 g c = let step = c.in_ok-order.ensures in
-    IsInward-taken _ _ _ _ _ _ c.self.inside.seat.me _ _ _ _ _ _ _ _ _ _ c.self.invariant _ _ c.next_order.new.seat.me step.at step.receiver
+    IsInward-taken c.self.inside c.self.invariant (record c.self.inside { seat = c.next_order.new.seat }) step.at step.receiver
     (HasReadyJob g.J.Task.meaning) _ _ step.sees step.order step.last step.took c.if-self.false (c.next_place-self-inside.ensures ∙ ap (λ b. place_of b.gap b.lines.key.capacity (c.self.inside.taken + 1)) c.deref-2.ensures)
 
 pub returns-clause-named : goal.returns-clause-named
@@ -15,5 +15,5 @@ returns-clause-named g c = subst (λ v. AreNamed v.inward.base v.inward.taken v.
 
 pub returns-clause-sound : goal.returns-clause-sound
 returns-clause-sound g c = let step = c.in_ok-order.ensures in
-    (IsInward-taken _ _ _ _ _ _ c.self.inside.seat.me _ _ _ _ _ _ _ _ _ _ c.self.invariant _ _ c.next_order.new.seat.me step.at step.receiver
+    (IsInward-taken c.self.inside c.self.invariant (record c.self.inside { seat = c.next_order.new.seat }) step.at step.receiver
     (HasReadyJob g.J.Task.meaning) _ _ step.sees step.order step.last step.took c.if-self.false (c.next_place-self-inside.ensures ∙ ap (λ b. place_of b.gap b.lines.key.capacity (c.self.inside.taken + 1)) c.deref-2.ensures)).sound
