@@ -1,6 +1,6 @@
 //! The two ends of a place for one answer.
 
-ghost use Rattle.std.specs.Prelude.{◌≡◌, IfOk, IfSome};
+ghost use Rattle.std.specs.Prelude.{◌≡◌, IfNone, IfOk, IfSome, None, Some};
 
 use crate::answer::Answer;
 use std::alloc::{AllocError, Global};
@@ -10,13 +10,13 @@ use std::sync::{Arc, OnceLock};
 /// The end of a place that fills it, once. The job has it.
 #[derive(Drop)]
 pub struct Reply<A: Drop> {
-    shared: Arc<OnceLock<A>, Global>,
+    shared: Arc<OnceLock<Option<A>>, Global>,
 }
 
 /// The end of a place that reads it. Whoever submits the job has it.
 #[derive(Drop)]
 pub struct Asked<A: Drop> {
-    shared: Arc<OnceLock<A>, Global>,
+    shared: Arc<OnceLock<Option<A>>, Global>,
 }
 
 /// A contract sees the name of its place.
@@ -58,7 +58,7 @@ impl<A: Answer> Reply<A> {
         ensures { result ≡ A.number answer }
     {
         let number = answer.noted();
-        let _filled = self.shared.try_set(answer).is_ok();
+        let _filled = self.shared.try_set(Some(answer)).is_ok();
         number
     }
 }
@@ -68,7 +68,7 @@ impl<A: Answer> Asked<A> {
     pub fn answer(&self, number: u64) -> Option<&A>
         ensures { IfSome result (λ answer. A.number answer.now ≡ number) }
     {
-        let answer = self.shared.get()?;
+        let answer = self.shared.get()?.as_ref()?;
         if answer.noted() == number {
             Some(answer)
         } else {
@@ -77,16 +77,26 @@ impl<A: Answer> Asked<A> {
     }
 
     /// Takes the answer out of the place, if it has one with this number and the other end is gone. That end is gone once its `fill` returned,
-    /// and so once the number was redeemed. If it gives nothing, all stays as it was.
+    /// and so once the number was redeemed. If it gives nothing, all stays as it was: no clause sees what a place has, so `take_if` says it of
+    /// what it is lent.
     pub fn take(&mut self, number: u64) -> Option<A>
         ensures { IfSome result (λ answer. A.number answer ≡ number) }
     {
-        self.answer(number)?;
-        let answer = Arc::get_mut(&mut self.shared)?.take()?;
-        if answer.noted() == number {
-            Some(answer)
-        } else {
-            None
-        }
+        let kept = Arc::get_mut(&mut self.shared)?.get_mut()?;
+        take_if(kept, number)
     }
+}
+
+/// Takes what is kept, if it has this number.
+fn take_if<A: Answer>(kept: &mut Option<A>, number: u64) -> Option<A>
+    ensures number { IfSome result (λ answer. A.number answer ≡ number) }
+    ensures taken { IfSome result (λ answer. kept.old ≡ Some answer) }
+    ensures gone { IfSome result (λ _. kept.new ≡ None) }
+    ensures refused { IfNone result (kept.new ≡ kept.old) }
+{
+    let answer = kept.as_ref()?;
+    if answer.noted() != number {
+        return None;
+    }
+    kept.take()
 }

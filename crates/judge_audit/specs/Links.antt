@@ -1,5 +1,5 @@
 -- What tables by name know of the orders and the outcomes of all journals.
-use Rattle.std.specs.Prelude.{◌≡◌, ℕ, Option, Some, None, List, length, slice_get}
+use Rattle.std.specs.Prelude.{◌≡◌, ℕ, Option, Some, None, List, [], ◌∷◌, length, slice_get}
 use Rattle.base_words.specs.declared.names.JobId.{JobId}
 use Rattle.base_words.specs.declared.note.OutcomeNote.{OutcomeNote}
 use Rattle.base_words.specs.declared.order.Order.{Order}
@@ -48,3 +48,11 @@ KnowsOutcomes tables assembly = (name : JobId) → under tables name.to name ≡
 pub record AreTablesOf {T V : Type 0} (says : JobId → Journal T → Option V) (tables : List (Entries V)) (assembly : Assembly T) (count : ℕ) : Type 0 where
   pub counted : length tables ≡ count
   pub each : (actor : ℕ) (entries : Entries V) → slice_get tables actor ≡ Some entries → HasSaid says entries (journal_of actor assembly)
+
+-- the order of a submission, or its outcome, is in no table
+module _ {T : Type 0} (name : JobId) (assembly : Assembly T) where
+  pub order_unknown : (order : Order (Unit {0})) → order_of name assembly ≡ Some order → KnowsOrders [] assembly → ⊥
+  order_unknown order was knows = let none = knows name in cc
+
+  pub outcome_unknown : (outcome : OutcomeNote T) → outcome_of name assembly ≡ Some outcome → KnowsOutcomes [] assembly → ⊥
+  outcome_unknown outcome was knows = let none = knows name in cc

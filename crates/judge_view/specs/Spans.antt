@@ -43,3 +43,7 @@ pub record GoesOn (old new : Spans) (now : Clock) (begins ends : Option JobId) :
 pub record KnowsSpans {T : Type 0} (begins ends : Note T → Option JobId) (known_spans : Spans) (journal : Journal T) : Type 0 where
   pub began : (name : JobId) → known known_spans.began name ≡ clock_when begins name journal
   pub ended : known_spans.ended.items ≡ spans begins ends journal
+
+-- the same spans began and ended
+abbrev pub AreSameSpans : Spans → Spans → Type 0
+AreSameSpans old new = (new.began ≡ old.began) × (new.ended.items ≡ old.ended.items)

@@ -1,6 +1,6 @@
 //! The polls of a core, each with its turn.
 
-ghost use Rattle.std.specs.Prelude.{◌≡◌, ◌<◌, ◌∷◌, ℕ, [], length, OnOk, IfOk};
+ghost use Rattle.std.specs.Prelude.{◌≡◌, ◌<◌, ◌∷◌, ℕ, [], length, OnErr, OnOk, IfOk};
 ghost use Rattle.base_words.specs.Journal.{Journal as Notes, or_else, latest_told, with_last};
 ghost use Rattle.note_facts.specs.Accounts.{greatest_count};
 ghost use Rattle.judge_view.specs.Polls as spec;
@@ -79,9 +79,10 @@ impl PollWalk {
     ///
     /// # Errors
     ///
-    /// `AllocError` for want of memory; then nothing is known any more.
+    /// `AllocError` for want of memory; then the note isn't read.
     pub fn add(&mut self, note: &Note<u64>) -> Result<Option<Poll>, AllocError>
-        ensures { IfOk result (λ poll. (before : Notes ℕ) → length before < greatest_count → spec.KnowsTurns self.old before → spec.TellsPoll poll self.new note.now before) }
+        ensures tells { IfOk result (λ poll. (before : Notes ℕ) → length before < greatest_count → spec.KnowsTurns self.old before → spec.TellsPoll poll self.new note.now before) }
+        ensures refused { OnErr result (self.new ≡ self.old) }
     {
         let poll = self.settle_told(poll_settled(note), end_of(note))?;
         self.clock.add(note);
@@ -95,7 +96,8 @@ impl PollWalk {
         told: Option<(JobId, u64)>,
         end: End,
     ) -> Result<Option<Poll>, AllocError>
-        ensures { IfOk result (λ poll. spec.SettlesTold self.old self.new told end poll) }
+        ensures told { IfOk result (λ poll. spec.SettlesTold self.old self.new told end poll) }
+        ensures refused { OnErr result (self.new ≡ self.old) }
     {
         let Some((name, time)) = told else {
             return Ok(None);
@@ -105,7 +107,8 @@ impl PollWalk {
 
     /// A poll of this job is settled.
     fn settle(&mut self, name: JobId, time: u64, end: End) -> Result<Option<Poll>, AllocError>
-        ensures { IfOk result (λ poll. spec.Settles self.old self.new name time end poll) }
+        ensures settles { IfOk result (λ poll. spec.Settles self.old self.new name time end poll) }
+        ensures refused { OnErr result (self.new ≡ self.old) }
     {
         let step = self.steps.get(&name).unwrap_or(0).saturating_add(1);
         self.steps.set(name, step)?;

@@ -1,6 +1,6 @@
 //! What each queue of a core got of its time, and what it should have got while it had work.
 
-ghost use Rattle.std.specs.Prelude.{◌≡◌, ◌<◌, ◌∷◌, ℕ, [], length, IfOk, OnOk};
+ghost use Rattle.std.specs.Prelude.{◌≡◌, ◌<◌, ◌∷◌, ℕ, [], length, IfOk, OnErr, OnOk};
 ghost use Rattle.base_words.specs.Journal.{Journal as Notes};
 ghost use Rattle.note_facts.specs.Accounts.{greatest_count};
 ghost use Rattle.judge_view.specs.Clocks.{busy_time};
@@ -49,14 +49,16 @@ impl CoreShares {
     ///
     /// # Errors
     ///
-    /// `AllocError` for want of memory; then nothing is known any more.
+    /// `AllocError` for want of memory; then the note isn't read.
     pub fn add(&mut self, note: &Note<u64>) -> Result<(), AllocError>
-        ensures { OnOk result ((burst : ℕ) (before : Notes ℕ) → length before < greatest_count → watches.KnowsShares burst self.old before → watches.KnowsShares burst self.new (note.now ∷ before)) }
+        ensures knows { OnOk result ((burst : ℕ) (before : Notes ℕ) → length before < greatest_count → watches.KnowsShares burst self.old before → watches.KnowsShares burst self.new (note.now ∷ before)) }
+        ensures refused { OnErr result (self.new ≡ self.old) }
     {
         let spot = self.watches.spot(note);
+        self.watches.add(note, &spot)?;
         self.clock.add(note);
         self.figures.add(note, &spot);
-        self.watches.add(note, &spot)
+        Ok(())
     }
 
     /// Reads the journal of a core, where a turn may have so many polls.

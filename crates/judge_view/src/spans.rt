@@ -1,6 +1,6 @@
 //! How far the clock of a core went under the name of a job, from one note to another.
 
-ghost use Rattle.std.specs.Prelude.{◌≡◌, ℕ, [], OnOk, Option};
+ghost use Rattle.std.specs.Prelude.{◌≡◌, ℕ, [], OnErr, OnOk, Option};
 ghost use Rattle.base_words.specs.declared.names.JobId.{JobId as Name};
 ghost use Rattle.base_words.specs.declared.note.Note as note;
 ghost use Rattle.note_facts.specs.Names.{known};
@@ -65,12 +65,16 @@ impl Spans {
         begins: Option<JobId>,
         ends: Option<JobId>,
     ) -> Result<(), AllocError>
-        ensures { OnOk result (spec.GoesOn self.old self.new now.now begins ends) }
+        ensures goes { OnOk result (spec.GoesOn self.old self.new now.now begins ends) }
+        ensures refused { OnErr result (spec.AreSameSpans self.old self.new) }
     {
-        if let Some(span) = self.ended_by(now, ends) {
-            self.ended.push(span)?;
-        }
-        self.began.set_told(began_at(now, begins))
+        let Some(span) = self.ended_by(now, ends) else {
+            return self.began.set_told(began_at(now, begins));
+        };
+        self.ended.reserve(1)?;
+        self.began.set_told(began_at(now, begins))?;
+        self.ended.push_reserved(span);
+        Ok(())
     }
 
     /// The span that ends under a name, if there is a name and its span began.

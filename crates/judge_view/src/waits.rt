@@ -1,6 +1,6 @@
 //! How long the jobs of a core waited, and how long they ran.
 
-ghost use Rattle.std.specs.Prelude.{◌≡◌, ◌<◌, ◌∷◌, ℕ, [], length, OnOk, IfOk};
+ghost use Rattle.std.specs.Prelude.{◌≡◌, ◌<◌, ◌∷◌, ℕ, [], length, OnErr, OnOk, IfOk};
 ghost use Rattle.base_words.specs.Filters as filters;
 ghost use Rattle.base_words.specs.Journal.{Journal as Notes};
 ghost use Rattle.note_facts.specs.Accounts.{greatest_count};
@@ -67,16 +67,20 @@ impl JobWalk {
     ///
     /// # Errors
     ///
-    /// `AllocError` for want of memory; then nothing is known any more.
+    /// `AllocError` for want of memory; then the waits may know the note, and the rest is as it was.
     pub fn add(&mut self, note: &Note<u64>) -> Result<(), AllocError>
-        ensures { OnOk result ((before : Notes ℕ) → length before < greatest_count → spec.KnowsWalk self.old before → spec.KnowsWalk self.new (note.now ∷ before)) }
+        ensures knows { OnOk result ((before : Notes ℕ) → length before < greatest_count → spec.KnowsWalk self.old before → spec.KnowsWalk self.new (note.now ∷ before)) }
+        ensures refused { OnErr result (spec.StopsWithin self.old self.new note.now) }
     {
-        self.clock.add(note);
-        self.waits
-            .add(&self.clock, name_taken(note), name_started(note))?;
+        let mut now = self.clock;
+        now.add(note);
+        self.waits.add(&now, name_taken(note), name_started(note))?;
         self.runs
-            .add(&self.clock, name_started(note), name_finished(note))
+            .add(&now, name_started(note), name_finished(note))?;
+        self.clock = now;
+        Ok(())
     }
+
     /// The spans of the jobs.
     pub fn into_spans(self) -> JobSpans
         ensures { (journal : Notes ℕ) → spec.KnowsWalk self journal → spec.AreSpans result journal }

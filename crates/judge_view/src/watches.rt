@@ -1,6 +1,6 @@
 //! What a walk knows of the shares of all queues.
 
-ghost use Rattle.std.specs.Prelude.{◌≡◌, ◌<◌, ◌∷◌, ℕ, [], get_or, length, OnOk};
+ghost use Rattle.std.specs.Prelude.{◌≡◌, ◌<◌, ◌∷◌, ℕ, [], get_or, length, OnErr, OnOk};
 ghost use Rattle.base_words.specs.Journal.{Journal as Notes};
 ghost use Rattle.base_words.specs.Limits.{most_queues};
 ghost use Rattle.note_facts.specs.Accounts.{greatest_count};
@@ -156,14 +156,16 @@ impl Watches {
 
     /// Reads the next note, which speaks of this queue.
     pub fn add(&mut self, note: &Note<u64>, spot: &Spot) -> Result<(), AllocError>
-        ensures { OnOk result ((before : Notes ℕ) → length before < greatest_count → FitsSpot spot.now note.now before → spec.KnowsWatches self.old before → spec.KnowsWatches self.new (note.now ∷ before)) }
+        ensures knows { OnOk result ((before : Notes ℕ) → length before < greatest_count → FitsSpot spot.now note.now before → spec.KnowsWatches self.old before → spec.KnowsWatches self.new (note.now ∷ before)) }
+        ensures refused { OnErr result (self.new ≡ self.old) }
     {
+        self.parks.add(note)?;
         owe_all(&mut self.each, settled_time(note), &self.accounts.queues);
         // No charge is asked for, so each poll may stand for a turn.
         self.tallies.add(note, &spot.queue, &self.accounts, 1);
         self.accounts.add(note, spot, 1);
         see_all(&mut self.each, &self.accounts.queues, &self.tallies.queues);
-        self.parks.add(note)
+        Ok(())
     }
 
     /// What is known of a queue.

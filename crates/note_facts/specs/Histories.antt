@@ -13,7 +13,7 @@ use Rattle.base_words.specs.Work.{queue_of}
 use Rattle.note_facts.specs.declared.histories.Fact.{Fact}
 use Rattle.note_facts.specs.declared.histories.History.{History}
 use Rattle.note_facts.specs.Parks.{park_of}
-use Rattle.note_facts.specs.Past.{KnowsPast}
+use Rattle.note_facts.specs.Jobs.{KnowsPast}
 
 -- nothing was told
 abbrev pub no_fact : Fact

@@ -7,8 +7,8 @@ pub mod Jobs
 pub mod Limits
 pub mod Names
 pub mod Parks
-pub mod Past
 pub mod Recent
 pub mod Spots
 pub mod Stays
 pub mod Told
+pub mod Bad

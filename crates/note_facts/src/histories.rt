@@ -6,7 +6,7 @@ ghost use Rattle.base_words.specs.Clauses.{name_answered};
 ghost use Rattle.base_words.specs.Filters.{name_ended};
 ghost use Rattle.base_words.specs.Journal.{Journal as Notes, at_place, is_told};
 ghost use Rattle.note_facts.specs.Histories.{no_fact, name_asked, TellsOf, FitsPlace, IsAsCollected, IsHistory};
-ghost use Rattle.note_facts.specs.Past.{KnowsPast};
+ghost use Rattle.note_facts.specs.Jobs.{KnowsPast};
 ghost use Rattle.note_facts.specs.Spots.{FitsSpot, park_noted, queue_noted};
 
 use crate::past::Past;

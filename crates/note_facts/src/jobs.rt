@@ -53,7 +53,7 @@ impl Jobs {
         }
     }
 
-    /// Reads the next note.
+    /// Reads the next note. After an error nothing is known any more.
     pub fn add(&mut self, note: &Note<u64>) -> Result<(), AllocError>
         ensures { OnOk result ((before : Journal ℕ) → length before < greatest_count → KnowsJobs self.old before → KnowsJobs self.new (note.now ∷ before)) }
     {

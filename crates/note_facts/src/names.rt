@@ -61,17 +61,19 @@ impl<V: Copy> NameTable<V> {
 
     /// From now on this is known under its name, if there is anything to know.
     pub fn set_told(&mut self, told: Option<(JobId, V)>) -> Result<(), AllocError>
-        ensures { OnOk result (SetsEntry self.old self.new told) }
+        ensures set { OnOk result (SetsEntry self.old self.new told) }
+        ensures refused { OnErr result (self.new ≡ self.old) }
     {
-        let Some((name, value)) = told else {
-            return Ok(());
-        };
-        self.set(name, value)
+        match told {
+            Some((name, value)) => self.set(name, value),
+            None => Ok(()),
+        }
     }
 
     /// From now on this is known under its name, if there is anything to know and nothing was known there.
     pub fn keep_first(&mut self, told: Option<(JobId, V)>) -> Result<(), AllocError>
-        ensures { OnOk result (KeepsFirst self.old self.new told) }
+        ensures set { OnOk result (KeepsFirst self.old self.new told) }
+        ensures refused { OnErr result (self.new ≡ self.old) }
     {
         let Some((name, value)) = told else {
             return Ok(());

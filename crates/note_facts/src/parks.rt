@@ -1,12 +1,13 @@
 //! Where the jobs of one journal are parked.
 
-ghost use Rattle.std.specs.Prelude.{◌≡◌, ◌<◌, ◌∷◌, ℕ, OnOk, [], length};
+ghost use Rattle.std.specs.Prelude.{◌≡◌, ◌<◌, ◌∷◌, ℕ, OnErr, OnOk, [], length};
 ghost use Rattle.base_words.specs.Journal.{Journal};
 ghost use Rattle.note_facts.specs.Limits.{greatest_count};
-ghost use Rattle.note_facts.specs.Names.{known};
+ghost use Rattle.note_facts.specs.Names.{SetsEntry, known};
 ghost use Rattle.note_facts.specs.Parks as spec;
 ghost use Rattle.note_facts.specs.Parks.{KnowsParks, awake, resting};
 ghost use Rattle.note_facts.specs.Spots.{FitsSpot, park_noted, queue_noted};
+ghost use Rattle.note_facts.specs.Told.{queue_told};
 
 use crate::endings::Endings;
 use crate::names::NameTable;
@@ -57,13 +58,28 @@ impl Parks {
 
     /// Reads the next note.
     pub fn add(&mut self, note: &Note<u64>) -> Result<(), AllocError>
-        ensures { OnOk result ((before : Journal ℕ) → length before < greatest_count → KnowsParks self.old before → KnowsParks self.new (note.now ∷ before)) }
+        ensures knows { OnOk result ((before : Journal ℕ) → length before < greatest_count → KnowsParks self.old before → KnowsParks self.new (note.now ∷ before)) }
+        ensures refused { OnErr result (self.new ≡ self.old) }
     {
-        let nap = self.nap_told(note);
-        self.naps.set_told(nap)?;
-        self.queues.set_told(queue_told(note))?;
+        self.set_told(note)?;
         self.endings.add(note);
         Ok(())
+    }
+
+    /// From now on a job has the queue or the park that the note tells. No note tells both.
+    fn set_told(&mut self, note: &Note<u64>) -> Result<(), AllocError>
+        ensures queues { OnOk result (SetsEntry self.old.queues self.new.queues (queue_told note.now)) }
+        ensures naps { OnOk result (SetsEntry self.old.naps self.new.naps (spec.nap_told self.old note.now)) }
+        ensures endings { self.new.endings ≡ self.old.endings }
+        ensures refused { OnErr result (self.new ≡ self.old) }
+    {
+        match queue_told(note) {
+            Some(entry) => self.queues.set_told(Some(entry)),
+            None => {
+                let nap = self.nap_told(note);
+                self.naps.set_told(nap)
+            }
+        }
     }
 
     /// The queue that the job entered.

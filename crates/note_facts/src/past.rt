@@ -5,7 +5,7 @@ ghost use Rattle.base_words.specs.Assembly.{first_under};
 ghost use Rattle.base_words.specs.Filters.{collected_outcomes};
 ghost use Rattle.base_words.specs.Journal.{Journal};
 ghost use Rattle.note_facts.specs.Limits.{greatest_count};
-ghost use Rattle.note_facts.specs.Past.{KnowsPast};
+ghost use Rattle.note_facts.specs.Jobs.{KnowsPast};
 
 use crate::jobs::Jobs;
 use crate::names::NameTable;
@@ -37,7 +37,7 @@ impl Past {
         }
     }
 
-    /// Reads the next note.
+    /// Reads the next note. After an error nothing is known any more.
     pub fn add(&mut self, note: &Note<u64>) -> Result<(), AllocError>
         ensures { OnOk result ((before : Journal ℕ) → length before < greatest_count → KnowsPast self.old before → KnowsPast self.new (note.now ∷ before)) }
     {

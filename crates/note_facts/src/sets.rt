@@ -1,6 +1,6 @@
 //! Sets of names.
 
-ghost use Rattle.std.specs.Prelude.{◌≡◌, OnOk, []};
+ghost use Rattle.std.specs.Prelude.{◌≡◌, OnErr, OnOk, []};
 ghost use Rattle.note_facts.specs.Names.{has_name, AddsName};
 
 use crate::names::NameTable;
@@ -41,7 +41,8 @@ impl NameSet {
 
     /// Adds the name, if there is one.
     pub fn add(&mut self, name: Option<JobId>) -> Result<(), AllocError>
-        ensures { OnOk result (AddsName self.old self.new name) }
+        ensures added { OnOk result (AddsName self.old self.new name) }
+        ensures refused { OnErr result (self.new ≡ self.old) }
     {
         let Some(name) = name else {
             return Ok(());

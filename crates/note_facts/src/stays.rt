@@ -1,6 +1,6 @@
 //! Which jobs of one journal stay in their lines where they ask to be parked.
 
-ghost use Rattle.std.specs.Prelude.{◌≡◌, ◌||◌, ◌∷◌, ℕ, OnOk, Some, [], false, get_or, unwrap_or};
+ghost use Rattle.std.specs.Prelude.{◌≡◌, ◌||◌, ◌∷◌, ℕ, OnErr, OnOk, Some, [], false, get_or, unwrap_or};
 ghost use Rattle.base_words.specs.declared.names.JobId.{JobId as Name};
 ghost use Rattle.base_words.specs.Closing.{core_mode_told, mode_told};
 ghost use Rattle.base_words.specs.Journal.{Journal};
@@ -55,10 +55,12 @@ impl Stays {
 
     /// Reads the next note, whose job is parked before it, or not.
     pub fn add(&mut self, note: &Note<u64>, parked: bool) -> Result<(), AllocError>
-        ensures { OnOk result ((before : Journal ℕ) → ((name : Name) → name_woken note.now ≡ Some name → parked ≡ is_parked name before) → KnowsStays self.old before → KnowsStays self.new (note.now ∷ before)) }
+        ensures knows { OnOk result ((before : Journal ℕ) → ((name : Name) → name_woken note.now ≡ Some name → parked ≡ is_parked name before) → KnowsStays self.old before → KnowsStays self.new (note.now ∷ before)) }
+        ensures refused { OnErr result (self.new ≡ self.old) }
     {
+        self.kept.set_told(kept_told(note, parked))?;
         self.close(note);
-        self.kept.set_told(kept_told(note, parked))
+        Ok(())
     }
 
     /// A note may close a queue, or the core.

@@ -1,5 +1,6 @@
 -- The notes of one actor, as a caller sees them.
-use Rattle.std.specs.Prelude.{ℕ, ◌+◌, ◌-◌, ◌≤◌, List, [], ◌++◌, length, reverse}
+use Rattle.std.specs.Prelude.{ℕ, ◌+◌, ◌-◌, ◌≤◌, List, [], ◌∷◌, ◌++◌, length, reverse}
+use Rattle.std.proofs.Common.{arith}
 use Rattle.base_words.specs.declared.note.Note.{Note}
 use Rattle.base_words.specs.Journal.{Journal}
 
@@ -39,3 +40,7 @@ module _ {T : Type 0} where
     pub within_room : length notes ≤ room
     pub within_reserved : room ≤ reserved
     pub within_capacity : reserved ≤ capacity
+
+-- a note stands where there is room for none
+pub beyond_its_room : (note : Note ℕ) → IsWithinRoom (record { notes = note ∷ []; passed = []; room = 0 }) → ⊥
+beyond_its_room note within = absurd (omega (arith, within))

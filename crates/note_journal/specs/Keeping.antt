@@ -1,5 +1,6 @@
 -- What a caller sees of a sink that keeps all notes.
-use Rattle.std.specs.Prelude.{◌≡◌, ℕ, ◌+◌, ◌-◌, ◌^◌, ◌≤◌, List, Contains, length, min}
+use Rattle.std.specs.Prelude.{◌≡◌, ℕ, ◌+◌, ◌-◌, ◌^◌, ◌≤◌, List, [], Contains, length, min}
+use Rattle.std.proofs.Common.{arith}
 use Rattle.base_words.specs.Journal.{Journal}
 use Rattle.base_words.specs.Limits.{most_notes}
 use Rattle.note_journal.specs.Journals.{JournalView}
@@ -27,3 +28,7 @@ pub record MakesRoom (count : ℕ) (old new : JournalView ℕ) : Type 0 where
   pub free : length old.notes + count ≤ new.room
   pub grows : old.room ≤ new.room
   pub limit : new.room ≤ most_notes
+
+-- a sink that refused nothing has refused at its first note
+pub refused_unasked : HasRefused (record { has = []; room = 1; refusals = 0; refused = [] }) 0 → ⊥
+refused_unasked refused = absurd (omega (arith, refused.1))

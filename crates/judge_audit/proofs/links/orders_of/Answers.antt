@@ -12,7 +12,7 @@ pub loop-place-preserved : goal.loop-place-preserved
 loop-place-preserved c =
     subst (λ (journal : Journal ℕ). KnowsOrdersOf c.keep_first.new.self journal) (sym c.note_at-note.ensures)
     (
-    next_order c.note_at-note.result (at_place c.loop-place.place c.args.journal.now.notes) _ _ (rw c.order_told.ensures at c.in_ok-keep_first.ensures)
+    next_order c.note_at-note.result (at_place c.loop-place.place c.args.journal.now.notes) _ _ (rw c.order_told.ensures at c.in_ok-keep_first.ensures.set)
     c.loop-place.invariant
     )
 

@@ -12,7 +12,7 @@ pub loop-place-preserved : goal.loop-place-preserved
 loop-place-preserved c =
     subst (λ (journal : Journal ℕ). KnowsOutcomesOf c.keep_first.new.self journal) (sym c.note_at-note.ensures)
     (
-    next_outcome c.note_at-note.result (at_place c.loop-place.place c.args.journal.now.notes) _ _ (rw c.outcome_told.ensures at c.in_ok-keep_first.ensures)
+    next_outcome c.note_at-note.result (at_place c.loop-place.place c.args.journal.now.notes) _ _ (rw c.outcome_told.ensures at c.in_ok-keep_first.ensures.set)
     c.loop-place.invariant
     )
 

@@ -18,7 +18,7 @@ loop-place-preserved c =
     let notes = c.args.journal.now.notes in
     let before = at_place c.loop-place.place notes in
     let short : length before < greatest_count = omega (arith, length-at_place c.loop-place.place notes, c.len-place-end.ensures.value, c.len-place-end.ensures.limits) in
-    let tells = c.in_ok-poll.ensures before short c.loop-place.invariant.walk in
+    let tells = c.in_ok-poll.ensures.tells before short c.loop-place.invariant.walk in
     record {
       walk = subst (λ (journal : Journal ℕ). KnowsTurns c.add.new.self journal) (sym c.note_at-note.ensures) tells.knows;
       told =

@@ -15,7 +15,7 @@ loop-place-preserved c =
     let notes = c.args.journal.now.notes in
     let before = at_place c.loop-place.place notes in
     let short : length before < greatest_count = omega (arith, length-at_place c.loop-place.place notes, c.len-place-end.ensures.value, c.len-place-end.ensures.limits) in
-    subst (λ (journal : Journal ℕ). KnowsWalk c.add.new.self journal) (sym c.note_at-note.ensures) (c.in_ok-add.ensures before short c.loop-place.invariant)
+    subst (λ (journal : Journal ℕ). KnowsWalk c.add.new.self journal) (sym c.note_at-note.ensures) (c.in_ok-add.ensures.knows before short c.loop-place.invariant)
 
 pub returns-clause-waits : goal.returns-clause-waits
 returns-clause-waits c =

@@ -10,4 +10,4 @@ returns c =
     polls_next c.args.self.now (record { clock = c.add.new.self; queues = c.set_told.new.self }) c.args.note.now before short c.add.ensures
     (rw c.queue_told.ensures at set) knows
     )
-    c.set_told.ensures
+    c.set_told.ensures.set

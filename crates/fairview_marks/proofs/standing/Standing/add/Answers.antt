@@ -20,4 +20,4 @@ returns c =
       tallies = c.add-2.ensures before fits.queue short own.accounts own.tallies;
     })
     )
-    c.add-4.ensures
+    c.add-4.ensures.knows

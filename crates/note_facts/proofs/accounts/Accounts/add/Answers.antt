@@ -1,6 +1,5 @@
 use Rattle.std.proofs.Common.{◌≤◌, max, ap, subst, sym, ◌∙◌, arith, inl, inr}
 use Rattle.std.proofs.lemmas.Bool.{true≢false}
-use Rattle.base_words.specs.Runtimes.{runtime_picked}
 use Rattle.note_facts.specs.declared.accounts.Account.{Account}
 use Rattle.note_facts.specs.declared.accounts.Accounts.{Accounts}
 use Rattle.note_facts.specs.declared.recent.Recent.{Recent}

@@ -2,7 +2,7 @@ use Rattle.std.proofs.Common.{◌≡◌, ℕ, ◌<◌, length, sym, subst, arith
 use Rattle.base_words.specs.Journal.{Journal, at_place}
 use Rattle.note_facts.specs.Histories.{FitFirst}
 use Rattle.note_facts.specs.Limits.{greatest_count}
-use Rattle.note_facts.specs.Past.{KnowsPast}
+use Rattle.note_facts.specs.Jobs.{KnowsPast}
 use Rattle.note_facts.proofs.FactSteps.{one_more}
 use Rattle.note_facts.proofs.Walks.{length-at_place, whole_walk}
 use Rattle.note_facts.proofs.histories.History.of.Goals as goal

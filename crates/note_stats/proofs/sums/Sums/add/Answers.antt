@@ -14,4 +14,4 @@ returns c =
       figures = c.add.ensures burst before short (c.spot-spot.ensures before known.parks) known.figures;
     }
     )
-    c.add-2.ensures
+    c.add-2.ensures.knows
